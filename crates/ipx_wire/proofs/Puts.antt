@@ -1,0 +1,52 @@
+use Rattle.std.proofs.Common.{◌≡◌, ℕ, ◌+◌, ◌-◌, ◌≤◌, ◌<◌, List, [], ◌∷◌, ◌++◌, length, take, drop, min, refl, sym, ap, ◌∙◌, arith, append_assoc, length-append, length-drop, length-take, subst}
+use Rattle.std.proofs.lemmas.List.{drop-drop, take_at, drop_at}
+use Rattle.ipx_wire.specs.Put.{PutsAt}
+
+-- how long the written front is
+length_front : (old x : List ℕ) (place : ℕ) → place + length x ≤ length old → length (take place old ++ x) ≡ place + length x
+length_front old x place room = omega (arith, length-append (take place old) x, length-take place old)
+
+-- the front of what a write left is what stood there and what was written
+front : (old x new : List ℕ) (place : ℕ) → PutsAt old place x new → take (place + length x) new ≡ take place old ++ x
+front old x new place puts =
+    rw puts.after (take_at (take place old ++ x) (drop (place + length x) old) (place + length x) (length_front old x place puts.room))
+
+-- behind a write all is as before
+behind : (old x new : List ℕ) (place n : ℕ) → PutsAt old place x new → drop (place + length x + n) new ≡ drop (place + length x + n) old
+behind old x new place n puts =
+    sym (drop-drop n (place + length x) new)
+    ∙ ap (drop n) (rw puts.after (drop_at (take place old ++ x) (drop (place + length x) old) (place + length x) (length_front old x place puts.room)))
+    ∙ drop-drop n (place + length x) old
+
+-- a write keeps the length
+length_after : (old x new : List ℕ) (place : ℕ) → PutsAt old place x new → length new ≡ length old
+length_after old x new place puts =
+    let room = puts.room in
+    rw puts.after (omega (arith, length-append (take place old ++ x) (drop (place + length x) old), length_front old x place room, length-drop (place + length x) old))
+
+joined : (old mid new x y : List ℕ) (place : ℕ) → PutsAt old place x mid → PutsAt mid (place + length x) y new → PutsAt old place (x ++ y) new
+joined old mid new x y place first second =
+    let size : length (x ++ y) ≡ length x + length y = length-append x y in
+    let whole : place + length (x ++ y) ≡ place + length x + length y = omega (arith, size) in
+    let same = length_after old x mid place first in
+    let room = second.room in
+    record {
+      room = omega (arith, whole, same, room);
+      after =
+          second.after
+          ∙ ap (λ (z : List ℕ). z ++ y ++ drop (place + length x + length y) mid) (front old x mid place first)
+          ∙ ap (λ (z : List ℕ). take place old ++ x ++ y ++ z) (behind old x mid place (length y) first)
+          ∙ ap (λ (z : List ℕ). z ++ drop (place + length x + length y) old) (append_assoc (take place old) x y)
+          ∙ ap (λ (k : ℕ). take place old ++ (x ++ y) ++ drop k old) (sym whole);
+    }
+
+-- two writes, the second where the first ended, are one
+pub then : {old mid new x y : List ℕ} {place next : ℕ} → PutsAt old place x mid → PutsAt mid next y new → next ≡ place + length x
+    → PutsAt old place (x ++ y) new
+then {old} {mid} {new} {x} {y} {place} {next} first second e =
+    joined old mid new x y place first (subst (λ (k : ℕ). PutsAt mid k y new) e second)
+
+-- a write from the front on, with what follows it
+pub whole_put : (old x new : List ℕ) (n : ℕ) → PutsAt old 0 x new → length x ≡ n → new ≡ x ++ drop n old
+whole_put old x new n puts size =
+    puts.after ∙ ap (λ (k : ℕ). x ++ drop k old) (let e : 0 + length x ≡ n = omega (arith, size) in e)

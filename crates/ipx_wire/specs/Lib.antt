@@ -1,0 +1,6 @@
+pub mod Address
+pub mod Header
+pub mod Kept
+pub mod Packet
+pub mod Piece
+pub mod Put

@@ -1,0 +1,19 @@
+//! Addresses, packets, readers and writers of Novell IPX, after the IPX Router Specification.
+#![tactic(auto)]
+
+mod address;
+mod fields;
+mod header;
+mod hex_text;
+mod network;
+mod node;
+mod packet;
+mod socket;
+
+pub use crate::address::Address;
+pub use crate::header::Header;
+pub use crate::hex_text::Hex;
+pub use crate::network::Network;
+pub use crate::node::Node;
+pub use crate::packet::{Packet, PacketFault};
+pub use crate::socket::Socket;

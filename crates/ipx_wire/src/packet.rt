@@ -1,0 +1,89 @@
+ghost use Rattle.std.specs.Prelude.{◌≡◌, ◌+◌, ◌++◌, ◌≤◌, length, take, drop, IfOk, IfErr, IsOkAnd, Ok};
+
+use std::marker::Model;
+use thiserror::Error;
+
+use crate::fields::u16_at;
+use crate::header::Header;
+
+/// Why bytes are no packet.
+#[derive(Clone, Copy, Debug, PartialEq, Eq, Hash, Error)]
+pub enum PacketFault {
+    /// There are fewer than thirty bytes.
+    #[error("fewer bytes than a header")]
+    Short,
+    /// The length field is under thirty.
+    #[error("a length smaller than the header")]
+    LengthSmall,
+    /// The length field counts more bytes than there are.
+    #[error("a length beyond the last byte")]
+    LengthBeyond,
+}
+
+/// A packet whose length has been checked, lent from the bytes that it was read from.
+#[derive(Debug, Drop)]
+pub struct Packet<'a> {
+    head: Header,
+    whole: &'a [u8],
+}
+
+impl<'a> Model for Packet<'a> {
+    ghost use Rattle.std.specs.Prelude.{drop};
+    ghost use Rattle.ipx_wire.specs.Packet.{Parts};
+    ghost use Rattle.ipx_wire.specs.Kept.{IsKept};
+
+    ghost Value = { Parts };
+
+    ghost view = { λ p. record { header = p.head; payload = drop 30 p.whole.now } };
+
+    ghost invariant = { λ p. IsKept p.head p.whole.now };
+}
+
+impl<'a> Packet<'a> {
+    ghost use Rattle.ipx_wire.specs.Header.{header_bytes};
+    ghost use Rattle.ipx_wire.specs.Packet.{Parts, IsPacket, IsNoPacket, packet_of};
+
+    /// Reads the packet at the front of `bytes`; bytes after its length are padding and ignored.
+    #[tactic(auto, unfolding(crate::specs::Packet::packet_of))]
+    pub fn read(bytes: &'a [u8]) -> Result<Packet<'a>, PacketFault>
+        ensures found { IfOk result (IsPacket bytes.entry.now) }
+        ensures only { (p : Parts) → IsPacket bytes.entry.now p → IsOkAnd result (λ q. q ≡ p) }
+        ensures refused { IfErr result (IsNoPacket bytes.entry.now) }
+        // The same as a function of the bytes.
+        ensures value { result ≡ packet_of bytes.entry.now }
+    {
+        if bytes.len() < Header::SIZE {
+            return Err(PacketFault::Short);
+        }
+        let length = usize::from(u16_at(bytes, 2));
+        if length < Header::SIZE {
+            return Err(PacketFault::LengthSmall);
+        }
+        if bytes.len() < length {
+            return Err(PacketFault::LengthBeyond);
+        }
+        let head = Header::at_front(bytes);
+        let whole = &bytes[..length];
+        Ok(Packet { head, whole })
+    }
+
+    pub fn header(&self) -> Header
+        ensures { result ≡ self.now.header }
+    {
+        self.head
+    }
+
+    /// The data behind the header, as many bytes as the length counts.
+    pub fn payload(&self) -> &'a [u8]
+        ensures { result.now ≡ self.now.payload }
+    {
+        &self.whole[Header::SIZE..]
+    }
+
+    /// Header and data, exactly as many bytes as the length says.
+    pub fn bytes(&self) -> &'a [u8]
+        ensures { result.now ≡ header_bytes self.now.header ++ self.now.payload }
+    {
+        self.whole
+    }
+}
