@@ -1,5 +1,9 @@
+pub mod Entries
 pub mod Headers
 pub mod HexText
 pub mod Packets
 pub mod Pieces
 pub mod Puts
+pub mod Rips
+pub mod Written
+pub mod Yields

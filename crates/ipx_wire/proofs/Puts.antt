@@ -1,5 +1,6 @@
-use Rattle.std.proofs.Common.{◌≡◌, ℕ, ◌+◌, ◌-◌, ◌≤◌, ◌<◌, List, [], ◌∷◌, ◌++◌, length, take, drop, min, refl, sym, ap, ◌∙◌, arith, append_assoc, length-append, length-drop, length-take, subst}
-use Rattle.std.proofs.lemmas.List.{drop-drop, take_at, drop_at}
+use Rattle.std.proofs.Common.{◌≡◌, ℕ, ◌+◌, ◌-◌, ◌≤◌, ◌<◌, List, [], ◌∷◌, ◌++◌, length, take, drop, min, refl, sym, ap, ◌∙◌, arith, append_assoc, length-append, length-drop, length-take, subst, get_or, append-nil}
+use Rattle.std.proofs.lemmas.List.{drop-drop, take_at, drop_at, take-append-drop, flat_map_more, take_more}
+use Rattle.std.specs.List.{flat_map}
 use Rattle.ipx_wire.specs.Put.{PutsAt}
 
 -- how long the written front is
@@ -50,3 +51,28 @@ then {old} {mid} {new} {x} {y} {place} {next} first second e =
 pub whole_put : (old x new : List ℕ) (n : ℕ) → PutsAt old 0 x new → length x ≡ n → new ≡ x ++ drop n old
 whole_put old x new n puts size =
     puts.after ∙ ap (λ (k : ℕ). x ++ drop k old) (let e : 0 + length x ≡ n = omega (arith, size) in e)
+
+-- nothing written yet
+pub puts_none : (old : List ℕ) (place : ℕ) → place ≤ length old → PutsAt old place [] old
+puts_none old place room = record {
+    room = omega arith;
+    after = sym (ap (λ (k : ℕ). take place old ++ [] ++ drop k old) (let e : place + 0 ≡ place = omega arith in e)
+                ∙ ap (λ (x : List ℕ). x ++ drop place old) (append-nil (take place old))
+                ∙ take-append-drop place old);
+}
+
+-- one more piece behind those that were written
+pub puts_more : {X : Type 0} (f : X → List ℕ) (xs : List X) (i : ℕ) (d : X) (old mid new : List ℕ) (place next : ℕ) → i < length xs
+    → PutsAt old place (flat_map f (take i xs)) mid → PutsAt mid next (f (get_or xs i d)) new
+    → next ≡ place + length (flat_map f (take i xs)) → PutsAt old place (flat_map f (take (i + 1) xs)) new
+puts_more f xs i d old mid new place next below first second e =
+    subst (λ (bytes : List ℕ). PutsAt old place bytes new)
+        (flat_map_more f [] (take i xs) (get_or xs i d) ∙ ap (flat_map f) (sym (take_more xs i d below)))
+        (then first second e)
+
+-- a write at the front
+pub puts_front : (old x new : List ℕ) (n : ℕ) → length x ≡ n → n ≤ length old → new ≡ x ++ drop n old → PutsAt old 0 x new
+puts_front old x new n size room e = record {
+    room = omega arith;
+    after = e ∙ ap (λ (k : ℕ). x ++ drop k old) (let whole : n ≡ 0 + length x = omega arith in whole);
+}

@@ -4,3 +4,5 @@ pub mod Kept
 pub mod Packet
 pub mod Piece
 pub mod Put
+pub mod Rip
+pub mod Write

@@ -8,7 +8,9 @@ mod hex_text;
 mod network;
 mod node;
 mod packet;
+mod rip;
 mod socket;
+mod write;
 
 pub use crate::address::Address;
 pub use crate::header::Header;
@@ -16,4 +18,6 @@ pub use crate::hex_text::Hex;
 pub use crate::network::Network;
 pub use crate::node::Node;
 pub use crate::packet::{Packet, PacketFault};
+pub use crate::rip::{Operation, Rip, RipEntries, RipEntry, RipFault};
 pub use crate::socket::Socket;
+pub use crate::write::{write_query, write_rip};

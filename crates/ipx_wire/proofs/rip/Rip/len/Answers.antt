@@ -1,0 +1,8 @@
+use Rattle.std.proofs.Common.{sym, ap, ◌∙◌, length}
+use Rattle.ipx_wire.specs.Rip.{RipParts}
+use Rattle.ipx_wire.proofs.Entries.{length-entries_at}
+use Rattle.ipx_wire.proofs.rip.Rip.len.Goals as goal
+
+pub returns : goal.returns
+returns c =
+    sym (length-entries_at c.self.inside.count c.self.inside.body.now) ∙ ap (λ (r : RipParts). length r.entries) c.self.view_is
