@@ -1,4 +1,5 @@
 pub mod Address
+pub mod Ends
 pub mod Header
 pub mod Kept
 pub mod Packet

@@ -1,0 +1,37 @@
+-- A port of a router, as the definitions see it.
+use Rattle.std.specs.Prelude.{◌≡◌, ◌≢◌, ℕ, ◌<◌, ◌≤◌, ◌⊎◌, replicate}
+use Rattle.ipx_wire.specs.declared.address.Address.{Address}
+use Rattle.ipx_wire.specs.declared.network.Network.{Network}
+use Rattle.ipx_wire.specs.declared.node.Node.{Node}
+use Rattle.ipx_cmd.specs.declared.thin.port.PortFault.{PortFault}
+use Rattle.ipx_cmd.specs.declared.thin.port.PortFault.TheVariants.{Longest, Cost, Network as BadNetwork, Node as BadNode}
+
+-- network and node of the port, its cost in ticks, and its longest packet in bytes
+pub record Port : Type 0 where
+  pub network : Network
+  pub node : Node
+  pub cost : ℕ
+  pub longest : ℕ
+
+-- the node that stands for all nodes of a network
+abbrev pub broadcast : Node
+broadcast = record { 0 = replicate 6 255 }
+
+-- no network has these numbers: the local one, the default route's and that of all routes
+abbrev pub IsReserved : Network → Type 0
+IsReserved network = (network.0 ≡ 0) ⊎ (4294967294 ≤ network.0)
+
+-- what a port's values are
+pub record IsPort (p : Port) : Type 0 where
+  pub longest : 576 ≤ p.longest
+  pub cost : 0 < p.cost
+  pub some_network : 0 < p.network.0
+  pub ordinary_network : p.network.0 < 4294967294
+  pub node : p.node ≢ broadcast
+
+-- why values are no port's, the first that holds
+abbrev pub IsNoPort : Network → Node → ℕ → ℕ → PortFault → Type 0
+IsNoPort network node cost longest Longest = longest < 576
+IsNoPort network node cost longest Cost = (576 ≤ longest) × (cost ≡ 0)
+IsNoPort network node cost longest BadNetwork = (576 ≤ longest) × (0 < cost) × IsReserved network
+IsNoPort network node cost longest BadNode = (576 ≤ longest) × (0 < cost) × (0 < network.0) × (network.0 < 4294967294) × (node ≡ broadcast)

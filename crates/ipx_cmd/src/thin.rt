@@ -1,0 +1,13 @@
+//! A thin router: it admits what it hears, tells it on, and answers requests for all routes.
+
+mod event;
+mod outbox;
+mod port;
+mod route;
+mod why;
+
+pub use self::event::{Event, Outcome};
+pub use self::outbox::{Outbox, Sent};
+pub use self::port::{Port, PortFault};
+pub use self::route::{Held, RouteOffer};
+pub use self::why::Why;
