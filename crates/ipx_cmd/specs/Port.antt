@@ -1,5 +1,5 @@
 -- A port of a router, as the definitions see it.
-use Rattle.std.specs.Prelude.{◌≡◌, ◌≢◌, ℕ, ◌<◌, ◌≤◌, ◌⊎◌, replicate}
+use Rattle.std.specs.Prelude.{◌≡◌, ◌≢◌, ℕ, ◌<◌, ◌≤◌, ◌⊎◌, List, replicate, slice_index_or}
 use Rattle.ipx_wire.specs.declared.address.Address.{Address}
 use Rattle.ipx_wire.specs.declared.network.Network.{Network}
 use Rattle.ipx_wire.specs.declared.node.Node.{Node}
@@ -35,3 +35,14 @@ IsNoPort network node cost longest Longest = longest < 576
 IsNoPort network node cost longest Cost = (576 ≤ longest) × (cost ≡ 0)
 IsNoPort network node cost longest BadNetwork = (576 ≤ longest) × (0 < cost) × IsReserved network
 IsNoPort network node cost longest BadNode = (576 ≤ longest) × (0 < cost) × (0 < network.0) × (network.0 < 4294967294) × (node ≡ broadcast)
+
+-- the port with exactly so many others before it
+abbrev pub port_at : List Port → ℕ → Port
+port_at ports number = slice_index_or ports number (record { network = record { 0 = 0 }; node = broadcast; cost = 0; longest = 0 })
+
+-- the address of a port's routing process, and that of all of them on its network
+abbrev pub own_address : Port → Address
+own_address port = record { network = port.network; node = port.node; socket = record { 0 = 1107 } }
+
+abbrev pub everyone : Port → Address
+everyone port = record { network = port.network; node = broadcast; socket = record { 0 = 1107 } }

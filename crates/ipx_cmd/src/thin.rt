@@ -1,9 +1,12 @@
 //! A thin router: it admits what it hears, tells it on, and answers requests for all routes.
 
 mod event;
+mod judge;
 mod outbox;
 mod port;
 mod route;
+mod send;
+mod told;
 mod why;
 
 pub use self::event::{Event, Outcome};

@@ -1,0 +1,7 @@
+use Rattle.std.proofs.Common.{◌≡◌, map, take}
+use Rattle.ipx_cmd.specs.Told.{put_entries, told_at, learned}
+use Rattle.ipx_cmd.proofs.thin.told.place_learned.Given as goal
+
+abbrev pub invariant-loop-route : goal.invariant-loop-route
+invariant-loop-route l =
+    l.entries.items ≡ put_entries l.initial.entries.items (map (told_at l.cost) (learned (take l.route-index l.routes) l.number))

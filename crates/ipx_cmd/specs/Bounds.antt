@@ -1,0 +1,18 @@
+-- How many packets an event can send, and how long they are.
+use Rattle.std.specs.Prelude.{ℕ, ◌+◌, ◌-◌, ◌*◌, max, List, length}
+use Rattle.ipx_cmd.specs.Pages.{sheets}
+
+-- what happens to a router, as the definitions see it
+pub data Happened : Type 0 where
+  Start : Happened
+  Packet : (port : ℕ) (bytes : List ℕ) → Happened
+
+-- the most packets that an event sends, of a router with so many ports, routes and services
+abbrev pub most_packets : ℕ → ℕ → ℕ → Happened → ℕ
+most_packets ports routes services Start = 3 * ports
+most_packets ports routes services (Packet port bytes) =
+    max ports (max (sheets 50 (routes + ports - 1)) (sheets 7 services))
+
+-- the most bytes of a packet of the router's own
+abbrev pub most_own_length : ℕ
+most_own_length = 480
