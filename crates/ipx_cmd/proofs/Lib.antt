@@ -1,3 +1,11 @@
+pub mod CommandLine
+pub mod HexWordLemmas
+pub mod Lengths
+pub mod Most
+pub mod NumberLemmas
 pub mod Paging
 pub mod Sendings
 pub mod Telling
+pub mod WordsLemmas
+pub mod WorkedLines
+pub mod WorkedTexts

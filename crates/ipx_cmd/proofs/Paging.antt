@@ -4,12 +4,12 @@ use Rattle.std.proofs.lemmas.Bool.{cases_lt, lt-ltb, le-ltb}
 use Rattle.ipx_cmd.specs.Pages.{pages_from, pages}
 
 -- one more item for a page with room
-room_left : {X : Type 0} (n : ℕ) (page : List X) (x : X) (xs : List X) → length page < n → pages_from n page (x ∷ xs) ≡ pages_from n (page ++ x ∷ []) xs
+pub room_left : {X : Type 0} (n : ℕ) (page : List X) (x : X) (xs : List X) → length page < n → pages_from n page (x ∷ xs) ≡ pages_from n (page ++ x ∷ []) xs
 room_left n [] x xs room = rw (lt-ltb 0 n room) refl
 room_left n (p ∷ page) x xs room = rw (lt-ltb (length (p ∷ page)) n room) refl
 
 -- one more item for a full page
-page_full : {X : Type 0} (n : ℕ) (p : X) (page : List X) (x : X) (xs : List X) → n ≤ length (p ∷ page) → pages_from n (p ∷ page) (x ∷ xs) ≡ (p ∷ page) ∷ pages_from n (x ∷ []) xs
+pub page_full : {X : Type 0} (n : ℕ) (p : X) (page : List X) (x : X) (xs : List X) → n ≤ length (p ∷ page) → pages_from n (p ∷ page) (x ∷ xs) ≡ (p ∷ page) ∷ pages_from n (x ∷ []) xs
 page_full n p page x xs full = rw (le-ltb (length (p ∷ page)) n full) refl
 
 begun : {X : Type 0} (n : ℕ) (p : X) (page : List X) → length (p ∷ page) ≤ n → (p ∷ page) ∷ [] ≡ take n (p ∷ page) ∷ pages n (drop n (p ∷ page))

@@ -1,7 +1,8 @@
-use Rattle.std.proofs.Common.{◌≡◌, ℕ, ◌+◌, ◌*◌, ◌<◌, ◌≤◌, List, [], ◌∷◌, ◌++◌, length, take, drop, map, refl, sym, ap, ◌∙◌, arith, subst, append_assoc, append-nil, lit<}
+use Rattle.std.proofs.Common.{◌≡◌, ℕ, ◌+◌, ◌*◌, ◌<◌, ◌≤◌, List, [], ◌∷◌, ◌++◌, length, take, drop, map, refl, sym, ap, ◌∙◌, arith, subst, append_assoc, append-nil, length-append, lit<}
 use Rattle.std.proofs.lemmas.List.{take_at}
 use Rattle.std.specs.List.{AllByRecursion}
 use Rattle.ipx_cmd.specs.Pages.{pages}
+use Rattle.ipx_cmd.specs.Router.{SendsAtMost}
 use Rattle.ipx_cmd.specs.Sent.{Sent, IsShortPacket, Sends, Grows}
 use Rattle.ipx_cmd.proofs.Paging.{pages-first}
 
@@ -77,3 +78,27 @@ sends_one old new s t same short gained = record {
 pub written : (bytes behind out : List ℕ) (n m : ℕ) → out ≡ bytes ++ behind → length bytes ≡ n → m ≡ n → take m out ≡ bytes
 written bytes behind out n m e size same =
     ap (λ (k : ℕ). take k out) same ∙ ap (take n) e ∙ take_at bytes behind n size
+
+-- at most one after the other
+pub at_most : {most : ℕ} {a b xs : List Sent} → Sends a b xs → length xs ≤ most → SendsAtMost most a b
+at_most {most} {a} {b} {xs} sent few = record { packets = xs; sent = sent; few = few }
+
+pub at_most_then : {m n : ℕ} {a b c : List Sent} → SendsAtMost m a b → SendsAtMost n b c → SendsAtMost (m + n) a c
+at_most_then {m} {n} {a} {b} {c} first second = record {
+    packets = first.packets ++ second.packets;
+    sent = sends_then first.sent second.sent;
+    few = (let l = first.few in let r = second.few in omega (arith, length-append first.packets second.packets, l, r));
+}
+
+pub at_most_grows : {m : ℕ} {a b : List Sent} → SendsAtMost m a b → Grows a b
+at_most_grows sent = sends_grows sent.sent
+
+pub at_most_grows_then : {m : ℕ} {a b c : List Sent} → SendsAtMost m a b → Grows b c → Grows a c
+at_most_grows_then first second = grows_then first.sent second
+
+pub at_most_weaker : {a b : List Sent} (m n : ℕ) → m ≤ n → SendsAtMost m a b → SendsAtMost n a b
+at_most_weaker {a} {b} m n less sent = record {
+    packets = sent.packets;
+    sent = sent.sent;
+    few = (let few = sent.few in omega (arith, few, less));
+}

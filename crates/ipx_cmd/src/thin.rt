@@ -2,9 +2,12 @@
 
 mod event;
 mod judge;
+mod learn;
+mod news;
 mod outbox;
 mod port;
 mod route;
+mod router;
 mod send;
 mod told;
 mod why;
@@ -12,5 +15,6 @@ mod why;
 pub use self::event::{Event, Outcome};
 pub use self::outbox::{Outbox, Sent};
 pub use self::port::{Port, PortFault};
+pub use self::router::{PortsFault, Router};
 pub use self::route::{Held, RouteOffer};
 pub use self::why::Why;

@@ -24,3 +24,6 @@ impl<T: Drop> From<AllocFailed<T>> for OutOfMemory {
         OutOfMemory
     }
 }
+
+#[cfg(test)]
+mod tests;

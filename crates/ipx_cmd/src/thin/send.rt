@@ -157,7 +157,7 @@ fn own_address(port: &Port) -> Address
     }
 }
 
-fn everyone(port: &Port) -> Address
+pub fn everyone(port: &Port) -> Address
     ensures { result ≡ everyone port.now }
 {
     Address {

@@ -12,7 +12,7 @@ use crate::thin::port::Port;
 use crate::thin::route::RouteOffer;
 
 /// How far an unreachable network is.
-const UNREACHABLE: u16 = 16;
+pub const UNREACHABLE: u16 = 16;
 
 /// All that is told on a port, by network.
 pub fn told(

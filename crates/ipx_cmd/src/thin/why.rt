@@ -28,7 +28,7 @@ pub enum Why {
 }
 
 impl Why {
-    ghost use Rattle.ipx_cmd.specs.Word.{why_word};
+    ghost use Rattle.ipx_cmd.specs.WhyWord.{why_word};
 
     /// The word of a `drop` line.
     pub fn word(self) -> &'static str
@@ -54,7 +54,7 @@ impl Why {
 }
 
 impl fmt::Display for Why {
-    ghost use Rattle.ipx_cmd.specs.Word.{why_word};
+    ghost use Rattle.ipx_cmd.specs.WhyWord.{why_word};
 
     ghost output = { λ why. Some (why_word why) };
 

@@ -1,0 +1,78 @@
+-- The thin router: its state, what happens to it, and what it makes of that.
+use Rattle.std.specs.Prelude.{◌≡◌, ℕ, ◌<◌, ◌≤◌, ◌==◌, Bool, true, false, nat_lt, if◌then◌else◌, List, [], ◌∷◌, length, take, Result, Ok, Err}
+use Rattle.std.specs.List.{list_any}
+use Rattle.ipx_wire.specs.declared.network.Network.{Network}
+use Rattle.ipx_wire.specs.declared.rip.Operation.{Operation}
+use Rattle.ipx_wire.specs.declared.rip.Operation.TheVariants.{Request, Response}
+use Rattle.ipx_cmd.specs.Bounds.{Happened, Start, Packet}
+use Rattle.ipx_cmd.specs.Port.{Port, port_at}
+use Rattle.ipx_cmd.specs.Sends.{asks_all, request_sends, start_sends}
+use Rattle.ipx_cmd.specs.Sent.{Sent, Sends}
+use Rattle.ipx_cmd.specs.Why.{judged}
+use Rattle.ipx_cmd.specs.declared.thin.event.Event.{Event}
+use Rattle.ipx_cmd.specs.declared.thin.event.Event.TheVariants.{Start as StartEvent, Packet as PacketEvent}
+use Rattle.ipx_cmd.specs.declared.thin.event.Outcome.{Outcome}
+use Rattle.ipx_cmd.specs.declared.thin.event.Outcome.TheVariants.{Started, AlreadyRunning, Learned, Answered, Dropped}
+use Rattle.ipx_cmd.specs.declared.thin.judge.Message.{Message}
+use Rattle.ipx_cmd.specs.declared.thin.router.PortsFault.{PortsFault}
+use Rattle.ipx_cmd.specs.declared.thin.router.PortsFault.TheVariants.{NoPort, TooMany, SameNetwork}
+use Rattle.ipx_cmd.specs.declared.thin.route.RouteOffer.{RouteOffer}
+use Rattle.ipx_cmd.specs.declared.thin.why.Why.{Why}
+
+-- ports by number, routes by network, and whether it runs
+pub record State : Type 0 where
+  pub ports : List Port
+  pub routes : List RouteOffer
+  pub running : Bool
+
+-- the event without its slices
+abbrev pub happened : Event → Happened
+happened StartEvent = Start
+happened (PacketEvent port bytes) = Packet port bytes.now
+
+-- the event is on a port that the router has
+abbrev pub IsOnPort : ℕ → Happened → Type 0
+IsOnPort ports Start = Unit {0}
+IsOnPort ports (Packet port bytes) = port < ports
+
+-- some port before the place has the network of the port there
+abbrev pub is_again : List Port → ℕ → Bool
+is_again ports place = list_any (λ p. p.network.0 == (port_at ports place).network.0) (take place ports)
+
+-- what is made of a message
+abbrev pub outcome_heard : Result Message Why → Outcome
+outcome_heard (Err why) = Dropped why
+outcome_heard (Ok message) = elim message.rip.operation [ Request ↦ Answered | Response ↦ Learned ]
+
+-- what is made of an event
+abbrev pub outcome : State → Happened → Outcome
+outcome state Start = if state.running then AlreadyRunning else Started
+outcome state (Packet port bytes) = outcome_heard (judged state.ports state.running port bytes)
+
+-- the packets that answer a message, but for what a response changes
+abbrev pub answers : State → ℕ → Result Message Why → List Sent
+answers state port (Err why) = []
+answers state port (Ok message) =
+    if asks_all message.rip.entries then request_sends state.ports state.routes port message.source else []
+
+-- the packets that an event sends, but for what a response changes
+abbrev pub sends : State → Happened → List Sent
+sends state Start = if state.running then [] else start_sends state.ports
+sends state (Packet port bytes) = answers state port (judged state.ports state.running port bytes)
+
+-- the event is a response that is taken
+abbrev pub IsResponse : State → Happened → Type 0
+IsResponse state happened = outcome state happened ≡ Learned
+
+-- the outbox has gained at most so many short packets
+pub record SendsAtMost (most : ℕ) (old new : List Sent) : Type 0 where
+  pub packets : List Sent
+  pub sent : Sends old new packets
+  pub few : length packets ≤ most
+
+-- why ports make no router of so many at most, the first that holds
+abbrev pub IsNoRouter : ℕ → List Port → PortsFault → Type 0
+IsNoRouter most ports NoPort = ports ≡ []
+IsNoRouter most ports TooMany = most < length ports
+IsNoRouter most ports SameNetwork =
+    (1 ≤ length ports) × (length ports ≤ most) × ((place : ℕ) × (place < length ports) × (is_again ports place ≡ true))

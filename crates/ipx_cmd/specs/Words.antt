@@ -1,0 +1,70 @@
+use Rattle.std.specs.Prelude.{ℕ, Bool, ◌==◌, ◌&&◌, ◌||◌, nat_le, if◌then◌else◌, List, [], ◌∷◌, length, Option, Some, None, codes, filter, not, option_map}
+use Rattle.std.specs.Int.{from_be_bytes, w32}
+use Rattle.std.specs.List.{list_all, slice_split}
+use Rattle.std.specs.Char.{is_ascii_digit}
+use Rattle.std.specs.Str.{bytes_eq}
+use Rattle.std.specs.Str.Parse.{digits_value}
+use Rattle.std.specs.Result.{result_ok}
+use Rattle.hex.specs.Hex.{decode_of}
+
+-- a space or a tab, which stand between words
+abbrev pub is_blank : ℕ → Bool
+is_blank byte = (byte == 32) || (byte == 9)
+
+-- a byte that a line may have: a tab, or a printable character of ASCII
+abbrev pub is_text_byte : ℕ → Bool
+is_text_byte byte = (byte == 9) || (nat_le 32 byte && nat_le byte 126)
+
+-- the words of a line: what stands between its blanks, the empty parts left out
+abbrev pub words : List ℕ → List (List ℕ)
+words line = filter (λ part. not (length part == 0)) (slice_split is_blank line)
+
+-- the one item of a list that has no other
+abbrev pub only_one : {X : Type 0} → List X → Option X
+only_one [] = None
+only_one (a ∷ []) = Some a
+only_one (a ∷ b ∷ more) = None
+
+-- the items of a list of just two
+abbrev pub only_two : {X : Type 0} → List X → Option (X × X)
+only_two [] = None
+only_two (a ∷ []) = None
+only_two (a ∷ b ∷ []) = Some (a, b)
+only_two (a ∷ b ∷ c ∷ more) = None
+
+-- the items of a list of just four
+abbrev pub only_four : {X : Type 0} → List X → Option (X × X × X × X)
+only_four [] = None
+only_four (a ∷ []) = None
+only_four (a ∷ b ∷ []) = None
+only_four (a ∷ b ∷ c ∷ []) = None
+only_four (a ∷ b ∷ c ∷ d ∷ []) = Some (a, b, c, d)
+only_four (a ∷ b ∷ c ∷ d ∷ e ∷ more) = None
+
+-- one to seven decimal digits
+abbrev pub is_numeral : List ℕ → Bool
+is_numeral word = nat_le 1 (length word) && nat_le (length word) 7 && list_all is_ascii_digit word
+
+-- the number that a word names, where it is at most this
+abbrev pub number_of : ℕ → List ℕ → Option ℕ
+number_of most word =
+    if is_numeral word && nat_le (digits_value 10 word) most then Some (digits_value 10 word) else None
+
+-- the bytes that a word of just so many hexadecimal digits names
+abbrev pub digits_of_hex : ℕ → List ℕ → Option (List ℕ)
+digits_of_hex count word = if length word == count then result_ok (decode_of word) else None
+
+-- the network that a word names: eight hexadecimal digits
+abbrev pub network_of : List ℕ → Option ℕ
+network_of word = option_map (from_be_bytes w32) (digits_of_hex 8 word)
+
+-- the node that a word names: twelve hexadecimal digits
+abbrev pub node_of : List ℕ → Option (List ℕ)
+node_of word = digits_of_hex 12 word
+
+-- the bytes that a word names: `-` for none, else two hexadecimal digits or more, two a byte
+abbrev pub bytes_of : List ℕ → Option (List ℕ)
+bytes_of word =
+    if bytes_eq word (codes "-") then Some []
+    else if length word == 0 then None
+    else result_ok (decode_of word)

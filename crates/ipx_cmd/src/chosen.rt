@@ -1,0 +1,104 @@
+//! What the words after the program's name ask for.
+
+ghost use Rattle.std.specs.Prelude.{◌≡◌, ◌↔◌, ℕ, List, Option, IfOk, codes, map, option_map, string_bytes};
+ghost use Rattle.clap.specs.Words.{app_of, first_value, found_of, kind_of};
+ghost use Rattle.clap.specs.declared.error.kind.ErrorKind.TheVariants.{OutOfMemory};
+ghost use Rattle.ipx_cmd.specs.Chosen.{IsReplay, Replays, command_line};
+ghost use Rattle.ipx_cmd.specs.declared.chosen.ChooseFault.TheVariants.{Memory};
+ghost use Rattle.ipx_cmd.specs.declared.chosen.Run.TheVariants.{Replay};
+
+use clap::error::ErrorKind;
+use clap::{Arg, ArgMatches, Command, Error as Refusal};
+use std::alloc::{AllocError, Global};
+use thiserror::Error;
+
+/// What the program can run.
+#[derive(Clone, Copy, Debug, PartialEq, Eq)]
+pub enum Run {
+    /// Plays a script on one router.
+    Replay,
+    /// Plays a script on an internet of routers.
+    Internet,
+    /// Shows the packets of a capture.
+    Decode,
+}
+
+/// What the words ask for: what to run, and the file to read in place of standard input, as its name was written.
+#[derive(Debug, Drop)]
+pub struct Chosen {
+    pub run: Run,
+    pub file: Option<String>,
+}
+
+/// Why the words lead to no run.
+#[derive(Clone, Copy, Debug, PartialEq, Eq, Error)]
+pub enum ChooseFault {
+    /// They are no command of the program's. A request for help or a version is none either.
+    #[error("usage")]
+    Usage,
+    /// No memory was left.
+    #[error("memory")]
+    Memory,
+}
+
+impl From<AllocError> for ChooseFault {
+    ghost from_gives = { λ _ fault. fault ≡ Memory };
+
+    fn from(_refused: AllocError) -> ChooseFault {
+        ChooseFault::Memory
+    }
+}
+
+/// Reads the words after the program's name: `replay [FILE]`.
+///
+/// A FILE that begins with `-` stands after the word `--`, unless it is `-` alone.
+pub fn choose(alloc: Global, words: &[&str]) -> Result<Chosen, ChooseFault>
+    ensures run { IfOk result (λ chosen. chosen.run ≡ Replay) }
+    ensures replay { (file : Option (List ℕ)) → IsReplay (map (λ word. word.now) words.now) file → Replays file result }
+{
+    let matches = match command(alloc)?.try_get_matches_from(words) {
+        Ok(matches) => matches,
+        Err(refusal) => return Err(fault_of(&refusal)),
+    };
+    let Some((_verb, inner)) = matches.subcommand() else {
+        return Err(ChooseFault::Usage);
+    };
+    let file = file_in(alloc, inner)?;
+    Ok(Chosen {
+        run: Run::Replay,
+        file,
+    })
+}
+
+/// The program's command line.
+fn command<'a>(alloc: Global) -> Result<Command<'a>, AllocError>
+    ensures { IfOk result (λ command. app_of command ≡ command_line) }
+{
+    let replay = Command::new(alloc, "replay").arg(Arg::new(alloc, "file"))?;
+    Command::new(alloc, "ipxr")
+        .no_binary_name(true)
+        .subcommand_required(true)
+        .subcommand(replay)
+}
+
+fn fault_of(refusal: &Refusal) -> ChooseFault
+    ensures { (result ≡ Memory) ↔ (kind_of refusal.now ≡ OutOfMemory) }
+{
+    match refusal.kind() {
+        ErrorKind::OutOfMemory => ChooseFault::Memory,
+        _ => ChooseFault::Usage,
+    }
+}
+
+/// The name of the file that a command was given, if it was given one.
+fn file_in(alloc: Global, matches: &ArgMatches<'_>) -> Result<Option<String>, AllocError>
+    ensures { IfOk result (λ file. option_map string_bytes file ≡ first_value (found_of matches.now) (codes "file")) }
+{
+    match matches.get_str("file") {
+        Some(name) => Ok(Some(String::from_str(alloc, name)?)),
+        None => Ok(None),
+    }
+}
+
+#[cfg(test)]
+mod tests;

@@ -1,0 +1,28 @@
+use super::{Ended, RunFault, status};
+use ipx_wire::OutOfMemory;
+use std::alloc::AllocError;
+use std::test::Fail;
+
+#[test]
+fn tells_each_end(rt: HostRuntime) {
+    assert_eq!(rt; status(&Ok(Ended::Done)), 0);
+    assert_eq!(rt; status(&Ok(Ended::BadInput)), 2);
+    assert_eq!(rt; status(&Err(RunFault::Read)), 1);
+    assert_eq!(rt; status(&Err(RunFault::Write)), 1);
+    assert_eq!(rt; status(&Err(RunFault::Memory)), 3);
+}
+
+#[test]
+fn names_each_fault(rt: HostRuntime) -> Result<(), Fail> {
+    let faults = [
+        (RunFault::Read, "read"),
+        (RunFault::Write, "write"),
+        (RunFault::from(OutOfMemory), "memory"),
+        (RunFault::from(AllocError), "memory"),
+    ];
+    for (fault, name) in faults {
+        let text = format!(in rt.alloc(); "{fault}")?;
+        assert_eq!(rt; text.as_str(), name);
+    }
+    Ok(())
+}

@@ -1,0 +1,88 @@
+//! What a response adds to the table: each offer that is up, of an ordinary network that no port
+//! has and that isn't held, while there is room.
+ghost use Rattle.std.specs.Prelude.{◌≡◌, ◌+◌, ◌<◌, ◌≤◌, length, IfOk, OnOk, OnErr};
+
+use ipx_wire::{Network, Node, OutOfMemory, RipEntry};
+use std::alloc::Global;
+
+use crate::thin::judge::Message;
+use crate::thin::port::Port;
+use crate::thin::route::RouteOffer;
+use crate::thin::told::UNREACHABLE;
+
+/// The table after a response, and the offers that it gained.
+#[derive(Debug, Drop)]
+pub struct Taught {
+    pub routes: Vec<RouteOffer>,
+    pub gained: Vec<RouteOffer>,
+}
+
+/// The table with the offers of a response that it takes.
+pub fn teach(
+    alloc: Global,
+    ports: &[Port],
+    routes: &[RouteOffer],
+    capacity: usize,
+    number: u8,
+    message: &Message<'_>,
+) -> Result<Taught, OutOfMemory>
+    requires room { length routes.now ≤ capacity }
+    requires few { length message.now.rip.entries ≤ 50 }
+    ensures capacity { IfOk result (λ t. length t.routes.items ≤ capacity) }
+    ensures few { IfOk result (λ t. length t.gained.items ≤ 50) }
+{
+    let mut taught = Taught {
+        routes: Vec::from_slice(alloc, routes)?,
+        gained: Vec::new(alloc),
+    };
+    for entry in message.rip.entries() {
+        let offer = offer_of(number, message.source.node, entry);
+        if taught.routes.len() < capacity && is_taken(ports, &taught.routes, &offer) {
+            take(&mut taught, offer)?;
+        }
+    }
+    Ok(taught)
+}
+
+fn offer_of(number: u8, node: Node, entry: RipEntry) -> RouteOffer
+    ensures { result ≡ record { network = entry.network; hops = entry.hops; ticks = entry.ticks; port = number; node = node } }
+{
+    RouteOffer {
+        network: entry.network,
+        hops: entry.hops,
+        ticks: entry.ticks,
+        port: number,
+        node,
+    }
+}
+
+/// Whether the table takes the offer where it has room.
+fn is_taken(ports: &[Port], routes: &[RouteOffer], offer: &RouteOffer) -> bool {
+    offer.hops < UNREACHABLE
+        && offer.network != Network(0)
+        && offer.network != Network::ALL_ROUTES
+        && !ports.iter().any(|port| port.network() == offer.network)
+        && !routes.iter().any(|route| route.network == offer.network)
+}
+
+fn take(taught: &mut Taught, offer: RouteOffer) -> Result<(), OutOfMemory>
+    ensures routes { OnOk result (length taught.new.routes.items ≡ length taught.old.routes.items + 1) }
+    ensures gained { OnOk result (length taught.new.gained.items ≡ length taught.old.gained.items + 1) }
+{
+    let place = place_of(&taught.routes, offer.network);
+    taught.routes.insert(place, offer)?;
+    taught.gained.push(offer)?;
+    Ok(())
+}
+
+/// Where the first route of a greater network stands.
+fn place_of(routes: &[RouteOffer], network: Network) -> usize
+    ensures { result ≤ length routes.now }
+{
+    for (index, route) in routes.iter().enumerate() {
+        if network < route.network {
+            return index;
+        }
+    }
+    routes.len()
+}

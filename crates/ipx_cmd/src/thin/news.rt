@@ -1,0 +1,75 @@
+//! What a response added, told at once on each port but that on which it came.
+ghost use Rattle.std.specs.Prelude.{◌≡◌, ◌<◌, ◌≤◌, length, IfOk, OnOk, OnErr};
+ghost use Rattle.ipx_cmd.specs.Router.{SendsAtMost};
+ghost use Rattle.ipx_cmd.specs.Sent.{Grows};
+
+use ipx_wire::{Operation, OutOfMemory, RipEntry};
+use std::alloc::Global;
+
+use crate::thin::judge::port_of;
+use crate::thin::outbox::Outbox;
+use crate::thin::port::Port;
+use crate::thin::route::RouteOffer;
+use crate::thin::send::{everyone, send_pages};
+use crate::thin::told::{UNREACHABLE, dead, entry_of, place, told_at};
+
+/// Tells the routes gained on port `number` on all the others, one packet each.
+pub fn tell_gained(
+    alloc: Global,
+    outbox: &mut Outbox,
+    ports: &[Port],
+    number: u8,
+    gained: &[RouteOffer],
+) -> Result<(), OutOfMemory>
+    requires ports { length ports.now ≤ 32 }
+    requires few { length gained.now ≤ 50 }
+    ensures ok { OnOk result (SendsAtMost (length ports.now) outbox.old outbox.new) }
+    ensures err { OnErr result (Grows outbox.old outbox.new) }
+{
+    for other in 0..ports.len() {
+        tell_gained_on(alloc, outbox, ports, number, other as u8, gained)?;
+    }
+    Ok(())
+}
+
+fn tell_gained_on(
+    alloc: Global,
+    outbox: &mut Outbox,
+    ports: &[Port],
+    number: u8,
+    other: u8,
+    gained: &[RouteOffer],
+) -> Result<(), OutOfMemory>
+    requires port { other < length ports.now }
+    requires few { length gained.now ≤ 50 }
+    ensures ok { OnOk result (SendsAtMost 1 outbox.old outbox.new) }
+    ensures err { OnErr result (Grows outbox.old outbox.new) }
+{
+    if other == number {
+        return Ok(());
+    }
+    let port = port_of(ports, usize::from(other));
+    let entries = news(alloc, port.cost(), gained)?;
+    let to = everyone(&port);
+    send_pages(outbox, ports, other, to, Operation::Response, &entries)
+}
+
+/// The routes as a port of that cost tells them, by network.
+fn news(alloc: Global, cost: u16, gained: &[RouteOffer]) -> Result<Vec<RipEntry>, OutOfMemory>
+    ensures { IfOk result (λ v. length v.items ≡ length gained.now) }
+{
+    let mut entries = Vec::new(alloc);
+    for route in gained {
+        place(&mut entries, news_of(cost, route))?;
+    }
+    Ok(entries)
+}
+
+/// The route as a port of that cost tells it: dead where its next hop isn't reached.
+fn news_of(cost: u16, route: &RouteOffer) -> RipEntry {
+    if route.hops < UNREACHABLE - 1 {
+        told_at(cost, entry_of(route))
+    } else {
+        dead(entry_of(route))
+    }
+}
