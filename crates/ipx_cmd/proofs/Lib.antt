@@ -9,3 +9,4 @@ pub mod Telling
 pub mod WordsLemmas
 pub mod WorkedLines
 pub mod WorkedTexts
+pub mod Written
