@@ -9,7 +9,7 @@ use Rattle.ipx_cmd.specs.declared.thin.route.RouteOffer.{RouteOffer}
 use Rattle.ipx_wire.specs.declared.address.Address.{Address}
 use Rattle.ipx_wire.specs.declared.rip.Operation.TheVariants.{Request, Response}
 use Rattle.ipx_cmd.specs.Port.{everyone}
-use Rattle.ipx_cmd.specs.Sends.{all_routes, page_sent, request_sends, rip_broadcast, services_query, start_on, start_sends}
+use Rattle.ipx_cmd.specs.Sends.{all_routes, page_sent, tells, rip_broadcast, services_query, start_on, start_sends}
 use Rattle.std.proofs.lemmas.List.Concat.{flat_map-append}
 use Rattle.std.proofs.lemmas.List.{length-map}
 use Rattle.ipx_cmd.proofs.Paging.{room_left, page_full}
@@ -93,21 +93,21 @@ pages_counted (p ∷ page) (x ∷ xs) few =
 pub length-pages : {X : Type 0} (xs : List X) → length (pages 50 xs) ≡ sheets 50 (length xs)
 length-pages xs = pages_counted [] xs (omega arith) ∙ (omega arith)
 
--- an answer to a request for all routes
-pub length-request : (ports : List Port) (routes : List RouteOffer) (number : ℕ) (asker : Address) → number < length ports
-    → length (request_sends ports routes number asker) ≤ sheets 50 (length routes + length ports - 1)
-length-request ports routes number asker below =
+-- what is told to an address
+pub length-tells : (ports : List Port) (routes : List RouteOffer) (number : ℕ) (asker : Address) → number < length ports
+    → length (tells ports routes number asker) ≤ sheets 50 (length routes + length ports - 1)
+length-tells ports routes number asker below =
     omega (arith, length-map (pages 50 (told ports routes number)) (page_sent ports number asker Response),
         length-pages (told ports routes number), length-told ports routes number below)
 
 -- the packets of a start on one port
 length-start_on : (ports : List Port) (number : ℕ) → number < length ports → length ports ≤ 32 → length (start_on ports number) ≤ 3
 length-start_on ports number below few =
-    let all = request_sends ports [] number (everyone (port_at ports number)) in
+    let all = tells ports [] number (everyone (port_at ports number)) in
     let asked = rip_broadcast ports number Request (all_routes ∷ []) in
     let one : length asked ≡ 1 = refl in
     let query : length (services_query ports number) ≡ 1 = refl in
-    omega (arith, length-append (all ++ asked) (services_query ports number), length-append all asked, length-request ports [] number (everyone (port_at ports number)) below, one, query)
+    omega (arith, length-append (all ++ asked) (services_query ports number), length-append all asked, length-tells ports [] number (everyone (port_at ports number)) below, one, query)
 
 each_three : (ports : List Port) (n : ℕ) → n ≤ length ports → length ports ≤ 32 → length (flat_map (start_on ports) (numbers n)) ≤ 3 * n
 each_three ports zero within few = omega arith

@@ -3,10 +3,10 @@ use Rattle.ipx_wire.specs.declared.address.Address.{Address}
 use Rattle.ipx_cmd.specs.Pages.{sheets}
 use Rattle.ipx_cmd.specs.Port.{Port}
 use Rattle.ipx_cmd.specs.Router.{SendsAtMost}
-use Rattle.ipx_cmd.specs.Sends.{request_sends, start_sends}
+use Rattle.ipx_cmd.specs.Sends.{tells, start_sends}
 use Rattle.ipx_cmd.specs.Sent.{Sent, Sends}
 use Rattle.ipx_cmd.specs.declared.thin.route.RouteOffer.{RouteOffer}
-use Rattle.ipx_cmd.proofs.Lengths.{length-start, length-request}
+use Rattle.ipx_cmd.proofs.Lengths.{length-start, length-tells}
 use Rattle.ipx_cmd.proofs.Sendings.{at_most, at_most_weaker}
 
 -- the packets of a start are within the stated number
@@ -17,11 +17,11 @@ start_most ports lent old new same few sent =
 
 -- the packets of an answer are within the stated number
 pub request_most : (ports lent : List Port) (routes held : List RouteOffer) (number : ℕ) (asker : Address) (old new : List Sent) → lent ≡ ports → held ≡ routes
-    → number < length lent → Sends old new (request_sends lent held number asker)
+    → number < length lent → Sends old new (tells lent held number asker)
     → SendsAtMost (max (length ports) (max (sheets 50 (length routes + length ports - 1)) 0)) old new
 request_most ports lent routes held number asker old new same held_same below sent =
     let ports_count : length lent ≡ length ports = ap length same in
     let routes_count : length held ≡ length routes = ap length held_same in
-    let few = length-request lent held number asker below in
+    let few = length-tells lent held number asker below in
     at_most_weaker (sheets 50 (length held + length lent - 1)) (max (length ports) (max (sheets 50 (length routes + length ports - 1)) 0))
         (omega arith) (at_most sent few)

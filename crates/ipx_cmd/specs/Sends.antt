@@ -58,6 +58,14 @@ start_on ports number =
 abbrev pub start_sends : List Port → List Sent
 start_sends ports = flat_map (start_on ports) (ports_up ports)
 
+-- all that is told on a port, to an address
+abbrev pub tells : List Port → List RouteOffer → ℕ → Address → List Sent
+tells ports routes number to = rip_sends ports number to Response (told ports routes number)
+
+-- where an asker is answered: its node and socket, on the port's own network
+abbrev pub reply_to : Port → Address → Address
+reply_to port source = record { network = port.network; node = source.node; socket = source.socket }
+
 -- the answer to a request for all routes, to the asker alone
 abbrev pub request_sends : List Port → List RouteOffer → ℕ → Address → List Sent
-request_sends ports routes number asker = rip_sends ports number asker Response (told ports routes number)
+request_sends ports routes number source = tells ports routes number (reply_to (port_at ports number) source)

@@ -17,7 +17,7 @@ use crate::thin::news::tell_gained;
 use crate::thin::outbox::Outbox;
 use crate::thin::port::Port;
 use crate::thin::route::{Held, RouteOffer};
-use crate::thin::send::{send_start, tell};
+use crate::thin::send::{reply_to, send_start, tell};
 
 /// Why ports make no router, the first that holds.
 #[derive(Clone, Copy, Debug, PartialEq, Eq, Hash, Error)]
@@ -205,7 +205,8 @@ impl<const P: usize, const R: usize> Router<P, R> {
         if !asks_all(message) {
             return Ok(Outcome::Answered);
         }
-        tell(self.alloc, outbox, &self.ports, &self.routes, port, message.source)?;
+        let to = reply_to(&port_of(&self.ports, usize::from(port)), message.source);
+        tell(self.alloc, outbox, &self.ports, &self.routes, port, to)?;
         Ok(Outcome::Answered)
     }
 

@@ -2,7 +2,7 @@
 ghost use Rattle.std.specs.Prelude.{◌≡◌, ◌<◌, ◌≤◌, [], ◌∷◌, length, OnOk, OnErr};
 ghost use Rattle.ipx_wire.specs.declared.rip.Operation.TheVariants.{Request, Response};
 ghost use Rattle.ipx_cmd.specs.Port.{port_at, own_address, everyone};
-ghost use Rattle.ipx_cmd.specs.Sends.{all_routes, at_socket, page_sent, request_sends, rip_broadcast, rip_sends, services_query, start_on, start_sends};
+ghost use Rattle.ipx_cmd.specs.Sends.{all_routes, at_socket, page_sent, reply_to, rip_broadcast, rip_sends, services_query, start_on, start_sends, tells};
 ghost use Rattle.ipx_cmd.specs.Sent.{Grows, Sends};
 ghost use Rattle.ipx_cmd.specs.Told.{told};
 
@@ -29,7 +29,7 @@ pub fn tell(
     to: Address,
 ) -> Result<(), OutOfMemory>
     requires { number < length ports.now }
-    ensures ok { OnOk result (Sends outbox.old outbox.new (request_sends ports.now routes.now number to)) }
+    ensures ok { OnOk result (Sends outbox.old outbox.new (tells ports.now routes.now number to)) }
     ensures err { OnErr result (Grows outbox.old outbox.new) }
 {
     let entries = told(alloc, ports, routes, usize::from(number))?;
@@ -164,6 +164,16 @@ pub fn everyone(port: &Port) -> Address
         network: port.network(),
         node: Node::BROADCAST,
         socket: Socket::RIP,
+    }
+}
+
+/// Where an asker is answered: its node and socket, on the port's own network.
+pub fn reply_to(port: &Port, source: Address) -> Address
+    ensures { result ≡ reply_to port.now source }
+{
+    Address {
+        network: port.network(),
+        ..source
     }
 }
 
