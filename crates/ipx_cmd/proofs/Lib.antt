@@ -8,5 +8,6 @@ pub mod Sendings
 pub mod Telling
 pub mod WordsLemmas
 pub mod WorkedLines
+pub mod WorkedSends
 pub mod WorkedTexts
 pub mod Written
