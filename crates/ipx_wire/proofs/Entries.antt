@@ -1,12 +1,11 @@
-use Rattle.std.proofs.Common.{◌≡◌, ℕ, zero, suc, ◌+◌, ◌-◌, ◌*◌, ◌≤◌, ◌<◌, ◌^◌, List, [], ◌∷◌, ◌++◌, length, take, drop, slice_get, Some, refl, sym, ap, ◌∙◌, arith, subst, append_assoc, length-append, length-drop, take-add}
-use Rattle.std.proofs.lemmas.List.{take_at, drop_at, drop-drop, get_or-drop}
+use Rattle.std.proofs.Common.{◌≡◌, ℕ, zero, suc, ◌+◌, ◌-◌, ◌*◌, ◌≤◌, ◌<◌, List, [], ◌∷◌, ◌++◌, length, take, drop, slice_get, Some, refl, sym, ap, ◌∙◌, arith, append_assoc, length-append, length-drop, take-add}
+use Rattle.std.proofs.lemmas.List.{drop_at, drop-drop, get_or-drop}
 use Rattle.std.proofs.lemmas.Nat.{from_be_bytes-to_be_bytes_2, from_be_bytes-to_be_bytes_4}
-use Rattle.std.specs.Int.{to_be_bytes, from_be_bytes, w16, w32}
 use Rattle.std.specs.List.{flat_map, AllByRecursion}
-use Rattle.ipx_wire.specs.Piece.{piece, IsBytes}
+use Rattle.ipx_wire.specs.Piece.{IsBytes}
 use Rattle.ipx_wire.specs.Rip.{IsEntry, entry_bytes, entry_at, entries_at}
 use Rattle.ipx_wire.specs.declared.rip.RipEntry.{RipEntry}
-use Rattle.ipx_wire.proofs.Pieces.{glue, bytes_16, bytes_32, range_16, range_32, piece-piece}
+use Rattle.ipx_wire.proofs.Pieces.{glue, bytes_16, bytes_32, range_16, range_32}
 
 -- an entry is eight bytes
 pub length-entry_bytes : (e : RipEntry) → length (entry_bytes e) ≡ 8
@@ -24,15 +23,16 @@ pub entry_back : (bytes : List ℕ) → IsBytes bytes → 8 ≤ length bytes →
 unfolding entry_bytes entry_at
 entry_back bytes are room =
     glue _ _ bytes 0 6 6 2 refl
-        (glue _ _ bytes 0 4 4 2 refl (bytes_32 bytes 0 are (omega arith)) (bytes_16 bytes 4 are (omega arith)))
-        (bytes_16 bytes 6 are (omega arith))
+    (glue _ _ bytes 0 4 4 2 refl (bytes_32 bytes 0 are (omega arith)) (bytes_16 bytes 4 are (omega arith)))
+    (bytes_16 bytes 6 are (omega arith))
 
+-- what is read as an entry has numbers of their widths
 entry_ranges : (bytes : List ℕ) → IsBytes bytes → 8 ≤ length bytes → IsEntry (entry_at bytes 0)
 unfolding entry_at
 entry_ranges bytes are room = record {
-    network = range_32 bytes 0 are (omega arith);
-    hops = range_16 bytes 4 are (omega arith);
-    ticks = range_16 bytes 6 are (omega arith);
+  network = range_32 bytes 0 are (omega arith);
+  hops = range_16 bytes 4 are (omega arith);
+  ticks = range_16 bytes 6 are (omega arith);
 }
 
 -- an entry further on
@@ -64,6 +64,7 @@ entries_back (suc n) bytes are room =
     ∙ sym (take-add 8 (8 * n) bytes)
     ∙ ap (λ (k : ℕ). take k bytes) (sym whole)
 
+-- so have all entries that are read
 pub entries_ranges : (n : ℕ) (bytes : List ℕ) → IsBytes bytes → 8 * n ≤ length bytes → AllByRecursion IsEntry (entries_at n bytes)
 unfolding entries_at
 entries_ranges zero bytes are room = tt
@@ -101,6 +102,7 @@ pub entries_at-none : (n : ℕ) (bytes : List ℕ) → n ≡ 0 → entries_at n 
 unfolding entries_at
 entries_at-none n bytes e = rw e refl
 
+-- the first entry and those behind it
 pub entries_at-first : (n : ℕ) (bytes : List ℕ) → 0 < n → entries_at n bytes ≡ entry_at bytes 0 ∷ entries_at (n - 1) (drop 8 bytes)
 unfolding entries_at
 entries_at-first zero bytes some = absurd (omega arith)

@@ -4,6 +4,8 @@ pub mod HexText
 pub mod Packets
 pub mod Pieces
 pub mod Puts
+pub mod Readings
 pub mod Rips
 pub mod Written
 pub mod Yields
+pub mod examples

@@ -1,7 +1,6 @@
-use Rattle.std.proofs.Common.{◌≡◌, ℕ, ◌+◌, ◌-◌, ◌≤◌, ◌<◌, List, [], ◌∷◌, ◌++◌, length, take, drop, refl, sym, ap, ◌∙◌, arith, subst, append_assoc, length-append, length-drop, length-take, take-take, inl, inr, Ok, Err, Result, nat_lt, ◌↔◌}
+use Rattle.std.proofs.Common.{append-nil, ◌≡◌, ℕ, ◌+◌, ◌≤◌, ◌<◌, List, [], ◌++◌, length, take, drop, refl, sym, ap, ◌∙◌, arith, subst, append_assoc, length-append, length-drop, length-take, take-take, Ok, Err, Result}
 use Rattle.std.proofs.lemmas.List.{take_at, drop_at, take-append-drop}
-use Rattle.std.proofs.lemmas.Bool.{cases_lt, lt-ltb, le-ltb}
-use Rattle.std.specs.Int.{to_be_bytes, from_be_bytes, w16, w32}
+use Rattle.std.proofs.lemmas.Bool.{lt-ltb, le-ltb}
 use Rattle.ipx_wire.specs.Piece.{IsBytes}
 use Rattle.ipx_wire.specs.Header.{IsHeader, header_bytes, header_at, length_field}
 use Rattle.ipx_wire.specs.Kept.{IsKept}
@@ -34,7 +33,7 @@ is_packet bytes are counts =
     let n = length_field bytes in
     let inner : take 30 bytes ≡ take 30 (take n bytes) = sym (take-take 30 n bytes long) in
     let front : header_bytes (header_at bytes) ++ drop 30 (take n bytes) ≡ take n bytes =
-        ap (λ (x : List ℕ). x ++ drop 30 (take n bytes)) (header_back bytes are enough ∙ inner) ∙ take-append-drop 30 (take n bytes) in
+    ap (λ (x : List ℕ). x ++ drop 30 (take n bytes)) (header_back bytes are enough ∙ inner) ∙ take-append-drop 30 (take n bytes) in
     record {
       header = header_ranges bytes are enough;
       padding = drop n bytes;
@@ -42,11 +41,13 @@ is_packet bytes are counts =
       counted = field_of_header bytes ∙ (let e : n ≡ 30 + length (drop 30 (take n bytes)) = omega (arith, length-drop 30 (take n bytes), length-take n bytes) in e);
     }
 
+-- a packet's header is what its places say
 header_is : (bytes : List ℕ) (p : Parts) → IsPacket bytes p → header_at bytes ≡ p.header
 header_is bytes p is =
     ap header_at (is.layout ∙ append_assoc (header_bytes p.header) p.payload is.padding)
     ∙ header_again p.header (p.payload ++ is.padding) is.header
 
+-- a packet's length stands in its place
 field_is : (bytes : List ℕ) (p : Parts) → IsPacket bytes p → length_field bytes ≡ p.header.length
 field_is bytes p is = sym (field_of_header bytes) ∙ ap (λ (h : Header). h.length) (header_is bytes p is)
 
@@ -57,9 +58,9 @@ packet_counts bytes p is =
     let field = field_is bytes p is in
     let counted = is.counted in
     let all : length bytes ≡ 30 + length p.payload + length is.padding =
-        ap length is.layout
-        ∙ (let e : length (header_bytes p.header ++ p.payload ++ is.padding) ≡ 30 + length p.payload + length is.padding =
-              omega (arith, length-append (header_bytes p.header ++ p.payload) is.padding, length-append (header_bytes p.header) p.payload, size) in e) in
+    ap length is.layout
+    ∙ (let e : length (header_bytes p.header ++ p.payload ++ is.padding) ≡ 30 + length p.payload + length is.padding =
+    omega (arith, length-append (header_bytes p.header ++ p.payload) is.padding, length-append (header_bytes p.header) p.payload, size) in e) in
     record { enough = omega (arith, all); long = omega (arith, field, counted); within = omega (arith, field, counted, all) }
 
 -- a packet is what its places say
@@ -68,56 +69,36 @@ packet_parts bytes p is =
     let size = length-header_bytes p.header is.header.destination.node is.header.source.node in
     let field = field_is bytes p is in
     let front : length (header_bytes p.header ++ p.payload) ≡ length_field bytes =
-        length-append (header_bytes p.header) p.payload ∙ ap (λ (k : ℕ). k + length p.payload) size ∙ sym is.counted ∙ sym field in
+    length-append (header_bytes p.header) p.payload ∙ ap (λ (k : ℕ). k + length p.payload) size ∙ sym is.counted ∙ sym field in
     let kept : take (length_field bytes) bytes ≡ header_bytes p.header ++ p.payload =
-        ap (take (length_field bytes)) is.layout
-        ∙ take_at (header_bytes p.header ++ p.payload) is.padding (length_field bytes) front in
+    ap (take (length_field bytes)) is.layout
+    ∙ take_at (header_bytes p.header ++ p.payload) is.padding (length_field bytes) front in
     let payload : drop 30 (take (length_field bytes) bytes) ≡ p.payload =
-        ap (drop 30) kept ∙ drop_at (header_bytes p.header) p.payload 30 size in
+    ap (drop 30) kept ∙ drop_at (header_bytes p.header) p.payload 30 size in
     ap (λ (h : Header). record { header = h; payload = drop 30 (take (length_field bytes) bytes) }) (header_is bytes p is)
     ∙ ap (λ (d : List ℕ). record { header = p.header; payload = d }) payload
 
+-- what passes the comparisons is answered
 pub packet_of-counts : (bytes : List ℕ) → Counts bytes → packet_of bytes ≡ Ok (parts_at bytes)
 unfolding packet_of
 packet_of-counts bytes counts =
     rw (le-ltb (length bytes) 30 counts.enough, le-ltb (length_field bytes) 30 counts.long, le-ltb (length bytes) (length_field bytes) counts.within) refl
 
-refused_short : (bytes : List ℕ) → length bytes < 30 → packet_of bytes ≡ Err Short
+-- the three refusals, one for each comparison
+pub refused_short : (bytes : List ℕ) → length bytes < 30 → packet_of bytes ≡ Err Short
 unfolding packet_of
 refused_short bytes short = rw (lt-ltb (length bytes) 30 short) refl
 
-refused_small : (bytes : List ℕ) → 30 ≤ length bytes → length_field bytes < 30 → packet_of bytes ≡ Err LengthSmall
+pub refused_small : (bytes : List ℕ) → 30 ≤ length bytes → length_field bytes < 30 → packet_of bytes ≡ Err LengthSmall
 unfolding packet_of
 refused_small bytes enough small = rw (le-ltb (length bytes) 30 enough, lt-ltb (length_field bytes) 30 small) refl
 
-refused_beyond : (bytes : List ℕ) → 30 ≤ length bytes → 30 ≤ length_field bytes → length bytes < length_field bytes → packet_of bytes ≡ Err LengthBeyond
+pub refused_beyond : (bytes : List ℕ) → 30 ≤ length bytes → 30 ≤ length_field bytes → length bytes < length_field bytes → packet_of bytes ≡ Err LengthBeyond
 unfolding packet_of
 refused_beyond bytes enough long beyond =
     rw (le-ltb (length bytes) 30 enough, le-ltb (length_field bytes) 30 long, lt-ltb (length bytes) (length_field bytes) beyond) refl
 
-no_answer : {X : Type 0} (r : Result Parts PacketFault) (p : Parts) (f : PacketFault) → r ≡ Ok p → r ≡ Err f → X
-no_answer r p f a b = absurd (cc)
-
-one_answer : (r : Result Parts PacketFault) (p q : Parts) → r ≡ Ok p → r ≡ Ok q → p ≡ q
-one_answer r p q a b = cc
-
--- what the function answers is a packet by the relation
-pub packet_found : (bytes : List ℕ) (p : Parts) → IsBytes bytes → packet_of bytes ≡ Ok p → IsPacket bytes p
-packet_found bytes p are e =
-    elim (cases_lt (length bytes) 30) [
-      | inl short ↦ (let is = refused_short bytes short in no_answer (packet_of bytes) p Short e is)
-      | inr enough ↦ elim (cases_lt (length_field bytes) 30) [
-          | inl small ↦ (let is = refused_small bytes enough small in no_answer (packet_of bytes) p LengthSmall e is)
-          | inr long ↦ elim (cases_lt (length bytes) (length_field bytes)) [
-              | inl beyond ↦ (let is = refused_beyond bytes enough long beyond in no_answer (packet_of bytes) p LengthBeyond e is)
-              | inr within ↦
-                  let counts : Counts bytes = record { enough = enough; long = long; within = within } in
-                  subst (IsPacket bytes) (one_answer (packet_of bytes) (parts_at bytes) p (packet_of-counts bytes counts) e) (is_packet bytes are counts)
-            ]
-        ]
-    ]
-
--- and it answers each packet by the relation
+-- the function answers each packet by the relation
 pub packet_only : (bytes : List ℕ) (p : Parts) → IsPacket bytes p → packet_of bytes ≡ Ok p
 packet_only bytes p is =
     packet_of-counts bytes (packet_counts bytes p is) ∙ ap (λ (q : Parts). (let r : Result Parts PacketFault = Ok q in r)) (packet_parts bytes p is)
@@ -129,6 +110,7 @@ kept_parts h n bytes a b =
     ap (λ (g : Header). (let p : Parts = record { header = g; payload = drop 30 (take n bytes) } in p)) a
     ∙ ap (λ (m : ℕ). (let p : Parts = record { header = header_at bytes; payload = drop 30 (take m bytes) } in p)) b
 
+-- what the reader keeps meets the invariant of a packet
 pub is_kept : (h : Header) (n : ℕ) (bytes : List ℕ) → IsBytes bytes → Counts bytes → h ≡ header_at bytes → n ≡ length_field bytes
     → IsKept h (take n bytes)
 is_kept h n bytes are counts a b =
@@ -141,4 +123,19 @@ is_kept h n bytes are counts a b =
       front = ap header_bytes a ∙ header_back bytes are enough ∙ sym (take-take 30 n bytes far);
       counted = ap (λ (g : Header). g.length) a ∙ field_of_header bytes ∙ (let e : length_field bytes ≡ length (take n bytes) = omega (arith, b, length-take n bytes) in e);
       enough = omega (arith, b, length-take n bytes);
+    }
+
+-- what the reader keeps is a packet without padding
+pub kept_is : (h : Header) (whole : List ℕ) → IsKept h whole → IsPacket whole (record { header = h; payload = drop 30 whole })
+kept_is h whole kept =
+    let counted = kept.counted in
+    let enough = kept.enough in
+    record {
+      header = kept.ranges;
+      padding = [];
+      layout =
+          sym (append-nil (header_bytes h ++ drop 30 whole)
+          ∙ ap (λ (x : List ℕ). x ++ drop 30 whole) kept.front
+          ∙ take-append-drop 30 whole);
+      counted = omega (arith, length-drop 30 whole);
     }

@@ -1,9 +1,10 @@
-use Rattle.std.proofs.Common.{◌≡◌, ℕ, zero, suc, ◌+◌, ◌-◌, ◌≤◌, ◌<◌, ◌^◌, min, List, [], ◌∷◌, ◌++◌, length, take, drop, get_or, slice_index, refl, sym, ap, ◌∙◌, arith, take-add, take-take, subst, append_assoc, length-append, length-drop, length-take}
-use Rattle.std.proofs.lemmas.List.{drop-drop, take_at, drop_at, get_or-drop, drop-take}
+use Rattle.std.proofs.Common.{◌≡◌, ℕ, zero, suc, ◌+◌, ◌-◌, ◌≤◌, ◌<◌, ◌^◌, List, [], ◌∷◌, ◌++◌, length, take, drop, get_or, refl, sym, ap, ◌∙◌, arith, take-add, take-take, length-drop, length-take}
+use Rattle.std.proofs.lemmas.List.{drop-drop, get_or-drop, drop-take}
 use Rattle.std.proofs.lemmas.Nat.{be_bytes_2, be_bytes_4}
 use Rattle.std.specs.Int.{to_be_bytes, from_be_bytes, w16, w32}
 use Rattle.ipx_wire.specs.Piece.{piece, IsBytes}
 
+-- a piece and the one behind it are one piece
 pieces : (bytes : List ℕ) (place m n : ℕ) → piece bytes place m ++ piece bytes (place + m) n ≡ piece bytes place (m + n)
 pieces bytes place m n =
     ap (λ (z : List ℕ). piece bytes place m ++ take n z) (sym (drop-drop m place bytes))
@@ -42,12 +43,14 @@ pub bytes_32 : (bytes : List ℕ) (place : ℕ) → IsBytes bytes → place + 4 
 bytes_32 bytes place are room =
     be_bytes_4 (piece bytes place 4) _ (length-piece bytes place 4 room) (are_bytes bytes place 4 are) refl
 
+-- two bytes are a number below 65536
 below_16 : (bytes : List ℕ) → length bytes ≡ 2 → IsBytes bytes → from_be_bytes w16 bytes < 2 ^ 16
 below_16 [] size are = absurd (omega arith)
 below_16 (a ∷ []) size are = absurd (omega arith)
 below_16 (a ∷ b ∷ []) size are = omega (arith, are 0, are 1)
 below_16 (a ∷ b ∷ c ∷ bytes) size are = absurd (omega arith)
 
+-- four bytes are a number below 4294967296
 below_32 : (bytes : List ℕ) → length bytes ≡ 4 → IsBytes bytes → from_be_bytes w32 bytes < 2 ^ 32
 below_32 [] size are = absurd (omega arith)
 below_32 (a ∷ []) size are = absurd (omega arith)
@@ -77,28 +80,16 @@ byte_at bytes place below =
     ∙ ap (λ (b : ℕ). b ∷ []) (sym here)
     ∙ single (drop place bytes) left
 
-take_less : (n k : ℕ) (bytes : List ℕ) → n ≤ k → take n (take k bytes) ≡ take n bytes
-take_less n k bytes few = take-take n k bytes few
-
+-- a piece of a front is a piece of the whole
 front_of_front : (i n m : ℕ) (bytes : List ℕ) → i + n ≤ m → take n (drop i (take m bytes)) ≡ take n (drop i bytes)
 front_of_front i n m bytes within =
     let whole : m ≡ i + (m - i) = omega arith in
     let few : n ≤ m - i = omega arith in
     ap (λ (k : ℕ). take n (drop i (take k bytes))) whole
     ∙ ap (take n) (drop-take i (m - i) bytes)
-    ∙ take_less n (m - i) (drop i bytes) few
+    ∙ take-take n (m - i) (drop i bytes) few
 
 -- a piece of a piece is a piece of the whole
 pub piece-piece : (bytes : List ℕ) (place m i n : ℕ) → i + n ≤ m → piece (piece bytes place m) i n ≡ piece bytes (place + i) n
 piece-piece bytes place m i n within =
     front_of_front i n m (drop place bytes) within ∙ ap (take n) (drop-drop i place bytes)
-
--- the first of two lists, and the second
-pub piece_first : (x y : List ℕ) (n : ℕ) → length x ≡ n → piece (x ++ y) 0 n ≡ x
-piece_first x y n size = take_at x y n size
-
-pub piece_second : (x y z : List ℕ) (m n : ℕ) → length x ≡ m → length y ≡ n → piece ((x ++ y) ++ z) m n ≡ y
-piece_second x y z m n before size =
-    ap (λ (l : List ℕ). take n (drop m l)) (append_assoc x y z)
-    ∙ ap (take n) (drop_at x (y ++ z) m before)
-    ∙ take_at y z n size

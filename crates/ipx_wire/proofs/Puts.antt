@@ -1,4 +1,4 @@
-use Rattle.std.proofs.Common.{◌≡◌, ℕ, ◌+◌, ◌-◌, ◌≤◌, ◌<◌, List, [], ◌∷◌, ◌++◌, length, take, drop, min, refl, sym, ap, ◌∙◌, arith, append_assoc, length-append, length-drop, length-take, subst, get_or, append-nil}
+use Rattle.std.proofs.Common.{◌≡◌, ℕ, ◌+◌, ◌≤◌, ◌<◌, List, [], ◌++◌, length, take, drop, sym, ap, ◌∙◌, arith, append_assoc, length-append, length-drop, length-take, subst, get_or, append-nil}
 use Rattle.std.proofs.lemmas.List.{drop-drop, take_at, drop_at, take-append-drop, flat_map_more, take_more}
 use Rattle.std.specs.List.{flat_map}
 use Rattle.ipx_wire.specs.Put.{PutsAt}
@@ -25,6 +25,7 @@ length_after old x new place puts =
     let room = puts.room in
     rw puts.after (omega (arith, length-append (take place old ++ x) (drop (place + length x) old), length_front old x place room, length-drop (place + length x) old))
 
+-- a write and one behind it, at places given by lengths
 joined : (old mid new x y : List ℕ) (place : ℕ) → PutsAt old place x mid → PutsAt mid (place + length x) y new → PutsAt old place (x ++ y) new
 joined old mid new x y place first second =
     let size : length (x ++ y) ≡ length x + length y = length-append x y in
@@ -55,10 +56,10 @@ whole_put old x new n puts size =
 -- nothing written yet
 pub puts_none : (old : List ℕ) (place : ℕ) → place ≤ length old → PutsAt old place [] old
 puts_none old place room = record {
-    room = omega arith;
-    after = sym (ap (λ (k : ℕ). take place old ++ [] ++ drop k old) (let e : place + 0 ≡ place = omega arith in e)
-                ∙ ap (λ (x : List ℕ). x ++ drop place old) (append-nil (take place old))
-                ∙ take-append-drop place old);
+  room = omega arith;
+  after = sym (ap (λ (k : ℕ). take place old ++ [] ++ drop k old) (let e : place + 0 ≡ place = omega arith in e)
+      ∙ ap (λ (x : List ℕ). x ++ drop place old) (append-nil (take place old))
+      ∙ take-append-drop place old);
 }
 
 -- one more piece behind those that were written
@@ -67,12 +68,12 @@ pub puts_more : {X : Type 0} (f : X → List ℕ) (xs : List X) (i : ℕ) (d : X
     → next ≡ place + length (flat_map f (take i xs)) → PutsAt old place (flat_map f (take (i + 1) xs)) new
 puts_more f xs i d old mid new place next below first second e =
     subst (λ (bytes : List ℕ). PutsAt old place bytes new)
-        (flat_map_more f [] (take i xs) (get_or xs i d) ∙ ap (flat_map f) (sym (take_more xs i d below)))
-        (then first second e)
+    (flat_map_more f [] (take i xs) (get_or xs i d) ∙ ap (flat_map f) (sym (take_more xs i d below)))
+    (then first second e)
 
 -- a write at the front
 pub puts_front : (old x new : List ℕ) (n : ℕ) → length x ≡ n → n ≤ length old → new ≡ x ++ drop n old → PutsAt old 0 x new
 puts_front old x new n size room e = record {
-    room = omega arith;
-    after = e ∙ ap (λ (k : ℕ). x ++ drop k old) (let whole : n ≡ 0 + length x = omega arith in whole);
+  room = omega arith;
+  after = e ∙ ap (λ (k : ℕ). x ++ drop k old) (let whole : n ≡ 0 + length x = omega arith in whole);
 }

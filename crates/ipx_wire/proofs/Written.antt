@@ -1,9 +1,7 @@
 use Rattle.std.proofs.Common.{◌≡◌, ℕ, ◌+◌, ◌*◌, ◌<◌, ◌≤◌, ◌^◌, List, [], ◌++◌, length, drop, sym, ap, ◌∙◌, arith, length-append, append-nil, lit<}
-use Rattle.std.specs.Int.{to_be_bytes, w16}
 use Rattle.ipx_wire.specs.Address.{IsAddress}
 use Rattle.ipx_wire.specs.Header.{IsHeader, header_bytes}
 use Rattle.ipx_wire.specs.Packet.{Parts, IsPacket}
-use Rattle.ipx_wire.specs.Rip.{operation_number}
 use Rattle.ipx_wire.specs.Write.{own_header, packet_bytes, rip_packet, rip_payload, rip_packet_parts}
 use Rattle.ipx_wire.specs.declared.address.Address.{Address}
 use Rattle.ipx_wire.specs.declared.rip.Operation.{Operation}
@@ -17,23 +15,24 @@ use Rattle.ipx_wire.proofs.Puts.{puts_front, whole_put, then}
 -- header and data, the header counting both, are a packet
 pub is_written : (p : Parts) → IsHeader p.header → p.header.length ≡ 30 + length p.payload → IsPacket (packet_bytes p) p
 is_written p header counted = record {
-    header = header;
-    padding = [];
-    layout = sym (append-nil (packet_bytes p));
-    counted = counted;
+  header = header;
+  padding = [];
+  layout = sym (append-nil (packet_bytes p));
+  counted = counted;
 }
 
 -- a router's own header is in the ranges of its fields
 pub own_ranges : (kind : ℕ) (from to : Address) (size : ℕ) → kind < 256 → IsAddress from → IsAddress to → size < 2 ^ 15 → IsHeader (own_header kind from to size)
 own_ranges kind from to size small from_is to_is fits = record {
-    checksum = lit< tt;
-    length = omega arith;
-    control = lit< tt;
-    kind = small;
-    destination = to_is;
-    source = from_is;
+  checksum = lit< tt;
+  length = omega arith;
+  control = lit< tt;
+  kind = small;
+  destination = to_is;
+  source = from_is;
 }
 
+-- how long the data of a routing information packet are
 pub length-rip_payload : (operation : Operation) (entries : List RipEntry) → length (rip_payload operation entries) ≡ 2 + 8 * length entries
 length-rip_payload operation entries = omega (arith, length-entries entries)
 

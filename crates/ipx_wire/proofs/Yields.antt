@@ -1,4 +1,4 @@
-use Rattle.std.proofs.Common.{◌≡◌, ℕ, List, [], ◌∷◌, ◌<◌, length, sym, arith, subst, Option, Some, None}
+use Rattle.std.proofs.Common.{◌≡◌, List, ◌∷◌, ◌<◌, length, sym, arith, subst, Some}
 use Rattle.std.specs.Iterator.{MakesProgress, item_count}
 
 -- an iterator that gave the first of its items is nearer to its end

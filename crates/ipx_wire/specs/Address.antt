@@ -1,10 +1,10 @@
--- An address is twelve bytes: network 4, node 6, socket 2.
+-- An address, twelve bytes: network 4, node 6, socket 2.
 use Rattle.std.specs.Prelude.{◌≡◌, ℕ, ◌+◌, ◌^◌, ◌<◌, List, ◌++◌, length}
 use Rattle.std.specs.Int.{to_be_bytes, from_be_bytes, w16, w32}
 use Rattle.ipx_wire.specs.Piece.{piece}
 use Rattle.ipx_wire.specs.declared.address.Address.{Address}
 
--- the fields are in the ranges of their types
+-- network and socket are numbers of their widths, and the node has six bytes
 pub record IsAddress (a : Address) : Type 0 where
   pub network : a.network.0 < 2 ^ 32
   pub node : length a.node.0 ≡ 6

@@ -1,11 +1,11 @@
--- The header of a packet, thirty bytes (IPX Router Specification, "IPX Header Format").
-use Rattle.std.specs.Prelude.{◌≡◌, ℕ, ◌+◌, ◌^◌, ◌<◌, List, [], ◌∷◌, ◌++◌, length, slice_index}
+-- The header of a packet, thirty bytes (IPX Router Specification).
+use Rattle.std.specs.Prelude.{ℕ, ◌^◌, ◌<◌, List, [], ◌∷◌, ◌++◌, slice_index}
 use Rattle.std.specs.Int.{to_be_bytes, from_be_bytes, w16}
 use Rattle.ipx_wire.specs.Piece.{piece}
 use Rattle.ipx_wire.specs.Address.{IsAddress, address_bytes, address_at}
 use Rattle.ipx_wire.specs.declared.header.Header.{Header}
 
--- the fields are in the ranges of their types
+-- each field is a number of its width
 pub record IsHeader (h : Header) : Type 0 where
   pub checksum : h.checksum < 2 ^ 16
   pub length : h.length < 2 ^ 16
@@ -14,13 +14,13 @@ pub record IsHeader (h : Header) : Type 0 where
   pub destination : IsAddress h.destination
   pub source : IsAddress h.source
 
--- checksum 2, length 2, transport control 1, packet type 1, destination 12, source 12
+-- the thirty bytes: checksum 2, length 2, transport control 1, packet type 1, destination 12, source 12
 unfoldable pub header_bytes : Header → List ℕ
 header_bytes h =
     to_be_bytes w16 h.checksum ++ to_be_bytes w16 h.length ++ (h.control ∷ []) ++ (h.kind ∷ [])
     ++ address_bytes h.destination ++ address_bytes h.source
 
--- the length field of a packet's bytes
+-- the number in the place of the length
 abbrev pub length_field : List ℕ → ℕ
 length_field bytes = from_be_bytes w16 (piece bytes 2 2)
 

@@ -1,4 +1,4 @@
--- Bytes, and those of a fixed place.
+-- Lists of bytes, and pieces of them.
 use Rattle.std.specs.Prelude.{ℕ, ◌<◌, List, take, drop, slice_index}
 
 -- each number is a byte

@@ -1,5 +1,5 @@
--- The data of a routing information packet (IPX Router Specification, "RIP Packet Structure").
-use Rattle.std.specs.Prelude.{◌≡◌, ℕ, zero, suc, ◌+◌, ◌-◌, ◌*◌, ◌/◌, ◌<◌, ◌≤◌, ◌^◌, ◌⊎◌, ◌==◌, nat_lt, if◌then◌else◌, List, [], ◌∷◌, ◌++◌, length, drop, Option, None, Some, Result, Ok, Err}
+-- The data of a routing information packet: an operation and entries (IPX Router Specification).
+use Rattle.std.specs.Prelude.{◌≡◌, ℕ, zero, suc, ◌+◌, ◌-◌, ◌/◌, ◌<◌, ◌≤◌, ◌^◌, ◌⊎◌, ◌≢◌, ◌==◌, nat_lt, if◌then◌else◌, List, [], ◌∷◌, ◌++◌, length, drop, Option, None, Some, Result, Ok, Err}
 use Rattle.std.specs.Int.{to_be_bytes, from_be_bytes, w16, w32}
 use Rattle.std.specs.List.{flat_map, AllByRecursion}
 use Rattle.ipx_wire.specs.Piece.{piece}
@@ -9,7 +9,7 @@ use Rattle.ipx_wire.specs.declared.rip.RipEntry.{RipEntry}
 use Rattle.ipx_wire.specs.declared.rip.RipFault.{RipFault}
 use Rattle.ipx_wire.specs.declared.rip.RipFault.TheVariants.{Short, Operation as UnknownOperation, NoEntry, TooMany}
 
--- the fields are in the ranges of their types
+-- each field is a number of its width
 pub record IsEntry (e : RipEntry) : Type 0 where
   pub network : e.network.0 < 2 ^ 32
   pub hops : e.hops < 2 ^ 16
@@ -27,12 +27,12 @@ entry_at bytes place = record {
   ticks = from_be_bytes w16 (piece bytes (place + 6) 2);
 }
 
--- as many entries, one after the other
+-- the first n entries of bytes, eight bytes each
 unfoldable pub entries_at : ℕ → List ℕ → List RipEntry
 entries_at zero bytes = []
 entries_at (suc n) bytes = entry_at bytes 0 ∷ entries_at n (drop 8 bytes)
 
--- the number of an operation
+-- the number of an operation: 1 request, 2 response
 abbrev pub operation_number : Operation → ℕ
 operation_number Request = 1
 operation_number Response = 2
@@ -41,12 +41,12 @@ operation_number Response = 2
 abbrev pub operation_of : ℕ → Option Operation
 operation_of number = if number == 1 then Some Request else if number == 2 then Some Response else None
 
--- what a routing information packet says
+-- what the data say: the operation and the entries
 pub record RipParts : Type 0 where
   pub operation : Operation
   pub entries : List RipEntry
 
--- the data are the operation, 1 to 50 entries, and fewer bytes than a further entry has, which are ignored (own)
+-- the data are the operation, 1 to 50 entries, and fewer than eight further bytes, which say nothing (own)
 pub record IsRip (payload : List ℕ) (r : RipParts) : Type 0 where
   pub further : List ℕ
   pub layout : payload ≡ to_be_bytes w16 (operation_number r.operation) ++ flat_map entry_bytes r.entries ++ further
@@ -59,29 +59,29 @@ pub record IsRip (payload : List ℕ) (r : RipParts) : Type 0 where
 abbrev pub operation_field : List ℕ → ℕ
 operation_field payload = from_be_bytes w16 (piece payload 0 2)
 
--- why data are no such packet, the first that holds
+-- why data are no routing information: each fault holds only where those before it don't
 abbrev pub IsNoRip : List ℕ → RipFault → Type 0
 IsNoRip payload Short = length payload < 2
 IsNoRip payload (UnknownOperation number) =
-    (2 ≤ length payload) × (number ≡ operation_field payload) × (operation_of number ≡ None)
+    (2 ≤ length payload) × (number ≡ operation_field payload) × (number ≢ 1) × (number ≢ 2)
 IsNoRip payload NoEntry =
     (2 ≤ length payload) × (length payload < 10) × ((operation_field payload ≡ 1) ⊎ (operation_field payload ≡ 2))
 IsNoRip payload TooMany =
     (410 ≤ length payload) × ((operation_field payload ≡ 1) ⊎ (operation_field payload ≡ 2))
 
--- the entries of data that are long enough and not too long, or why they are none
+-- what is read from data of a known operation: its entries, or why there are none or too many
 abbrev pub entries_of : Operation → List ℕ → Result RipParts RipFault
 entries_of operation payload =
     if nat_lt (length payload) 10 then Err NoEntry
     else if nat_lt 409 (length payload) then Err TooMany
     else Ok (record { operation = operation; entries = entries_at ((length payload - 2) / 8) (drop 2 payload) })
 
--- what the data say of an operation of that number
+-- what is read from data whose operation has that number
 abbrev pub operated : ℕ → Option Operation → List ℕ → Result RipParts RipFault
 operated number None payload = Err (UnknownOperation number)
 operated number (Some operation) payload = entries_of operation payload
 
--- the packet in some data, or why they are none
+-- what is read from data: operation and entries, or the first fault that holds
 unfoldable pub rip_of : List ℕ → Result RipParts RipFault
 rip_of payload =
     if nat_lt (length payload) 2 then Err Short

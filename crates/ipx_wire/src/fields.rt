@@ -5,13 +5,13 @@ ghost use Rattle.ipx_wire.specs.Piece.{piece};
 ghost use Rattle.ipx_wire.specs.Address.{address_bytes, address_at};
 ghost use Rattle.ipx_wire.specs.Put.{PutsAt};
 
-use byteorder::{BigEndian, ByteOrder};
-
 use crate::address::Address;
 use crate::network::Network;
 use crate::node::Node;
 use crate::socket::Socket;
+use byteorder::{BigEndian, ByteOrder};
 
+/// The number in two bytes.
 pub fn u16_at(bytes: &[u8], place: usize) -> u16
     requires { place + 2 ≤ length bytes.now }
     ensures { result ≡ from_be_bytes w16 (piece bytes.now place 2) }
@@ -19,6 +19,7 @@ pub fn u16_at(bytes: &[u8], place: usize) -> u16
     u16::from_be_bytes([bytes[place], bytes[place + 1]])
 }
 
+/// The number in four bytes.
 pub fn u32_at(bytes: &[u8], place: usize) -> u32
     requires { place + 4 ≤ length bytes.now }
     ensures { result ≡ from_be_bytes w32 (piece bytes.now place 4) }
@@ -31,6 +32,7 @@ pub fn u32_at(bytes: &[u8], place: usize) -> u32
     ])
 }
 
+/// The node in six bytes.
 pub fn node_at(bytes: &[u8], place: usize) -> Node
     requires { place + 6 ≤ length bytes.now }
     ensures { result.0 ≡ piece bytes.now place 6 }
@@ -45,6 +47,7 @@ pub fn node_at(bytes: &[u8], place: usize) -> Node
     ])
 }
 
+/// The address in twelve bytes.
 #[tactic(auto, unfolding(crate::specs::Address::address_at))]
 pub fn address_from(bytes: &[u8], place: usize) -> Address
     requires { place + 12 ≤ length bytes.now }
@@ -57,6 +60,7 @@ pub fn address_from(bytes: &[u8], place: usize) -> Address
     }
 }
 
+/// Writes one byte.
 pub fn put_u8(out: &mut [u8], place: usize, byte: u8)
     requires { place + 1 ≤ length out.old }
     ensures { PutsAt out.old place (byte ∷ []) out.new }
@@ -64,6 +68,7 @@ pub fn put_u8(out: &mut [u8], place: usize, byte: u8)
     out[place] = byte;
 }
 
+/// Writes a number of two bytes.
 pub fn put_u16(out: &mut [u8], place: usize, number: u16)
     requires { place + 2 ≤ length out.old }
     ensures { PutsAt out.old place (to_be_bytes w16 number) out.new }
@@ -71,6 +76,7 @@ pub fn put_u16(out: &mut [u8], place: usize, number: u16)
     BigEndian::write_u16(&mut out[place..place + 2], number);
 }
 
+/// Writes a number of four bytes.
 pub fn put_u32(out: &mut [u8], place: usize, number: u32)
     requires { place + 4 ≤ length out.old }
     ensures { PutsAt out.old place (to_be_bytes w32 number) out.new }
@@ -78,6 +84,7 @@ pub fn put_u32(out: &mut [u8], place: usize, number: u32)
     BigEndian::write_u32(&mut out[place..place + 4], number);
 }
 
+/// Writes the six bytes of a node.
 pub fn put_node(out: &mut [u8], place: usize, node: Node)
     requires { place + 6 ≤ length out.old }
     ensures bytes { PutsAt out.old place node.0 out.new }
@@ -86,6 +93,7 @@ pub fn put_node(out: &mut [u8], place: usize, node: Node)
     out[place..place + 6].copy_from_slice(&node.0);
 }
 
+/// Writes the twelve bytes of an address.
 #[tactic(auto, unfolding(crate::specs::Address::address_bytes))]
 pub fn put_address(out: &mut [u8], place: usize, address: Address)
     requires { place + 12 ≤ length out.old }

@@ -6,15 +6,17 @@ use crate::fields::{address_from, put_address, put_u8, put_u16, u16_at};
 /// The first thirty bytes of a packet.
 #[derive(Clone, Copy, Debug, PartialEq, Eq, Hash)]
 pub struct Header {
-    /// FFFFh where no checksum is used; never looked at.
+    /// FFFFh where there is none. It is never computed or compared.
     pub checksum: u16,
-    /// The bytes of header and data together.
+    /// How many bytes header and data have together.
     pub length: u16,
     /// Transport control: how many routers the packet has crossed.
     pub control: u8,
     /// The packet type: 1 RIP, 4 SAP, 20 NetBIOS propagation.
     pub kind: u8,
+    /// Where the packet goes to.
     pub destination: Address,
+    /// Where the packet comes from.
     pub source: Address,
 }
 
@@ -24,7 +26,7 @@ impl Header {
     /// How many bytes a header has.
     pub const SIZE: usize = 30;
 
-    /// Writes the header to the front of a slice that has room for thirty bytes.
+    /// Writes the header to the front of a slice that has room for its thirty bytes.
     pub fn write(&self, out: &mut [u8])
         requires { 30 ≤ length out.old }
         ensures bytes { out.new ≡ header_bytes self.now ++ drop 30 out.old }

@@ -5,7 +5,7 @@ ghost use Rattle.hex.specs.Hex.{encode_upper, upper_digits};
 
 use std::fmt;
 
-/// Bytes that are shown as hexadecimal digits.
+/// Bytes that are shown as upper-case hexadecimal digits.
 #[derive(Clone, Copy, Debug)]
 pub struct Hex<'a>(pub &'a [u8]);
 

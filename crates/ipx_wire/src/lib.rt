@@ -1,4 +1,16 @@
-//! Addresses, packets, readers and writers of Novell IPX, after the IPX Router Specification.
+//! The packets of Novell IPX, after the IPX Router Specification: addresses, headers, and routing
+//! information, read from bytes and written to bytes; and the two ends of a run, a reader and a
+//! writer that remember their failures. Whatever routes, simulates or shows packets stands on this
+//! crate.
+//!
+//! - Readers are exact: a value is answered where the bytes have the layout, and nowhere else, and
+//!   each fault where it is the first that holds. The module `laws` says so of all bytes.
+//! - Writers are exact: a packet's bytes at the front of a slice, and the rest of it as it was.
+//! - What is read lends slices of its bytes. Nothing here takes memory or can run out of it.
+//! - An intake asks its reader a bounded number of times, so that whatever reads to an end, ends.
+//!
+//! It computes no checksum, knows no link headers, and decides nothing: which packet is answered,
+//! forwarded or dropped is a router's matter.
 #![tactic(auto)]
 
 mod address;
@@ -7,6 +19,7 @@ mod fields;
 mod header;
 mod hex_text;
 mod intake;
+pub mod laws;
 mod network;
 mod node;
 mod out_of_memory;
@@ -14,6 +27,8 @@ mod outlet;
 mod packet;
 mod rip;
 mod socket;
+#[cfg(test)]
+mod tests;
 mod write;
 
 pub use crate::address::Address;

@@ -3,20 +3,19 @@ ghost use Rattle.std.specs.Int.{to_be_bytes, w32};
 ghost use Rattle.std.specs.List.{AllPass};
 ghost use Rattle.hex.specs.Hex.{decode_of, encode_upper, is_hex_digit};
 
+use crate::hex_text::write_hex;
 use hex::FromHex;
 use std::fmt;
-
-use crate::hex_text::write_hex;
 
 /// The number of a network; 0 means the local one.
 #[derive(Clone, Copy, Debug, Default, PartialEq, Eq, PartialOrd, Ord, Hash)]
 pub struct Network(pub u32);
 
 impl Network {
-    /// The number that asks for every route.
+    /// FFFFFFFFh, which in a request asks for every route.
     pub const ALL_ROUTES: Network = Network(0xFFFF_FFFF);
 
-    /// Reads exactly eight hexadecimal digits of either case.
+    /// Reads exactly eight hexadecimal digits, of either case; all else is `None`.
     pub fn from_hex(text: &str) -> Option<Network>
         ensures found { IsSome result ↔ ((length text.now ≡ 8) × AllPass is_hex_digit text.now) }
         ensures value { IfSome result (λ network. decode_of text.now ≡ Ok (to_be_bytes w32 network.0)) }

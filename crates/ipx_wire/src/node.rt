@@ -2,20 +2,19 @@ ghost use Rattle.std.specs.Prelude.{◌≡◌, ◌↔◌, length, IsSome, IfSome
 ghost use Rattle.std.specs.List.{AllPass};
 ghost use Rattle.hex.specs.Hex.{decode_of, encode_upper, is_hex_digit};
 
+use crate::hex_text::write_hex;
 use hex::FromHex;
 use std::fmt;
-
-use crate::hex_text::write_hex;
 
 /// The six bytes that tell apart the nodes of one network.
 #[derive(Clone, Copy, Debug, Default, PartialEq, Eq, PartialOrd, Ord, Hash)]
 pub struct Node(pub [u8; 6]);
 
 impl Node {
-    /// The node that stands for every node of a network.
+    /// FFFFFFFFFFFFh, which stands for every node of a network.
     pub const BROADCAST: Node = Node([0xFF; 6]);
 
-    /// Reads exactly twelve hexadecimal digits of either case.
+    /// Reads exactly twelve hexadecimal digits, of either case; all else is `None`.
     pub fn from_hex(text: &str) -> Option<Node>
         ensures found { IsSome result ↔ ((length text.now ≡ 12) × AllPass is_hex_digit text.now) }
         ensures value { IfSome result (λ node. decode_of text.now ≡ Ok node.0) }

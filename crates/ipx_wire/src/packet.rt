@@ -1,26 +1,25 @@
 ghost use Rattle.std.specs.Prelude.{◌≡◌, ◌+◌, ◌++◌, ◌≤◌, length, take, drop, IfOk, IfErr, IsOkAnd, Ok};
 
+use crate::fields::u16_at;
+use crate::header::Header;
 use std::marker::Model;
 use thiserror::Error;
 
-use crate::fields::u16_at;
-use crate::header::Header;
-
-/// Why bytes are no packet.
+/// Why bytes are no packet. The first fault of this list that holds is answered.
 #[derive(Clone, Copy, Debug, PartialEq, Eq, Hash, Error)]
 pub enum PacketFault {
     /// There are fewer than thirty bytes.
     #[error("fewer bytes than a header")]
     Short,
-    /// The length field is under thirty.
+    /// The length counts fewer than the thirty bytes of the header.
     #[error("a length smaller than the header")]
     LengthSmall,
-    /// The length field counts more bytes than there are.
+    /// The length counts more bytes than there are.
     #[error("a length beyond the last byte")]
     LengthBeyond,
 }
 
-/// A packet whose length has been checked, lent from the bytes that it was read from.
+/// A packet whose length has been checked; its data are lent from the bytes that it was read from.
 #[derive(Debug, Drop)]
 pub struct Packet<'a> {
     head: Header,
@@ -43,7 +42,7 @@ impl<'a> Packet<'a> {
     ghost use Rattle.ipx_wire.specs.Header.{header_bytes};
     ghost use Rattle.ipx_wire.specs.Packet.{Parts, IsPacket, IsNoPacket, packet_of};
 
-    /// Reads the packet at the front of `bytes`; bytes after its length are padding and ignored.
+    /// Reads the packet at the front of `bytes`. Bytes behind its length are padding, and ignored.
     #[tactic(auto, unfolding(crate::specs::Packet::packet_of))]
     pub fn read(bytes: &'a [u8]) -> Result<Packet<'a>, PacketFault>
         ensures found { IfOk result (IsPacket bytes.entry.now) }
@@ -67,13 +66,14 @@ impl<'a> Packet<'a> {
         Ok(Packet { head, whole })
     }
 
+    /// The header, each field as it came.
     pub fn header(&self) -> Header
         ensures { result ≡ self.now.header }
     {
         self.head
     }
 
-    /// The data behind the header, as many bytes as the length counts.
+    /// The data behind the header, without padding.
     pub fn payload(&self) -> &'a [u8]
         ensures { result.now ≡ self.now.payload }
     {
@@ -82,7 +82,10 @@ impl<'a> Packet<'a> {
 
     /// Header and data, exactly as many bytes as the length says.
     pub fn bytes(&self) -> &'a [u8]
-        ensures { result.now ≡ header_bytes self.now.header ++ self.now.payload }
+        ensures value { result.now ≡ header_bytes self.now.header ++ self.now.payload }
+        ensures counted { length result.now ≡ self.now.header.length }
+        // What is lent is read as this packet again.
+        ensures packet { IsPacket result.now self.now }
     {
         self.whole
     }

@@ -1,17 +1,18 @@
-//! The data of routing information packets: an operation and up to fifty entries.
+//! The data of routing information packets: a request or a response of 1 to 50 entries.
 ghost use Rattle.ipx_wire.specs.Rip.{entry_at};
 ghost use Rattle.std.specs.Prelude.{◌≡◌, ◌+◌, ◌*◌, ◌<◌, ◌≤◌, length, slice_get, IfOk, IfErr, IsOkAnd, Some};
 
-use std::marker::Model;
-use thiserror::Error;
-
 use crate::fields::{u16_at, u32_at};
 use crate::network::Network;
+use std::marker::Model;
+use thiserror::Error;
 
 /// What a routing information packet asks or tells.
 #[derive(Clone, Copy, Debug, PartialEq, Eq, Hash)]
 pub enum Operation {
+    /// Asks a neighbour for routes.
     Request,
+    /// Tells a neighbour routes.
     Response,
 }
 
@@ -29,42 +30,43 @@ impl Operation {
     }
 }
 
-/// Why data are no routing information packet.
+/// Why data are no routing information. The first fault of this list that holds is answered.
 #[derive(Clone, Copy, Debug, PartialEq, Eq, Hash, Error)]
 pub enum RipFault {
-    /// There are fewer than two bytes.
+    /// There are fewer than the two bytes of the operation.
     #[error("no operation")]
     Short,
-    /// The operation is neither 1 nor 2.
+    /// The operation is neither 1 nor 2, but this number.
     #[error("operation {0} is neither request nor response")]
     Operation(u16),
-    /// There is no whole entry.
+    /// There are fewer than ten bytes, so no whole entry.
     #[error("no entry")]
     NoEntry,
-    /// There are more than fifty entries.
+    /// There are 410 bytes or more, so over fifty entries.
     #[error("more than fifty entries")]
     TooMany,
 }
 
-/// A network and how far it is.
+/// A network and how far it is, as a neighbour tells it.
 #[derive(Clone, Copy, Debug, Default, PartialEq, Eq, Hash)]
 pub struct RipEntry {
+    /// The network; in a request, `Network::ALL_ROUTES` asks for every one.
     pub network: Network,
-    /// How many routers are on the way; 16 or more mean unreachable.
+    /// How many routers stand on the way; 16 or more mean unreachable.
     pub hops: u16,
-    /// How long a packet takes, in eighteenths of a second.
+    /// How long a packet takes, in ticks of about an eighteenth of a second.
     pub ticks: u16,
 }
 
 impl RipEntry {
-    /// How many bytes an entry has.
+    /// How many bytes an entry takes.
     pub const SIZE: usize = 8;
 
-    /// The most entries of one packet.
+    /// The most entries that one packet has.
     pub const MOST: usize = 50;
 }
 
-/// The data of a routing information packet, lent from the bytes that they were read from.
+/// The data of a routing information packet; its entries are lent from the bytes that they were read from.
 #[derive(Debug, Drop)]
 pub struct Rip<'a> {
     operation: Operation,
@@ -73,20 +75,20 @@ pub struct Rip<'a> {
 }
 
 impl<'a> Model for Rip<'a> {
-    ghost use Rattle.std.specs.Prelude.{◌*◌, ◌≤◌, length};
     ghost use Rattle.ipx_wire.specs.Rip.{RipParts, entries_at};
+    ghost use Rattle.ipx_wire.specs.Kept.{IsCounted};
 
     ghost Value = { RipParts };
 
     ghost view = { λ r. record { operation = r.operation; entries = entries_at r.count r.body.now } };
 
-    ghost invariant = { λ r. 8 * r.count ≤ length r.body.now };
+    ghost invariant = { λ r. IsCounted r.count r.body.now };
 }
 
 impl<'a> Rip<'a> {
     ghost use Rattle.ipx_wire.specs.Rip.{RipParts, IsRip, IsNoRip, rip_of};
 
-    /// Reads the data of a packet; fewer than eight bytes behind the last entry are ignored.
+    /// Reads the data of a packet. Fewer than eight bytes behind the last entry are ignored.
     #[tactic(auto, unfolding(crate::specs::Rip::rip_of))]
     pub fn read(payload: &'a [u8]) -> Result<Rip<'a>, RipFault>
         ensures found { IfOk result (IsRip payload.entry.now) }
@@ -118,6 +120,7 @@ impl<'a> Rip<'a> {
         })
     }
 
+    /// Whether routes are asked for or told.
     pub fn operation(&self) -> Operation
         ensures { result ≡ self.now.operation }
     {
@@ -126,7 +129,9 @@ impl<'a> Rip<'a> {
 
     /// How many entries there are, 1 to 50.
     pub fn len(&self) -> usize
-        ensures { result ≡ length self.now.entries }
+        ensures value { result ≡ length self.now.entries }
+        ensures some { 1 ≤ result }
+        ensures most { result ≤ 50 }
     {
         self.count
     }
@@ -150,7 +155,7 @@ impl<'a> Rip<'a> {
     }
 }
 
-/// The entries of a routing information packet that are still to come.
+/// The entries of a routing information packet that are still to come, in their order.
 #[derive(Debug, Drop)]
 pub struct RipEntries<'a> {
     count: usize,

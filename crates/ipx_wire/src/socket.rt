@@ -2,9 +2,8 @@ ghost use Rattle.std.specs.Prelude.{◌≡◌, Some};
 ghost use Rattle.std.specs.Int.{to_be_bytes, w16};
 ghost use Rattle.hex.specs.Hex.{encode_upper};
 
-use std::fmt;
-
 use crate::hex_text::write_hex;
+use std::fmt;
 
 /// The number of a process within a node.
 #[derive(Clone, Copy, Debug, Default, PartialEq, Eq, PartialOrd, Ord, Hash)]

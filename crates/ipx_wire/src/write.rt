@@ -17,7 +17,7 @@ pub const RIP_KIND: u8 = 1;
 /// The packet type of the service advertising protocol.
 pub const SAP_KIND: u8 = 4;
 
-/// Writes a routing information packet of 1 to 50 entries, and answers its number of bytes.
+/// Writes a routing information packet of 1 to 50 entries to the front of `out`, and answers its number of bytes.
 pub fn write_rip(
     from: Address,
     to: Address,
@@ -41,7 +41,7 @@ pub fn write_rip(
     Header::SIZE + size
 }
 
-/// Writes a query for the services of a type, and answers its number of bytes.
+/// Writes a query for services of a type, all or the nearest, to the front of `out`, and answers its number of bytes.
 pub fn write_query(from: Address, to: Address, nearest: bool, kind: u16, out: &mut [u8]) -> usize
     requires { 34 ≤ length out.old }
     ensures count { result ≡ 34 }

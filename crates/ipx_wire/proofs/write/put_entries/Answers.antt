@@ -11,7 +11,7 @@ loop-entry-preserved c =
     let before = take c.loop-entry.entry-index c.args.entries.now in
     let where_next = c.loop-entry.invariant.next in
     let place : c.loop-entry.next ≡ c.args.place + length (flat_map entry_bytes before) =
-        omega (arith, where_next, length-entries before, length-take c.loop-entry.entry-index c.args.entries.now) in
+    omega (arith, where_next, length-entries before, length-take c.loop-entry.entry-index c.args.entries.now) in
     record {
       written = puts_more entry_bytes c.args.entries.now c.loop-entry.entry-index _ _ _ _ _ _ c.loop-entry-test.true
           c.loop-entry.invariant.written c.put_entry.ensures place;

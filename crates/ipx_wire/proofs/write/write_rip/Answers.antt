@@ -1,7 +1,6 @@
-use Rattle.std.proofs.Common.{◌≡◌, ◌+◌, ◌*◌, ◌<◌, ◌^◌, ℕ, refl, arith, subst, length, lit<, rules}
+use Rattle.std.proofs.Common.{◌+◌, ◌*◌, ℕ, refl, arith, subst, length, lit<, rules}
 use Rattle.std.specs.Int.{to_be_bytes, w16}
 use Rattle.ipx_wire.specs.Put.{PutsAt}
-use Rattle.ipx_wire.specs.Rip.{operation_number}
 use Rattle.ipx_wire.specs.Write.{rip_packet_parts}
 use Rattle.ipx_wire.proofs.Puts.{then}
 use Rattle.ipx_wire.proofs.Written.{is_written, own_ranges, own_written, length-rip_packet, length-rip_payload}
@@ -15,12 +14,12 @@ returns-clause-bytes c =
     let operation = subst (λ (n : ℕ). PutsAt c.write.new.out 30 (to_be_bytes w16 n) c.put_u16.new.out) c.number.ensures c.put_u16.ensures in
     let long = length-rip_payload c.args.operation c.args.entries.now in
     own_written (rip_packet_parts c.args.from c.args.to c.args.operation c.args.entries.now) c.own.result c.args.out.now c.write.new.out c.put_entries.new.out
-        (32 + 8 * length c.args.entries.now) c.own.ensures c.write.ensures.size (omega arith) c.write.ensures.bytes (then operation c.put_entries.ensures refl)
-        (omega (arith, long))
+    (32 + 8 * length c.args.entries.now) c.own.ensures c.write.ensures.size (omega arith) c.write.ensures.bytes (then operation c.put_entries.ensures refl)
+    (omega (arith, long))
 
 pub returns-clause-packet : goal.returns-clause-packet
 returns-clause-packet c =
     let long = length-rip_payload c.args.operation c.args.entries.now in
     is_written (rip_packet_parts c.args.from c.args.to c.args.operation c.args.entries.now)
-        (own_ranges 1 c.args.from c.args.to (2 + 8 * length c.args.entries.now) (lit< tt) (search rules) (search rules) (omega arith))
-        (omega (arith, long))
+    (own_ranges 1 c.args.from c.args.to (2 + 8 * length c.args.entries.now) (lit< tt) (search rules) (search rules) (omega arith))
+    (omega (arith, long))

@@ -1,4 +1,4 @@
-use Rattle.std.proofs.Common.{◌≡◌, length, drop, ◌-◌, arith, ap, ◌∙◌, length-drop, take_all}
+use Rattle.std.proofs.Common.{length, drop, ◌-◌, arith, ap, ◌∙◌, length-drop, take_all}
 use Rattle.ipx_wire.specs.Packet.{Parts}
 use Rattle.ipx_wire.proofs.packet.Packet.payload.Goals as goal
 

@@ -1,6 +1,6 @@
-use Rattle.std.proofs.Common.{◌≡◌, ◌<◌, sym, ◌∙◌, arith, subst, slice_index}
+use Rattle.std.proofs.Common.{◌≡◌, sym, ◌∙◌, arith, subst}
 use Rattle.ipx_wire.specs.Piece.{IsBytes}
-use Rattle.ipx_wire.specs.Header.{header_at, length_field}
+use Rattle.ipx_wire.specs.Header.{length_field}
 use Rattle.ipx_wire.specs.Packet.{IsPacket}
 use Rattle.ipx_wire.proofs.Packets.{Counts, packet_counts, is_packet, packet_parts, kept_parts, is_kept}
 use Rattle.ipx_wire.proofs.packet.Packet.read.Goals as goal
@@ -33,7 +33,7 @@ invariant_of-result c = is_kept _ _ c.args.bytes.now (bytes c) (made c) c.at_fro
 pub returns-clause-found : goal.returns-clause-found
 returns-clause-found c =
     subst (IsPacket c.args.bytes.now) (sym (kept_parts _ _ c.args.bytes.now c.at_front-head.ensures (field c)))
-        (is_packet c.args.bytes.now (bytes c) (made c))
+    (is_packet c.args.bytes.now (bytes c) (made c))
 
 pub returns-clause-only : goal.returns-clause-only
 returns-clause-only c = λ p is.

@@ -1,4 +1,4 @@
-use Rattle.std.proofs.Common.{◌≡◌, ◌<◌, ◌≤◌, ◌/◌, ◌-◌, sym, ap, ◌∙◌, length, drop, arith, subst, List, ℕ, slice_index}
+use Rattle.std.proofs.Common.{◌≡◌, ◌/◌, ◌-◌, sym, ap, ◌∙◌, length, drop, arith, subst}
 use Rattle.ipx_wire.specs.Piece.{IsBytes}
 use Rattle.ipx_wire.specs.Rip.{RipParts, IsRip, operation_number, operation_field, entries_at}
 use Rattle.ipx_wire.specs.declared.rip.Operation.{Operation}
@@ -31,12 +31,12 @@ bytes c = λ i. omega (arith, c.type_inv.payload i)
 pub returns-clause-found : goal.returns-clause-found
 returns-clause-found c =
     subst (IsRip c.args.payload.now)
-        (sym (kept_rip c.match-u16_at.operation c.args.payload.now c.split_at.result.1.now c.split_at.ensures.back))
-        (is_rip c.args.payload.now c.match-u16_at.operation (bytes c) (made c))
+    (sym (kept_rip c.match-u16_at.operation c.args.payload.now c.split_at.result.1.now c.split_at.ensures.back))
+    (is_rip c.args.payload.now c.match-u16_at.operation (bytes c) (made c))
 
 pub returns-clause-only : goal.returns-clause-only
 returns-clause-only c = λ r is.
     kept_rip c.match-u16_at.operation c.args.payload.now c.split_at.result.1.now c.split_at.ensures.back
     ∙ ap (λ (o : Operation). (let p : RipParts = record { operation = o; entries = entries_at ((length c.args.payload.now - 2) / 8) (drop 2 c.args.payload.now) } in p))
-        (one_operation c.args.payload.now c.match-u16_at.operation r.operation (made c) (rip_counted c.args.payload.now r is))
+    (one_operation c.args.payload.now c.match-u16_at.operation r.operation (made c) (rip_counted c.args.payload.now r is))
     ∙ rip_parts c.args.payload.now r is

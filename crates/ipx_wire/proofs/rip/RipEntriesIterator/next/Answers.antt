@@ -1,5 +1,5 @@
 use Rattle.std.proofs.Common.{◌≡◌, ℕ, List, [], ◌∷◌, ◌-◌, ◌<◌, drop, sym, ap, ◌∙◌, arith}
-use Rattle.ipx_wire.specs.Rip.{entry_at, entries_at}
+use Rattle.ipx_wire.specs.Rip.{entries_at}
 use Rattle.ipx_wire.specs.declared.rip.RipEntry.{RipEntry}
 use Rattle.ipx_wire.proofs.Entries.{entries_at-first, entries_at-none}
 use Rattle.ipx_wire.proofs.Yields.{goes_first}
