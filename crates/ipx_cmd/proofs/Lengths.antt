@@ -1,10 +1,10 @@
-use Rattle.std.proofs.Common.{◌≡◌, ℕ, zero, suc, ◌+◌, ◌-◌, ◌*◌, ◌/◌, ◌<◌, ◌≤◌, Bool, true, false, nat_lt, nat_eq, ◌==◌, List, [], ◌∷◌, ◌++◌, length, map, filter, refl, sym, ap, ◌∙◌, arith, subst, length-append, append-nil, inl, inr}
+use Rattle.std.proofs.Common.{◌≡◌, ℕ, zero, suc, ◌+◌, ◌-◌, ◌*◌, ◌/◌, ◌<◌, ◌≤◌, nat_lt, ◌==◌, List, [], ◌∷◌, ◌++◌, length, map, refl, ap, ◌∙◌, arith, subst, length-append, append-nil, inl, inr}
 use Rattle.std.proofs.lemmas.Bool.{cases_Bool, cases_lt, eq-eqb}
 use Rattle.std.specs.List.{flat_map}
 use Rattle.ipx_wire.specs.declared.rip.RipEntry.{RipEntry}
 use Rattle.ipx_cmd.specs.Pages.{pages_from, pages, sheets}
 use Rattle.ipx_cmd.specs.Port.{Port, port_at}
-use Rattle.ipx_cmd.specs.Told.{numbers, put_entry, put_entries, by_network, told_at, direct_at, direct, entry_of, is_told, learned, told}
+use Rattle.ipx_cmd.specs.Told.{numbers, put_entry, put_entries, by_network, told_at, direct_at, direct, is_told, learned, told}
 use Rattle.ipx_cmd.specs.declared.thin.route.RouteOffer.{RouteOffer}
 use Rattle.ipx_wire.specs.declared.address.Address.{Address}
 use Rattle.ipx_wire.specs.declared.rip.Operation.TheVariants.{Request, Response}
@@ -39,7 +39,7 @@ all_direct : (ports : List Port) (number n : ℕ) → length (flat_map (direct_a
 all_direct ports number zero = omega arith
 all_direct ports number (suc n) =
     rw (flat_map-append (direct_at ports number) (numbers n) (n ∷ []), append-nil (direct_at ports number n))
-        (omega (arith, length-append (flat_map (direct_at ports number) (numbers n)) (direct_at ports number n), all_direct ports number n, length-direct_at ports number n))
+    (omega (arith, length-append (flat_map (direct_at ports number) (numbers n)) (direct_at ports number n), all_direct ports number n, length-direct_at ports number n))
 
 own_left_out : (ports : List Port) (number : ℕ) → length (direct_at ports number number) ≡ 0
 own_left_out ports number = rw (eq-eqb number number refl) refl
@@ -48,13 +48,13 @@ pub length-direct : (ports : List Port) (number n : ℕ) → number < n → leng
 length-direct ports number zero below = absurd (omega arith)
 length-direct ports number (suc n) below =
     rw (flat_map-append (direct_at ports number) (numbers n) (n ∷ []), append-nil (direct_at ports number n))
-        (elim (cases_lt number n) [
-          | inl before ↦ omega (arith, length-append (flat_map (direct_at ports number) (numbers n)) (direct_at ports number n), length-direct ports number n before, length-direct_at ports number n)
-          | inr here ↦
-              let same : number ≡ n = omega arith in
-              let none : length (direct_at ports number n) ≡ 0 = subst (λ (k : ℕ). length (direct_at ports number k) ≡ 0) same (own_left_out ports number) in
-              omega (arith, length-append (flat_map (direct_at ports number) (numbers n)) (direct_at ports number n), all_direct ports number n, none)
-        ])
+    (elim (cases_lt number n) [
+      | inl before ↦ omega (arith, length-append (flat_map (direct_at ports number) (numbers n)) (direct_at ports number n), length-direct ports number n before, length-direct_at ports number n)
+      | inr here ↦
+          let same : number ≡ n = omega arith in
+          let none : length (direct_at ports number n) ≡ 0 = subst (λ (k : ℕ). length (direct_at ports number k) ≡ 0) same (own_left_out ports number) in
+          omega (arith, length-append (flat_map (direct_at ports number) (numbers n)) (direct_at ports number n), all_direct ports number n, none)
+    ])
 
 pub length-learned : (routes : List RouteOffer) (number : ℕ) → length (learned routes number) ≤ length routes
 length-learned [] number = omega arith
@@ -70,8 +70,14 @@ pub length-told : (ports : List Port) (routes : List RouteOffer) (number : ℕ) 
 length-told ports routes number below =
     let cost = (port_at ports number).cost in
     let items = direct ports number ++ learned routes number in
-    omega (arith, length-by_network (map (told_at cost) items), length-map items (told_at cost), length-append (direct ports number) (learned routes number),
-        length-direct ports number (length ports) below, length-learned routes number)
+    omega (
+      arith,
+      length-by_network (map (told_at cost) items),
+      length-map items (told_at cost),
+      length-append (direct ports number) (learned routes number),
+      length-direct ports number (length ports) below,
+      length-learned routes number,
+    )
 
 -- how many pages of fifty there are
 pages_counted : {X : Type 0} (page xs : List X) → length page ≤ 50 → length (pages_from 50 page xs) ≡ (length page + length xs + 49) / 50
@@ -97,8 +103,12 @@ length-pages xs = pages_counted [] xs (omega arith) ∙ (omega arith)
 pub length-tells : (ports : List Port) (routes : List RouteOffer) (number : ℕ) (asker : Address) → number < length ports
     → length (tells ports routes number asker) ≤ sheets 50 (length routes + length ports - 1)
 length-tells ports routes number asker below =
-    omega (arith, length-map (pages 50 (told ports routes number)) (page_sent ports number asker Response),
-        length-pages (told ports routes number), length-told ports routes number below)
+    omega (
+      arith,
+      length-map (pages 50 (told ports routes number)) (page_sent ports number asker Response),
+      length-pages (told ports routes number),
+      length-told ports routes number below,
+    )
 
 -- the packets of a start on one port
 length-start_on : (ports : List Port) (number : ℕ) → number < length ports → length ports ≤ 32 → length (start_on ports number) ≤ 3
@@ -113,7 +123,7 @@ each_three : (ports : List Port) (n : ℕ) → n ≤ length ports → length por
 each_three ports zero within few = omega arith
 each_three ports (suc n) within few =
     rw (flat_map-append (start_on ports) (numbers n) (n ∷ []), append-nil (start_on ports n))
-        (omega (arith, length-append (flat_map (start_on ports) (numbers n)) (start_on ports n), each_three ports n (omega arith) few, length-start_on ports n (omega arith) few))
+    (omega (arith, length-append (flat_map (start_on ports) (numbers n)) (start_on ports n), each_three ports n (omega arith) few, length-start_on ports n (omega arith) few))
 
 pub length-start : (ports : List Port) → length ports ≤ 32 → length (start_sends ports) ≤ 3 * length ports
 length-start ports few = each_three ports (length ports) (omega arith) few

@@ -1,4 +1,4 @@
-use Rattle.std.proofs.Common.{◌≡◌, ℕ, ◌+◌, ◌-◌, ◌*◌, ◌<◌, ◌≤◌, max, List, length, sym, ap, ◌∙◌, arith, subst}
+use Rattle.std.proofs.Common.{◌≡◌, ℕ, ◌+◌, ◌-◌, ◌*◌, ◌<◌, ◌≤◌, max, List, length, ap, arith, subst}
 use Rattle.ipx_wire.specs.declared.address.Address.{Address}
 use Rattle.ipx_cmd.specs.Pages.{sheets}
 use Rattle.ipx_cmd.specs.Port.{Port}
@@ -24,4 +24,4 @@ request_most ports lent routes held number asker old new same held_same below se
     let routes_count : length held ≡ length routes = ap length held_same in
     let few = length-tells lent held number asker below in
     at_most_weaker (sheets 50 (length held + length lent - 1)) (max (length ports) (max (sheets 50 (length routes + length ports - 1)) 0))
-        (omega arith) (at_most sent few)
+    (omega arith) (at_most sent few)

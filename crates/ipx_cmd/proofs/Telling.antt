@@ -1,4 +1,4 @@
-use Rattle.std.proofs.Common.{◌≡◌, ℕ, zero, suc, ◌+◌, ◌<◌, ◌≤◌, Bool, true, false, if◌then◌else◌, nat_lt, List, [], ◌∷◌, ◌++◌, length, take, drop, map, filter, get_or, refl, sym, ap, ◌∙◌, arith, subst, add-one, append_assoc, append-nil, drop-cons, inl, inr}
+use Rattle.std.proofs.Common.{◌≡◌, ℕ, suc, ◌+◌, ◌<◌, true, false, nat_lt, List, [], ◌∷◌, ◌++◌, length, take, drop, map, filter, get_or, refl, sym, ap, ◌∙◌, arith, append_assoc, append-nil, drop-cons}
 use Rattle.std.proofs.lemmas.List.{take_more, map-append}
 use Rattle.std.proofs.lemmas.List.Elements.{filter-append}
 use Rattle.std.proofs.lemmas.List.Concat.{flat_map-append}
@@ -50,7 +50,7 @@ each_more f n =
 -- one more port's network among those that are told
 pub direct_more : (cost : ℕ) (ports : List Port) (number n : ℕ)
     → by_network (map (told_at cost) (flat_map (direct_at ports number) (numbers (n + 1))))
-      ≡ put_entries (by_network (map (told_at cost) (flat_map (direct_at ports number) (numbers n)))) (map (told_at cost) (direct_at ports number n))
+    ≡ put_entries (by_network (map (told_at cost) (flat_map (direct_at ports number) (numbers n)))) (map (told_at cost) (direct_at ports number n))
 direct_more cost ports number n =
     ap (λ (l : List RipEntry). by_network (map (told_at cost) l)) (each_more (direct_at ports number) n)
     ∙ ap by_network (map-append (told_at cost) (flat_map (direct_at ports number) (numbers n)) (direct_at ports number n))
@@ -63,18 +63,18 @@ learned-append number xs ys =
 -- one more route among those that are told
 pub learned_more : (cost : ℕ) (number : ℕ) (routes : List RouteOffer) (i : ℕ) (d : RouteOffer) (placed : List RipEntry) → i < length routes
     → put_entries placed (map (told_at cost) (learned (take (i + 1) routes) number))
-      ≡ put_entries (put_entries placed (map (told_at cost) (learned (take i routes) number))) (map (told_at cost) (learned (get_or routes i d ∷ []) number))
+    ≡ put_entries (put_entries placed (map (told_at cost) (learned (take i routes) number))) (map (told_at cost) (learned (get_or routes i d ∷ []) number))
 learned_more cost number routes i d placed below =
     ap (λ (l : List RouteOffer). put_entries placed (map (told_at cost) (learned l number))) (take_more routes i d below)
     ∙ ap (λ (l : List RipEntry). put_entries placed (map (told_at cost) l))
-        (learned-append number (take i routes) (get_or routes i d ∷ []))
+    (learned-append number (take i routes) (get_or routes i d ∷ []))
     ∙ ap (put_entries placed) (map-append (told_at cost) (learned (take i routes) number) (learned (get_or routes i d ∷ []) number))
     ∙ put_entries-append placed (map (told_at cost) (learned (take i routes) number)) (map (told_at cost) (learned (get_or routes i d ∷ []) number))
 
 -- what is told is the direct networks with the learned ones placed among them
 pub told_both : (ports : List Port) (routes : List RouteOffer) (number : ℕ)
     → told ports routes number
-      ≡ put_entries (by_network (map (told_at (port_at ports number).cost) (direct ports number))) (map (told_at (port_at ports number).cost) (learned routes number))
+    ≡ put_entries (by_network (map (told_at (port_at ports number).cost) (direct ports number))) (map (told_at (port_at ports number).cost) (learned routes number))
 told_both ports routes number =
     let cost = (port_at ports number).cost in
     ap by_network (map-append (told_at cost) (direct ports number) (learned routes number))

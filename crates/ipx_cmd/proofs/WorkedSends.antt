@@ -1,5 +1,5 @@
 -- Worked examples of what a router of two ports sends and drops, each computed from the definitions.
-use Rattle.std.proofs.Common.{◌≡◌, ℕ, List, [], ◌∷◌, ◌++◌, codes, Ok, Err, Result, true, false, refl, replicate}
+use Rattle.std.proofs.Common.{◌≡◌, ℕ, List, [], ◌∷◌, codes, Ok, Err, true, false, refl, replicate}
 use Rattle.hex.proofs.OnLiterals.{hex_on_literals}
 use Rattle.hex.specs.Hex.{decode_of}
 use Rattle.ipx_wire.specs.Address.{address_bytes, address_at}
@@ -7,16 +7,14 @@ use Rattle.ipx_wire.specs.Header.{header_bytes, header_at}
 use Rattle.ipx_wire.specs.Packet.{packet_of}
 use Rattle.ipx_wire.specs.Rip.{entry_bytes, entry_at, entries_at, rip_of}
 use Rattle.ipx_wire.specs.declared.node.Node.{Node}
-use Rattle.ipx_wire.specs.declared.packet.PacketFault.TheVariants.{Short, LengthSmall, LengthBeyond}
-use Rattle.ipx_wire.specs.declared.rip.RipFault.TheVariants.{NoEntry}
-use Rattle.ipx_cmd.specs.Bounds.{Packet, Start, most_packets}
+use Rattle.ipx_wire.specs.declared.packet.PacketFault.TheVariants.{Short}
+use Rattle.ipx_cmd.specs.Bounds.{Packet, Start, most_packets, most_length}
 use Rattle.ipx_cmd.specs.Pages.{pages}
 use Rattle.ipx_cmd.specs.Port.{Port, broadcast}
 use Rattle.ipx_cmd.specs.Router.{State, outcome, sends}
 use Rattle.ipx_cmd.specs.Sent.{Sent}
-use Rattle.ipx_cmd.specs.declared.thin.event.Outcome.TheVariants.{Answered, Dropped, Learned, Started, AlreadyRunning}
-use Rattle.ipx_cmd.specs.declared.thin.route.RouteOffer.{RouteOffer}
-use Rattle.ipx_cmd.specs.declared.thin.why.Why.TheVariants.{NotRunning, Malformed, OwnEcho, BadSource, NoRoute, Elsewhere, OtherSocket, NotNeighbour, BadRip}
+use Rattle.ipx_cmd.specs.declared.thin.event.Outcome.TheVariants.{Dropped}
+use Rattle.ipx_cmd.specs.declared.thin.why.Why.TheVariants.{NotRunning, Malformed, OwnEcho, BadSource, NoRoute, NotNeighbour}
 
 -- the bytes of hexadecimal text
 abbrev bytes : List ℕ → List ℕ
@@ -126,3 +124,12 @@ most_of_a_packet = refl
 
 pub most_of_a_long_answer : most_packets 2 100 0 (Packet 0 []) ≡ 3
 most_of_a_long_answer = refl
+
+-- a router's own packets have at most 480 bytes, whatever came
+pub longest_of_no_packet : most_length (Packet 0 (replicate 600 0)) ≡ 480
+unfolding packet_of header_at address_at
+longest_of_no_packet = refl
+
+pub longest_of_a_request : most_length (Packet 0 general_request) ≡ 480
+unfolding hex_on_literals packet_of header_at address_at
+longest_of_a_request = refl

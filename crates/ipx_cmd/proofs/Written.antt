@@ -1,4 +1,4 @@
-use Rattle.std.proofs.Common.{◌≡◌, ℕ, ◌+◌, ◌-◌, ◌<◌, ◌≤◌, false, Option, List, ◌++◌, length, take, drop, sym, ap, ◌∙◌, arith, subst, take-add, length-drop, take_all}
+use Rattle.std.proofs.Common.{◌≡◌, ℕ, ◌+◌, ◌-◌, ◌≤◌, false, List, length, take, drop, sym, ap, ◌∙◌, arith, subst, take-add, length-drop, take_all}
 use Rattle.std.proofs.KnownBytes.{Appends-trans}
 use Rattle.std.specs.Io.KnownBytes.{Appends}
 use Rattle.ipx_wire.specs.Ends.{Output, Took}
@@ -16,10 +16,10 @@ written_more old now new bytes place n before took =
     let within = before.within in
     let bound = took.bound in
     let rest : take (length bytes - place) (drop place bytes) ≡ drop place bytes =
-        take_all (length bytes - place) (drop place bytes) (omega (arith, length-drop place bytes)) in
+    take_all (length bytes - place) (drop place bytes) (omega (arith, length-drop place bytes)) in
     let size : length (take (length bytes - place) (drop place bytes)) ≡ length bytes - place = ap length rest ∙ length-drop place bytes in
     let more : Appends now.written new.written (take n (drop place bytes)) =
-        subst (λ (l : List ℕ). Appends now.written new.written (take n l)) rest took.written in
+    subst (λ (l : List ℕ). Appends now.written new.written (take n l)) rest took.written in
     record {
       within = omega (arith, size);
       written = subst (Appends old.written new.written) (sym (take-add place n bytes))

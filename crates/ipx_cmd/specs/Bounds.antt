@@ -1,5 +1,6 @@
 -- How many packets an event can send, and how long they are.
-use Rattle.std.specs.Prelude.{ℕ, ◌+◌, ◌-◌, ◌*◌, max, List, length}
+use Rattle.std.specs.Prelude.{ℕ, ◌+◌, ◌-◌, ◌*◌, max, List, Ok, Err}
+use Rattle.ipx_wire.specs.Packet.{packet_of}
 use Rattle.ipx_cmd.specs.Pages.{sheets}
 
 -- what happens to a router, as the definitions see it
@@ -16,3 +17,8 @@ most_packets ports routes services (Packet port bytes) =
 -- the most bytes of a packet of the router's own
 abbrev pub most_own_length : ℕ
 most_own_length = 480
+
+-- the most bytes of a packet that an event sends: those of its own, or of the packet that came
+abbrev pub most_length : Happened → ℕ
+most_length Start = most_own_length
+most_length (Packet port bytes) = elim (packet_of bytes) [ Ok p ↦ max most_own_length p.header.length | Err fault ↦ most_own_length ]

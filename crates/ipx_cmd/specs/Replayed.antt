@@ -1,5 +1,5 @@
 -- What a run leaves at its two ends.
-use Rattle.std.specs.Prelude.{◌≡◌, ℕ, ◌++◌, ◌≤◌, List, Bool, true, take}
+use Rattle.std.specs.Prelude.{◌≡◌, ℕ, List, Bool, true, take}
 use Rattle.std.specs.Io.KnownBytes.{Appends}
 use Rattle.ipx_wire.specs.Ends.{Output}
 use Rattle.ipx_cmd.specs.declared.ended.RunFault.{RunFault}

@@ -1,8 +1,6 @@
 -- The thin router: its state, what happens to it, and what it makes of that.
-use Rattle.std.specs.Prelude.{◌≡◌, ℕ, ◌<◌, ◌≤◌, ◌==◌, Bool, true, false, nat_lt, if◌then◌else◌, List, [], ◌∷◌, length, take, Result, Ok, Err}
+use Rattle.std.specs.Prelude.{◌≡◌, ℕ, ◌<◌, ◌≤◌, ◌==◌, Bool, true, if◌then◌else◌, List, [], length, take, Result, Ok, Err}
 use Rattle.std.specs.List.{list_any}
-use Rattle.ipx_wire.specs.declared.network.Network.{Network}
-use Rattle.ipx_wire.specs.declared.rip.Operation.{Operation}
 use Rattle.ipx_wire.specs.declared.rip.Operation.TheVariants.{Request, Response}
 use Rattle.ipx_cmd.specs.Bounds.{Happened, Start, Packet}
 use Rattle.ipx_cmd.specs.Port.{Port, port_at}

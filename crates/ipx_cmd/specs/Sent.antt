@@ -2,6 +2,7 @@
 use Rattle.std.specs.Prelude.{◌≡◌, ℕ, ◌≤◌, List, ◌++◌, length}
 use Rattle.std.specs.List.{AllByRecursion}
 use Rattle.ipx_wire.specs.Packet.{Parts, IsPacket}
+use Rattle.ipx_cmd.specs.Bounds.{most_own_length}
 use Rattle.ipx_wire.specs.declared.node.Node.{Node}
 
 -- the port on which it leaves, the node to which the link sends it, and its bytes
@@ -12,7 +13,7 @@ pub record Sent : Type 0 where
 
 -- it is a packet, and not longer than a router's own packets may be
 pub record IsShortPacket (s : Sent) : Type 0 where
-  pub short : length s.bytes ≤ 480
+  pub short : length s.bytes ≤ most_own_length
   pub parts : Parts
   pub is : IsPacket s.bytes parts
 

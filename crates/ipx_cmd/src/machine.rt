@@ -2,15 +2,14 @@
 ghost use Rattle.std.specs.Prelude.{length};
 ghost use Rattle.ipx_cmd.specs.Router.{happened, IsOnPort};
 
-use arrayvec::ArrayVec;
-use ipx_wire::{Network, Node};
-use std::alloc::Global;
-
 use crate::command::{Command, MOST_PORTS, Stage, read_line};
 use crate::fault::LineFault;
 use crate::output::{drop_line, out_line, route_line};
 use crate::refusal::Refusal;
 use crate::thin::{Event, Outbox, Outcome, Port, PortFault, PortsFault, Router};
+use arrayvec::ArrayVec;
+use ipx_wire::{Network, Node};
+use std::alloc::Global;
 
 /// How many routes the router of the program holds at most.
 const MOST_ROUTES: usize = 256;

@@ -3,15 +3,14 @@
 ghost use Rattle.std.specs.Prelude.{◌≡◌, ◌+◌, ◌*◌, ◌^◌, ◌<◌, ◌≤◌, false, [], length, string_bytes, IfErr, OnOk, OnErr};
 ghost use Rattle.ipx_cmd.specs.Replayed.{IsDevices, WroteAll, WroteFront};
 
-use ipx_wire::{Intake, Outlet};
-use std::alloc::Global;
-use std::io::{Read, Write};
-
 use crate::ended::{Ended, RunFault};
 use crate::fault::LineFault;
 use crate::output::fault_line;
 use crate::player::Player;
 use crate::refusal::Refusal;
+use ipx_wire::{Intake, Outlet};
+use std::alloc::Global;
+use std::io::{Read, Write};
 
 /// How many bytes are asked for at a time.
 const PIECE: usize = 8192;

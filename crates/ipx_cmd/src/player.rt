@@ -4,12 +4,11 @@
 //! end is dropped, but counted where the line is too long.
 ghost use Rattle.std.specs.Prelude.{◌≡◌, ◌+◌, ◌^◌, ◌<◌, ◌≤◌, ℕ};
 
-use std::alloc::Global;
-use std::marker::Model;
-
 use crate::fault::LineFault;
 use crate::machine::Machine;
 use crate::refusal::Refusal;
+use std::alloc::Global;
+use std::marker::Model;
 
 /// How many bytes a line has at most.
 const LONGEST_LINE: usize = 131_200;

@@ -15,6 +15,6 @@ mod why;
 pub use self::event::{Event, Outcome};
 pub use self::outbox::{Outbox, Sent};
 pub use self::port::{Port, PortFault};
-pub use self::router::{PortsFault, Router};
 pub use self::route::{Held, RouteOffer};
+pub use self::router::{PortsFault, Router};
 pub use self::why::Why;

@@ -9,10 +9,9 @@ ghost use Rattle.ipx_cmd.specs.Port.{port_at, broadcast};
 ghost use Rattle.ipx_cmd.specs.Why.{same_node, is_local, is_near, header_checks, first_of, judged, judged_packet};
 ghost use Rattle.ipx_wire.specs.Packet.{packet_of};
 
-use ipx_wire::{Address, Header, Network, Node, Packet, Rip, Socket};
-
 use crate::thin::port::Port;
 use crate::thin::why::Why;
+use ipx_wire::{Address, Header, Network, Node, Packet, Rip, Socket};
 
 /// The type of packets that are propagated.
 const PROPAGATED: u8 = 20;

@@ -2,13 +2,12 @@
 //! has and that isn't held, while there is room.
 ghost use Rattle.std.specs.Prelude.{◌≡◌, ◌+◌, ◌<◌, ◌≤◌, length, IfOk, OnOk, OnErr};
 
-use ipx_wire::{Network, Node, OutOfMemory, RipEntry};
-use std::alloc::Global;
-
 use crate::thin::judge::Message;
 use crate::thin::port::Port;
 use crate::thin::route::RouteOffer;
 use crate::thin::told::UNREACHABLE;
+use ipx_wire::{Network, Node, OutOfMemory, RipEntry};
+use std::alloc::Global;
 
 /// The table after a response, and the offers that it gained.
 #[derive(Debug, Drop)]

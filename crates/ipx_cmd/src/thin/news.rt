@@ -3,15 +3,14 @@ ghost use Rattle.std.specs.Prelude.{◌≡◌, ◌<◌, ◌≤◌, length, IfOk,
 ghost use Rattle.ipx_cmd.specs.Router.{SendsAtMost};
 ghost use Rattle.ipx_cmd.specs.Sent.{Grows};
 
-use ipx_wire::{Operation, OutOfMemory, RipEntry};
-use std::alloc::Global;
-
 use crate::thin::judge::port_of;
 use crate::thin::outbox::Outbox;
 use crate::thin::port::Port;
 use crate::thin::route::RouteOffer;
 use crate::thin::send::{everyone, send_pages};
 use crate::thin::told::{UNREACHABLE, dead, entry_of, place, told_at};
+use ipx_wire::{Operation, OutOfMemory, RipEntry};
+use std::alloc::Global;
 
 /// Tells the routes gained on port `number` on all the others, one packet each.
 pub fn tell_gained(

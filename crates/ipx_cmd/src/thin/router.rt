@@ -4,12 +4,6 @@ ghost use Rattle.ipx_cmd.specs.Sends.{asks_all};
 ghost use Rattle.std.specs.Option.{option_map};
 ghost use Rattle.std.specs.Prelude.{◌≡◌, ◌<◌, ◌≤◌, ◌==◌, ℕ, true, false, [], nat_lt, length, slice_get, Ok, IfOk, IfErr, OnOk, OnErr};
 
-use arrayvec::ArrayVec;
-use ipx_wire::{Network, Operation, OutOfMemory};
-use std::alloc::Global;
-use std::marker::Model;
-use thiserror::Error;
-
 use crate::thin::event::{Event, Outcome};
 use crate::thin::judge::{Message, judge, port_of};
 use crate::thin::learn::{Taught, teach};
@@ -18,6 +12,11 @@ use crate::thin::outbox::Outbox;
 use crate::thin::port::Port;
 use crate::thin::route::{Held, RouteOffer};
 use crate::thin::send::{reply_to, send_start, tell};
+use arrayvec::ArrayVec;
+use ipx_wire::{Network, Operation, OutOfMemory};
+use std::alloc::Global;
+use std::marker::Model;
+use thiserror::Error;
 
 /// Why ports make no router, the first that holds.
 #[derive(Clone, Copy, Debug, PartialEq, Eq, Hash, Error)]
@@ -115,11 +114,7 @@ impl<const P: usize, const R: usize> Router<P, R> {
     }
 
     /// Takes an event: changes the table, and appends what is sent to the outbox.
-    pub fn step(
-        &mut self,
-        event: Event<'_>,
-        outbox: &mut Outbox,
-    ) -> Result<Outcome, OutOfMemory>
+    pub fn step(&mut self, event: Event<'_>, outbox: &mut Outbox) -> Result<Outcome, OutOfMemory>
         requires { IsOnPort (length self.old.ports) (happened event) }
         ensures capacity { length self.new.routes ≤ R }
         ensures ports { self.new.ports ≡ self.old.ports }
@@ -226,8 +221,14 @@ impl<const P: usize, const R: usize> Router<P, R> {
         ensures router { OnErr result (self.new ≡ self.old) }
         ensures outbox { OnErr result (Grows outbox.old outbox.new) }
     {
-        let Taught { routes, gained } =
-            teach(self.alloc, &self.ports, &self.routes, R, port, message)?;
+        let Taught { routes, gained } = teach(
+            self.alloc,
+            &self.ports,
+            &self.routes,
+            R,
+            port,
+            message,
+        )?;
         tell_gained(self.alloc, outbox, &self.ports, port, &gained)?;
         self.routes = routes;
         Ok(Outcome::Learned)

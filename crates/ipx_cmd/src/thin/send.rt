@@ -6,15 +6,15 @@ ghost use Rattle.ipx_cmd.specs.Sends.{all_routes, at_socket, page_sent, reply_to
 ghost use Rattle.ipx_cmd.specs.Sent.{Grows, Sends};
 ghost use Rattle.ipx_cmd.specs.Told.{told};
 
-use ipx_wire::{Address, Network, Node, Operation, OutOfMemory, RipEntry, Socket};
-use ipx_wire::{write_query, write_rip};
-use std::alloc::Global;
-
 use crate::thin::judge::port_of;
 use crate::thin::outbox::Outbox;
 use crate::thin::port::Port;
 use crate::thin::route::RouteOffer;
 use crate::thin::told::told;
+use ipx_wire::{
+    Address, Network, Node, Operation, OutOfMemory, RipEntry, Socket, write_query, write_rip,
+};
+use std::alloc::Global;
 
 /// The type in a query that asks for services of every type.
 const EVERY_TYPE: u16 = 0xFFFF;

@@ -4,12 +4,11 @@ ghost use Rattle.std.specs.Prelude.{◌≡◌, ◌<◌, ◌≤◌, ◌++◌, [],
 ghost use Rattle.ipx_cmd.specs.Port.{port_at};
 ghost use Rattle.ipx_cmd.specs.Told.{by_network, dead, direct, direct_at, entry_of, is_told, learned, put_entry, put_entries, told, told_at};
 
-use ipx_wire::{OutOfMemory, RipEntry};
-use std::alloc::Global;
-
 use crate::thin::judge::port_of;
 use crate::thin::port::Port;
 use crate::thin::route::RouteOffer;
+use ipx_wire::{OutOfMemory, RipEntry};
+use std::alloc::Global;
 
 /// How far an unreachable network is.
 pub const UNREACHABLE: u16 = 16;
@@ -31,11 +30,7 @@ pub fn told(
 }
 
 /// The networks of the other ports, by network.
-fn told_direct(
-    alloc: Global,
-    ports: &[Port],
-    number: usize,
-) -> Result<Vec<RipEntry>, OutOfMemory>
+fn told_direct(alloc: Global, ports: &[Port], number: usize) -> Result<Vec<RipEntry>, OutOfMemory>
     requires { number < length ports.now }
     ensures { IfOk result (λ v. v.items ≡ by_network (map (told_at (port_at ports.now number).cost) (direct ports.now number))) }
 {

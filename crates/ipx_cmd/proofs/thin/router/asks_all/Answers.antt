@@ -6,5 +6,5 @@ use Rattle.ipx_cmd.proofs.thin.router.asks_all.Goals as goal
 pub returns : goal.returns
 returns c =
     any_from_yields_List (λ e. e.network.0 == 4294967295) _ _ _ c.any.ensures.ran
-        (YieldsList-from_first (λ e. e) (λ rest. rest) c.args.message.now.rip.entries c.entries.ensures)
-        (λ x b q k. search (rules, k))
+    (YieldsList-from_first (λ e. e) (λ rest. rest) c.args.message.now.rip.entries c.entries.ensures)
+    (λ x b q k. search (rules, k))

@@ -1,11 +1,11 @@
-use Rattle.std.proofs.Common.{◌≡◌, ℕ, List, ◌++◌, ◌∷◌, [], sym, ap, ◌∙◌, arith, subst, length, take, ◌≤◌}
+use Rattle.std.proofs.Common.{◌≡◌, ℕ, List, ap, ◌∙◌, arith, subst, length, take, ◌≤◌}
 use Rattle.std.proofs.lemmas.Result.{on_ok_weaker}
 use Rattle.ipx_wire.specs.declared.address.Address.{Address}
 use Rattle.ipx_wire.specs.Packet.{IsPacket}
 use Rattle.ipx_wire.specs.Write.{rip_packet, rip_packet_parts}
 use Rattle.ipx_cmd.specs.Port.{port_at, own_address}
 use Rattle.ipx_cmd.specs.Sends.{page_sent}
-use Rattle.ipx_cmd.specs.Sent.{Sent, IsShortPacket, Sends}
+use Rattle.ipx_cmd.specs.Sent.{Sent, IsShortPacket}
 use Rattle.ipx_cmd.proofs.Sendings.{sends_one, written}
 use Rattle.ipx_cmd.proofs.thin.send.send_page.Goals as goal
 
@@ -34,6 +34,6 @@ bytes_are c =
 pub returns-clause-ok : goal.returns-clause-ok
 returns-clause-ok c =
     on_ok_weaker c.push.result
-        (λ gained. sends_one c.args.outbox.now c.push.new.self _ _
-            (ap (λ (b : List ℕ). (let s : Sent = record { port = c.args.number; link = c.args.to.node; bytes = b } in s)) (bytes_are c)) (short c) gained)
-        c.push.ensures.ok
+    (λ gained. sends_one c.args.outbox.now c.push.new.self _ _
+    (ap (λ (b : List ℕ). (let s : Sent = record { port = c.args.number; link = c.args.to.node; bytes = b } in s)) (bytes_are c)) (short c) gained)
+    c.push.ensures.ok

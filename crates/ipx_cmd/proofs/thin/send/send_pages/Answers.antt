@@ -1,5 +1,4 @@
-use Rattle.std.proofs.Common.{◌≡◌, ◌<◌, ◌∙◌, ap, length, take, drop, min, arith, List}
-use Rattle.std.proofs.lemmas.Bool.{eqb-false}
+use Rattle.std.proofs.Common.{◌<◌, ◌∙◌, length, arith}
 use Rattle.ipx_cmd.specs.Sends.{page_sent}
 use Rattle.ipx_cmd.proofs.Paging.{take_within, drop_within}
 use Rattle.ipx_cmd.proofs.Sendings.{pages_more}
@@ -10,8 +9,8 @@ loop-rest-preserved c =
     let rest = c.loop-rest.rest.now in
     let some : 0 < length rest = grind arith in
     pages_more (page_sent c.args.ports.now c.args.number c.args.to c.args.operation) c.args.entries.now rest
-        c.split_at.result.0.now c.split_at.result.1.now c.args.outbox.now c.loop-rest.outbox c.send_page.new.outbox
-        c.loop-rest.invariant some
-        (c.split_at.ensures.front ∙ take_within rest c.min.result 50 c.min.ensures)
-        (c.split_at.ensures.back ∙ drop_within rest c.min.result 50 c.min.ensures)
-        c.in_ok-send_page.ensures.ok
+    c.split_at.result.0.now c.split_at.result.1.now c.args.outbox.now c.loop-rest.outbox c.send_page.new.outbox
+    c.loop-rest.invariant some
+    (c.split_at.ensures.front ∙ take_within rest c.min.result 50 c.min.ensures)
+    (c.split_at.ensures.back ∙ drop_within rest c.min.result 50 c.min.ensures)
+    c.in_ok-send_page.ensures.ok

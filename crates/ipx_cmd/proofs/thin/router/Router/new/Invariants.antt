@@ -4,6 +4,6 @@ use Rattle.ipx_cmd.proofs.thin.router.Router.new.Given as goal
 
 abbrev pub invariant-loop-place : goal.invariant-loop-place
 invariant-loop-place g l = record {
-    kept : l.kept.items ≡ take l.place l.ports;
-    distinct : (k : ℕ) → k < l.place → is_again l.ports k ≡ false;
+  kept : l.kept.items ≡ take l.place l.ports;
+  distinct : (k : ℕ) → k < l.place → is_again l.ports k ≡ false;
 }
