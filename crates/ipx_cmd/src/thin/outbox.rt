@@ -14,8 +14,9 @@ pub struct Sent<'a> {
     pub bytes: &'a [u8],
 }
 
+/// A packet with bytes of its own.
 #[derive(Debug, Drop)]
-pub struct Slot {
+struct Slot {
     port: u8,
     link: Node,
     bytes: Vec<u8>,

@@ -147,6 +147,7 @@ fn send_page(
     outbox.push(number, to.node, &bytes[..count])
 }
 
+/// The port's routing process.
 fn own_address(port: &Port) -> Address
     ensures { result ≡ own_address port.now }
 {
@@ -157,6 +158,7 @@ fn own_address(port: &Port) -> Address
     }
 }
 
+/// The routing processes of all nodes of the port's network.
 pub fn everyone(port: &Port) -> Address
     ensures { result ≡ everyone port.now }
 {

@@ -100,6 +100,7 @@ fn is_told(number: usize, route: &RouteOffer) -> bool
     usize::from(route.port) != number && route.hops < UNREACHABLE - 1
 }
 
+/// The route as an entry, with hops and ticks as they were heard.
 pub fn entry_of(route: &RouteOffer) -> RipEntry
     ensures { result ≡ entry_of route.now }
 {

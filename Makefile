@@ -1,0 +1,22 @@
+# Needs the Rattle toolchain (its command rt) and nothing else.
+PREFIX ?= /usr/local
+PROGRAM = crates/ipxr/out/ipxr
+
+.PHONY: run build test install
+
+# Proves and builds all, then plays the worked script and prints what the router sent and learned.
+run: build
+	@$(PROGRAM) replay crates/ipxr/stdin
+
+# Proves every crate and builds the program.
+build:
+	@tools/build
+
+# The gate, then every example against its kept output. The last line is 'N passed, M failed'.
+test:
+	@tools/test
+
+# Puts the proved program into PREFIX/bin.
+install: build
+	install -d $(PREFIX)/bin
+	install -m 755 $(PROGRAM) $(PREFIX)/bin/ipxr
