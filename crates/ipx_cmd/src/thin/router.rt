@@ -122,8 +122,8 @@ impl<const P: usize, const R: usize> Router<P, R> {
         ensures most { OnOk result (SendsAtMost (most_packets (length self.old.ports) (length self.old.routes) 0 (happened event.entry)) outbox.old outbox.new) }
 
         // What is sent, but for what a response changes: that is only bounded.
-        ensures sends { OnOk result ((IsResponse self.old (happened event.entry) → ⊥) → Sends outbox.old outbox.new (sends self.old (happened event.entry))) }
-        ensures keeps { OnOk result ((IsResponse self.old (happened event.entry) → ⊥) → self.new.routes ≡ self.old.routes) }
+        ensures sends { OnOk result ((¬ IsResponse self.old (happened event.entry)) → Sends outbox.old outbox.new (sends self.old (happened event.entry))) }
+        ensures keeps { OnOk result ((¬ IsResponse self.old (happened event.entry)) → self.new.routes ≡ self.old.routes) }
 
         // Want of memory leaves all as it was.
         ensures router { OnErr result (self.new ≡ self.old) }
@@ -169,8 +169,8 @@ impl<const P: usize, const R: usize> Router<P, R> {
         ensures running { self.new.running ≡ self.old.running }
         ensures outcome { IfOk result (λ o. o ≡ outcome self.old (Packet port bytes.now)) }
         ensures most { OnOk result (SendsAtMost (most_packets (length self.old.ports) (length self.old.routes) 0 (Packet port bytes.now)) outbox.old outbox.new) }
-        ensures sends { OnOk result ((IsResponse self.old (Packet port bytes.now) → ⊥) → Sends outbox.old outbox.new (sends self.old (Packet port bytes.now))) }
-        ensures keeps { OnOk result ((IsResponse self.old (Packet port bytes.now) → ⊥) → self.new ≡ self.old) }
+        ensures sends { OnOk result ((¬ IsResponse self.old (Packet port bytes.now)) → Sends outbox.old outbox.new (sends self.old (Packet port bytes.now))) }
+        ensures keeps { OnOk result ((¬ IsResponse self.old (Packet port bytes.now)) → self.new ≡ self.old) }
         ensures router { OnErr result (self.new ≡ self.old) }
         ensures outbox { OnErr result (Grows outbox.old outbox.new) }
     {
