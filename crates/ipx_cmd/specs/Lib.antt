@@ -7,6 +7,7 @@ pub mod Line
 pub mod Output
 pub mod Pages
 pub mod Port
+pub mod PortWord
 pub mod Replayed
 pub mod Router
 pub mod Script

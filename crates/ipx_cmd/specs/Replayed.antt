@@ -1,15 +1,15 @@
 -- What a run leaves at its two ends.
-use Rattle.std.specs.Prelude.{◌≡◌, ℕ, List, Bool, true, take}
+use Rattle.std.specs.Prelude.{◌≡◌, ℕ, List, Bool, true, false, take}
 use Rattle.std.specs.Io.KnownBytes.{Appends}
 use Rattle.ipx_wire.specs.Ends.{Output}
 use Rattle.ipx_cmd.specs.declared.ended.RunFault.{RunFault}
 use Rattle.ipx_cmd.specs.declared.ended.RunFault.TheVariants.{Read, Write, Memory}
 
--- a fault of a device is told only where that device has failed
-abbrev pub IsDevices : Bool → Bool → RunFault → Type 0
-IsDevices intake outlet Read = intake ≡ true
-IsDevices intake outlet Write = outlet ≡ true
-IsDevices intake outlet Memory = Unit {0}
+-- the fault that is told is the one that was met: a device's where it has failed, and want of memory where none has
+abbrev pub IsFaultOf : Bool → Bool → RunFault → Type 0
+IsFaultOf intake outlet Read = intake ≡ true
+IsFaultOf intake outlet Write = outlet ≡ true
+IsFaultOf intake outlet Memory = (intake ≡ false) × (outlet ≡ false)
 
 -- some first bytes were written
 pub record WroteFront (old new : Output) (bytes : List ℕ) : Type 0 where

@@ -37,6 +37,11 @@ IsOnPort ports (Packet port bytes) = port < ports
 abbrev pub is_again : List Port → ℕ → Bool
 is_again ports place = list_any (λ p. p.network.0 == (port_at ports place).network.0) (take place ports)
 
+-- whether a router runs after an event
+abbrev pub runs_after : State → Happened → Bool
+runs_after state Start = true
+runs_after state (Packet port bytes) = state.running
+
 -- what is made of a message
 abbrev pub outcome_heard : Result Message Why → Outcome
 outcome_heard (Err why) = Dropped why
@@ -47,11 +52,15 @@ abbrev pub outcome : State → Happened → Outcome
 outcome state Start = if state.running then AlreadyRunning else Started
 outcome state (Packet port bytes) = outcome_heard (judged state.ports state.running port bytes)
 
+-- the packets that answer a request
+abbrev pub request_answers : State → ℕ → Message → List Sent
+request_answers state port message =
+    if asks_all message.rip.entries then request_sends state.ports state.routes port message.source else []
+
 -- the packets that answer a message, but for what a response changes
 abbrev pub answers : State → ℕ → Result Message Why → List Sent
 answers state port (Err why) = []
-answers state port (Ok message) =
-    if asks_all message.rip.entries then request_sends state.ports state.routes port message.source else []
+answers state port (Ok message) = elim message.rip.operation [ Request ↦ request_answers state port message | Response ↦ [] ]
 
 -- the packets that an event sends, but for what a response changes
 abbrev pub sends : State → Happened → List Sent

@@ -55,6 +55,7 @@ start_on ports number =
     ++ rip_broadcast ports number Request (all_routes ∷ [])
     ++ services_query ports number
 
+-- the packets of a start, port after port
 abbrev pub start_sends : List Port → List Sent
 start_sends ports = flat_map (start_on ports) (ports_up ports)
 

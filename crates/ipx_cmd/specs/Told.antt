@@ -20,6 +20,7 @@ put_entry entry [] = entry ∷ []
 put_entry entry (other ∷ entries) =
     if nat_lt entry.network.0 other.network.0 then entry ∷ other ∷ entries else other ∷ put_entry entry entries
 
+-- entries in their places among those that are placed, one after the other
 abbrev pub put_entries : List RipEntry → List RipEntry → List RipEntry
 put_entries placed [] = placed
 put_entries placed (entry ∷ entries) = put_entries (put_entry entry placed) entries
@@ -50,6 +51,7 @@ direct_at ports number other =
 abbrev pub direct : List Port → ℕ → List RipEntry
 direct ports number = flat_map (direct_at ports number) (ports_up ports)
 
+-- a route as an entry, with hops and ticks as they were heard
 abbrev pub entry_of : RouteOffer → RipEntry
 entry_of route = record { network = route.network; hops = route.hops; ticks = route.ticks }
 

@@ -24,6 +24,7 @@ first_of [] = None
 first_of (Some why ∷ checks) = Some why
 first_of (None ∷ checks) = first_of checks
 
+-- the six bytes are the same
 abbrev pub same_node : Node → Node → Bool
 same_node a b = pointwise nat_eq a.0 b.0
 
@@ -55,6 +56,7 @@ abbrev pub heard_of : Address → Result RipParts RipFault → Result Message Wh
 heard_of source (Err fault) = Err (BadRip fault)
 heard_of source (Ok rip) = Ok (record { source = source; rip = rip })
 
+-- what a packet says whose header was checked
 abbrev pub checked : Option Why → Parts → Result Message Why
 checked (Some why) p = Err why
 checked None p = heard_of p.header.source (rip_of p.payload)

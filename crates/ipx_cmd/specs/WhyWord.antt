@@ -7,6 +7,7 @@ use Rattle.ipx_wire.specs.declared.rip.RipFault.TheVariants.{Short as RipShort, 
 use Rattle.ipx_cmd.specs.declared.thin.why.Why.{Why}
 use Rattle.ipx_cmd.specs.declared.thin.why.Why.TheVariants.{NotRunning, Malformed, OwnEcho, BadSource, NoRoute, Elsewhere, OtherSocket, NotNeighbour, BadRip}
 
+-- the names of the faults of packets, and of routing information
 abbrev pub packet_word : PacketFault → List ℕ
 packet_word PacketShort = codes "Short"
 packet_word LengthSmall = codes "LengthSmall"
@@ -18,7 +19,7 @@ rip_word (Operation number) = codes "Operation"
 rip_word NoEntry = codes "NoEntry"
 rip_word TooMany = codes "TooMany"
 
--- the word of a reason: its name, and for a malformed packet a colon and the name of the fault
+-- the word of a reason: its name, and where a reader refused the bytes a colon and the name of the fault
 abbrev pub why_word : Why → List ℕ
 why_word NotRunning = codes "NotRunning"
 why_word (Malformed fault) = codes "Malformed:" ++ packet_word fault

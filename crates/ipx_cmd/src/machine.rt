@@ -1,6 +1,7 @@
 //! What the lines of a script act on: the ports named so far, and then the router that they make.
-ghost use Rattle.std.specs.Prelude.{length};
+ghost use Rattle.std.specs.Prelude.{◌≡◌, length};
 ghost use Rattle.ipx_cmd.specs.Router.{happened, IsOnPort};
+ghost use Rattle.ipx_cmd.specs.PortWord.{port_fault};
 
 use crate::command::{Command, MOST_PORTS, Stage, read_line};
 use crate::fault::LineFault;
@@ -114,7 +115,9 @@ impl Machine {
 }
 
 /// The word of a port's fault.
-fn port_fault(fault: PortFault) -> LineFault {
+fn port_fault(fault: PortFault) -> LineFault
+    ensures { result ≡ port_fault fault }
+{
     match fault {
         PortFault::Longest => LineFault::Longest,
         PortFault::Cost => LineFault::Cost,

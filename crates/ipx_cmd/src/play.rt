@@ -1,7 +1,9 @@
 //! A run of `replay`: the script is read in pieces, and the text of the lines that a piece ends is
 //! written before the next piece is asked for.
-ghost use Rattle.std.specs.Prelude.{◌≡◌, ◌+◌, ◌*◌, ◌^◌, ◌<◌, ◌≤◌, false, [], length, string_bytes, IfErr, OnOk, OnErr};
-ghost use Rattle.ipx_cmd.specs.Replayed.{IsDevices, WroteAll, WroteFront};
+ghost use Rattle.std.specs.Prelude.{◌≡◌, ◌+◌, ◌*◌, ◌^◌, ◌<◌, ◌≤◌, false, [], length, string_bytes, IfErr, IfOk, OnOk, OnErr};
+ghost use Rattle.ipx_cmd.specs.Replayed.{IsFaultOf, WroteAll, WroteFront};
+ghost use Rattle.ipx_cmd.specs.declared.ended.Ended.TheVariants.{Done};
+ghost use Rattle.std.specs.Io.KnownBytes.{IsAtEnd};
 
 use crate::ended::{Ended, RunFault};
 use crate::fault::LineFault;
@@ -29,7 +31,10 @@ pub fn replay<R: Read, W: Write>(
 ) -> Result<Ended, RunFault>
     requires intake { intake.old.failed ≡ false }
     requires outlet { outlet.old.failed ≡ false }
-    ensures fault { IfErr result (IsDevices intake.new.failed outlet.new.failed) }
+    ensures fault { IfErr result (IsFaultOf intake.new.failed outlet.new.failed) }
+    ensures fine_intake { OnOk result (intake.new.failed ≡ false) }
+    ensures fine_outlet { OnOk result (outlet.new.failed ≡ false) }
+    ensures whole { IfOk result (λ e. e ≡ Done → IsAtEnd intake.new.left) }
 {
     let mut player = Player::new(alloc);
     let mut text = String::new(alloc);
@@ -58,7 +63,7 @@ fn play_piece<W: Write>(
     requires outlet { outlet.old.failed ≡ false }
     ensures number { player.new ≤ player.old + length piece.now }
     ensures fine { OnOk result (outlet.new.failed ≡ false) }
-    ensures fault { IfErr result (IsDevices false outlet.new.failed) }
+    ensures fault { IfErr result (IsFaultOf false outlet.new.failed) }
 {
     for byte in piece {
         if let Err(refusal) = player.feed(*byte, text) {
@@ -79,7 +84,8 @@ fn end<W: Write>(
     outlet: &mut Outlet<W>,
 ) -> Result<Ended, RunFault>
     requires { outlet.old.failed ≡ false }
-    ensures fault { IfErr result (IsDevices false outlet.new.failed) }
+    ensures fine { OnOk result (outlet.new.failed ≡ false) }
+    ensures fault { IfErr result (IsFaultOf false outlet.new.failed) }
 {
     if let Err(refusal) = player.finish(text) {
         return refused(player, text, outlet, refusal);
@@ -97,7 +103,7 @@ fn refused<W: Write>(
 ) -> Result<Ended, RunFault>
     requires { outlet.old.failed ≡ false }
     ensures fine { OnOk result (outlet.new.failed ≡ false) }
-    ensures fault { IfErr result (IsDevices false outlet.new.failed) }
+    ensures fault { IfErr result (IsFaultOf false outlet.new.failed) }
 {
     match refusal {
         Refusal::Memory => Err(RunFault::Memory),
@@ -113,7 +119,7 @@ fn tell<W: Write>(
 ) -> Result<Ended, RunFault>
     requires { outlet.old.failed ≡ false }
     ensures fine { OnOk result (outlet.new.failed ≡ false) }
-    ensures fault { IfErr result (IsDevices false outlet.new.failed) }
+    ensures fault { IfErr result (IsFaultOf false outlet.new.failed) }
 {
     fault_line(text, number, fault)?;
     flush(text, outlet)?;
@@ -127,7 +133,7 @@ fn flush<W: Write>(text: &mut String, outlet: &mut Outlet<W>) -> Result<(), RunF
     ensures emptied { OnOk result (string_bytes text.new ≡ []) }
     ensures fine { OnOk result (outlet.new.failed ≡ false) }
     ensures err { OnErr result (WroteFront outlet.old outlet.new (string_bytes text.old)) }
-    ensures fault { IfErr result (IsDevices false outlet.new.failed) }
+    ensures fault { IfErr result (IsFaultOf false outlet.new.failed) }
 {
     write_whole(outlet, text.as_bytes())?;
     text.clear();
@@ -139,7 +145,7 @@ fn write_whole<W: Write>(outlet: &mut Outlet<W>, bytes: &[u8]) -> Result<(), Run
     requires { outlet.old.failed ≡ false }
     ensures ok { OnOk result (WroteAll outlet.old outlet.new bytes.now) }
     ensures err { OnErr result (WroteFront outlet.old outlet.new bytes.now) }
-    ensures fault { IfErr result (IsDevices false outlet.new.failed) }
+    ensures fault { IfErr result (IsFaultOf false outlet.new.failed) }
 {
     let mut at = 0;
     while at < bytes.len() {

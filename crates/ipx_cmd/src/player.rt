@@ -2,7 +2,7 @@
 //!
 //! A line ends before a line feed or at the end of the script. A carriage return right before that
 //! end is dropped, but counted where the line is too long.
-ghost use Rattle.std.specs.Prelude.{◌≡◌, ◌+◌, ◌^◌, ◌<◌, ◌≤◌, ℕ};
+ghost use Rattle.std.specs.Prelude.{◌≡◌, ◌+◌, ◌^◌, ◌<◌, ◌≤◌, ◌==◌, if◌then◌else◌, OnOk, OnErr, ℕ};
 
 use crate::fault::LineFault;
 use crate::machine::Machine;
@@ -22,9 +22,13 @@ pub(crate) struct Player {
 }
 
 impl Model for Player {
+    ghost use Rattle.std.specs.Prelude.{◌≤◌, ℕ, length};
+
     ghost Value = { ℕ };
 
     ghost view = { λ p. p.number };
+
+    ghost invariant = { λ p. length p.pending.items ≤ 131200 };
 }
 
 impl Player {
@@ -48,7 +52,9 @@ impl Player {
     /// Takes the next byte, and appends the text of the line that it ends, if it ends one.
     pub fn feed(&mut self, byte: u8, text: &mut String) -> Result<(), Refusal>
         requires { self.old + 1 < 2 ^ 64 }
-        ensures { self.new ≤ self.old + 1 }
+        ensures bound { self.new ≤ self.old + 1 }
+        ensures counted { OnOk result (self.new ≡ (if byte == 10 then self.old + 1 else self.old)) }
+        ensures stays { OnErr result (self.new ≡ self.old) }
     {
         if byte == b'\n' {
             self.end_line(text)?;

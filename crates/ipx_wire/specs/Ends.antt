@@ -14,7 +14,7 @@ pub record Output : Type 0 where
   pub written : Option (List ℕ)
   pub failed : Bool
 
--- how often the reader was asked after one call more: at most 16,777,216 times (own)
+-- how often the reader was asked after one call more: at most 16,777,216 times
 abbrev pub calls_after : ℕ → ℕ
 calls_after calls = min (calls + 1) 16777216
 

@@ -1,6 +1,7 @@
 //! What a response adds to the table: each offer that is up, of an ordinary network that no port
 //! has and that isn't held, while there is room.
-ghost use Rattle.std.specs.Prelude.{◌≡◌, ◌+◌, ◌<◌, ◌≤◌, length, IfOk, OnOk, OnErr};
+ghost use Rattle.std.specs.Prelude.{◌≡◌, ◌==◌, ◌&&◌, not, nat_lt, ◌+◌, ◌<◌, ◌≤◌, length, IfOk, OnOk, OnErr};
+ghost use Rattle.std.specs.List.{list_any};
 
 use crate::thin::judge::Message;
 use crate::thin::port::Port;
@@ -56,12 +57,27 @@ fn offer_of(number: u8, node: Node, entry: RipEntry) -> RouteOffer
 }
 
 /// Whether the table takes the offer where it has room.
-fn is_taken(ports: &[Port], routes: &[RouteOffer], offer: &RouteOffer) -> bool {
+fn is_taken(ports: &[Port], routes: &[RouteOffer], offer: &RouteOffer) -> bool
+    ensures { result ≡ (nat_lt offer.now.hops 16 && not (offer.now.network.0 == 0) && not (offer.now.network.0 == 4294967295)
+        && not (list_any (λ p. p.network.0 == offer.now.network.0) ports.now) && not (list_any (λ r. r.network.0 == offer.now.network.0) routes.now)) }
+{
     offer.hops < UNREACHABLE
         && offer.network != Network(0)
         && offer.network != Network::ALL_ROUTES
-        && !ports.iter().any(|port| port.network() == offer.network)
-        && !routes.iter().any(|route| route.network == offer.network)
+        && !is_direct(ports, offer.network)
+        && !is_held(routes, offer.network)
+}
+
+fn is_direct(ports: &[Port], network: Network) -> bool
+    ensures { result ≡ list_any (λ p. p.network.0 == network.0) ports.now }
+{
+    ports.iter().any(|port| port.network() == network)
+}
+
+fn is_held(routes: &[RouteOffer], network: Network) -> bool
+    ensures { result ≡ list_any (λ r. r.network.0 == network.0) routes.now }
+{
+    routes.iter().any(|route| route.network == network)
 }
 
 fn take(taught: &mut Taught, offer: RouteOffer) -> Result<(), OutOfMemory>

@@ -1,7 +1,8 @@
 //! What a response added, told at once on each port but that on which it came.
-ghost use Rattle.std.specs.Prelude.{◌≡◌, ◌<◌, ◌≤◌, length, IfOk, OnOk, OnErr};
+ghost use Rattle.std.specs.Prelude.{◌≡◌, ◌<◌, ◌≤◌, nat_lt, if◌then◌else◌, length, IfOk, OnOk, OnErr};
 ghost use Rattle.ipx_cmd.specs.Router.{SendsAtMost};
 ghost use Rattle.ipx_cmd.specs.Sent.{Grows};
+ghost use Rattle.ipx_cmd.specs.Told.{told_at, entry_of, dead};
 
 use crate::thin::judge::port_of;
 use crate::thin::outbox::Outbox;
@@ -65,7 +66,9 @@ fn news(alloc: Global, cost: u16, gained: &[RouteOffer]) -> Result<Vec<RipEntry>
 }
 
 /// The route as a port of that cost tells it: dead where its next hop isn't reached.
-fn news_of(cost: u16, route: &RouteOffer) -> RipEntry {
+fn news_of(cost: u16, route: &RouteOffer) -> RipEntry
+    ensures { result ≡ (if nat_lt route.now.hops 15 then told_at cost (entry_of route.now) else dead (entry_of route.now)) }
+{
     if route.hops < UNREACHABLE - 1 {
         told_at(cost, entry_of(route))
     } else {

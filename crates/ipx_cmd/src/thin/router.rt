@@ -54,7 +54,7 @@ impl<const P: usize, const R: usize> Model for Router<P, R> {
 
 impl<const P: usize, const R: usize> Router<P, R> {
     ghost use Rattle.ipx_cmd.specs.Bounds.{most_packets};
-    ghost use Rattle.ipx_cmd.specs.Router.{answers, happened, outcome, sends, IsNoRouter, IsOnPort, IsResponse, SendsAtMost};
+    ghost use Rattle.ipx_cmd.specs.Router.{request_answers, happened, outcome, runs_after, sends, IsNoRouter, IsOnPort, IsResponse, SendsAtMost};
     ghost use Rattle.ipx_cmd.specs.Sent.{Grows, Sends};
 
     /// A router with these ports, numbered from 0, which is stopped and holds nothing.
@@ -118,6 +118,7 @@ impl<const P: usize, const R: usize> Router<P, R> {
         requires { IsOnPort (length self.old.ports) (happened event) }
         ensures capacity { length self.new.routes ≤ R }
         ensures ports { self.new.ports ≡ self.old.ports }
+        ensures running { OnOk result (self.new.running ≡ runs_after self.old (happened event.entry)) }
         ensures outcome { IfOk result (λ o. o ≡ outcome self.old (happened event.entry)) }
         ensures most { OnOk result (SendsAtMost (most_packets (length self.old.ports) (length self.old.routes) 0 (happened event.entry)) outbox.old outbox.new) }
 
@@ -193,7 +194,7 @@ impl<const P: usize, const R: usize> Router<P, R> {
     ) -> Result<Outcome, OutOfMemory>
         requires { port < length self.now.ports }
         ensures outcome { IfOk result (λ o. o ≡ Outcome.Answered) }
-        ensures sends { OnOk result (Sends outbox.old outbox.new (answers self.now port (Ok message.now))) }
+        ensures sends { OnOk result (Sends outbox.old outbox.new (request_answers self.now port message.now)) }
         ensures most { OnOk result (SendsAtMost (most_packets (length self.now.ports) (length self.now.routes) 0 (Packet port [])) outbox.old outbox.new) }
         ensures outbox { OnErr result (Grows outbox.old outbox.new) }
     {
