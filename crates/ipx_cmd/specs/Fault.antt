@@ -1,3 +1,4 @@
+-- The words of what is wrong with a line.
 use Rattle.std.specs.Prelude.{ℕ, List, codes}
 use Rattle.ipx_cmd.specs.declared.fault.LineFault.{LineFault}
 use Rattle.ipx_cmd.specs.declared.fault.LineFault.TheVariants.{Long, Text, Command, Words, Late, Many, Network, Node, Number, Hex, Longest, Cost, None, Same, Port}

@@ -1,3 +1,4 @@
+-- What a line asks for, without memory.
 use Rattle.std.specs.Prelude.{ℕ, List}
 use Rattle.ipx_cmd.specs.declared.command.Command.{Command}
 use Rattle.ipx_cmd.specs.declared.command.Command.TheVariants.{Port, Start, In, Routes}

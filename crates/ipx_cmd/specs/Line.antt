@@ -1,3 +1,4 @@
+-- What the lines of every script have in common.
 use Rattle.std.specs.Prelude.{◌≡◌, ℕ, ⊤, nat_eq, if◌then◌else◌, List, [], ◌∷◌, codes, Option, Some, None, Result, Ok, Err}
 use Rattle.std.specs.List.{list_all, starts_with}
 use Rattle.ipx_cmd.specs.declared.refusal.Refusal.{Refusal}
@@ -17,7 +18,7 @@ abbrev pub or_fault : {A : Type 0} → LineFault → Option A → Result A LineF
 or_fault fault (Some a) = Ok a
 or_fault fault None = Err fault
 
--- the words of a line, none for a comment, if all its bytes are text
+-- the words of a line; a comment has none; of any other line all bytes are text
 abbrev pub line_words : List ℕ → Result (List (List ℕ)) LineFault
 line_words line =
     if starts_with nat_eq line (codes "#") then Ok []

@@ -17,7 +17,7 @@ use Rattle.ipx_cmd.specs.declared.thin.router.PortsFault.TheVariants.{NoPort, To
 use Rattle.ipx_cmd.specs.declared.thin.route.RouteOffer.{RouteOffer}
 use Rattle.ipx_cmd.specs.declared.thin.why.Why.{Why}
 
--- ports by number, routes by network, and whether it runs
+-- the ports by number, the routes that are held, and whether it runs
 pub record State : Type 0 where
   pub ports : List Port
   pub routes : List RouteOffer

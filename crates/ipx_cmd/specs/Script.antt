@@ -1,3 +1,4 @@
+-- What the lines of a script for one router mean.
 use Rattle.std.specs.Prelude.{ℕ, Bool, false, nat_le, if◌then◌else◌, List, [], ◌∷◌, codes, Option, Some, None, Result, Ok, Err}
 use Rattle.std.specs.Str.{bytes_eq}
 use Rattle.ipx_cmd.specs.declared.command.Stage.{Stage}
@@ -5,7 +6,8 @@ use Rattle.ipx_cmd.specs.declared.fault.LineFault.{LineFault}
 use Rattle.ipx_cmd.specs.declared.fault.LineFault.TheVariants.{Command, Words, Late, Many, Network, Node, Number, Hex}
 use Rattle.ipx_cmd.specs.Instruction.{Instruction, NextPort, Starts, Arrives, ShowsRoutes}
 use Rattle.ipx_cmd.specs.Line.{◌>>=◌, or_fault, line_words, no_more}
-use Rattle.ipx_cmd.specs.Words.{only_two, only_four, number_of, network_of, node_of, bytes_of}
+use Rattle.ipx_wire.specs.Digits.{network_of, node_of}
+use Rattle.ipx_cmd.specs.Words.{only_two, only_four, number_of, bytes_of}
 
 -- a port may be named before the making, and eight times at most
 abbrev pub port_allowed : Stage → Result (Unit {0}) LineFault

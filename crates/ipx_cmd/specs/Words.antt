@@ -1,5 +1,5 @@
-use Rattle.std.specs.Prelude.{ℕ, Bool, ◌==◌, ◌&&◌, ◌||◌, nat_le, if◌then◌else◌, List, [], ◌∷◌, length, Option, Some, None, codes, filter, not, option_map}
-use Rattle.std.specs.Int.{from_be_bytes, w32}
+-- The words of a line, and what one says: a number, or bytes.
+use Rattle.std.specs.Prelude.{ℕ, Bool, ◌==◌, ◌&&◌, ◌||◌, nat_le, if◌then◌else◌, List, [], ◌∷◌, length, Option, Some, None, codes, filter, not}
 use Rattle.std.specs.List.{list_all, slice_split}
 use Rattle.std.specs.Char.{is_ascii_digit}
 use Rattle.std.specs.Str.{bytes_eq}
@@ -49,18 +49,6 @@ is_numeral word = nat_le 1 (length word) && nat_le (length word) 7 && list_all i
 abbrev pub number_of : ℕ → List ℕ → Option ℕ
 number_of most word =
     if is_numeral word && nat_le (digits_value 10 word) most then Some (digits_value 10 word) else None
-
--- the bytes that a word of just so many hexadecimal digits names
-abbrev pub digits_of_hex : ℕ → List ℕ → Option (List ℕ)
-digits_of_hex count word = if length word == count then result_ok (decode_of word) else None
-
--- the network that a word names: eight hexadecimal digits
-abbrev pub network_of : List ℕ → Option ℕ
-network_of word = option_map (from_be_bytes w32) (digits_of_hex 8 word)
-
--- the node that a word names: twelve hexadecimal digits
-abbrev pub node_of : List ℕ → Option (List ℕ)
-node_of word = digits_of_hex 12 word
 
 -- the bytes that a word names: `-` for none, else two hexadecimal digits or more, two a byte
 abbrev pub bytes_of : List ℕ → Option (List ℕ)

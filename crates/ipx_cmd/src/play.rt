@@ -1,8 +1,8 @@
 //! A run of `replay`: the script is read in pieces, and the text of the lines that a piece ends is
 //! written before the next piece is asked for.
-ghost use Rattle.std.specs.Prelude.{◌≡◌, ◌+◌, ◌*◌, ◌^◌, ◌<◌, ◌≤◌, false, [], length, string_bytes, IfErr, IfOk, OnOk, OnErr};
+ghost use Rattle.std.specs.Prelude.{◌≡◌, ◌+◌, ◌*◌, ◌^◌, ◌<◌, ◌≤◌, false, [], length, string_bytes, Err, IfErr, IfOk, OnOk, OnErr};
 ghost use Rattle.ipx_cmd.specs.Replayed.{IsFaultOf, WroteAll, WroteFront};
-ghost use Rattle.ipx_cmd.specs.declared.ended.Ended.TheVariants.{Done};
+ghost use Rattle.ipx_cmd.specs.declared.ended.Ended.TheVariants.{Done, BadInput};
 ghost use Rattle.std.specs.Io.KnownBytes.{IsAtEnd};
 
 use crate::ended::{Ended, RunFault};
@@ -102,6 +102,8 @@ fn refused<W: Write>(
     refusal: Refusal,
 ) -> Result<Ended, RunFault>
     requires { outlet.old.failed ≡ false }
+    ensures told { IfOk result (λ ended. ended ≡ BadInput) }
+    ensures memory { refusal ≡ Refusal.Memory → result ≡ Err RunFault.Memory }
     ensures fine { OnOk result (outlet.new.failed ≡ false) }
     ensures fault { IfErr result (IsFaultOf false outlet.new.failed) }
 {
@@ -118,6 +120,7 @@ fn tell<W: Write>(
     outlet: &mut Outlet<W>,
 ) -> Result<Ended, RunFault>
     requires { outlet.old.failed ≡ false }
+    ensures told { IfOk result (λ ended. ended ≡ BadInput) }
     ensures fine { OnOk result (outlet.new.failed ≡ false) }
     ensures fault { IfErr result (IsFaultOf false outlet.new.failed) }
 {

@@ -5,7 +5,8 @@ ghost use Rattle.std.specs.Option.{option_map};
 ghost use Rattle.std.specs.Char.{is_ascii_digit};
 ghost use Rattle.std.specs.Str.{bytes_eq};
 ghost use Rattle.std.specs.Str.Parse.{digits_value};
-ghost use Rattle.ipx_cmd.specs.Words.{is_blank, is_text_byte, words, only_one, only_two, only_four, is_numeral, number_of, network_of, node_of};
+ghost use Rattle.ipx_cmd.specs.Words.{is_blank, is_text_byte, words, only_one, only_two, only_four, is_numeral, number_of};
+ghost use Rattle.ipx_wire.specs.Digits.{network_of, node_of};
 
 use ipx_wire::{Network, Node};
 use std::str;
@@ -168,10 +169,7 @@ pub(crate) fn network(word: &[u8]) -> Option<Network>
     ensures { option_map (λ network. network.0) result ≡ network_of word.now }
 {
     match str::from_utf8(word) {
-        Ok(text) => {
-            let network = Network::from_hex(text)?;
-            Some(network)
-        }
+        Ok(text) => Network::from_hex(text),
         Err(_) => None,
     }
 }

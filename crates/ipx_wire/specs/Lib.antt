@@ -1,4 +1,5 @@
 pub mod Address
+pub mod Digits
 pub mod Ends
 pub mod Header
 pub mod Kept

@@ -1,4 +1,6 @@
 ghost use Rattle.std.specs.Prelude.{◌≡◌, ◌↔◌, length, IsSome, IfSome, Some, Ok};
+ghost use Rattle.std.specs.Option.{option_map};
+ghost use Rattle.ipx_wire.specs.Digits.{network_of};
 ghost use Rattle.std.specs.Int.{to_be_bytes, w32};
 ghost use Rattle.std.specs.List.{AllPass};
 ghost use Rattle.hex.specs.Hex.{decode_of, encode_upper, is_hex_digit};
@@ -19,6 +21,8 @@ impl Network {
     pub fn from_hex(text: &str) -> Option<Network>
         ensures found { IsSome result ↔ ((length text.now ≡ 8) × AllPass is_hex_digit text.now) }
         ensures value { IfSome result (λ network. decode_of text.now ≡ Ok (to_be_bytes w32 network.0)) }
+        // The same as a function of the text.
+        ensures read { option_map (λ network. network.0) result ≡ network_of text.now }
     {
         match <[u8; 4] as FromHex>::from_hex(text) {
             Ok(bytes) => Some(Network(u32::from_be_bytes(bytes))),

@@ -1,4 +1,6 @@
 ghost use Rattle.std.specs.Prelude.{◌≡◌, ◌↔◌, length, IsSome, IfSome, Some, Ok};
+ghost use Rattle.std.specs.Option.{option_map};
+ghost use Rattle.ipx_wire.specs.Digits.{node_of};
 ghost use Rattle.std.specs.List.{AllPass};
 ghost use Rattle.hex.specs.Hex.{decode_of, encode_upper, is_hex_digit};
 
@@ -18,6 +20,8 @@ impl Node {
     pub fn from_hex(text: &str) -> Option<Node>
         ensures found { IsSome result ↔ ((length text.now ≡ 12) × AllPass is_hex_digit text.now) }
         ensures value { IfSome result (λ node. decode_of text.now ≡ Ok node.0) }
+        // The same as a function of the text.
+        ensures read { option_map (λ node. node.0) result ≡ node_of text.now }
     {
         match <[u8; 6] as FromHex>::from_hex(text) {
             Ok(bytes) => Some(Node(bytes)),

@@ -80,6 +80,7 @@ fn run(rt: &HostRuntime) -> Result<Ended, Stop> {
     match chosen.file {
         Some(name) => match File::open(rt, name.as_str()) {
             Ok(file) => run_on(rt, file),
+            Err(error) if error.kind() == ErrorKind::OutOfMemory => Err(AllocError.into()),
             Err(_) => Err(Stop::File),
         },
         None => run_on(rt, rt.stdin()),

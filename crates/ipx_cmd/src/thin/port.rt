@@ -22,7 +22,7 @@ pub enum PortFault {
 }
 
 /// Where a router stands on a network.
-#[derive(Clone, Copy, Debug, Default)]
+#[derive(Clone, Copy, Debug, PartialEq, Eq)]
 pub struct Port {
     network: Network,
     node: Node,
@@ -31,13 +31,27 @@ pub struct Port {
 }
 
 impl Model for Port {
-    ghost use Rattle.ipx_cmd.specs.Port.{Port};
+    ghost use Rattle.ipx_cmd.specs.Port.{Port, IsPort};
 
     ghost Value = { Port };
 
     ghost view = { λ p. record { network = p.network; node = p.node; cost = p.cost; longest = p.longest } };
 
+    ghost invariant = { λ p. IsPort (record { network = p.network; node = p.node; cost = p.cost; longest = p.longest }) };
+
     ghost inverse = { λ p. record { network = p.network; node = p.node; cost = p.cost; longest = p.longest } };
+}
+
+/// Some port, for places that are not in use: node 0 of network 1.
+impl Default for Port {
+    fn default() -> Port {
+        Port {
+            network: Network(1),
+            node: Node([0; 6]),
+            cost: 1,
+            longest: 576,
+        }
+    }
 }
 
 impl Port {

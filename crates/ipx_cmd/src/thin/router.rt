@@ -102,7 +102,7 @@ impl<const P: usize, const R: usize> Router<P, R> {
         self.routes.len()
     }
 
-    /// The route with exactly `k` others before it, by network.
+    /// The route at place `k` of the table, which stands by network.
     pub fn route_at(&self, k: usize) -> Option<Held>
         ensures { result ≡ option_map (λ offer. record { offer = offer; age = 0 }) (slice_get self.now.routes k) }
     {
