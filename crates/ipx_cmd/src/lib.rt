@@ -12,6 +12,8 @@ mod play;
 mod player;
 mod refusal;
 #[cfg(test)]
+mod replay_tests;
+#[cfg(test)]
 mod tests;
 pub mod thin;
 mod words;

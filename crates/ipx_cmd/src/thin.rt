@@ -9,6 +9,8 @@ mod port;
 mod route;
 mod router;
 mod send;
+#[cfg(test)]
+mod tests;
 mod told;
 mod why;
 

@@ -49,7 +49,7 @@ length-entries_at zero bytes = refl
 length-entries_at (suc n) bytes = ap suc (length-entries_at n (drop 8 bytes))
 
 -- the bytes behind are bytes
-bytes_behind : (bytes : List ℕ) (n : ℕ) → IsBytes bytes → IsBytes (drop n bytes)
+pub bytes_behind : (bytes : List ℕ) (n : ℕ) → IsBytes bytes → IsBytes (drop n bytes)
 bytes_behind bytes n are = λ i. rw (get_or-drop n bytes i 0) (are (n + i))
 
 -- entries that were read have the bytes that were read

@@ -1,3 +1,4 @@
+pub mod Crossings
 pub mod Entries
 pub mod Headers
 pub mod HexText
@@ -5,6 +6,7 @@ pub mod Packets
 pub mod Pieces
 pub mod Puts
 pub mod Readings
+pub mod Rereading
 pub mod Rips
 pub mod Written
 pub mod Yields

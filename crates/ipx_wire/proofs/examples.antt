@@ -1,4 +1,5 @@
 -- Worked examples: each is checked by computing it.
+pub mod CrossedLists
 pub mod DamagedPackets
 pub mod DamagedRip
 pub mod FiftyEntries
@@ -6,4 +7,5 @@ pub mod GeneralRequest
 pub mod IgnoredBytes
 pub mod OwnPackets
 pub mod Response
+pub mod SentOn
 pub mod Words

@@ -1,6 +1,8 @@
 pub mod Address
+pub mod Crossed
 pub mod Digits
 pub mod Ends
+pub mod Forward
 pub mod Header
 pub mod Kept
 pub mod Packet

@@ -14,8 +14,10 @@
 #![tactic(auto)]
 
 mod address;
+mod crossed;
 mod failed;
 mod fields;
+mod forward;
 mod header;
 mod hex_text;
 mod intake;
@@ -32,7 +34,9 @@ mod tests;
 mod write;
 
 pub use crate::address::Address;
+pub use crate::crossed::{Crossed, CrossedFault};
 pub use crate::failed::Failed;
+pub use crate::forward::{write_crossed, write_forwarded};
 pub use crate::header::Header;
 pub use crate::hex_text::Hex;
 pub use crate::intake::{Intake, MOST_CALLS};

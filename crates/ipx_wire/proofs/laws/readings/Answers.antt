@@ -1,6 +1,8 @@
 use Rattle.std.proofs.lemmas.Result.{IfOk-at_ok, IfErr-at_err}
 use Rattle.ipx_wire.specs.Packet.{IsPacket, IsNoPacket}
 use Rattle.ipx_wire.specs.Rip.{IsRip, IsNoRip}
+use Rattle.ipx_wire.specs.Crossed.{IsCrossed, IsNotCrossed}
+use Rattle.ipx_wire.proofs.Crossings.{crossed_found, crossed_refused, crossed_fault, crossed_only, one_crossed}
 use Rattle.ipx_wire.proofs.Packets.{packet_only}
 use Rattle.ipx_wire.proofs.Readings.{packet_found, packet_refused, packet_fault, one_packet, rip_found, rip_refused, rip_fault, rip_only, one_rip}
 use Rattle.ipx_wire.proofs.laws.readings.Goals as goal
@@ -22,3 +24,14 @@ returns-clause-rip_refused c = λ payload f. (λ e. IfErr-at_err (IsNoRip payloa
 
 pub returns-clause-one_rip : goal.returns-clause-one_rip
 returns-clause-one_rip c = one_rip
+
+pub returns-clause-crossed_read : goal.returns-clause-crossed_read
+returns-clause-crossed_read c = λ control payload networks are.
+    (λ e. IfOk-at_ok (IsCrossed control payload) e (crossed_found control payload are), λ is. crossed_only control payload networks is)
+
+pub returns-clause-crossed_refused : goal.returns-clause-crossed_refused
+returns-clause-crossed_refused c = λ control payload f.
+    (λ e. IfErr-at_err (IsNotCrossed control payload) e (crossed_refused control payload), λ is. crossed_fault control payload f is)
+
+pub returns-clause-one_crossed : goal.returns-clause-one_crossed
+returns-clause-one_crossed c = one_crossed

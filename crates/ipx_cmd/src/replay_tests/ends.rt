@@ -1,0 +1,180 @@
+use super::{START, joined, play};
+use crate::{Ended, RunFault, replay};
+use ipx_wire::{Intake, Outlet};
+use std::io;
+use std::io::{ErrorKind, Read, Write};
+
+/// Lines after the start. The last one has no line feed.
+const LINES: &str =
+    "in 0 -\nin 1 FFFF0028000100000020FFFFFFFFFFFF0453000000200000000000BB045300020000003000010002\nroutes\n\nroutes";
+
+/// Gives at most `most` bytes a call, and is interrupted at call number `last`.
+#[derive(Drop)]
+struct Slow<'a> {
+    rest: &'a [u8],
+    most: usize,
+    calls: usize,
+    last: usize,
+}
+
+impl Read for Slow<'_> {
+    fn read(&mut self, buf: &mut [u8]) -> io::Result<usize> {
+        self.calls = self.calls.wrapping_add(1);
+        if self.calls == self.last {
+            return Err(io::Error::from(ErrorKind::Interrupted));
+        }
+        let count = buf.len().min(self.most).min(self.rest.len());
+        let (given, rest) = self.rest.split_at(count);
+        buf[..count].copy_from_slice(given);
+        self.rest = rest;
+        Ok(count)
+    }
+}
+
+/// Takes at most `most` bytes a call. At call number `last` it takes none, or fails.
+#[derive(Drop)]
+struct Narrow<'a> {
+    taken: &'a mut Vec<u8>,
+    most: usize,
+    calls: usize,
+    last: usize,
+    fails: bool,
+}
+
+impl Write for Narrow<'_> {
+    fn write(&mut self, buf: &[u8]) -> io::Result<usize> {
+        self.calls = self.calls.wrapping_add(1);
+        if self.calls == self.last {
+            return if self.fails {
+                Err(io::Error::from(ErrorKind::Interrupted))
+            } else {
+                Ok(0)
+            };
+        }
+        let count = buf.len().min(self.most);
+        match self.taken.extend_from_slice(&buf[..count]) {
+            Ok(()) => Ok(count),
+            Err(_) => Err(io::Error::from(ErrorKind::OutOfMemory)),
+        }
+    }
+
+    fn flush(&mut self) -> io::Result<()> {
+        Ok(())
+    }
+}
+
+/// Gives comment signs without end, and counts the calls.
+#[derive(Drop)]
+struct Endless<'a> {
+    calls: &'a mut usize,
+}
+
+impl Read for Endless<'_> {
+    fn read(&mut self, buf: &mut [u8]) -> io::Result<usize> {
+        *self.calls = self.calls.wrapping_add(1);
+        buf.fill(b'#');
+        Ok(buf.len())
+    }
+}
+
+#[test]
+fn a_byte_at_a_time_changes_nothing(rt: HostRuntime) {
+    let heap = rt.alloc();
+    let script = joined(heap, START, LINES).expect(&rt, "memory");
+    let (answer, wanted) = play(heap, script.as_bytes());
+    assert_eq!(rt; answer, Ok(Ended::Done));
+    for (given, taken) in [(1, 1), (1, 9999), (9999, 1), (7, 50), (36, 2)] {
+        let mut text = Vec::new(heap);
+        let mut intake = Intake::new(Slow {
+            rest: script.as_bytes(),
+            most: given,
+            calls: 0,
+            last: 0,
+        });
+        let mut outlet = Outlet::new(Narrow {
+            taken: &mut text,
+            most: taken,
+            calls: 0,
+            last: 0,
+            fails: false,
+        });
+        let answer = replay(heap, &mut intake, &mut outlet);
+        drop(outlet);
+        assert_eq!(rt; answer, Ok(Ended::Done), "{given} and {taken}");
+        assert_eq!(rt; text.as_slice(), wanted.as_slice(), "{given} and {taken}");
+    }
+}
+
+/// A line is written before the next piece is asked for: what came before a failed read is the text of all lines that
+/// were given whole.
+#[test]
+fn a_failed_read_leaves_the_text_so_far(rt: HostRuntime) {
+    let heap = rt.alloc();
+    let script = joined(heap, START, LINES).expect(&rt, "memory");
+    let script = script.as_bytes();
+    // The last call is the one that would tell the end.
+    for last in 1..=script.len().div_ceil(12) + 1 {
+        let mut text = Vec::new(heap);
+        let mut intake = Intake::new(Slow {
+            rest: script,
+            most: 12,
+            calls: 0,
+            last,
+        });
+        let mut outlet = Outlet::new(&mut text);
+        let answer = replay(heap, &mut intake, &mut outlet);
+        drop(outlet);
+        let given = &script[..script.len().min(12 * (last - 1))];
+        let open = given
+            .rsplit(|byte| *byte == b'\n')
+            .next()
+            .map_or(0, |line| line.len());
+        let closed = given.len().saturating_sub(open);
+        let (_, wanted) = play(heap, &given[..closed]);
+        assert_eq!(rt; answer, Err(RunFault::Read), "call {last}");
+        assert!(rt; intake.failed(), "call {last}");
+        assert_eq!(rt; text.as_slice(), wanted.as_slice(), "call {last}");
+    }
+}
+
+#[test]
+fn a_failed_write_leaves_a_front_of_the_text(rt: HostRuntime) {
+    let heap = rt.alloc();
+    let script = joined(heap, START, LINES).expect(&rt, "memory");
+    let (_, wanted) = play(heap, script.as_bytes());
+    for fails in [false, true] {
+        for last in 1..=wanted.len() {
+            let mut text = Vec::new(heap);
+            let mut intake = Intake::new(script.as_bytes());
+            let mut outlet = Outlet::new(Narrow {
+                taken: &mut text,
+                most: 1,
+                calls: 0,
+                last,
+                fails,
+            });
+            let answer = replay(heap, &mut intake, &mut outlet);
+            let failed = outlet.failed();
+            drop(outlet);
+            assert_eq!(rt; answer, Err(RunFault::Write), "call {last}");
+            assert!(rt; failed, "call {last}");
+            assert_eq!(rt; text.as_slice(), &wanted[..last - 1], "call {last}");
+        }
+    }
+}
+
+#[test]
+fn a_line_too_long_asks_for_no_more(rt: HostRuntime) {
+    let heap = rt.alloc();
+    let mut calls = 0;
+    let mut text = Vec::new(heap);
+    let mut intake = Intake::new(Endless { calls: &mut calls });
+    let mut outlet = Outlet::new(&mut text);
+    let answer = replay(heap, &mut intake, &mut outlet);
+    drop(intake);
+    drop(outlet);
+    assert_eq!(rt; answer, Ok(Ended::BadInput));
+    assert_eq!(rt; text.as_slice(), b"line 1: long\n".as_slice());
+    // 17 pieces of 8,192 bytes: the 131,201st byte is in the last one.
+    assert_eq!(rt; calls, 17);
+}
