@@ -2,7 +2,7 @@
 PREFIX ?= /usr/local
 PROGRAM = crates/ipxr/out/ipxr
 
-.PHONY: run build test install
+.PHONY: run build test bench install
 
 # Proves and builds all, then plays the worked script and prints what the router sent and learned.
 run: build
@@ -15,6 +15,10 @@ build:
 # The gate, then every example against its kept output. The last line is 'N passed, M failed'.
 test:
 	@tools/test
+
+# Proves, builds and runs the measurements; docs/SPEED.md tells what they gave.
+bench:
+	@tools/bench
 
 # Puts the proved program into PREFIX/bin.
 install: build

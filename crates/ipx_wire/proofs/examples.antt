@@ -8,4 +8,7 @@ pub mod IgnoredBytes
 pub mod OwnPackets
 pub mod Response
 pub mod SentOn
+pub mod ServiceNames
+pub mod ServiceQueries
+pub mod ServiceResponses
 pub mod Words

@@ -4,9 +4,14 @@ pub mod Digits
 pub mod Ends
 pub mod Forward
 pub mod Header
+pub mod Items
 pub mod Kept
+pub mod Name
 pub mod Packet
 pub mod Piece
 pub mod Put
 pub mod Rip
+pub mod Sap
+pub mod SapEntries
 pub mod Write
+pub mod WriteServices

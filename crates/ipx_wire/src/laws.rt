@@ -1,10 +1,10 @@
 //! What holds by the definitions alone: of all bytes, and of the constants.
-ghost use Rattle.std.specs.Prelude.{◌≡◌, ◌↔◌, ℕ, ◌+◌, ◌-◌, ◌<◌, ◌≤◌, Bool, List, [], ◌∷◌, ◌++◌, length, take, replicate, Ok, Err};
+ghost use Rattle.std.specs.Prelude.{◌≡◌, ◌↔◌, ℕ, ◌+◌, ◌-◌, ◌^◌, ◌<◌, ◌≤◌, Bool, true, List, [], ◌∷◌, ◌++◌, length, map, take, replicate, Some, None, Ok, Err};
 ghost use Rattle.std.specs.List.{AllByRecursion};
 ghost use Rattle.ipx_wire.specs.Address.{IsAddress};
 ghost use Rattle.ipx_wire.specs.Header.{IsHeader, header_bytes};
 ghost use Rattle.ipx_wire.specs.Forward.{forwarded, propagated};
-ghost use Rattle.ipx_wire.specs.Write.{packet_bytes, rip_packet, rip_packet_parts, rip_payload, query_packet, query_packet_parts};
+ghost use Rattle.ipx_wire.specs.Write.{packet_bytes, rip_packet, rip_packet_parts, rip_payload, query_packet, query_packet_parts, query_payload};
 ghost use Rattle.ipx_wire.specs.Piece.{IsBytes};
 ghost use Rattle.ipx_wire.specs.Packet.{Parts, IsPacket, IsNoPacket, packet_of};
 ghost use Rattle.ipx_wire.specs.Rip.{RipParts, IsEntry, IsRip, IsNoRip, rip_of};
@@ -12,12 +12,24 @@ ghost use Rattle.ipx_wire.specs.Crossed.{IsNetwork, IsCrossed, IsNotCrossed, cro
 ghost use Rattle.ipx_wire.specs.declared.crossed.CrossedFault.{CrossedFault};
 ghost use Rattle.ipx_wire.specs.declared.packet.PacketFault.{PacketFault};
 ghost use Rattle.ipx_wire.specs.declared.rip.RipFault.{RipFault};
+ghost use Rattle.std.specs.Cmp.{IsTotalOrder};
+ghost use Rattle.std.specs.declared.cmp.Ordering.TheVariants.{Less, Equal};
+ghost use Rattle.ipx_wire.specs.Name.{IsName, IsNoName, IsServiceName, name_of, name_field, name_order as by_bytes, same_name};
+ghost use Rattle.ipx_wire.specs.Sap.{IsSap, IsNoSap, sap_of};
+ghost use Rattle.ipx_wire.specs.WriteServices.{IsService, entry_of, sap_payload, sap_packet, sap_packet_parts};
+ghost use Rattle.ipx_wire.specs.declared.address.Address.{Address};
+ghost use Rattle.ipx_wire.specs.declared.sap.Sap.{Sap};
+ghost use Rattle.ipx_wire.specs.declared.sap.Sap.TheVariants.{Query, Response};
+ghost use Rattle.ipx_wire.specs.declared.sap.SapFault.{SapFault};
+ghost use Rattle.ipx_wire.specs.declared.service.Service.{Service};
 
 use crate::address::Address;
 use crate::header::Header;
 use crate::network::Network;
 use crate::node::Node;
 use crate::rip::{Operation, RipEntry};
+use crate::sap_entries::SapEntry;
+use crate::service_name::ServiceName;
 use crate::socket::Socket;
 
 /// What the readers answer, as functions of the bytes, is what the layouts say.
@@ -35,8 +47,8 @@ pub fn readings()
 
 /// What was written is read again, whatever bytes follow, by the layouts alone.
 ///
-/// A header by itself is a packet where its length is 30 or more, and as many bytes are there. The data of a response
-/// or a request bear fewer than eight further bytes. The networks that a propagated packet has crossed are the old ones
+/// A header by itself is a packet where its length is 30 or more, and as many bytes are there. The data of routes bear
+/// fewer than eight further bytes, those of services fewer than 64, those of a query any. The networks that a propagated packet has crossed are the old ones
 /// and the one from which it arrived, as long as the transport control that was written is under 8.
 pub fn reread()
     ensures header { (h : Header) (further : List ℕ) → IsHeader h → 30 ≤ h.length → h.length ≤ length (header_bytes h ++ further)
@@ -49,6 +61,13 @@ pub fn reread()
         → length further < 8 → IsRip (rip_payload operation entries ++ further) (record { operation = operation; entries = entries }) }
     ensures query_packet { (from to : Address) (nearest : Bool) (kind : ℕ) (further : List ℕ) → IsAddress from → IsAddress to
         → IsPacket (query_packet from to nearest kind ++ further) (query_packet_parts from to nearest kind) }
+    ensures query { (nearest : Bool) (kind : ℕ) (further : List ℕ) → kind < 2 ^ 16
+        → IsSap (query_payload nearest kind ++ further) (Query nearest kind) }
+    ensures sap_packet { (from to : Address) (nearest : Bool) (services : List Service) (further : List ℕ) → IsAddress from → IsAddress to
+        → length services ≤ 7 → AllByRecursion IsService services
+        → IsPacket (sap_packet from to nearest services ++ further) (sap_packet_parts from to nearest services) }
+    ensures sap { (nearest : Bool) (services : List Service) (further : List ℕ) → 1 ≤ length services → length services ≤ 7 → AllByRecursion IsService services
+        → length further < 64 → IsSap (sap_payload nearest services ++ further) (Response nearest (map entry_of services)) }
     ensures forwarded { (bytes : List ℕ) (p : Parts) (further : List ℕ) → IsPacket bytes p → p.header.control < 255
         → IsPacket (packet_bytes (forwarded p) ++ further) (forwarded p) }
     ensures propagated { (bytes : List ℕ) (p : Parts) (arrived outgoing : Network) (further : List ℕ) → IsPacket bytes p → p.header.control < 8 → 32 ≤ length p.payload
@@ -56,6 +75,30 @@ pub fn reread()
     ensures crossed { (p : Parts) (networks : List Network) (arrived outgoing : Network) → IsCrossed p.header.control p.payload networks
         → (propagated arrived outgoing p).header.control < 8 → IsNetwork arrived
         → IsCrossed (propagated arrived outgoing p).header.control (propagated arrived outgoing p).payload (networks ++ arrived ∷ []) }
+{}
+
+/// What the reader of service advertising answers, as a function of the bytes, is what the layout says.
+pub fn service_readings()
+    ensures sap_read { (payload : List ℕ) (s : Sap) → IsBytes payload → (sap_of payload ≡ Ok s ↔ IsSap payload s) }
+    ensures sap_refused { (payload : List ℕ) (f : SapFault) → (sap_of payload ≡ Err f ↔ IsNoSap payload f) }
+    ensures one_sap { (payload : List ℕ) (s t : Sap) → IsSap payload s → IsSap payload t → s ≡ t }
+{}
+
+/// The name of a field is the bytes before its first zero, and a name is read again from its field.
+pub fn name_readings()
+    ensures name_read { (field name : List ℕ) → length field ≡ 48 → (name_of field ≡ Some name ↔ IsName field name) }
+    ensures nameless { (field : List ℕ) → length field ≡ 48 → (name_of field ≡ None ↔ IsNoName field) }
+    ensures unnamed { (field : List ℕ) → length field ≡ 48 → (IsNoName field ↔ ((name : List ℕ) → IsName field name → ⊥)) }
+    ensures one_name { (field a b : List ℕ) → IsName field a → IsName field b → a ≡ b }
+    ensures name_again { (name : List ℕ) → IsServiceName name → name_of (name_field name) ≡ Some name }
+{}
+
+/// Names are in a total order by their bytes; it agrees with equality, and a proper prefix is the smaller.
+pub fn name_order()
+    ensures total { IsTotalOrder by_bytes }
+    ensures equal { (a b : List ℕ) → (by_bytes a b ≡ Equal ↔ a ≡ b) }
+    ensures same { (a b : List ℕ) → (same_name a b ≡ true ↔ a ≡ b) }
+    ensures prefix { (a b : List ℕ) → 1 ≤ length b → by_bytes a (a ++ b) ≡ Less }
 {}
 
 /// The numbers that the constants stand for.
@@ -67,4 +110,7 @@ pub fn constants()
     ensures header_size { Header.SIZE ≡ 30 }
     ensures entry_size { RipEntry.SIZE ≡ 8 }
     ensures most_entries { RipEntry.MOST ≡ 50 }
+    ensures name_size { ServiceName.SIZE ≡ 48 }
+    ensures service_size { SapEntry.SIZE ≡ 64 }
+    ensures most_services { SapEntry.MOST ≡ 7 }
 {}

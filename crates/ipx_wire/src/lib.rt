@@ -1,7 +1,7 @@
-//! The packets of Novell IPX, after the IPX Router Specification: addresses, headers, and routing
-//! information, read from bytes and written to bytes; and the two ends of a run, a reader and a
-//! writer that remember their failures. Whatever routes, simulates or shows packets stands on this
-//! crate.
+//! The packets of Novell IPX, after the IPX Router Specification: headers, routing information,
+//! services and networks crossed, read from bytes and written to bytes; and the two ends of a run, a
+//! reader and a writer that remember their failures. Whatever routes, simulates or shows packets
+//! stands on this crate.
 //!
 //! - Readers are exact: a value is answered where the bytes have the layout, and nowhere else, and
 //!   each fault where it is the first that holds. The module `laws` says so of all bytes.
@@ -28,10 +28,15 @@ mod out_of_memory;
 mod outlet;
 mod packet;
 mod rip;
+mod sap;
+mod sap_entries;
+mod service;
+mod service_name;
 mod socket;
 #[cfg(test)]
 mod tests;
 mod write;
+mod write_services;
 
 pub use crate::address::Address;
 pub use crate::crossed::{Crossed, CrossedFault};
@@ -46,5 +51,10 @@ pub use crate::out_of_memory::OutOfMemory;
 pub use crate::outlet::Outlet;
 pub use crate::packet::{Packet, PacketFault};
 pub use crate::rip::{Operation, Rip, RipEntries, RipEntry, RipFault};
+pub use crate::sap::{Sap, SapFault};
+pub use crate::sap_entries::{SapEntries, SapEntry};
+pub use crate::service::Service;
+pub use crate::service_name::ServiceName;
 pub use crate::socket::Socket;
 pub use crate::write::{write_query, write_rip};
+pub use crate::write_services::write_sap;

@@ -57,7 +57,8 @@ pub fn write_query(from: Address, to: Address, nearest: bool, kind: u16, out: &m
     Header::SIZE + 4
 }
 
-fn own(kind: u8, from: Address, to: Address, size: u16) -> Header
+/// The header of a router's own packet with so many bytes of data.
+pub fn own(kind: u8, from: Address, to: Address, size: u16) -> Header
     requires { size < 2 ^ 15 }
     ensures { result ≡ own_header kind from to size }
 {

@@ -1,4 +1,5 @@
 use Rattle.ipx_wire.proofs.Rereading.{packet_again, header_alone, rip_packet_again, rip_again, query_packet_again, forwarded_again, propagated_again, crossed_again}
+use Rattle.ipx_wire.proofs.Services.{query_again, response_again, sap_packet_again}
 use Rattle.ipx_wire.proofs.laws.reread.Goals as goal
 
 pub returns-clause-header : goal.returns-clause-header
@@ -24,3 +25,12 @@ returns-clause-propagated c = propagated_again
 
 pub returns-clause-crossed : goal.returns-clause-crossed
 returns-clause-crossed c = λ p networks arrived outgoing is below fits. crossed_again p.header.control p.payload networks arrived is below fits
+
+pub returns-clause-query : goal.returns-clause-query
+returns-clause-query c = query_again
+
+pub returns-clause-sap_packet : goal.returns-clause-sap_packet
+returns-clause-sap_packet c = sap_packet_again
+
+pub returns-clause-sap : goal.returns-clause-sap
+returns-clause-sap c = response_again

@@ -1,0 +1,68 @@
+//! How fast packets are read and written, beside copying the same bytes in the same run.
+//!
+//! With no word it prints what it can measure; with the word `run` it measures. A copy is what any
+//! program must at least do with a packet, so the ratios hold on any machine.
+#![tactic(auto)]
+
+mod kinds;
+mod packets;
+mod work;
+
+use crate::kinds::Kind;
+use crate::packets::Packets;
+use std::time::Instant;
+use std::{env, fmt, io};
+
+/// How many packets of a kind are read or written.
+const TURNS: u32 = 1_000_000;
+
+fn main(rt: HostRuntime) -> io::Result<()> {
+    let mut words = env::args(&rt)?.skip(1);
+    match words.next() {
+        Some(word) if word.as_str() == "run" => measure(&rt),
+        _ => list(&rt),
+    }
+}
+
+fn list(rt: &HostRuntime) -> io::Result<()> {
+    for kind in Kind::ALL {
+        let name = kind.name();
+        let entries = kind.entries();
+        println!(rt; "{name}: {entries} entries a packet")?;
+    }
+    Ok(())
+}
+
+fn measure(rt: &HostRuntime) -> io::Result<()> {
+    let packets = Packets::new();
+    for kind in Kind::ALL {
+        report(rt, kind, &packets)?;
+    }
+    Ok(())
+}
+
+fn report(rt: &HostRuntime, kind: Kind, packets: &Packets) -> io::Result<()> {
+    let start = Instant::now(rt)?;
+    let seen = kinds::copied(kind, packets, TURNS);
+    let copy = start.elapsed(rt)?.as_nanos();
+    let start = Instant::now(rt)?;
+    let done = kinds::done(kind, packets, TURNS);
+    let work = start.elapsed(rt)?.as_nanos();
+    let name = kind.name();
+    let packet = Tenths(work * 10 / u128::from(TURNS));
+    let entry = Tenths(packet.0 / u128::from(kind.entries().max(1)));
+    let copies = Tenths(work * 10 / copy.max(1));
+    let mark = (seen ^ done) % 10;
+    println!(rt; "{name}: {packet} ns a packet, {entry} ns an entry, {copies} copies ({mark})")
+}
+
+/// A number of tenths, shown with a point.
+#[derive(Clone, Copy)]
+struct Tenths(u128);
+
+impl fmt::Display for Tenths {
+    fn fmt<W: fmt::Write>(&self, f: &mut fmt::Formatter<W>) -> fmt::Result {
+        let (whole, tenth) = (self.0 / 10, self.0 % 10);
+        write!(f, "{whole}.{tenth}")
+    }
+}

@@ -1,0 +1,105 @@
+//! The data of service advertising packets: a query for services of a type, or a response of 1 to 7 entries.
+ghost use Rattle.ipx_wire.specs.Sap.{IsSap, IsNoSap, query_of, response_of, sap_of};
+ghost use Rattle.ipx_wire.specs.declared.sap.Sap.{Sap as Data};
+ghost use Rattle.std.specs.Prelude.{◌≡◌, ◌≤◌, length, IfOk, IfErr, IsOkAnd};
+
+use crate::fields::u16_at;
+use crate::sap_entries::{SapEntries, SapEntry};
+use thiserror::Error;
+
+/// Why data are no service advertising. The first fault that holds is answered: those of the
+/// operation before those of what stands behind it.
+#[derive(Clone, Copy, Debug, PartialEq, Eq, Hash, Error)]
+pub enum SapFault {
+    /// There are fewer than the two bytes of the operation, or a query has fewer than four.
+    #[error("no operation, or no type")]
+    Short,
+    /// The operation is none of 1 to 4, but this number.
+    #[error("operation {0} is neither query nor response")]
+    Operation(u16),
+    /// A response has fewer than 66 bytes, so no whole entry.
+    #[error("no entry")]
+    NoEntry,
+    /// A response has 514 bytes or more, so over seven entries.
+    #[error("more than seven entries")]
+    TooMany,
+}
+
+/// The data of a service advertising packet; entries are lent from the bytes that they were read from.
+#[derive(Debug, Drop)]
+pub enum Sap<'a> {
+    /// Asks for services.
+    Query {
+        /// Whether the nearest service alone is asked for.
+        nearest: bool,
+        /// The type of the services; FFFFh stands for every type.
+        kind: u16,
+    },
+    /// Tells services.
+    Response {
+        /// Whether it answers a query for the nearest.
+        nearest: bool,
+        /// The services, 1 to 7.
+        entries: SapEntries<'a>,
+    },
+}
+
+impl<'a> Sap<'a> {
+    /// Reads the data of a packet. Bytes behind the type of a query, and fewer than 64 behind the
+    /// last entry of a response, are ignored.
+    pub fn read(payload: &'a [u8]) -> Result<Sap<'a>, SapFault>
+        ensures found { IfOk result (IsSap payload.entry.now) }
+        ensures only { (s : Data) → IsSap payload.entry.now s → IsOkAnd result (λ q. q ≡ s) }
+        ensures refused { IfErr result (IsNoSap payload.entry.now) }
+        // The same as a function of the bytes.
+        ensures value { result ≡ sap_of payload.entry.now }
+    {
+        of(payload)
+    }
+}
+
+#[tactic(auto, unfolding(crate::specs::Sap::sap_of))]
+fn of(payload: &[u8]) -> Result<Sap<'_>, SapFault>
+    ensures { result ≡ sap_of payload.entry.now }
+{
+    if payload.len() < 2 {
+        return Err(SapFault::Short);
+    }
+    match u16_at(payload, 0) {
+        1 => query(false, payload),
+        2 => response(false, payload),
+        3 => query(true, payload),
+        4 => response(true, payload),
+        number => Err(SapFault::Operation(number)),
+    }
+}
+
+fn query(nearest: bool, payload: &[u8]) -> Result<Sap<'_>, SapFault>
+    requires { 2 ≤ length payload.now }
+    ensures { result ≡ query_of nearest payload.entry.now }
+{
+    if payload.len() < 4 {
+        return Err(SapFault::Short);
+    }
+    let kind = u16_at(payload, 2);
+    Ok(Sap::Query { nearest, kind })
+}
+
+fn response(nearest: bool, payload: &[u8]) -> Result<Sap<'_>, SapFault>
+    requires { 2 ≤ length payload.now }
+    ensures { result ≡ response_of nearest payload.entry.now }
+{
+    let count = (payload.len() - 2) / SapEntry::SIZE;
+    if count == 0 {
+        return Err(SapFault::NoEntry);
+    }
+    if count > SapEntry::MOST {
+        return Err(SapFault::TooMany);
+    }
+    let (_, body) = payload.split_at(2);
+    let entries = SapEntries::of(count, body);
+    Ok(Sap::Response { nearest, entries })
+}
+
+#[cfg(test)]
+mod tests;

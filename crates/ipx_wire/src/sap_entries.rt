@@ -1,0 +1,101 @@
+//! The entries of service advertising packets, read one by one from the bytes that hold them.
+ghost use Rattle.ipx_wire.specs.Piece.{piece};
+ghost use Rattle.ipx_wire.specs.SapEntries.{sap_entry_at, sap_entries_at, IsSapCounted};
+ghost use Rattle.std.specs.Prelude.{◌≡◌, ◌<◌, ◌≤◌, length, slice_get, Some};
+
+use crate::address::Address;
+use crate::fields::{address_from, u16_at};
+use crate::service_name::ServiceName;
+use std::marker::Model;
+
+/// A service as a response tells it.
+#[derive(Clone, Copy, Debug, PartialEq, Eq, Hash)]
+pub struct SapEntry {
+    /// The type of the service.
+    pub kind: u16,
+    /// Its name; none where the name is empty or is not ended by a zero.
+    pub name: Option<ServiceName>,
+    /// Where it is offered.
+    pub address: Address,
+    /// How many routers stand on the way; 16 or more mean that it is down.
+    pub hops: u16,
+}
+
+impl SapEntry {
+    /// How many bytes an entry takes.
+    pub const SIZE: usize = 64;
+
+    /// The most entries that one packet has.
+    pub const MOST: usize = 7;
+}
+
+/// The entries of a response, lent from the bytes that they were read from.
+#[derive(Debug, Drop)]
+pub struct SapEntries<'a> {
+    count: usize,
+    body: &'a [u8],
+}
+
+impl<'a> Model for SapEntries<'a> {
+    ghost use Rattle.ipx_wire.specs.Piece.{piece};
+    ghost use Rattle.std.specs.Prelude.{List};
+    ghost use Rattle.ipx_wire.specs.declared.sap_entries.SapEntry.{SapEntry};
+    ghost use Rattle.ipx_wire.specs.SapEntries.{sap_entries_at, IsSapCounted};
+
+    ghost Value = { List SapEntry };
+
+    ghost view = { λ s. sap_entries_at s.count s.body.now };
+
+    ghost invariant = { λ s. IsSapCounted s.count s.body.now };
+}
+
+impl<'a> SapEntries<'a> {
+    /// The first `count` entries of bytes that have so many.
+    pub(crate) fn of(count: usize, body: &'a [u8]) -> SapEntries<'a>
+        requires { IsSapCounted count body.now }
+        ensures { result ≡ sap_entries_at count body.entry.now }
+    {
+        SapEntries { count, body }
+    }
+
+    /// How many entries there are, 1 to 7.
+    pub fn len(&self) -> usize
+        ensures value { result ≡ length self.now }
+        ensures some { 1 ≤ result }
+        ensures most { result ≤ 7 }
+    {
+        self.count
+    }
+
+    /// The entry with exactly `k` others before it.
+    pub fn entry(&self, k: usize) -> SapEntry
+        requires { k < length self.now }
+        ensures { slice_get self.now k ≡ Some result }
+    {
+        let (_, rest) = self.body.split_at(SapEntry::SIZE * k);
+        entry_from(rest)
+    }
+}
+
+#[tactic(auto, unfolding(crate::specs::SapEntries::sap_entry_at))]
+fn entry_from(bytes: &[u8]) -> SapEntry
+    requires { 64 ≤ length bytes.now }
+    ensures { result ≡ sap_entry_at bytes.now }
+{
+    let field = name_field_in(bytes);
+    SapEntry {
+        kind: u16_at(bytes, 0),
+        name: ServiceName::read(&field),
+        address: address_from(bytes, 50),
+        hops: u16_at(bytes, 62),
+    }
+}
+
+fn name_field_in(bytes: &[u8]) -> [u8; 48]
+    requires { 64 ≤ length bytes.now }
+    ensures { result ≡ piece bytes.now 2 48 }
+{
+    let mut field = [0; 48];
+    field.copy_from_slice(&bytes[2..50]);
+    field
+}

@@ -1,0 +1,161 @@
+//! The name of a service: the bytes before the first zero of the 48 that a packet keeps for it.
+ghost use Rattle.std.specs.Prelude.{◌≡◌, ◌-◌, ◌≤◌, ◌==◌, List, ℕ, ◌++◌, length, take, replicate, IfSome, IfNone, Some, refl};
+ghost use Rattle.std.specs.List.{position_or_len};
+ghost use Rattle.std.proofs.Common.{rules};
+ghost use Rattle.std.specs.Cmp.{partial_equiv_from_equiv};
+ghost use Rattle.std.specs.Cmp.Rules.{hashing};
+ghost use Rattle.std.specs.Hash as fed;
+ghost use Rattle.std.specs.Cmp.Lexicographic.{nat_list_eq_equiv, nat_list_cmp_total, texts_po, texts_ties};
+ghost use Rattle.ipx_wire.specs.Name.{IsName, IsNoName, IsServiceName, name_of, name_field, name_order, same_name, default_name};
+
+use std::cmp::Ordering;
+use std::hash::{Hash, Hasher};
+use std::marker::Model;
+
+/// The name of a service, 1 to 47 bytes without a zero. Names are compared byte by byte, and a
+/// name that begins another is the smaller of the two.
+#[derive(Clone, Copy, Debug)]
+pub struct ServiceName {
+    field: [u8; 48],
+    count: u8,
+}
+
+impl Model for ServiceName {
+    ghost use Rattle.std.specs.Prelude.{List, ℕ, length, take};
+    ghost use Rattle.std.proofs.Common.{sym};
+    ghost use Rattle.ipx_wire.specs.Name.{IsKeptName, name_field};
+
+    ghost Value = { List ℕ };
+
+    ghost view = { λ name. take name.count name.field };
+
+    ghost invariant = { λ name. IsKeptName name.field (take name.count name.field) name.count };
+
+    ghost inverse = { λ bytes. record { field = name_field bytes; count = length bytes } };
+
+    ghost inverse_ok = { λ name kept i. record { field = sym kept.sent i; count = kept.counted i } };
+}
+
+impl ServiceName {
+    /// How many bytes a packet keeps for a name.
+    pub const SIZE: usize = 48;
+
+    /// The name in the field of a packet: the bytes before its first zero. Where the field begins
+    /// with a zero, or has none, there is no name.
+    #[tactic(auto, unfolding(crate::specs::Name::name_of))]
+    pub fn read(field: &[u8; 48]) -> Option<ServiceName>
+        ensures found { IfSome result (IsName field.now) }
+        ensures only { (name : List ℕ) → IsName field.now name → result ≡ Some name }
+        ensures refused { IfNone result (IsNoName field.now) }
+        // The same as a function of the bytes.
+        ensures value { result ≡ name_of field.now }
+    {
+        let count = before_zero(field);
+        if count == 0 || count == ServiceName::SIZE {
+            return None;
+        }
+        let mut sent = *field;
+        clear_behind(&mut sent, count);
+        Some(ServiceName {
+            field: sent,
+            count: count as u8,
+        })
+    }
+
+    /// The bytes of the name.
+    pub fn bytes(&self) -> &[u8]
+        ensures value { result.now ≡ self.now }
+        ensures name { IsServiceName self.now }
+    {
+        &self.field[..usize::from(self.count)]
+    }
+
+    /// The field of a packet that has this name: its bytes, then zeros.
+    pub fn field(&self) -> [u8; 48]
+        ensures value { result ≡ name_field self.now }
+        ensures name { IsServiceName self.now }
+    {
+        self.field
+    }
+}
+
+/// The name `?`, for a place that has no service yet.
+impl Default for ServiceName {
+    ghost is_default = { λ name. name ≡ default_name };
+
+    fn default() -> ServiceName {
+        let mut field = [b'?'; 48];
+        clear_behind(&mut field, 1);
+        ServiceName { field, count: 1 }
+    }
+}
+
+impl PartialEq for ServiceName {
+    ghost eq = { same_name };
+
+    ghost laws = { partial_equiv_from_equiv nat_list_eq_equiv };
+
+    fn eq(&self, other: &ServiceName) -> bool {
+        self.bytes() == other.bytes()
+    }
+}
+
+impl Eq for ServiceName {
+    ghost laws = { nat_list_eq_equiv };
+}
+
+impl PartialOrd for ServiceName {
+    ghost partial_cmp = { λ a b. Some (name_order a b) };
+
+    ghost laws = { texts_po };
+
+    fn partial_cmp(&self, other: &ServiceName) -> Option<Ordering> {
+        Some(self.cmp(other))
+    }
+}
+
+impl Ord for ServiceName {
+    ghost cmp = { name_order };
+
+    ghost total = { nat_list_cmp_total };
+
+    ghost matches_partial_cmp = { λ a b. refl };
+
+    ghost matches_eq = { λ a b. texts_ties a b };
+
+    fn cmp(&self, other: &ServiceName) -> Ordering {
+        self.bytes().cmp(other.bytes())
+    }
+}
+
+impl Hash for ServiceName {
+    ghost hash_input = { fed.slice fed.u8 };
+
+    ghost respects_eq = { Prim.search (hashing, rules) };
+
+    fn hash<H: Hasher>(&self, state: &mut H) {
+        self.bytes().hash(state);
+    }
+}
+
+/// How many bytes stand before the first zero; all of them, where there is none.
+fn before_zero(bytes: &[u8]) -> usize
+    ensures { result ≡ position_or_len (λ byte. byte == 0) bytes.now }
+{
+    bytes
+        .iter()
+        .position(|byte| *byte == 0)
+        .unwrap_or(bytes.len())
+}
+
+/// Writes zeros behind the first `count` bytes.
+fn clear_behind(bytes: &mut [u8], count: usize)
+    requires { count ≤ length bytes.old }
+    ensures { bytes.new ≡ take count bytes.old ++ replicate (length bytes.old - count) 0 }
+{
+    let (_, rest) = bytes.split_at_mut(count);
+    rest.fill(0);
+}
+
+#[cfg(test)]
+mod tests;
