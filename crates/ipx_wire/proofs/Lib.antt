@@ -1,5 +1,6 @@
 pub mod Crossings
 pub mod Entries
+pub mod Forwarded
 pub mod Headers
 pub mod HexText
 pub mod Items

@@ -1,5 +1,5 @@
 -- Names in the order of their bytes.
-use Rattle.std.proofs.Common.{◌≡◌, ℕ, ◌≤◌, List, [], ◌∷◌, ◌++◌, length, refl, sym, ap, ◌∙◌, arith, subst}
+use Rattle.std.proofs.Common.{◌≡◌, ℕ, ◌<◌, ◌≤◌, List, [], ◌∷◌, ◌++◌, length, refl, sym, ap, ◌∙◌, arith, subst}
 use Rattle.std.proofs.lemmas.Map.Lookups.{exact_bytes}
 use Rattle.std.specs.Cmp.{nat_cmp_is}
 use Rattle.std.specs.Ordering.{nat_cmp, ordering_then}
@@ -31,3 +31,8 @@ pub prefix_less : (a b : List ℕ) → 1 ≤ length b → name_order a (a ++ b) 
 prefix_less [] [] some = absurd (omega (arith, some))
 prefix_less [] (y ∷ b) some = refl
 prefix_less (x ∷ a) b some = first_equal x a (a ++ b) ∙ prefix_less a b some
+
+-- the first bytes that differ decide
+pub first_less : (front a b : List ℕ) (x y : ℕ) → x < y → name_order (front ++ x ∷ a) (front ++ y ∷ b) ≡ Less
+first_less [] a b x y less = ap (λ (o : Ordering). ordering_then o (name_order a b)) (sym (nat_cmp_is x y Less less))
+first_less (z ∷ front) a b x y less = first_equal z (front ++ x ∷ a) (front ++ y ∷ b) ∙ first_less front a b x y less

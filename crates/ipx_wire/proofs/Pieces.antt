@@ -81,7 +81,7 @@ byte_at bytes place below =
     ∙ single (drop place bytes) left
 
 -- a piece of a front is a piece of the whole
-front_of_front : (i n m : ℕ) (bytes : List ℕ) → i + n ≤ m → take n (drop i (take m bytes)) ≡ take n (drop i bytes)
+pub front_of_front : (i n m : ℕ) (bytes : List ℕ) → i + n ≤ m → take n (drop i (take m bytes)) ≡ take n (drop i bytes)
 front_of_front i n m bytes within =
     let whole : m ≡ i + (m - i) = omega arith in
     let few : n ≤ m - i = omega arith in

@@ -1,5 +1,5 @@
 -- Services, their bytes, and the entries that they are read as.
-use Rattle.std.proofs.Common.{◌≡◌, ℕ, zero, suc, ◌+◌, ◌-◌, ◌*◌, ◌≤◌, ◌<◌, ◌^◌, Bool, List, [], ◌∷◌, ◌++◌, length, take, map, replicate, get_or, Some, refl, sym, ap, ◌∙◌, arith, subst, append-nil, length-append, lit<}
+use Rattle.std.proofs.Common.{◌≡◌, ℕ, zero, suc, ◌+◌, ◌-◌, ◌*◌, ◌≤◌, ◌<◌, ◌^◌, Bool, List, [], ◌∷◌, ◌++◌, length, take, map, replicate, get_or, Some, refl, ap, ◌∙◌, arith, subst, append-nil, length-append, lit<}
 use Rattle.std.proofs.lemmas.List.{length-replicate, length-map}
 use Rattle.std.specs.Int.{to_be_bytes, w16}
 use Rattle.std.specs.List.{flat_map, AllByRecursion}

@@ -1,14 +1,14 @@
 //! What holds by the definitions alone: of all bytes, and of the constants.
-ghost use Rattle.std.specs.Prelude.{◌≡◌, ◌↔◌, ℕ, ◌+◌, ◌-◌, ◌^◌, ◌<◌, ◌≤◌, Bool, true, List, [], ◌∷◌, ◌++◌, length, map, take, replicate, Some, None, Ok, Err};
+ghost use Rattle.std.specs.Prelude.{◌≡◌, ◌↔◌, ℕ, ◌+◌, ◌-◌, ◌*◌, ◌^◌, ◌<◌, ◌≤◌, Bool, true, List, [], ◌∷◌, ◌++◌, length, map, take, drop, replicate, Some, None, Ok, Err};
 ghost use Rattle.std.specs.List.{AllByRecursion};
 ghost use Rattle.ipx_wire.specs.Address.{IsAddress};
 ghost use Rattle.ipx_wire.specs.Header.{IsHeader, header_bytes};
 ghost use Rattle.ipx_wire.specs.Forward.{forwarded, propagated};
 ghost use Rattle.ipx_wire.specs.Write.{packet_bytes, rip_packet, rip_packet_parts, rip_payload, query_packet, query_packet_parts, query_payload};
-ghost use Rattle.ipx_wire.specs.Piece.{IsBytes};
+ghost use Rattle.ipx_wire.specs.Piece.{IsBytes, piece};
 ghost use Rattle.ipx_wire.specs.Packet.{Parts, IsPacket, IsNoPacket, packet_of};
 ghost use Rattle.ipx_wire.specs.Rip.{RipParts, IsEntry, IsRip, IsNoRip, rip_of};
-ghost use Rattle.ipx_wire.specs.Crossed.{IsNetwork, IsCrossed, IsNotCrossed, crossed_of};
+ghost use Rattle.ipx_wire.specs.Crossed.{IsNetwork, IsCrossed, IsNotCrossed, network_bytes, crossed_of};
 ghost use Rattle.ipx_wire.specs.declared.crossed.CrossedFault.{CrossedFault};
 ghost use Rattle.ipx_wire.specs.declared.packet.PacketFault.{PacketFault};
 ghost use Rattle.ipx_wire.specs.declared.rip.RipFault.{RipFault};
@@ -32,11 +32,13 @@ use crate::sap_entries::SapEntry;
 use crate::service_name::ServiceName;
 use crate::socket::Socket;
 
-/// What the readers answer, as functions of the bytes, is what the layouts say.
+/// What the readers answer, as functions of the bytes, is what the layouts say. A packet's own bytes are the front of
+/// those that it was read from, as many as its length says.
 pub fn readings()
     ensures packet_read { (bytes : List ℕ) (p : Parts) → IsBytes bytes → (packet_of bytes ≡ Ok p ↔ IsPacket bytes p) }
     ensures packet_refused { (bytes : List ℕ) (f : PacketFault) → (packet_of bytes ≡ Err f ↔ IsNoPacket bytes f) }
     ensures one_packet { (bytes : List ℕ) (p q : Parts) → IsPacket bytes p → IsPacket bytes q → p ≡ q }
+    ensures packet_front { (bytes : List ℕ) (p : Parts) → IsPacket bytes p → packet_bytes p ≡ take p.header.length bytes }
     ensures rip_read { (payload : List ℕ) (r : RipParts) → IsBytes payload → (rip_of payload ≡ Ok r ↔ IsRip payload r) }
     ensures rip_refused { (payload : List ℕ) (f : RipFault) → (rip_of payload ≡ Err f ↔ IsNoRip payload f) }
     ensures one_rip { (payload : List ℕ) (r s : RipParts) → IsRip payload r → IsRip payload s → r ≡ s }
@@ -77,6 +79,19 @@ pub fn reread()
         → IsCrossed (propagated arrived outgoing p).header.control (propagated arrived outgoing p).payload (networks ++ arrived ∷ []) }
 {}
 
+/// What is sent on, over the bytes that came: those that the length counts, but for a few places, counted from 0.
+///
+/// A forwarded packet has another byte 4, the transport control one higher. A propagated packet has others at 0 and 1, the
+/// checksum FFFFh; at 4, the transport control one higher; at 6 to 9, the outgoing network; and, where its transport control
+/// came as n, at 30 + 4 n to 33 + 4 n, the network from which it arrived.
+pub fn sent_on()
+    ensures forwarded { (bytes : List ℕ) (p : Parts) → IsPacket bytes p → p.header.control < 255
+        → packet_bytes (forwarded p) ≡ take 4 bytes ++ (p.header.control + 1) ∷ drop 5 (take p.header.length bytes) }
+    ensures propagated { (bytes : List ℕ) (p : Parts) (arrived outgoing : Network) → IsPacket bytes p → p.header.control < 8 → 32 ≤ length p.payload
+        → packet_bytes (propagated arrived outgoing p) ≡ replicate 2 0xff ++ piece bytes 2 2 ++ (p.header.control + 1) ∷ piece bytes 5 1 ++ network_bytes outgoing
+        ++ piece bytes 10 (20 + 4 * p.header.control) ++ network_bytes arrived ++ drop (34 + 4 * p.header.control) (take p.header.length bytes) }
+{}
+
 /// What the reader of service advertising answers, as a function of the bytes, is what the layout says.
 pub fn service_readings()
     ensures sap_read { (payload : List ℕ) (s : Sap) → IsBytes payload → (sap_of payload ≡ Ok s ↔ IsSap payload s) }
@@ -93,12 +108,14 @@ pub fn name_readings()
     ensures name_again { (name : List ℕ) → IsServiceName name → name_of (name_field name) ≡ Some name }
 {}
 
-/// Names are in a total order by their bytes; it agrees with equality, and a proper prefix is the smaller.
+/// Names are in a total order by their bytes: the first byte that differs decides, a proper prefix is the smaller, and the
+/// order agrees with equality.
 pub fn name_order()
     ensures total { IsTotalOrder by_bytes }
     ensures equal { (a b : List ℕ) → (by_bytes a b ≡ Equal ↔ a ≡ b) }
     ensures same { (a b : List ℕ) → (same_name a b ≡ true ↔ a ≡ b) }
     ensures prefix { (a b : List ℕ) → 1 ≤ length b → by_bytes a (a ++ b) ≡ Less }
+    ensures first { (front a b : List ℕ) (x y : ℕ) → x < y → by_bytes (front ++ x ∷ a) (front ++ y ∷ b) ≡ Less }
 {}
 
 /// The numbers that the constants stand for.

@@ -3,6 +3,7 @@ use Rattle.ipx_wire.specs.Packet.{IsPacket, IsNoPacket}
 use Rattle.ipx_wire.specs.Rip.{IsRip, IsNoRip}
 use Rattle.ipx_wire.specs.Crossed.{IsCrossed, IsNotCrossed}
 use Rattle.ipx_wire.proofs.Crossings.{crossed_found, crossed_refused, crossed_fault, crossed_only, one_crossed}
+use Rattle.ipx_wire.proofs.Forwarded.{packet_front}
 use Rattle.ipx_wire.proofs.Packets.{packet_only}
 use Rattle.ipx_wire.proofs.Readings.{packet_found, packet_refused, packet_fault, one_packet, rip_found, rip_refused, rip_fault, rip_only, one_rip}
 use Rattle.ipx_wire.proofs.laws.readings.Goals as goal
@@ -15,6 +16,9 @@ returns-clause-packet_refused c = λ bytes f. (λ e. IfErr-at_err (IsNoPacket by
 
 pub returns-clause-one_packet : goal.returns-clause-one_packet
 returns-clause-one_packet c = one_packet
+
+pub returns-clause-packet_front : goal.returns-clause-packet_front
+returns-clause-packet_front c = packet_front
 
 pub returns-clause-rip_read : goal.returns-clause-rip_read
 returns-clause-rip_read c = λ payload r are. (λ e. IfOk-at_ok (IsRip payload) e (rip_found payload are), λ is. rip_only payload r is)
