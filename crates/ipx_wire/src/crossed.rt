@@ -80,7 +80,7 @@ impl<'a> Crossed<'a> {
         self.count
     }
 
-    /// The network with exactly `k` others before it.
+    /// The network with exactly `k` others before it; `k` is below `len()`.
     pub fn get(&self, k: usize) -> Network
         requires { k < length self.now }
         ensures { slice_get self.now k ≡ Some result }

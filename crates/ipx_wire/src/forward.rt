@@ -12,9 +12,11 @@ use crate::header::Header;
 use crate::network::Network;
 use crate::packet::Packet;
 
-/// Writes a packet with its transport control one higher to the front of `out`, and answers its number of bytes.
+/// Writes a packet with its transport control one higher to the front of `out`, and answers its number of bytes, which is
+/// the packet's length.
 ///
-/// All else is written as it came, the checksum too. Padding is left out.
+/// Its transport control is under 255, and `out` has room for as many bytes as its length counts. All else is written as it
+/// came, the checksum too. Padding is left out, and the type isn't looked at.
 pub fn write_forwarded(packet: &Packet<'_>, out: &mut [u8]) -> usize
     requires control { packet.now.header.control < 255 }
     requires room { packet.now.header.length ≤ length out.old }
@@ -32,10 +34,16 @@ pub fn write_forwarded(packet: &Packet<'_>, out: &mut [u8]) -> usize
     count
 }
 
-/// Writes a packet of type 20 as it leaves for the network `outgoing` to the front of `out`, and answers its number of bytes.
+/// Writes a packet of type 20 as it leaves for the network `outgoing` to the front of `out`, and answers its number of bytes,
+/// which is the packet's length.
+///
+/// Its transport control is under 8 and it has 32 bytes of data or more, which is where [`Crossed::read`] of the two answers
+/// a list; and `out` has room for as many bytes as its length counts. Which networks stand in that list isn't looked at,
+/// nor is the type.
 ///
 /// The network `arrived`, from which it came, is written behind the networks crossed, the transport control is one
-/// higher, the checksum is FFFFh, and the destination's network is `outgoing`. All else is written as it came.
+/// higher, the checksum is FFFFh, and the destination's network is `outgoing`. All else is written as it came. Padding is
+/// left out.
 pub fn write_crossed(
     packet: &Packet<'_>,
     arrived: Network,

@@ -1,13 +1,13 @@
-//! The packets of Novell IPX, after the IPX Router Specification: headers, routing information,
-//! services and networks crossed, read from bytes and written to bytes; and the two ends of a run, a
-//! reader and a writer that remember their failures. Whatever routes, simulates or shows packets
-//! stands on this crate.
+//! The packets of Novell IPX, after the IPX Router Specification, read from bytes and written to
+//! bytes; and the two ends of a run, a reader and a writer that remember their failures. Whatever
+//! routes, simulates or shows packets stands on this crate.
 //!
 //! - Readers are exact: a value is answered where the bytes have the layout, and nowhere else, and
-//!   each fault where it is the first that holds. The module `laws` says so of all bytes.
-//! - Writers are exact: a packet's bytes at the front of a slice, and the rest of it as it was.
-//! - What is read lends slices of its bytes. Nothing here takes memory or can run out of it.
-//! - An intake asks its reader a bounded number of times, so that whatever reads to an end, ends.
+//!   each fault where it is the first that holds. Writers are exact, and leave the rest of a slice.
+//! - What was written is read again (law `reread`), and what is sent on is what came, but for the
+//!   changed places (law `sent_on`). Names are in the order of their bytes (law `name_order`).
+//! - What is read lends slices of its bytes, and nothing here takes memory. An intake asks its reader
+//!   a bounded number of times.
 //!
 //! It computes no checksum, knows no link headers, and decides nothing: which packet is answered,
 //! forwarded or dropped is a router's matter.

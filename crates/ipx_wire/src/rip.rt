@@ -136,7 +136,7 @@ impl<'a> Rip<'a> {
         self.count
     }
 
-    /// The entry with exactly `k` others before it.
+    /// The entry with exactly `k` others before it; `k` is below `len()`.
     pub fn entry(&self, k: usize) -> RipEntry
         requires { k < length self.now.entries }
         ensures { slice_get self.now.entries k ≡ Some result }

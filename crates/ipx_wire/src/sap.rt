@@ -47,6 +47,10 @@ pub enum Sap<'a> {
 impl<'a> Sap<'a> {
     /// Reads the data of a packet. Bytes behind the type of a query, and fewer than 64 behind the
     /// last entry of a response, are ignored.
+    ///
+    /// The faults, in their order: `Short` under 2 bytes; `Operation` where the operation is none
+    /// of 1 to 4; then of a query `Short` under 4 bytes, and of a response `NoEntry` under 66 bytes
+    /// and `TooMany` from 514 bytes on.
     pub fn read(payload: &'a [u8]) -> Result<Sap<'a>, SapFault>
         ensures found { IfOk result (IsSap payload.entry.now) }
         ensures only { (s : Data) → IsSap payload.entry.now s → IsOkAnd result (λ q. q ≡ s) }

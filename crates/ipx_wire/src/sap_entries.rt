@@ -67,7 +67,7 @@ impl<'a> SapEntries<'a> {
         self.count
     }
 
-    /// The entry with exactly `k` others before it.
+    /// The entry with exactly `k` others before it; `k` is below `len()`.
     pub fn entry(&self, k: usize) -> SapEntry
         requires { k < length self.now }
         ensures { slice_get self.now k ≡ Some result }

@@ -17,7 +17,10 @@ pub const RIP_KIND: u8 = 1;
 /// The packet type of the service advertising protocol.
 pub const SAP_KIND: u8 = 4;
 
-/// Writes a routing information packet of 1 to 50 entries to the front of `out`, and answers its number of bytes.
+/// Writes a routing information packet of 1 to 50 entries to the front of `out`, and answers its number of bytes: 32, and 8
+/// for each entry. `out` has room for as many.
+///
+/// In the header the type is 1, the checksum FFFFh and the transport control 0.
 pub fn write_rip(
     from: Address,
     to: Address,
@@ -41,7 +44,10 @@ pub fn write_rip(
     Header::SIZE + size
 }
 
-/// Writes a query for services of a type, all or the nearest, to the front of `out`, and answers its number of bytes.
+/// Writes a query for services of a type, all or the nearest, to the front of `out`, and answers its number of bytes, which
+/// is 34. `out` has room for as many.
+///
+/// In the header the type is 4, the checksum FFFFh and the transport control 0. The type `kind` of FFFFh stands for every type.
 pub fn write_query(from: Address, to: Address, nearest: bool, kind: u16, out: &mut [u8]) -> usize
     requires { 34 ≤ length out.old }
     ensures count { result ≡ 34 }

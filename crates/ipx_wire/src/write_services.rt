@@ -16,7 +16,10 @@ use crate::service_name::ServiceName;
 use crate::write::{SAP_KIND, own};
 
 /// Writes a response of 1 to 7 services, general or to a query for the nearest, to the front of
-/// `out`, and answers its number of bytes. Behind each name there are zeros.
+/// `out`, and answers its number of bytes: 32, and 64 for each service. `out` has room for as many.
+///
+/// In the header the type is 4, the checksum FFFFh and the transport control 0. Behind each name
+/// there are zeros.
 pub fn write_sap(
     from: Address,
     to: Address,
