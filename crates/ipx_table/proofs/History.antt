@@ -1,0 +1,119 @@
+-- What the definitions of alive and marked offers say of one fact more.
+use Rattle.std.proofs.Common.{◌≡◌, refl, sym, ap, ◌∙◌, ℕ, ◌+◌, ◌<◌, Bool, true, false, not, ◌&&◌, cond, ◌==◌, if◌then◌else◌, nat_lt, List, [], ◌∷◌, ◌++◌, map, filter, append_assoc, arith, eqb, ltb}
+use Rattle.std.proofs.lemmas.Bool.{lt-ltb, le-ltb, ltb-true, ltb-false, eqb-true, eq-eqb, ne_eqb, cases_Bool}
+use Rattle.std.proofs.Common.{inl, inr}
+use Rattle.ipx_table.specs.Reading.{Rules}
+use Rattle.ipx_table.specs.Facts.{Fact, Offered, Second, End, Marked, seconds}
+use Rattle.ipx_table.specs.Alive.{cuts, lasts, alive, lifetime}
+use Rattle.ipx_table.specs.Accepted.{is_accepted, marked_after, marked}
+use Rattle.ipx_table.specs.AfterOffer.{fresh, uncut, after_offer}
+use Rattle.ipx_table.specs.Stands.{older, is_last, second_later}
+use Rattle.ipx_table.specs.declared.held.Held.{Held}
+
+and_assoc : (a b c : Bool) → (a && (b && c)) ≡ ((a && b) && c)
+and_assoc true b c = refl
+and_assoc false b c = refl
+
+module _ {O : Type 0} (rules : Rules O) where
+  pub lasts-more : (offer : O) (ms : List (Marked O)) (m : Marked O) → lasts rules offer (ms ++ m ∷ []) ≡ (lasts rules offer ms && lasts rules offer (m ∷ []))
+  lasts-more offer [] m = refl
+  lasts-more offer ((Offered later, a) ∷ rest) m =
+      rw (lasts-more offer rest m) (and_assoc (not (cuts rules later a offer)) (lasts rules offer rest) (lasts rules offer (m ∷ [])))
+  lasts-more offer ((Second, a) ∷ rest) m = lasts-more offer rest m
+  lasts-more offer ((End, a) ∷ rest) m = refl
+
+  seconds-offered : (ms : List (Marked O)) (offer : O) (a : Bool) → seconds (ms ++ (Offered offer, a) ∷ []) ≡ seconds ms
+  seconds-offered [] offer a = refl
+  seconds-offered ((Offered later, m) ∷ rest) offer a = seconds-offered rest offer a
+  seconds-offered ((Second, m) ∷ rest) offer a = ap (λ n. n + 1) (seconds-offered rest offer a)
+  seconds-offered ((End, m) ∷ rest) offer a = seconds-offered rest offer a
+
+  seconds-second : (ms : List (Marked O)) (m : Bool) → seconds (ms ++ (Second, m) ∷ []) ≡ seconds ms + 1
+  seconds-second [] m = refl
+  seconds-second ((Offered later, a) ∷ rest) m = seconds-second rest m
+  seconds-second ((Second, a) ∷ rest) m = ap (λ n. n + 1) (seconds-second rest m)
+  seconds-second ((End, a) ∷ rest) m = seconds-second rest m
+
+  -- one alive place, with or without a cut behind it
+  kept_or_cut : (p : Held O → Bool) (l y c : Bool) (h : Held O) (rest tail : List (Held O)) → p h ≡ not c
+      → cond ((l && (not c && true)) && y) (h ∷ (filter p rest ++ tail)) (filter p rest ++ tail) ≡ filter p (cond (l && y) (h ∷ rest) rest) ++ tail
+  kept_or_cut p true true true h rest tail e = rw e refl
+  kept_or_cut p true true false h rest tail e = rw e refl
+  kept_or_cut p true false true h rest tail e = refl
+  kept_or_cut p true false false h rest tail e = refl
+  kept_or_cut p false true c h rest tail e = refl
+  kept_or_cut p false false c h rest tail e = refl
+
+  pub alive-offered : (ms : List (Marked O)) (offer : O) (a : Bool)
+      → alive rules (ms ++ (Offered offer, a) ∷ []) ≡ uncut rules offer a (alive rules ms) ++ (if a then fresh offer ∷ [] else [])
+  alive-offered [] offer true = refl
+  alive-offered [] offer false = refl
+  alive-offered ((Offered first, true) ∷ later) offer a =
+      let known = alive-offered later offer a in
+      let lasting = lasts-more first later (Offered offer, a) in
+      let aged = seconds-offered later offer a in
+      rw (lasting, aged, known)
+        (kept_or_cut (λ h. not (cuts rules offer a h.offer)) (lasts rules first later) (nat_lt (seconds later) lifetime) (cuts rules offer a first)
+          (record { offer = first; age = seconds later }) (alive rules later) (if a then fresh offer ∷ [] else []) refl)
+  alive-offered ((Offered first, false) ∷ later) offer a = alive-offered later offer a
+  alive-offered ((Second, m) ∷ later) offer a = alive-offered later offer a
+  alive-offered ((End, m) ∷ later) offer a = alive-offered later offer a
+
+  -- one alive place, in its last second or before it
+  older_or_ended : (l : Bool) (n : ℕ) (offer : O) (rest : List (Held O))
+      → cond (l && nat_lt (n + 1) lifetime) (record { offer = offer; age = n + 1 } ∷ second_later rest) (second_later rest)
+        ≡ second_later (cond (l && nat_lt n lifetime) (record { offer = offer; age = n } ∷ rest) rest)
+  older_or_ended false n offer rest = refl
+  older_or_ended true n offer rest =
+      elim (cases_Bool (nat_lt n 180)) [
+        | inl e ↦ rw e (elim (cases_Bool (n == 179)) [
+            | inl last ↦ let no : nat_lt (n + 1) 180 ≡ false = le-ltb (n + 1) 180 (omega (arith, eqb-true n 179 last)) in rw (last, no) refl
+            | inr more ↦ let yes : nat_lt (n + 1) 180 ≡ true = lt-ltb (n + 1) 180 (grind (arith, eq-eqb, ltb-true n 180 e)) in rw (more, yes) refl ])
+        | inr e ↦ let no : nat_lt (n + 1) 180 ≡ false = le-ltb (n + 1) 180 (omega (arith, ltb-false n 180 e)) in rw (e, no) refl ]
+
+  pub alive-second : (ms : List (Marked O)) (m : Bool) → alive rules (ms ++ (Second, m) ∷ []) ≡ second_later (alive rules ms)
+  alive-second [] m = refl
+  alive-second ((Offered first, true) ∷ later) m =
+      let known = alive-second later m in
+      let lasting : lasts rules first (later ++ (Second, m) ∷ []) ≡ lasts rules first later = lasts-more first later (Second, m) ∙ and_true (lasts rules first later) in
+      let aged = seconds-second later m in
+      rw (lasting, aged, known) (older_or_ended (lasts rules first later) (seconds later) first (alive rules later))
+    where
+      and_true : (b : Bool) → (b && true) ≡ b
+      and_true true = refl
+      and_true false = refl
+  alive-second ((Offered first, false) ∷ later) m = alive-second later m
+  alive-second ((Second, a) ∷ later) m = alive-second later m
+  alive-second ((End, a) ∷ later) m = alive-second later m
+
+  pub alive-end : (ms : List (Marked O)) (m : Bool) → alive rules (ms ++ (End, m) ∷ []) ≡ []
+  alive-end [] m = refl
+  alive-end ((Offered first, true) ∷ later) m =
+      let known = alive-end later m in
+      let lasting : lasts rules first (later ++ (End, m) ∷ []) ≡ false = lasts-more first later (End, m) ∙ and_false (lasts rules first later) in
+      rw (lasting, known) refl
+    where
+      and_false : (b : Bool) → (b && false) ≡ false
+      and_false true = refl
+      and_false false = refl
+  alive-end ((Offered first, false) ∷ later) m = alive-end later m
+  alive-end ((Second, a) ∷ later) m = alive-end later m
+  alive-end ((End, a) ∷ later) m = alive-end later m
+
+  marked_after-more : (before : List (Marked O)) (facts : List (Fact O)) (fact : Fact O)
+      → marked_after rules before (facts ++ fact ∷ []) ≡ marked_after rules before facts ++ (fact, is_accepted rules (alive rules (marked_after rules before facts)) fact) ∷ []
+  marked_after-more before [] fact = refl
+  marked_after-more before (first ∷ facts) fact = marked_after-more (before ++ (first, is_accepted rules (alive rules before) first) ∷ []) facts fact
+
+  -- the alive offers after one fact more
+  pub alive_after-offered : (facts : List (Fact O)) (offer : O)
+      → alive rules (marked rules (facts ++ Offered offer ∷ [])) ≡ after_offer rules (alive rules (marked rules facts)) offer
+  alive_after-offered facts offer =
+      ap (alive rules) (marked_after-more [] facts (Offered offer))
+        ∙ alive-offered (marked rules facts) offer (is_accepted rules (alive rules (marked rules facts)) (Offered offer))
+
+  pub alive_after-second : (facts : List (Fact O)) → alive rules (marked rules (facts ++ Second ∷ [])) ≡ second_later (alive rules (marked rules facts))
+  alive_after-second facts = ap (alive rules) (marked_after-more [] facts Second) ∙ alive-second (marked rules facts) false
+
+  pub alive_after-end : (facts : List (Fact O)) → alive rules (marked rules (facts ++ End ∷ [])) ≡ []
+  alive_after-end facts = ap (alive rules) (marked_after-more [] facts End) ∙ alive-end (marked rules facts) false

@@ -1,0 +1,36 @@
+-- Which offers a table accepts.
+use Rattle.std.specs.Prelude.{ℕ, nat_lt, Bool, false, not, ◌&&◌, ◌||◌, List, [], ◌∷◌, ◌++◌, length}
+use Rattle.std.specs.List.{list_any}
+use Rattle.ipx_table.specs.Reading.{Rules, same_key}
+use Rattle.ipx_table.specs.Facts.{Fact, Offered, Second, End, Marked}
+use Rattle.ipx_table.specs.Alive.{alive}
+use Rattle.ipx_table.specs.declared.held.Held.{Held}
+
+module _ {O : Type 0} (rules : Rules O) where
+  -- an alive offer of the same key and source: the new one refreshes it
+  abbrev pub refreshes : O → List (Held O) → Bool
+  refreshes offer held = list_any (λ h. same_key rules.by_key h.offer offer && rules.same_source h.offer offer) held
+
+  -- an alive offer of the same key, from another source, that is strictly worse: the new one replaces it
+  abbrev pub replaces : O → List (Held O) → Bool
+  replaces offer held =
+      list_any (λ h. same_key rules.by_key h.offer offer && not (rules.same_source h.offer offer) && rules.ranks_above h.offer offer) held
+
+  -- no alive offer of the same key, and fewer alive offers than the capacity: there is room for a new key
+  abbrev pub is_new_with_room : O → List (Held O) → Bool
+  is_new_with_room offer held = not (list_any (λ h. same_key rules.by_key h.offer offer) held) && nat_lt (length held) rules.capacity
+
+  -- whether the fact is an offer that is accepted where those are alive
+  abbrev pub is_accepted : List (Held O) → Fact O → Bool
+  is_accepted held (Offered offer) =
+      not (rules.is_down offer) && (refreshes offer held || replaces offer held || is_new_with_room offer held)
+  is_accepted held Second = false
+  is_accepted held End = false
+
+  -- the facts with their marks, each judged by those before it, which have theirs
+  abbrev pub marked_after : List (Marked O) → List (Fact O) → List (Marked O)
+  marked_after before [] = before
+  marked_after before (fact ∷ facts) = marked_after (before ++ (fact, is_accepted (alive rules before) fact) ∷ []) facts
+
+  abbrev pub marked : List (Fact O) → List (Marked O)
+  marked facts = marked_after [] facts

@@ -1,0 +1,44 @@
+-- What a table reads of an offer, and what decides between two.
+use Rattle.std.specs.Prelude.{ℕ, ◌&&◌, ◌==◌, nat_eq, Bool}
+use Rattle.std.specs.Ordering.{nat_cmp, is_eq, is_gt, ordering_then}
+use Rattle.std.specs.declared.cmp.Ordering.{Ordering}
+use Rattle.std.specs.Cmp.Lexicographic.{pointwise}
+use Rattle.ipx_wire.specs.declared.node.Node.{Node}
+
+-- the readings of an offer: what it is an offer of, the port and node it came from, how good it is (smaller is better),
+-- and whether it says that there is no way any more
+pub record Reading (O K : Type 0) : Type 0 where
+  pub key : O → K
+  pub source : O → ℕ × Node
+  pub rank : O → ℕ × ℕ
+  pub is_down : O → Bool
+
+-- two offers came from one port and one node of it
+abbrev pub one_source : ℕ × Node → ℕ × Node → Bool
+one_source a b = (a.0 == b.0) && pointwise nat_eq a.1.0 b.1.0
+
+-- ranks are compared by their first number, then by their second
+abbrev pub rank_order : ℕ × ℕ → ℕ × ℕ → Ordering
+rank_order a b = ordering_then (nat_cmp a.0 b.0) (nat_cmp a.1 b.1)
+
+-- all that decides what a table does with an offer, and how many it holds
+pub record Rules (O : Type 0) : Type 0 where
+  pub by_key : O → O → Ordering
+  pub same_source : O → O → Bool
+  pub ranks_above : O → O → Bool
+  pub is_down : O → Bool
+  pub capacity : ℕ
+
+-- the rules of a table of that capacity, for offers with those readings and keys in that order
+abbrev pub rules_of : {O K : Type 0} → Reading O K → (K → K → Ordering) → ℕ → Rules O
+rules_of reading order capacity = record {
+  by_key = λ a b. order (reading.key a) (reading.key b);
+  same_source = λ a b. one_source (reading.source a) (reading.source b);
+  ranks_above = λ a b. is_gt (rank_order (reading.rank a) (reading.rank b));
+  is_down = reading.is_down;
+  capacity = capacity;
+}
+
+-- two offers are of one key
+abbrev pub same_key : {O : Type 0} → (O → O → Ordering) → O → O → Bool
+same_key by_key a b = is_eq (by_key a b)

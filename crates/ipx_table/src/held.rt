@@ -1,0 +1,10 @@
+//! A record of a table.
+
+/// An offer that a table holds, and how long ago it was accepted last.
+#[derive(Clone, Copy, Debug, Default, PartialEq, Eq)]
+pub struct Held<O> {
+    /// The offer as it came.
+    pub offer: O,
+    /// Seconds since then, under 180.
+    pub age: u8,
+}
