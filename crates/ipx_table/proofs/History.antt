@@ -1,13 +1,13 @@
 -- What the definitions of alive and marked offers say of one fact more.
-use Rattle.std.proofs.Common.{◌≡◌, refl, sym, ap, ◌∙◌, ℕ, ◌+◌, ◌<◌, Bool, true, false, not, ◌&&◌, cond, ◌==◌, if◌then◌else◌, nat_lt, List, [], ◌∷◌, ◌++◌, map, filter, append_assoc, arith, eqb, ltb}
-use Rattle.std.proofs.lemmas.Bool.{lt-ltb, le-ltb, ltb-true, ltb-false, eqb-true, eq-eqb, ne_eqb, cases_Bool}
+use Rattle.std.proofs.Common.{◌≡◌, refl, ap, ◌∙◌, ℕ, ◌+◌, Bool, true, false, not, ◌&&◌, cond, ◌==◌, if◌then◌else◌, nat_lt, List, [], ◌∷◌, ◌++◌, filter, arith}
+use Rattle.std.proofs.lemmas.Bool.{lt-ltb, le-ltb, ltb-true, ltb-false, eqb-true, eq-eqb, cases_Bool}
 use Rattle.std.proofs.Common.{inl, inr}
 use Rattle.ipx_table.specs.Reading.{Rules}
 use Rattle.ipx_table.specs.Facts.{Fact, Offered, Second, End, Marked, seconds}
 use Rattle.ipx_table.specs.Alive.{cuts, lasts, alive, lifetime}
 use Rattle.ipx_table.specs.Accepted.{is_accepted, marked_after, marked}
 use Rattle.ipx_table.specs.AfterOffer.{fresh, uncut, after_offer}
-use Rattle.ipx_table.specs.Stands.{older, is_last, second_later}
+use Rattle.ipx_table.specs.Stands.{second_later}
 use Rattle.ipx_table.specs.declared.held.Held.{Held}
 
 and_assoc : (a b c : Bool) → (a && (b && c)) ≡ ((a && b) && c)
@@ -53,8 +53,8 @@ module _ {O : Type 0} (rules : Rules O) where
       let lasting = lasts-more first later (Offered offer, a) in
       let aged = seconds-offered later offer a in
       rw (lasting, aged, known)
-        (kept_or_cut (λ h. not (cuts rules offer a h.offer)) (lasts rules first later) (nat_lt (seconds later) lifetime) (cuts rules offer a first)
-          (record { offer = first; age = seconds later }) (alive rules later) (if a then fresh offer ∷ [] else []) refl)
+      (kept_or_cut (λ h. not (cuts rules offer a h.offer)) (lasts rules first later) (nat_lt (seconds later) lifetime) (cuts rules offer a first)
+      (record { offer = first; age = seconds later }) (alive rules later) (if a then fresh offer ∷ [] else []) refl)
   alive-offered ((Offered first, false) ∷ later) offer a = alive-offered later offer a
   alive-offered ((Second, m) ∷ later) offer a = alive-offered later offer a
   alive-offered ((End, m) ∷ later) offer a = alive-offered later offer a
@@ -62,14 +62,16 @@ module _ {O : Type 0} (rules : Rules O) where
   -- one alive place, in its last second or before it
   older_or_ended : (l : Bool) (n : ℕ) (offer : O) (rest : List (Held O))
       → cond (l && nat_lt (n + 1) lifetime) (record { offer = offer; age = n + 1 } ∷ second_later rest) (second_later rest)
-        ≡ second_later (cond (l && nat_lt n lifetime) (record { offer = offer; age = n } ∷ rest) rest)
+      ≡ second_later (cond (l && nat_lt n lifetime) (record { offer = offer; age = n } ∷ rest) rest)
   older_or_ended false n offer rest = refl
   older_or_ended true n offer rest =
       elim (cases_Bool (nat_lt n 180)) [
         | inl e ↦ rw e (elim (cases_Bool (n == 179)) [
-            | inl last ↦ let no : nat_lt (n + 1) 180 ≡ false = le-ltb (n + 1) 180 (omega (arith, eqb-true n 179 last)) in rw (last, no) refl
-            | inr more ↦ let yes : nat_lt (n + 1) 180 ≡ true = lt-ltb (n + 1) 180 (grind (arith, eq-eqb, ltb-true n 180 e)) in rw (more, yes) refl ])
-        | inr e ↦ let no : nat_lt (n + 1) 180 ≡ false = le-ltb (n + 1) 180 (omega (arith, ltb-false n 180 e)) in rw (e, no) refl ]
+          | inl last ↦ let no : nat_lt (n + 1) 180 ≡ false = le-ltb (n + 1) 180 (omega (arith, eqb-true n 179 last)) in rw (last, no) refl
+          | inr more ↦ let yes : nat_lt (n + 1) 180 ≡ true = lt-ltb (n + 1) 180 (grind (arith, eq-eqb, ltb-true n 180 e)) in rw (more, yes) refl
+        ])
+        | inr e ↦ let no : nat_lt (n + 1) 180 ≡ false = le-ltb (n + 1) 180 (omega (arith, ltb-false n 180 e)) in rw (e, no) refl
+      ]
 
   pub alive-second : (ms : List (Marked O)) (m : Bool) → alive rules (ms ++ (Second, m) ∷ []) ≡ second_later (alive rules ms)
   alive-second [] m = refl
@@ -110,7 +112,7 @@ module _ {O : Type 0} (rules : Rules O) where
       → alive rules (marked rules (facts ++ Offered offer ∷ [])) ≡ after_offer rules (alive rules (marked rules facts)) offer
   alive_after-offered facts offer =
       ap (alive rules) (marked_after-more [] facts (Offered offer))
-        ∙ alive-offered (marked rules facts) offer (is_accepted rules (alive rules (marked rules facts)) (Offered offer))
+      ∙ alive-offered (marked rules facts) offer (is_accepted rules (alive rules (marked rules facts)) (Offered offer))
 
   pub alive_after-second : (facts : List (Fact O)) → alive rules (marked rules (facts ++ Second ∷ [])) ≡ second_later (alive rules (marked rules facts))
   alive_after-second facts = ap (alive rules) (marked_after-more [] facts Second) ∙ alive-second (marked rules facts) false

@@ -1,16 +1,14 @@
 -- What a table's look-ups find: the record of a key, and the one with so many smaller keys.
-use Rattle.std.proofs.Common.{◌≡◌, refl, sym, ap, ◌∙◌, subst, ℕ, ◌<◌, ◌≤◌, ◌==◌, Bool, true, false, cond, nat_lt, List, [], ◌∷◌, filter, find, length, slice_get, position, Option, None, Some, IfSome, option_to_list, option_and_then, inl, inr, arith, Ordering, is_eq, is_lt}
-use Rattle.std.specs.List.{AllByRecursion, position_or_len}
+use Rattle.std.proofs.Common.{◌≡◌, refl, sym, ap, ◌∙◌, subst, ℕ, ◌<◌, ◌≤◌, ◌==◌, Bool, List, [], ◌∷◌, filter, find, slice_get, position, Option, None, Some, IfSome, option_to_list, option_and_then, inl, inr, Ordering, is_eq}
+use Rattle.std.specs.List.{AllByRecursion}
 use Rattle.std.specs.Cmp.{IsTotalOrder}
 use Rattle.std.proofs.lemmas.Bool.{cases_Bool, eqb-true}
 use Rattle.std.proofs.lemmas.Cmp.{on_total}
-use Rattle.std.proofs.lemmas.List.Folds.{find_at}
 use Rattle.ipx_table.specs.Reading.{Reading, Rules, rules_of, same_key}
 use Rattle.ipx_table.specs.Alive.{lifetime}
-use Rattle.ipx_table.specs.Stands.{in_order, record_of, smaller_than, IsDistinct, IsAscending}
+use Rattle.ipx_table.specs.Stands.{in_order, record_of, smaller_than, IsDistinct}
 use Rattle.ipx_table.specs.declared.held.Held.{Held}
 use Rattle.ipx_table.proofs.Offers as offers
-use Rattle.ipx_table.proofs.Order as order
 use Rattle.ipx_table.proofs.Ranks as ranks
 use Rattle.ipx_table.proofs.Singles.{filter-passes, none_pass, none-find, unplaced-any, placed-get}
 use Rattle.ipx_table.proofs.Standing as standing
@@ -27,7 +25,8 @@ module _ {X : Type 0} where
   find-first p [] = refl
   find-first p (x ∷ xs) = elim (cases_Bool (p x)) [
     | inl e ↦ rw e refl
-    | inr e ↦ rw e (find-first p xs) ]
+    | inr e ↦ rw e (find-first p xs)
+  ]
 
   pub find-only : (p : X → Bool) (xs : List X) (o : Option X) → filter p xs ≡ option_to_list o → find p xs ≡ o
   find-only p xs o e = find-first p xs ∙ ap (λ ys. slice_get ys 0) e ∙ first o
@@ -40,7 +39,8 @@ module _ {X : Type 0} where
   find-all P p [] all = tt
   find-all P p (x ∷ xs) all = elim (cases_Bool (p x)) [
     | inl e ↦ rw e all.0
-    | inr e ↦ rw e (find-all P p xs all.1) ]
+    | inr e ↦ rw e (find-all P p xs all.1)
+  ]
 
   pub option-all : (P : X → Type 0) (o : Option X) → AllByRecursion P (option_to_list o) → IfSome o P
   option-all P None all = tt
@@ -78,9 +78,9 @@ module _ {O K : Type 0} (reading : Reading O K) (key_order : K → K → Orderin
   smaller held k distinct =
       let one = ranks.rank-ascending rules.by_key by_total (sorted held) k (ranks.ascending-in_order rules.by_key by_total held distinct) in
       option-all (λ h. smaller_than reading.key key_order (reading.key h.offer) (sorted held) ≡ k) (slice_get (sorted held) k)
-        (subst (λ hs. AllByRecursion (λ h. smaller_than reading.key key_order (reading.key h.offer) (sorted held) ≡ k) hs) one
-          (filter-passes (λ h. smaller_than reading.key key_order (reading.key h.offer) (sorted held) ≡ k) (has_rank (sorted held) k)
-            (λ h e. eqb-true (smaller_than reading.key key_order (reading.key h.offer) (sorted held)) k e) (sorted held)))
+      (subst (λ hs. AllByRecursion (λ h. smaller_than reading.key key_order (reading.key h.offer) (sorted held) ≡ k) hs) one
+      (filter-passes (λ h. smaller_than reading.key key_order (reading.key h.offer) (sorted held) ≡ k) (has_rank (sorted held) k)
+      (λ h e. eqb-true (smaller_than reading.key key_order (reading.key h.offer) (sorted held)) k e) (sorted held)))
 
   pub distinct-in_order : (held : List (Held O)) → IsDistinct rules.by_key held → IsDistinct rules.by_key (sorted held)
   distinct-in_order held distinct = λ q. subst (λ (n : ℕ). n ≤ 1) (sym (offers.count-in_order rules by_total (λ h. same_key rules.by_key h.offer q) held)) (distinct q)

@@ -1,21 +1,20 @@
 -- What one offer more does to records: to their order, to look-ups, and to what a table keeps.
-use Rattle.std.proofs.Common.{◌≡◌, refl, sym, ap, ◌∙◌, subst, ℕ, ◌+◌, ◌<◌, ◌≤◌, zero, suc, Bool, true, false, not, ◌&&◌, ◌||◌, cond, nat_lt, if◌then◌else◌, List, [], ◌∷◌, ◌++◌, filter, find, length, set, take, drop, remove, slice_get, Option, None, Some, inl, inr, arith, true≢false, length-append, append-nil, append_assoc, Ordering, Less, Equal, Greater, is_eq, is_lt}
+use Rattle.std.proofs.Common.{◌≡◌, refl, sym, ap, ◌∙◌, subst, ℕ, ◌<◌, ◌≤◌, suc, Bool, true, false, not, ◌&&◌, ◌||◌, cond, nat_lt, if◌then◌else◌, List, [], ◌∷◌, ◌++◌, filter, find, length, set, take, drop, remove, slice_get, Some, inl, inr, arith, true≢false, append-nil, Ordering, Less, Equal, Greater, is_eq, is_lt}
 use Rattle.std.specs.List.{AllByRecursion, list_any}
 use Rattle.std.specs.Cmp.{IsTotalOrder}
 use Rattle.std.proofs.lemmas.Cmp.{tied_back, alike_right}
 use Rattle.std.proofs.lemmas.Bool.{cases_Bool}
 use Rattle.std.proofs.lemmas.List.Elements.{filter-append}
 use Rattle.ipx_table.specs.Reading.{Rules, same_key}
-use Rattle.ipx_table.specs.Facts.{Fact, Offered}
+use Rattle.ipx_table.specs.Facts.{Offered}
 use Rattle.ipx_table.specs.Alive.{cuts, lifetime}
 use Rattle.ipx_table.specs.Accepted.{is_accepted}
 use Rattle.ipx_table.specs.AfterOffer.{fresh, uncut, after_offer}
 use Rattle.ipx_table.specs.Stands.{put, in_order, IsDistinct, IsKept}
-use Rattle.ipx_table.specs.Taken.{taken_over, taken_beside}
+use Rattle.ipx_table.specs.Taken.{taken_over}
 use Rattle.ipx_table.specs.declared.held.Held.{Held}
-use Rattle.ipx_table.specs.declared.taken.Taken.{Taken}
 use Rattle.ipx_table.proofs.Order as order
-use Rattle.ipx_table.proofs.Singles.{NonePass, all_then, all-append, all-filter, filter-passes, none_pass, none-any, none-filter, all-kept, none-find, length-filter-filter, Around, around, any-around, find-around, cut_at, set-cut}
+use Rattle.ipx_table.proofs.Singles.{NonePass, all_then, all-append, all-filter, filter-passes, none_pass, none-any, none-filter, all-kept, length-filter-filter, Around, around, any-around, find-around, cut_at, set-cut}
 
 is_equal : (r : Ordering) → is_eq r ≡ true → r ≡ Equal
 is_equal Less e = absurd (true≢false (sym e))
@@ -62,11 +61,12 @@ module _ {O : Type 0} (rules : Rules O) (total : IsTotalOrder rules.by_key) wher
       elim (cases_Bool (is_accepted rules held (Offered offer))) [
         | inl yea ↦
             rw (yea, e ∙ yea)
-              (order.in_order-mid rules.by_key total (uncut rules offer true held) (fresh offer) [] (apart_from offer held)
-                ∙ ap (λ xs. put rules.by_key (fresh offer) (in_order rules.by_key xs)) (append-nil (uncut rules offer true held))
-                ∙ ap (put rules.by_key (fresh offer)) (sym (kept true)))
+            (order.in_order-mid rules.by_key total (uncut rules offer true held) (fresh offer) [] (apart_from offer held)
+            ∙ ap (λ xs. put rules.by_key (fresh offer) (in_order rules.by_key xs)) (append-nil (uncut rules offer true held))
+            ∙ ap (put rules.by_key (fresh offer)) (sym (kept true)))
         | inr nay ↦
-            rw (nay, e ∙ nay) (ap (in_order rules.by_key) (append-nil (uncut rules offer false held)) ∙ sym (kept false)) ]
+            rw (nay, e ∙ nay) (ap (in_order rules.by_key) (append-nil (uncut rules offer false held)) ∙ sym (kept false))
+      ]
 
   -- what an offer does to records doesn't depend on how they stand
   pub after_in_order : (xs ys : List (Held O)) (offer : O) → in_order rules.by_key xs ≡ in_order rules.by_key ys
@@ -91,23 +91,24 @@ module _ {O : Type 0} (rules : Rules O) (total : IsTotalOrder rules.by_key) wher
   pub kept-in_order : (xs ys : List (Held O)) → in_order rules.by_key xs ≡ in_order rules.by_key ys → IsKept rules.by_key ys → IsKept rules.by_key xs
   kept-in_order xs ys e kept = record {
     distinct = λ offer. subst (λ (n : ℕ). n ≤ 1)
-      (sym (count-in_order (of_key offer) ys) ∙ ap (λ held. length (filter (of_key offer) held)) (sym e) ∙ count-in_order (of_key offer) xs) (kept.distinct offer);
+        (sym (count-in_order (of_key offer) ys) ∙ ap (λ held. length (filter (of_key offer) held)) (sym e) ∙ count-in_order (of_key offer) xs) (kept.distinct offer);
     young = order.all-from_order rules.by_key total (λ h. h.age < lifetime) xs
-      (subst (λ held. AreYoung held) (sym e) (order.all-in_order rules.by_key total (λ h. h.age < lifetime) ys kept.young));
+        (subst (λ held. AreYoung held) (sym e) (order.all-in_order rules.by_key total (λ h. h.age < lifetime) ys kept.young));
   }
 
   pub kept-after : (held : List (Held O)) (offer : O) → IsKept rules.by_key held → IsKept rules.by_key (after_offer rules held offer)
   kept-after held offer kept =
       elim (cases_Bool (is_accepted rules held (Offered offer))) [
         | inl yea ↦ rw yea (record {
-            distinct = λ q. distinct_fresh q;
-            young = all-append (λ h. h.age < lifetime) (uncut rules offer true held) (fresh offer ∷ [])
+          distinct = λ q. distinct_fresh q;
+          young = all-append (λ h. h.age < lifetime) (uncut rules offer true held) (fresh offer ∷ [])
               (all-filter (λ h. h.age < lifetime) (λ h. not (cuts rules offer true h.offer)) held kept.young) (omega arith, tt);
-          })
+        })
         | inr nay ↦ rw (nay, append-nil (uncut rules offer false held)) (record {
-            distinct = λ q. fewer q (λ h. not (cuts rules offer false h.offer));
-            young = all-filter (λ h. h.age < lifetime) (λ h. not (cuts rules offer false h.offer)) held kept.young;
-          }) ]
+          distinct = λ q. fewer q (λ h. not (cuts rules offer false h.offer));
+          young = all-filter (λ h. h.age < lifetime) (λ h. not (cuts rules offer false h.offer)) held kept.young;
+        })
+      ]
     where
       fewer : (q : O) (p : Held O → Bool) → length (filter (of_key q) (filter p held)) ≤ 1
       fewer q p = omega (arith, length-filter-filter (of_key q) p held, kept.distinct q)
@@ -118,29 +119,30 @@ module _ {O : Type 0} (rules : Rules O) (total : IsTotalOrder rules.by_key) wher
           elim (cases_Bool (same_key rules.by_key offer q)) [
             | inl same ↦
                 let none : filter (of_key q) (uncut rules offer true held) ≡ [] =
-                    none-filter (of_key q) (uncut rules offer true held) (all_then (λ x. of_key offer x ≡ false) (λ x. of_key q x ≡ false)
-                      (λ x apart. sym (ap is_eq (alike_right total offer q x.offer (is_equal (rules.by_key offer q) same))) ∙ apart) (uncut rules offer true held) (apart_from offer held)) in
+                none-filter (of_key q) (uncut rules offer true held) (all_then (λ x. of_key offer x ≡ false) (λ x. of_key q x ≡ false)
+                (λ x apart. sym (ap is_eq (alike_right total offer q x.offer (is_equal (rules.by_key offer q) same))) ∙ apart) (uncut rules offer true held) (apart_from offer held)) in
                 simp (parts, none, same) (omega arith)
             | inr other ↦
-                simp (parts, other, append-nil (filter (of_key q) (uncut rules offer true held))) (fewer q (λ h. not (cuts rules offer true h.offer))) ]
+                simp (parts, other, append-nil (filter (of_key q) (uncut rules offer true held))) (fewer q (λ h. not (cuts rules offer true h.offer)))
+          ]
 
   -- ---- an offer of a key that isn't held
 
   pub not_held-uncut : (held : List (Held O)) (offer : O) (a : Bool) → list_any (of_key offer) held ≡ false → uncut rules offer a held ≡ held
   not_held-uncut held offer a none =
       all-kept (λ h. not (cuts rules offer a h.offer)) held
-        (all_then (λ h. of_key offer h ≡ false) (λ h. not (cuts rules offer a h.offer) ≡ true) (λ h e. rw e refl) held (none_pass (of_key offer) held none))
+      (all_then (λ h. of_key offer h ≡ false) (λ h. not (cuts rules offer a h.offer) ≡ true) (λ h e. rw e refl) held (none_pass (of_key offer) held none))
 
   pub not_held-accepted : (held : List (Held O)) (offer : O) → list_any (of_key offer) held ≡ false
       → is_accepted rules held (Offered offer) ≡ (not (rules.is_down offer) && nat_lt (length held) rules.capacity)
   not_held-accepted held offer none =
       let each = none_pass (of_key offer) held none in
       let refreshing : list_any (λ h. of_key offer h && rules.same_source h.offer offer) held ≡ false =
-          none-any (λ h. of_key offer h && rules.same_source h.offer offer) held
-            (all_then (λ h. of_key offer h ≡ false) (λ h. (of_key offer h && rules.same_source h.offer offer) ≡ false) (λ h e. rw e refl) held each) in
+      none-any (λ h. of_key offer h && rules.same_source h.offer offer) held
+      (all_then (λ h. of_key offer h ≡ false) (λ h. (of_key offer h && rules.same_source h.offer offer) ≡ false) (λ h e. rw e refl) held each) in
       let replacing : list_any (λ h. of_key offer h && not (rules.same_source h.offer offer) && rules.ranks_above h.offer offer) held ≡ false =
-          none-any (λ h. of_key offer h && not (rules.same_source h.offer offer) && rules.ranks_above h.offer offer) held
-            (all_then (λ h. of_key offer h ≡ false) (λ h. (of_key offer h && not (rules.same_source h.offer offer) && rules.ranks_above h.offer offer) ≡ false) (λ h e. rw e refl) held each) in
+      none-any (λ h. of_key offer h && not (rules.same_source h.offer offer) && rules.ranks_above h.offer offer) held
+      (all_then (λ h. of_key offer h ≡ false) (λ h. (of_key offer h && not (rules.same_source h.offer offer) && rules.ranks_above h.offer offer) ≡ false) (λ h e. rw e refl) held each) in
       rw (refreshing, replacing, none) refl
 
   pub not_held-left : (held : List (Held O)) (offer : O) → list_any (of_key offer) held ≡ false
@@ -169,7 +171,7 @@ module _ {O : Type 0} (rules : Rules O) (total : IsTotalOrder rules.by_key) wher
       record {
         layout = layout;
         alone = around (of_key offer) (take place held) it (drop (suc place) held) same
-          (subst (λ xs. length (filter (of_key offer) xs) ≤ 1) layout (distinct offer));
+            (subst (λ xs. length (filter (of_key offer) xs) ≤ 1) layout (distinct offer));
       }
 
   pub held-find : (held : List (Held O)) (place : ℕ) (it : Held O) (offer : O) → HeldAt held place it offer → find (of_key offer) held ≡ Some it
@@ -183,13 +185,13 @@ module _ {O : Type 0} (rules : Rules O) (total : IsTotalOrder rules.by_key) wher
 
   pub held-accepted : (held : List (Held O)) (place : ℕ) (it : Held O) (offer : O) → HeldAt held place it offer
       → is_accepted rules held (Offered offer)
-        ≡ (not (rules.is_down offer) && (rules.same_source it.offer offer || not (rules.same_source it.offer offer) && rules.ranks_above it.offer offer))
+      ≡ (not (rules.is_down offer) && (rules.same_source it.offer offer || not (rules.same_source it.offer offer) && rules.ranks_above it.offer offer))
   held-accepted held place it offer h =
       let refreshing = held-any (λ x. of_key offer x && rules.same_source x.offer offer) held place it offer (λ x e. rw e refl) h in
       let replacing = held-any (λ x. of_key offer x && not (rules.same_source x.offer offer) && rules.ranks_above x.offer offer) held place it offer (λ x e. rw e refl) h in
       let known = held-any (of_key offer) held place it offer (λ x e. e) h in
       rw (refreshing, replacing, known, h.alone.passes)
-        (or_false (not (rules.is_down offer)) (rules.same_source it.offer offer || not (rules.same_source it.offer offer) && rules.ranks_above it.offer offer))
+      (or_false (not (rules.is_down offer)) (rules.same_source it.offer offer || not (rules.same_source it.offer offer) && rules.ranks_above it.offer offer))
     where
       or_false : (d b : Bool) → (d && (b || false)) ≡ (d && b)
       or_false true true = refl
@@ -199,7 +201,7 @@ module _ {O : Type 0} (rules : Rules O) (total : IsTotalOrder rules.by_key) wher
   uncut-around : (a : Bool) (xs : List (Held O)) (offer : O) → NonePass (of_key offer) xs → uncut rules offer a xs ≡ xs
   uncut-around a xs offer none =
       all-kept (λ h. not (cuts rules offer a h.offer)) xs
-        (all_then (λ h. of_key offer h ≡ false) (λ h. not (cuts rules offer a h.offer) ≡ true) (λ h e. rw e refl) xs none)
+      (all_then (λ h. of_key offer h ≡ false) (λ h. not (cuts rules offer a h.offer) ≡ true) (λ h e. rw e refl) xs none)
 
   held-uncut : (a : Bool) (held : List (Held O)) (place : ℕ) (it : Held O) (offer : O) → HeldAt held place it offer
       → uncut rules offer a held ≡ take place held ++ ((if rules.same_source it.offer offer || a then [] else it ∷ []) ++ drop (suc place) held)
@@ -208,7 +210,7 @@ module _ {O : Type 0} (rules : Rules O) (total : IsTotalOrder rules.by_key) wher
       let front = uncut-around a (take place held) offer h.alone.none_before in
       let back = uncut-around a (drop (suc place) held) offer h.alone.none_behind in
       ap (filter p) h.layout ∙ filter-append p (take place held) (it ∷ drop (suc place) held)
-        ∙ rw (front, h.alone.passes, back) (one (rules.same_source it.offer offer || a))
+      ∙ rw (front, h.alone.passes, back) (one (rules.same_source it.offer offer || a))
     where
       one : (c : Bool) → (take place held ++ cond (not c) (it ∷ drop (suc place) held) (drop (suc place) held)) ≡ take place held ++ ((if c then [] else it ∷ []) ++ drop (suc place) held)
       one true = refl
@@ -238,9 +240,9 @@ module _ {O : Type 0} (rules : Rules O) (total : IsTotalOrder rules.by_key) wher
       let both = all-append (λ x. of_key offer x ≡ false) (take place held) (drop (suc place) held) h.alone.none_before h.alone.none_behind in
       let last = order.in_order-mid rules.by_key total (take place held ++ drop (suc place) held) (fresh offer) [] both in
       ap (in_order rules.by_key) written ∙ front
-        ∙ ap (λ xs. put rules.by_key (fresh offer) (in_order rules.by_key xs)) (sym (append-nil (take place held ++ drop (suc place) held)))
-        ∙ sym last
-        ∙ rw (yea, rest) (ap (in_order rules.by_key) (cut_out (rules.same_source it.offer offer)))
+      ∙ ap (λ xs. put rules.by_key (fresh offer) (in_order rules.by_key xs)) (sym (append-nil (take place held ++ drop (suc place) held)))
+      ∙ sym last
+      ∙ rw (yea, rest) (ap (in_order rules.by_key) (cut_out (rules.same_source it.offer offer)))
     where
       cut_out : (s : Bool) → ((take place held ++ drop (suc place) held) ++ fresh offer ∷ [])
           ≡ ((take place held ++ ((if s || true then [] else it ∷ []) ++ drop (suc place) held)) ++ fresh offer ∷ [])

@@ -1,5 +1,5 @@
 -- Records in the order of their keys: what `put` and `in_order` do to look-ups, filters and numbers.
-use Rattle.std.proofs.Common.{◌≡◌, refl, sym, ap, ◌∙◌, subst, ℕ, ◌+◌, ◌<◌, ◌≤◌, suc, Bool, true, false, not, ◌&&◌, ◌||◌, cond, if◌then◌else◌, List, [], ◌∷◌, ◌++◌, map, filter, find, length, count_by, Option, None, Some, inl, inr, arith, Ordering, Less, Equal, Greater, is_eq, is_lt, is_gt, true≢false}
+use Rattle.std.proofs.Common.{◌≡◌, refl, sym, ap, ◌∙◌, suc, Bool, true, false, ◌||◌, if◌then◌else◌, List, [], ◌∷◌, ◌++◌, map, filter, find, length, Some, inl, inr, Ordering, Less, Equal, Greater, is_eq, is_lt, is_gt, true≢false}
 use Rattle.std.specs.List.{AllByRecursion, list_any}
 use Rattle.std.specs.Ordering.{ordering_reverse}
 use Rattle.std.specs.Cmp.{IsTotalOrder}
@@ -60,7 +60,8 @@ module _ {O : Type 0} (by_key : O → O → Ordering) (total : IsTotalOrder by_k
   not_less_by_third h k x xh kx =
       elim (cases_Bool (is_lt (by_key h k))) [
         | inl hk ↦ absurd (true≢false (sym (less_through x h k xh hk) ∙ kx))
-        | inr e ↦ e ]
+        | inr e ↦ e
+      ]
 
   -- ---- puts
 
@@ -68,23 +69,28 @@ module _ {O : Type 0} (by_key : O → O → Ordering) (total : IsTotalOrder by_k
   put_put h k [] apart =
       elim (cases_Bool (is_lt (by_key h.offer k.offer))) [
         | inl below ↦ simp (below, not_both h.offer k.offer below) refl
-        | inr above ↦ simp (above, one_of_both h.offer k.offer apart above) refl ]
+        | inr above ↦ simp (above, one_of_both h.offer k.offer apart above) refl
+      ]
   put_put h k (x ∷ xs) apart =
       elim (cases_Bool (is_lt (by_key x.offer h.offer))) [
         | inl xh ↦ elim (cases_Bool (is_lt (by_key x.offer k.offer))) [
-            | inl xk ↦ simp (xh, xk) (ap (λ rest. x ∷ rest) (put_put h k xs apart))
-            | inr kx ↦
-                let hk : is_lt (by_key h.offer k.offer) ≡ false = not_less_by_third h.offer k.offer x.offer xh kx in
-                let kh : is_lt (by_key k.offer h.offer) ≡ true = one_of_both h.offer k.offer apart hk in
-                simp (xh, kx, kh) refl ]
+          | inl xk ↦ simp (xh, xk) (ap (λ rest. x ∷ rest) (put_put h k xs apart))
+          | inr kx ↦
+              let hk : is_lt (by_key h.offer k.offer) ≡ false = not_less_by_third h.offer k.offer x.offer xh kx in
+              let kh : is_lt (by_key k.offer h.offer) ≡ true = one_of_both h.offer k.offer apart hk in
+              simp (xh, kx, kh) refl
+        ]
         | inr hx ↦ elim (cases_Bool (is_lt (by_key x.offer k.offer))) [
-            | inl xk ↦
-                let kh : is_lt (by_key k.offer h.offer) ≡ false = not_less_by_third k.offer h.offer x.offer xk hx in
-                let hk : is_lt (by_key h.offer k.offer) ≡ true = one_of_both k.offer h.offer (same_turned k.offer h.offer ∙ apart) kh in
-                simp (hx, xk, hk) refl
-            | inr kx ↦ elim (cases_Bool (is_lt (by_key h.offer k.offer))) [
-                | inl below ↦ simp (hx, kx, below, not_both h.offer k.offer below) refl
-                | inr above ↦ simp (hx, kx, above, one_of_both h.offer k.offer apart above) refl ] ] ]
+          | inl xk ↦
+              let kh : is_lt (by_key k.offer h.offer) ≡ false = not_less_by_third k.offer h.offer x.offer xk hx in
+              let hk : is_lt (by_key h.offer k.offer) ≡ true = one_of_both k.offer h.offer (same_turned k.offer h.offer ∙ apart) kh in
+              simp (hx, xk, hk) refl
+          | inr kx ↦ elim (cases_Bool (is_lt (by_key h.offer k.offer))) [
+            | inl below ↦ simp (hx, kx, below, not_both h.offer k.offer below) refl
+            | inr above ↦ simp (hx, kx, above, one_of_both h.offer k.offer apart above) refl
+          ]
+        ]
+      ]
 
   -- an offer may be put before or after others of other keys
   pub in_order-mid : (xs : List (Held O)) (h : Held O) (ys : List (Held O)) → AllByRecursion (λ x. is_eq (by_key x.offer h.offer) ≡ false) xs
@@ -98,7 +104,8 @@ module _ {O : Type 0} (by_key : O → O → Ordering) (total : IsTotalOrder by_k
   length-put h (x ∷ xs) =
       elim (cases_Bool (is_lt (by_key x.offer h.offer))) [
         | inl e ↦ rw e (ap suc (length-put h xs))
-        | inr e ↦ rw e refl ]
+        | inr e ↦ rw e refl
+      ]
 
   pub length-in_order : (xs : List (Held O)) → length (in_order by_key xs) ≡ length xs
   length-in_order [] = refl
@@ -114,7 +121,8 @@ module _ {O : Type 0} (by_key : O → O → Ordering) (total : IsTotalOrder by_k
   list_any-put p h (x ∷ xs) =
       elim (cases_Bool (is_lt (by_key x.offer h.offer))) [
         | inl e ↦ rw (e, list_any-put p h xs) (or_moved (p x) (p h) (list_any p xs))
-        | inr e ↦ rw e refl ]
+        | inr e ↦ rw e refl
+      ]
 
   pub list_any-in_order : (p : Held O → Bool) (xs : List (Held O)) → list_any p (in_order by_key xs) ≡ list_any p xs
   list_any-in_order p [] = refl
@@ -131,10 +139,13 @@ module _ {O : Type 0} (by_key : O → O → Ordering) (total : IsTotalOrder by_k
       elim (cases_Bool (is_lt (by_key x.offer h.offer))) [
         | inr e ↦ rw e refl
         | inl e ↦ elim (cases_Bool (p x)) [
-            | inr fails ↦ rw (e, fails) (find-put p ties h xs)
-            | inl passes ↦ elim (cases_Bool (p h)) [
-                | inl both ↦ absurd (true≢false (sym e ∙ ties x h passes both))
-                | inr only ↦ rw (e, passes, only) refl ] ] ]
+          | inr fails ↦ rw (e, fails) (find-put p ties h xs)
+          | inl passes ↦ elim (cases_Bool (p h)) [
+            | inl both ↦ absurd (true≢false (sym e ∙ ties x h passes both))
+            | inr only ↦ rw (e, passes, only) refl
+          ]
+        ]
+      ]
 
   pub find-in_order : (p : Held O → Bool) → TiesKeys p → (xs : List (Held O)) → find p (in_order by_key xs) ≡ find p xs
   find-in_order p ties [] = refl
@@ -156,7 +167,8 @@ module _ {O : Type 0} (by_key : O → O → Ordering) (total : IsTotalOrder by_k
   all-put P h (x ∷ xs) one all =
       elim (cases_Bool (is_lt (by_key x.offer h.offer))) [
         | inl e ↦ rw e (all.0, all-put P h xs one all.1)
-        | inr e ↦ rw e (one, all) ]
+        | inr e ↦ rw e (one, all)
+      ]
 
   all_then : (P Q : Held O → Type 0) → ((x : Held O) → P x → Q x) → (xs : List (Held O)) → AllByRecursion P xs → AllByRecursion Q xs
   all_then P Q step [] all = tt
@@ -167,7 +179,8 @@ module _ {O : Type 0} (by_key : O → O → Ordering) (total : IsTotalOrder by_k
   all-filter P p (x ∷ xs) all =
       elim (cases_Bool (p x)) [
         | inl e ↦ rw e (all.0, all-filter P p xs all.1)
-        | inr e ↦ rw e (all-filter P p xs all.1) ]
+        | inr e ↦ rw e (all-filter P p xs all.1)
+      ]
 
   least_over : (h x : Held O) (xs : List (Held O)) → is_lt (by_key x.offer h.offer) ≡ false → IsLeast x xs → IsLeast h (x ∷ xs)
   least_over h x xs hx least =
@@ -178,7 +191,8 @@ module _ {O : Type 0} (by_key : O → O → Ordering) (total : IsTotalOrder by_k
   rises-put h (x ∷ xs) up =
       elim (cases_Bool (is_lt (by_key x.offer h.offer))) [
         | inl e ↦ rw e (all-put (λ y. is_lt (by_key y.offer x.offer) ≡ false) h xs (not_both x.offer h.offer e) up.0, rises-put h xs up.1)
-        | inr e ↦ rw e (least_over h x xs e up.0, up) ]
+        | inr e ↦ rw e (least_over h x xs e up.0, up)
+      ]
 
   pub rises-in_order : (xs : List (Held O)) → Rises (in_order by_key xs)
   rises-in_order [] = tt
@@ -195,29 +209,35 @@ module _ {O : Type 0} (by_key : O → O → Ordering) (total : IsTotalOrder by_k
       let rest = filter-put p h xs up.1 in
       elim (cases_Bool (is_lt (by_key x.offer h.offer))) [
         | inl below ↦ elim (cases_Bool (p x)) [
-            | inl passes ↦ elim (cases_Bool (p h)) [
-                | inl both ↦ simp (below, passes, rest, both) refl
-                | inr only ↦ simp (below, passes, rest, only) refl ]
-            | inr fails ↦ simp (below, fails) rest ]
+          | inl passes ↦ elim (cases_Bool (p h)) [
+            | inl both ↦ simp (below, passes, rest, both) refl
+            | inr only ↦ simp (below, passes, rest, only) refl
+          ]
+          | inr fails ↦ simp (below, fails) rest
+        ]
         | inr above ↦ elim (cases_Bool (p h)) [
-            | inl passes ↦
-                let least = put-least h (filter p (x ∷ xs)) (all-filter (λ y. is_lt (by_key y.offer h.offer) ≡ false) p (x ∷ xs) (least_over h x xs above up.0)) in
-                rw (above, passes) (sym least)
-            | inr fails ↦ rw (above, fails) refl ] ]
+          | inl passes ↦
+              let least = put-least h (filter p (x ∷ xs)) (all-filter (λ y. is_lt (by_key y.offer h.offer) ≡ false) p (x ∷ xs) (least_over h x xs above up.0)) in
+              rw (above, passes) (sym least)
+          | inr fails ↦ rw (above, fails) refl
+        ]
+      ]
 
   pub filter-in_order : (p : Held O → Bool) (xs : List (Held O)) → filter p (in_order by_key xs) ≡ in_order by_key (filter p xs)
   filter-in_order p [] = refl
   filter-in_order p (x ∷ xs) =
       filter-put p x (in_order by_key xs) (rises-in_order xs) ∙ elim (cases_Bool (p x)) [
         | inl e ↦ rw e (ap (put by_key x) (filter-in_order p xs))
-        | inr e ↦ rw e (filter-in_order p xs) ]
+        | inr e ↦ rw e (filter-in_order p xs)
+      ]
 
   older-put : (h : Held O) (xs : List (Held O)) → map older (put by_key h xs) ≡ put by_key (older h) (map older xs)
   older-put h [] = refl
   older-put h (x ∷ xs) =
       elim (cases_Bool (is_lt (by_key x.offer h.offer))) [
         | inl e ↦ rw e (ap (λ rest. older x ∷ rest) (older-put h xs))
-        | inr e ↦ rw e refl ]
+        | inr e ↦ rw e refl
+      ]
 
   pub older-in_order : (xs : List (Held O)) → map older (in_order by_key xs) ≡ in_order by_key (map older xs)
   older-in_order [] = refl
@@ -231,7 +251,8 @@ module _ {O : Type 0} (by_key : O → O → Ordering) (total : IsTotalOrder by_k
       elim (cases_Bool (is_lt (by_key x.offer h.offer))) [
         | inl e ↦ let parts : P x × AllByRecursion P (put by_key h xs) = rw e at all in
             let rest = from_put P h xs parts.1 in (rest.0, (parts.0, rest.1))
-        | inr e ↦ rw e at all ]
+        | inr e ↦ rw e at all
+      ]
 
   pub all-in_order : (P : Held O → Type 0) (xs : List (Held O)) → AllByRecursion P xs → AllByRecursion P (in_order by_key xs)
   all-in_order P [] all = tt

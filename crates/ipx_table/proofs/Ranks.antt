@@ -1,14 +1,14 @@
 -- The record with so many smaller keys is that place of the records in order.
-use Rattle.std.proofs.Common.{◌≡◌, refl, sym, ap, ◌∙◌, subst, ℕ, ◌+◌, ◌<◌, ◌≤◌, ◌==◌, zero, suc, Bool, true, false, cond, nat_lt, if◌then◌else◌, List, [], ◌∷◌, ◌++◌, filter, find, length, get_or, slice_get, Option, None, Some, option_to_list, inl, inr, arith, true≢false, Ordering, is_eq, is_lt}
+use Rattle.std.proofs.Common.{◌≡◌, refl, sym, ap, ◌∙◌, subst, ℕ, ◌≤◌, ◌==◌, zero, suc, Bool, true, false, cond, List, [], ◌∷◌, filter, length, slice_get, Option, None, Some, option_to_list, inl, inr, arith, Ordering, is_eq, is_lt}
 use Rattle.std.specs.List.{AllByRecursion}
 use Rattle.std.specs.Cmp.{IsTotalOrder}
 use Rattle.std.proofs.lemmas.Cmp.{tied_itself}
 use Rattle.std.proofs.lemmas.Bool.{cases_Bool, eqb-true, eqb-false, eq-eqb, ne_eqb}
 use Rattle.ipx_table.specs.Reading.{same_key}
-use Rattle.ipx_table.specs.Stands.{put, in_order, IsDistinct, IsAscending}
+use Rattle.ipx_table.specs.Stands.{in_order, IsDistinct, IsAscending}
 use Rattle.ipx_table.specs.declared.held.Held.{Held}
 use Rattle.ipx_table.proofs.Order as order
-use Rattle.ipx_table.proofs.Singles.{NonePass, all_then, none-filter, Around, around}
+use Rattle.ipx_table.proofs.Singles.{NonePass, all_then, none-filter, around}
 
 -- a filter doesn't ask how a test that agrees on each is written
 filter-alike : {X : Type 0} (p q : X → Bool) (xs : List X) → AllByRecursion (λ x. p x ≡ q x) xs → filter p xs ≡ filter q xs
@@ -23,8 +23,8 @@ module _ {O : Type 0} (by_key : O → O → Ordering) (total : IsTotalOrder by_k
   pub ascending-in_order : (held : List (Held O)) → IsDistinct by_key held → IsAscending by_key (in_order by_key held)
   ascending-in_order held distinct =
       rising (in_order by_key held) (order.rises-in_order by_key total held)
-        (λ q. subst (λ (n : ℕ). n ≤ 1) (sym (ap length (order.filter-in_order by_key total (λ h. same_key by_key h.offer q) held)
-          ∙ order.length-in_order by_key total (filter (λ h. same_key by_key h.offer q) held))) (distinct q))
+      (λ q. subst (λ (n : ℕ). n ≤ 1) (sym (ap length (order.filter-in_order by_key total (λ h. same_key by_key h.offer q) held)
+      ∙ order.length-in_order by_key total (filter (λ h. same_key by_key h.offer q) held))) (distinct q))
     where
       strict : (h : Held O) (xs : List (Held O)) → order.IsLeast by_key total h xs → NonePass (λ x. same_key by_key x.offer h.offer) xs
           → AllByRecursion (λ x. is_lt (by_key h.offer x.offer) ≡ true) xs
@@ -40,13 +40,15 @@ module _ {O : Type 0} (by_key : O → O → Ordering) (total : IsTotalOrder by_k
           fewer : (p : Held O → Bool) (x : Held O) (xs : List (Held O)) → length (filter p (x ∷ xs)) ≤ 1 → length (filter p xs) ≤ 1
           fewer p x xs few = elim (cases_Bool (p x)) [
             | inl e ↦ let more : suc (length (filter p xs)) ≤ 1 = rw e at few in omega (arith, more)
-            | inr e ↦ rw e at few ]
+            | inr e ↦ rw e at few
+          ]
 
   same_above : (a b : ℕ) → (suc a == suc b) ≡ (a == b)
   same_above a b =
       elim (cases_Bool (a == b)) [
         | inl e ↦ eq-eqb (suc a) (suc b) (ap suc (eqb-true a b e)) ∙ sym e
-        | inr e ↦ ne_eqb (suc a) (suc b) (λ same. eqb-false a b e (omega (arith, same))) ∙ sym e ]
+        | inr e ↦ ne_eqb (suc a) (suc b) (λ same. eqb-false a b e (omega (arith, same))) ∙ sym e
+      ]
 
   -- in records that ascend, the one with k smaller keys is the k-th
   pub rank-ascending : (xs : List (Held O)) (k : ℕ) → IsAscending by_key xs
@@ -55,8 +57,8 @@ module _ {O : Type 0} (by_key : O → O → Ordering) (total : IsTotalOrder by_k
   rank-ascending (x ∷ xs) k up =
       let itself : is_lt (by_key x.offer x.offer) ≡ false = ap is_lt (tied_itself total x.offer) in
       let none : filter (λ h. is_lt (by_key h.offer x.offer)) xs ≡ [] =
-          none-filter (λ h. is_lt (by_key h.offer x.offer)) xs
-            (all_then (λ y. is_lt (by_key x.offer y.offer) ≡ true) (λ y. is_lt (by_key y.offer x.offer) ≡ false) (λ y l. order.not_both by_key total x.offer y.offer l) xs up.0) in
+      none-filter (λ h. is_lt (by_key h.offer x.offer)) xs
+      (all_then (λ y. is_lt (by_key x.offer y.offer) ≡ true) (λ y. is_lt (by_key y.offer x.offer) ≡ false) (λ y l. order.not_both by_key total x.offer y.offer l) xs up.0) in
       let first : below x.offer (x ∷ xs) ≡ 0 = rw (itself, none) refl in
       rw first (at_place x xs k up.0 (λ j. rank-ascending xs j up.1))
     where
@@ -65,13 +67,13 @@ module _ {O : Type 0} (by_key : O → O → Ordering) (total : IsTotalOrder by_k
           → cond (0 == k) (x ∷ filter (λ h. below h.offer (x ∷ xs) == k) xs) (filter (λ h. below h.offer (x ∷ xs) == k) xs) ≡ option_to_list (slice_get (x ∷ xs) k)
       at_place x xs zero above ih =
           ap (λ rest. x ∷ rest) (none-filter (λ h. below h.offer (x ∷ xs) == 0) xs
-            (all_then (λ y. is_lt (by_key x.offer y.offer) ≡ true) (λ y. (below y.offer (x ∷ xs) == 0) ≡ false) (λ y l. rw l (ne_eqb (suc (below y.offer xs)) 0 (λ e. omega (arith, e)))) xs above))
+          (all_then (λ y. is_lt (by_key x.offer y.offer) ≡ true) (λ y. (below y.offer (x ∷ xs) == 0) ≡ false) (λ y l. rw l (ne_eqb (suc (below y.offer xs)) 0 (λ e. omega (arith, e)))) xs above))
       at_place x xs (suc k) above ih =
           let other : (0 == suc k) ≡ false = ne_eqb 0 (suc k) (λ e. omega (arith, e)) in
           rw other (filter-alike (λ h. below h.offer (x ∷ xs) == suc k) (λ h. below h.offer xs == k) xs
-            (all_then (λ y. is_lt (by_key x.offer y.offer) ≡ true) (λ y. (below y.offer (x ∷ xs) == suc k) ≡ (below y.offer xs == k))
-              (λ y l. rw l (same_above (below y.offer xs) k)) xs above)
-            ∙ ih k)
+          (all_then (λ y. is_lt (by_key x.offer y.offer) ≡ true) (λ y. (below y.offer (x ∷ xs) == suc k) ≡ (below y.offer xs == k))
+          (λ y l. rw l (same_above (below y.offer xs) k)) xs above)
+          ∙ ih k)
 
   single-in_order : (xs : List (Held O)) → length xs ≤ 1 → in_order by_key xs ≡ xs
   single-in_order [] few = refl
@@ -85,17 +87,17 @@ module _ {O : Type 0} (by_key : O → O → Ordering) (total : IsTotalOrder by_k
   pub below-in_order : (offer : O) (held : List (Held O)) → below offer (in_order by_key held) ≡ below offer held
   below-in_order offer held =
       ap length (order.filter-in_order by_key total (λ h. is_lt (by_key h.offer offer)) held)
-        ∙ order.length-in_order by_key total (filter (λ h. is_lt (by_key h.offer offer)) held)
+      ∙ order.length-in_order by_key total (filter (λ h. is_lt (by_key h.offer offer)) held)
 
   pub ranked : (held : List (Held O)) (k : ℕ) → IsDistinct by_key held → filter (λ h. below h.offer held == k) held ≡ option_to_list (slice_get (in_order by_key held) k)
   ranked held k distinct =
       let sorted = in_order by_key held in
       let p = λ (h : Held O). below h.offer sorted == k in
       let alike : filter (λ h. below h.offer held == k) held ≡ filter p held =
-          filter-alike (λ h. below h.offer held == k) p held (everywhere held (λ h. ap (λ n. n == k) (sym (below-in_order h.offer held)))) in
+      filter-alike (λ h. below h.offer held == k) p held (everywhere held (λ h. ap (λ n. n == k) (sym (below-in_order h.offer held)))) in
       let one = rank-ascending sorted k (ascending-in_order held distinct) in
       let short : length (filter p held) ≤ 1 =
-          subst (λ (n : ℕ). n ≤ 1) (ap length (sym one) ∙ ap length (order.filter-in_order by_key total p held) ∙ order.length-in_order by_key total (filter p held)) (short-option (slice_get sorted k)) in
+      subst (λ (n : ℕ). n ≤ 1) (ap length (sym one) ∙ ap length (order.filter-in_order by_key total p held) ∙ order.length-in_order by_key total (filter p held)) (short-option (slice_get sorted k)) in
       alike ∙ sym (single-in_order (filter p held) short) ∙ sym (order.filter-in_order by_key total p held) ∙ one
     where
       everywhere : {P : Held O → Type 0} (xs : List (Held O)) → ((h : Held O) → P h) → AllByRecursion P xs

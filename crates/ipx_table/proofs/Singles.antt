@@ -1,5 +1,5 @@
 -- Lists in which at most one element passes a test.
-use Rattle.std.proofs.Common.{◌≡◌, refl, sym, ap, ◌∙◌, subst, ℕ, ◌+◌, ◌<◌, ◌≤◌, zero, suc, Bool, true, false, not, ◌&&◌, ◌||◌, cond, if◌then◌else◌, List, [], ◌∷◌, ◌++◌, filter, find, length, set, take, drop, remove, slice_get, get_or, is_some, position, nat_lt, Option, None, Some, inl, inr, arith, true≢false, length-append, append-nil}
+use Rattle.std.proofs.Common.{◌≡◌, refl, sym, ap, ◌∙◌, subst, ℕ, ◌+◌, ◌≤◌, zero, suc, Bool, true, false, ◌||◌, List, [], ◌∷◌, ◌++◌, filter, find, length, set, take, drop, slice_get, get_or, is_some, position, nat_lt, Option, None, Some, inl, inr, arith, true≢false, length-append}
 use Rattle.std.specs.List.{AllByRecursion, list_any, position_or_len}
 use Rattle.std.specs.Option.{unwrap_or}
 use Rattle.std.proofs.lemmas.List.Folds.{find_at}
@@ -25,7 +25,8 @@ module _ {X : Type 0} where
   all-filter P p (x ∷ xs) all =
       elim (cases_Bool (p x)) [
         | inl e ↦ rw e (all.0, all-filter P p xs all.1)
-        | inr e ↦ rw e (all-filter P p xs all.1) ]
+        | inr e ↦ rw e (all-filter P p xs all.1)
+      ]
 
   -- what a filter keeps passes
   pub filter-passes : (P : X → Type 0) (p : X → Bool) → ((x : X) → p x ≡ true → P x) → (xs : List X) → AllByRecursion P (filter p xs)
@@ -33,14 +34,16 @@ module _ {X : Type 0} where
   filter-passes P p means (x ∷ xs) =
       elim (cases_Bool (p x)) [
         | inl e ↦ rw e (means x e, filter-passes P p means xs)
-        | inr e ↦ rw e (filter-passes P p means xs) ]
+        | inr e ↦ rw e (filter-passes P p means xs)
+      ]
 
   pub none_pass : (p : X → Bool) (xs : List X) → list_any p xs ≡ false → NonePass p xs
   none_pass p [] e = tt
   none_pass p (x ∷ xs) e =
       elim (cases_Bool (p x)) [
         | inl passes ↦ absurd (true≢false (sym (rw passes refl) ∙ e))
-        | inr fails ↦ (fails, none_pass p xs (rw fails at e)) ]
+        | inr fails ↦ (fails, none_pass p xs (rw fails at e))
+      ]
 
   pub none-any : (p : X → Bool) (xs : List X) → NonePass p xs → list_any p xs ≡ false
   none-any p [] none = refl
@@ -64,7 +67,8 @@ module _ {X : Type 0} where
   few_none p (x ∷ xs) few =
       elim (cases_Bool (p x)) [
         | inl passes ↦ let more : suc (length (filter p xs)) ≤ 0 = rw passes at few in absurd (omega (arith, more))
-        | inr fails ↦ (fails, few_none p xs (rw fails at few)) ]
+        | inr fails ↦ (fails, few_none p xs (rw fails at few))
+      ]
 
   pub length-filter-filter : (p q : X → Bool) (xs : List X) → length (filter p (filter q xs)) ≤ length (filter p xs)
   length-filter-filter p q [] = omega arith
@@ -72,11 +76,14 @@ module _ {X : Type 0} where
       let ih = length-filter-filter p q xs in
       elim (cases_Bool (q x)) [
         | inl kept ↦ elim (cases_Bool (p x)) [
-            | inl passes ↦ simp (kept, passes) (omega (arith, ih))
-            | inr fails ↦ simp (kept, fails) ih ]
+          | inl passes ↦ simp (kept, passes) (omega (arith, ih))
+          | inr fails ↦ simp (kept, fails) ih
+        ]
         | inr left ↦ elim (cases_Bool (p x)) [
-            | inl passes ↦ simp (left, passes) (omega (arith, ih))
-            | inr fails ↦ simp (left, fails) ih ] ]
+          | inl passes ↦ simp (left, passes) (omega (arith, ih))
+          | inr fails ↦ simp (left, fails) ih
+        ]
+      ]
 
   -- ---- one that passes, and those around it
 
@@ -133,20 +140,23 @@ placed-get p xs place e =
       | inl within ↦
           let there : Some (position_or_len p xs) ≡ Some place = rw within at e in
           ap (slice_get xs) (sym (ap (λ o. unwrap_or o 0) there)) ∙ sym (find_at p xs)
-      | inr past ↦ let nowhere : None ≡ Some place = rw past at e in absurd (true≢false (sym (ap is_some nowhere))) ]
+      | inr past ↦ let nowhere : None ≡ Some place = rw past at e in absurd (true≢false (sym (ap is_some nowhere)))
+    ]
 
 none_within : {X : Type 0} (p : X → Bool) (xs : List X) → length xs ≤ position_or_len p xs → list_any p xs ≡ false
 none_within p [] all = refl
 none_within p (x ∷ xs) all =
     elim (cases_Bool (p x)) [
       | inl passes ↦ let no : suc (length xs) ≤ 0 = rw passes at all in absurd (omega (arith, no))
-      | inr fails ↦ let rest : suc (length xs) ≤ 1 + position_or_len p xs = rw fails at all in rw fails (none_within p xs (omega (arith, rest))) ]
+      | inr fails ↦ let rest : suc (length xs) ≤ 1 + position_or_len p xs = rw fails at all in rw fails (none_within p xs (omega (arith, rest)))
+    ]
 
 pub unplaced-any : {X : Type 0} (p : X → Bool) (xs : List X) → position p xs ≡ None → list_any p xs ≡ false
 unplaced-any p xs e =
     elim (cases_Bool (nat_lt (position_or_len p xs) (length xs))) [
       | inl within ↦ let there : Some (position_or_len p xs) ≡ None = rw within at e in absurd (true≢false (ap is_some there))
-      | inr past ↦ none_within p xs (ltb-false (position_or_len p xs) (length xs) past) ]
+      | inr past ↦ none_within p xs (ltb-false (position_or_len p xs) (length xs) past)
+    ]
 
 -- what stands at the first place that passes
 pub found_at : {X : Type 0} (p : X → Bool) (xs : List X) (place : ℕ) (x : X) → position p xs ≡ Some place → x ≡ get_or xs place x

@@ -2,7 +2,7 @@
 use Rattle.std.specs.Prelude.{Bool, not, if◌then◌else◌, List, [], ◌∷◌, ◌++◌}
 use Rattle.std.specs.List.{filter}
 use Rattle.ipx_table.specs.Reading.{Rules}
-use Rattle.ipx_table.specs.Facts.{Fact, Offered}
+use Rattle.ipx_table.specs.Facts.{Offered}
 use Rattle.ipx_table.specs.Alive.{cuts}
 use Rattle.ipx_table.specs.Accepted.{is_accepted}
 use Rattle.ipx_table.specs.declared.held.Held.{Held}

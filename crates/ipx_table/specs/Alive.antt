@@ -1,7 +1,7 @@
 -- Which offers are alive: accepted, not 180 seconds old, not ended, and not cut by a later offer.
 use Rattle.std.specs.Prelude.{◌≡◌, ℕ, ◌+◌, ◌<◌, nat_lt, Bool, true, false, not, ◌&&◌, ◌||◌, if◌then◌else◌, List, [], ◌∷◌, drop, slice_get, Some}
 use Rattle.ipx_table.specs.Reading.{Rules, same_key}
-use Rattle.ipx_table.specs.Facts.{Fact, Offered, Second, End, Marked, seconds}
+use Rattle.ipx_table.specs.Facts.{Offered, Second, End, Marked, seconds}
 use Rattle.ipx_table.specs.declared.held.Held.{Held}
 
 -- an offer that nobody refreshes lives for so many seconds (own)

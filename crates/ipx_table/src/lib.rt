@@ -13,6 +13,7 @@
 
 mod ageing;
 mod held;
+pub mod laws;
 mod offer;
 mod place;
 mod table;

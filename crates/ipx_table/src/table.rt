@@ -17,7 +17,7 @@ use arrayvec::ArrayVec;
 use std::marker::Model;
 
 /// At most `CAP` offers with their ages, one of a key.
-#[derive(Drop)]
+#[derive(Debug, Drop)]
 pub struct Table<O: Offer, const CAP: usize> {
     records: ArrayVec<Held<O>, CAP>,
 }
@@ -118,5 +118,14 @@ impl<O: Offer, const CAP: usize> Table<O, CAP> {
         ensures { result ≡ (length self.now == CAP) }
     {
         self.records.is_full()
+    }
+}
+
+/// A table that holds nothing.
+impl<O: Offer, const CAP: usize> Default for Table<O, CAP> {
+    ghost is_default = { λ table. table ≡ [] };
+
+    fn default() -> Table<O, CAP> {
+        Table::new()
     }
 }

@@ -32,10 +32,7 @@ pub(crate) fn take_offer<O: Offer, const CAP: usize>(
 }
 
 /// Takes an offer of a key that is not held.
-fn take_new<O: Offer, const CAP: usize>(
-    records: &mut ArrayVec<Held<O>, CAP>,
-    offer: O,
-) -> Taken
+fn take_new<O: Offer, const CAP: usize>(records: &mut ArrayVec<Held<O>, CAP>, offer: O) -> Taken
     requires none { let rules = rules_of O.reading O.Key.cmp CAP in
         list_any (λ h. same_key rules.by_key h.offer offer) records.old.items ≡ false }
     ensures records { records.new.items ≡ after_offer (rules_of O.reading O.Key.cmp CAP) records.old.items offer }

@@ -1,4 +1,4 @@
-use Rattle.std.proofs.Common.{◌≡◌, ◌∙◌, sym, ap, subst, refl, rules, arith, not, length, ◌≤◌}
+use Rattle.std.proofs.Common.{rules, not}
 use Rattle.std.specs.Ordering.{is_lt}
 use Rattle.ipx_table.proofs.Seconds.{place_within}
 use Rattle.ipx_table.proofs.ageing.put_by_key.Goals as goal

@@ -1,4 +1,4 @@
-use Rattle.std.proofs.Common.{◌≡◌, ◌∙◌, ap}
+use Rattle.std.proofs.Common.{◌∙◌, ap}
 use Rattle.std.proofs.lemmas.Cmp.{on_total}
 use Rattle.ipx_table.specs.Reading.{rules_of}
 use Rattle.ipx_table.specs.Stands.{in_order}

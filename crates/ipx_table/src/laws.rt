@@ -1,0 +1,43 @@
+//! What holds by the definitions alone, of every list of facts.
+ghost use Rattle.std.specs.Prelude.{◌≡◌, ◌↔◌, ℕ, ◌≤◌, ◌<◌, List, [], ◌∷◌, ◌++◌, length, slice_get, Some};
+ghost use Rattle.std.specs.List.{AllByRecursion};
+ghost use Rattle.ipx_table.specs.Reading.{rules_of};
+ghost use Rattle.ipx_table.specs.Facts.{Fact, Offered, Marked};
+ghost use Rattle.ipx_table.specs.Alive.{alive, lifetime, IsAliveAt};
+ghost use Rattle.ipx_table.specs.Accepted.{marked};
+ghost use Rattle.ipx_table.specs.Taken.{taken};
+ghost use Rattle.ipx_table.specs.Stands.{IsDistinct};
+ghost use Rattle.ipx_table.specs.declared.held.Held.{Held};
+ghost use Rattle.ipx_table.specs.declared.taken.Taken.TheVariants.{Nothing, Worse, Full};
+
+use crate::offer::Offer;
+
+/// The alive offers have pairwise different keys, there are at most as many as the capacity, and each is
+/// under 180 seconds old.
+pub fn alive_offers<O: Offer>()
+    ensures distinct { (capacity : ℕ) (facts : List (Fact O)) → let rules = rules_of O.reading O.Key.cmp capacity in
+        IsDistinct rules.by_key (alive rules (marked rules facts)) }
+    ensures few { (capacity : ℕ) (facts : List (Fact O)) → let rules = rules_of O.reading O.Key.cmp capacity in
+        length (alive rules (marked rules facts)) ≤ capacity }
+    ensures young { (capacity : ℕ) (facts : List (Fact O)) → let rules = rules_of O.reading O.Key.cmp capacity in
+        AllByRecursion (λ h. h.age < lifetime) (alive rules (marked rules facts)) }
+{}
+
+/// The list of alive offers holds the offer of each place that is alive, with its age, and no other: place by place
+/// it is what the definition of a place says.
+pub fn alive_places<O: Offer>()
+    ensures place { (capacity : ℕ) (facts : List (Marked O)) (k : ℕ) (held : Held O) → let rules = rules_of O.reading O.Key.cmp capacity in
+        slice_get (alive rules facts) k ≡ Some held → (place : ℕ) × IsAliveAt rules facts place held }
+    ensures listed { (capacity : ℕ) (facts : List (Marked O)) (place : ℕ) (held : Held O) → let rules = rules_of O.reading O.Key.cmp capacity in
+        IsAliveAt rules facts place held → (k : ℕ) × (slice_get (alive rules facts) k ≡ Some held) }
+{}
+
+/// An offer that is refused, or no better than the one that is held, changes nothing: no record and no age.
+pub fn refused_offers<O: Offer>()
+    ensures worse { (capacity : ℕ) (facts : List (Fact O)) (offer : O) → let rules = rules_of O.reading O.Key.cmp capacity in
+        taken rules O.eq facts offer ≡ Worse → alive rules (marked rules (facts ++ Offered offer ∷ [])) ≡ alive rules (marked rules facts) }
+    ensures full { (capacity : ℕ) (facts : List (Fact O)) (offer : O) → let rules = rules_of O.reading O.Key.cmp capacity in
+        taken rules O.eq facts offer ≡ Full → alive rules (marked rules (facts ++ Offered offer ∷ [])) ≡ alive rules (marked rules facts) }
+    ensures nothing { (capacity : ℕ) (facts : List (Fact O)) (offer : O) → let rules = rules_of O.reading O.Key.cmp capacity in
+        taken rules O.eq facts offer ≡ Nothing → alive rules (marked rules (facts ++ Offered offer ∷ [])) ≡ alive rules (marked rules facts) }
+{}
