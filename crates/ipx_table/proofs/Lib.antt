@@ -1,8 +1,12 @@
 pub mod History
+pub mod Living
 pub mod Lookups
 pub mod Offers
 pub mod Order
+pub mod Places
 pub mod Ranks
+pub mod Refused
 pub mod Seconds
 pub mod Singles
 pub mod Standing
+pub mod examples

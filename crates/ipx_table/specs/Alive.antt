@@ -1,5 +1,5 @@
 -- Which offers are alive: accepted, not 180 seconds old, not ended, and not cut by a later offer.
-use Rattle.std.specs.Prelude.{◌≡◌, ℕ, ◌+◌, ◌<◌, nat_lt, Bool, true, false, not, ◌&&◌, ◌||◌, if◌then◌else◌, List, [], ◌∷◌, drop, slice_get, Some}
+use Rattle.std.specs.Prelude.{◌≡◌, ℕ, suc, ◌<◌, nat_lt, Bool, true, false, not, ◌&&◌, ◌||◌, if◌then◌else◌, List, [], ◌∷◌, drop, slice_get, Some}
 use Rattle.ipx_table.specs.Reading.{Rules, same_key}
 use Rattle.ipx_table.specs.Facts.{Offered, Second, End, Marked, seconds}
 use Rattle.ipx_table.specs.declared.held.Held.{Held}
@@ -23,8 +23,8 @@ module _ {O : Type 0} (rules : Rules O) where
   -- the offer of a place is alive: it is accepted and lasts, and under 180 seconds stand after it; its age is their number
   pub record IsAliveAt (facts : List (Marked O)) (place : ℕ) (held : Held O) : Type 0 where
     pub accepted : slice_get facts place ≡ Some (Offered held.offer, true)
-    pub lasting : lasts held.offer (drop (place + 1) facts) ≡ true
-    pub age : held.age ≡ seconds (drop (place + 1) facts)
+    pub lasting : lasts held.offer (drop (suc place) facts) ≡ true
+    pub age : held.age ≡ seconds (drop (suc place) facts)
     pub young : held.age < lifetime
 
   -- the alive offers with their ages, in the order of their places; a place is a cell and what stands after it

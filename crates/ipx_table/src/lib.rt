@@ -19,6 +19,8 @@ mod place;
 mod table;
 mod taken;
 mod taking;
+#[cfg(test)]
+mod tests;
 
 pub use crate::held::Held;
 pub use crate::offer::Offer;

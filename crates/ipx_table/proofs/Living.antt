@@ -1,0 +1,103 @@
+-- What holds of the alive offers of every list of facts.
+use Rattle.std.proofs.Common.{◌≡◌, refl, sym, ap, ◌∙◌, subst, ℕ, ◌+◌, ◌<◌, ◌≤◌, suc, Bool, true, false, not, ◌&&◌, ◌||◌, nat_lt, if◌then◌else◌, List, [], ◌∷◌, ◌++◌, map, filter, length, inl, inr, arith, true≢false, length-append}
+use Rattle.std.specs.List.{AllByRecursion, list_any}
+use Rattle.std.specs.Cmp.{IsTotalOrder}
+use Rattle.std.proofs.lemmas.Bool.{cases_Bool, and_parts, or_cases, ltb-true}
+use Rattle.std.proofs.lemmas.List.{length-map}
+use Rattle.ipx_table.specs.Reading.{Rules, same_key}
+use Rattle.ipx_table.specs.Facts.{Fact, Offered, Second, End, Marked}
+use Rattle.ipx_table.specs.Alive.{alive, cuts, lifetime}
+use Rattle.ipx_table.specs.Accepted.{is_accepted, is_new_with_room, refreshes, replaces, marked, marked_after}
+use Rattle.ipx_table.specs.AfterOffer.{fresh, uncut, after_offer}
+use Rattle.ipx_table.specs.Stands.{second_later, is_last, older, IsKept}
+use Rattle.ipx_table.specs.declared.held.Held.{Held}
+use Rattle.ipx_table.proofs.History.{alive-offered, alive-second, alive-end}
+use Rattle.ipx_table.proofs.Offers.{kept-after}
+use Rattle.ipx_table.proofs.Seconds.{kept-second}
+
+length-filter : {X : Type 0} (p : X → Bool) (xs : List X) → length (filter p xs) ≤ length xs
+length-filter p [] = omega arith
+length-filter p (x ∷ xs) = elim (cases_Bool (p x)) [
+  | inl e ↦ rw e (omega (arith, length-filter p xs))
+  | inr e ↦ rw e (omega (arith, length-filter p xs))
+]
+
+-- a filter that leaves one out, at least
+length-left : {X : Type 0} (p q : X → Bool) → ((x : X) → q x ≡ true → p x ≡ false) → (xs : List X) → list_any q xs ≡ true → suc (length (filter p xs)) ≤ length xs
+length-left p q leaves [] any = absurd (true≢false (sym any))
+length-left p q leaves (x ∷ xs) any = elim (cases_Bool (q x)) [
+  | inl e ↦ let out = leaves x e in rw out (omega (arith, length-filter p xs))
+  | inr e ↦
+      let rest : list_any q xs ≡ true = rw e at any in
+      let ih = length-left p q leaves xs rest in
+      elim (cases_Bool (p x)) [
+        | inl kept ↦ rw kept (omega (arith, ih))
+        | inr out ↦ rw out (omega (arith, ih))
+      ]
+]
+
+cut_out : (key source : Bool) → key ≡ true → not (key && (source || true)) ≡ false
+cut_out true true e = refl
+cut_out true false e = refl
+cut_out false source e = absurd (true≢false (sym e))
+
+module _ {O : Type 0} (rules : Rules O) where
+  -- what holds of nothing, and after one offer and one second more, holds of the alive offers of all facts
+  always_after : (P : List (Held O) → Type 0) → P [] → ((held : List (Held O)) (offer : O) → P held → P (after_offer rules held offer))
+      → ((held : List (Held O)) → P held → P (second_later held))
+      → (before : List (Marked O)) → P (alive rules before) → (facts : List (Fact O)) → P (alive rules (marked_after rules before facts))
+  always_after P start by_offer by_second before now [] = now
+  always_after P start by_offer by_second before now (Offered offer ∷ facts) =
+      let mark = is_accepted rules (alive rules before) (Offered offer) in
+      always_after P start by_offer by_second (before ++ (Offered offer, mark) ∷ [])
+      (subst P (sym (alive-offered rules before offer mark)) (by_offer (alive rules before) offer now)) facts
+  always_after P start by_offer by_second before now (Second ∷ facts) =
+      always_after P start by_offer by_second (before ++ (Second, false) ∷ []) (subst P (sym (alive-second rules before false)) (by_second (alive rules before) now)) facts
+  always_after P start by_offer by_second before now (End ∷ facts) =
+      always_after P start by_offer by_second (before ++ (End, false) ∷ []) (subst P (sym (alive-end rules before false)) start) facts
+
+  few-after : (held : List (Held O)) (offer : O) → length held ≤ rules.capacity → length (after_offer rules held offer) ≤ rules.capacity
+  few-after held offer few =
+      elim (cases_Bool (is_accepted rules held (Offered offer))) [
+        | inl yea ↦ rw yea (subst (λ (n : ℕ). n ≤ rules.capacity) (sym (length-append (uncut rules offer true held) (fresh offer ∷ []))) (accepted ((and_parts (not (rules.is_down offer)) (refreshes rules offer held || replaces rules offer held || is_new_with_room rules offer held) yea).1)))
+        | inr nay ↦ rw nay (subst (λ (n : ℕ). n ≤ rules.capacity) (sym (length-append (uncut rules offer false held) []))
+            (omega (arith, few, length-filter (λ h. not (cuts rules offer false h.offer)) held)))
+      ]
+    where
+      p : Held O → Bool
+      p h = not (cuts rules offer true h.offer)
+
+      out_own : (h : Held O) → (same_key rules.by_key h.offer offer && rules.same_source h.offer offer) ≡ true → p h ≡ false
+      out_own h e = cut_out (same_key rules.by_key h.offer offer) (rules.same_source h.offer offer) (and_parts (same_key rules.by_key h.offer offer) (rules.same_source h.offer offer) e).0
+
+      out_better : (h : Held O) → (same_key rules.by_key h.offer offer && not (rules.same_source h.offer offer) && rules.ranks_above h.offer offer) ≡ true → p h ≡ false
+      out_better h e =
+          let known = (and_parts (same_key rules.by_key h.offer offer && not (rules.same_source h.offer offer)) (rules.ranks_above h.offer offer) e).0 in
+          cut_out (same_key rules.by_key h.offer offer) (rules.same_source h.offer offer) (and_parts (same_key rules.by_key h.offer offer) (not (rules.same_source h.offer offer)) known).0
+
+      accepted : (refreshes rules offer held || replaces rules offer held || is_new_with_room rules offer held) ≡ true → length (uncut rules offer true held) + 1 ≤ rules.capacity
+      accepted e = elim (or_cases (refreshes rules offer held || replaces rules offer held) (is_new_with_room rules offer held) e) [
+        | inl known ↦ elim (or_cases (refreshes rules offer held) (replaces rules offer held) known) [
+          | inl own ↦ omega (arith, few, length-left p (λ h. same_key rules.by_key h.offer offer && rules.same_source h.offer offer) out_own held own)
+          | inr better ↦ omega (
+            arith,
+            few,
+            length-left p (λ h. same_key rules.by_key h.offer offer && not (rules.same_source h.offer offer) && rules.ranks_above h.offer offer) out_better held better,
+          )
+        ]
+        | inr room ↦
+            let free = ltb-true (length held) rules.capacity (and_parts (not (list_any (λ h. same_key rules.by_key h.offer offer) held)) (nat_lt (length held) rules.capacity) room).1 in
+            omega (arith, free, length-filter p held)
+      ]
+
+  pub few : (facts : List (Fact O)) → length (alive rules (marked rules facts)) ≤ rules.capacity
+  few facts =
+      always_after (λ held. length held ≤ rules.capacity) (omega arith) few-after
+      (λ held le. omega (arith, le, length-map (filter (λ h. not (is_last h)) held) older, length-filter (λ h. not (is_last h)) held)) [] (omega arith) facts
+
+  pub kept : IsTotalOrder rules.by_key → (facts : List (Fact O)) → IsKept rules.by_key (alive rules (marked rules facts))
+  kept total facts =
+      always_after (IsKept rules.by_key) nothing (kept-after rules total) (kept-second rules.by_key total) [] nothing facts
+    where
+      nothing : IsKept rules.by_key []
+      nothing = record { distinct = λ q. omega arith; young = tt }

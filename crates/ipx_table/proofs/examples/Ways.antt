@@ -1,0 +1,56 @@
+-- The offers of the worked examples: a number, and how far it is.
+use Rattle.std.proofs.Common.{ℕ, Bool, ◌&&◌, ◌==◌, nat_le, nat_eq, List, [], ◌∷◌, nat_cmp}
+use Rattle.std.specs.Cmp.Lexicographic.{pointwise}
+use Rattle.ipx_wire.specs.declared.node.Node.{Node}
+use Rattle.ipx_table.specs.Reading.{Reading, Rules, rules_of}
+use Rattle.ipx_table.specs.Facts.{Fact, Offered}
+use Rattle.ipx_table.specs.Alive.{alive}
+use Rattle.ipx_table.specs.Accepted.{marked}
+use Rattle.ipx_table.specs.Taken.{taken}
+use Rattle.ipx_table.specs.declared.held.Held.{Held}
+use Rattle.ipx_table.specs.declared.taken.Taken.{Taken}
+
+-- a way to a network, as a neighbour tells it: better where it takes fewer ticks, then where it has fewer hops
+pub record Way : Type 0 where
+  pub network : ℕ
+  pub hops : ℕ
+  pub ticks : ℕ
+  pub node : ℕ
+
+-- the node with that last byte
+abbrev pub node_of : ℕ → Node
+node_of last = record { 0 = 0 ∷ 0 ∷ 0 ∷ 0 ∷ 0 ∷ last ∷ [] }
+
+abbrev pub way_reading : Reading Way ℕ
+way_reading = record {
+  key = λ w. w.network;
+  source = λ w. (1, node_of w.node);
+  rank = λ w. (w.ticks, w.hops);
+  is_down = λ w. nat_le 16 w.hops;
+}
+
+abbrev pub same_way : Way → Way → Bool
+same_way a b = (a.network == b.network) && (a.hops == b.hops) && (a.ticks == b.ticks) && (a.node == b.node)
+
+abbrev pub ways : ℕ → Rules Way
+ways capacity = rules_of way_reading nat_cmp capacity
+
+-- the way to that network, by that node
+abbrev pub way : ℕ → ℕ → ℕ → ℕ → Way
+way network node hops ticks = record { network = network; hops = hops; ticks = ticks; node = node }
+
+-- that way, so many seconds after it was accepted
+abbrev pub held : Way → ℕ → Held Way
+held w age = record { offer = w; age = age }
+
+-- the facts of those offers
+abbrev pub offered : List Way → List (Fact Way)
+offered [] = []
+offered (w ∷ ws) = Offered w ∷ offered ws
+
+-- what is alive after the facts, and what an offer is answered then
+abbrev pub alive_after : ℕ → List (Fact Way) → List (Held Way)
+alive_after capacity facts = alive (ways capacity) (marked (ways capacity) facts)
+
+abbrev pub answer_after : ℕ → List (Fact Way) → Way → Taken
+answer_after capacity facts w = taken (ways capacity) same_way facts w
