@@ -1,12 +1,12 @@
 -- What holds of the alive offers of every list of facts.
-use Rattle.std.proofs.Common.{◌≡◌, refl, sym, ap, ◌∙◌, subst, ℕ, ◌+◌, ◌<◌, ◌≤◌, suc, Bool, true, false, not, ◌&&◌, ◌||◌, nat_lt, if◌then◌else◌, List, [], ◌∷◌, ◌++◌, map, filter, length, inl, inr, arith, true≢false, length-append}
-use Rattle.std.specs.List.{AllByRecursion, list_any}
+use Rattle.std.proofs.Common.{◌≡◌, refl, sym, subst, ℕ, ◌+◌, ◌≤◌, suc, Bool, true, false, not, ◌&&◌, ◌||◌, nat_lt, List, [], ◌∷◌, ◌++◌, filter, length, inl, inr, arith, true≢false, length-append}
+use Rattle.std.specs.List.{list_any}
 use Rattle.std.specs.Cmp.{IsTotalOrder}
 use Rattle.std.proofs.lemmas.Bool.{cases_Bool, and_parts, or_cases, ltb-true}
 use Rattle.std.proofs.lemmas.List.{length-map}
 use Rattle.ipx_table.specs.Reading.{Rules, same_key}
 use Rattle.ipx_table.specs.Facts.{Fact, Offered, Second, End, Marked}
-use Rattle.ipx_table.specs.Alive.{alive, cuts, lifetime}
+use Rattle.ipx_table.specs.Alive.{alive, cuts}
 use Rattle.ipx_table.specs.Accepted.{is_accepted, is_new_with_room, refreshes, replaces, marked, marked_after}
 use Rattle.ipx_table.specs.AfterOffer.{fresh, uncut, after_offer}
 use Rattle.ipx_table.specs.Stands.{second_later, is_last, older, IsKept}
@@ -14,13 +14,7 @@ use Rattle.ipx_table.specs.declared.held.Held.{Held}
 use Rattle.ipx_table.proofs.History.{alive-offered, alive-second, alive-end}
 use Rattle.ipx_table.proofs.Offers.{kept-after}
 use Rattle.ipx_table.proofs.Seconds.{kept-second}
-
-length-filter : {X : Type 0} (p : X → Bool) (xs : List X) → length (filter p xs) ≤ length xs
-length-filter p [] = omega arith
-length-filter p (x ∷ xs) = elim (cases_Bool (p x)) [
-  | inl e ↦ rw e (omega (arith, length-filter p xs))
-  | inr e ↦ rw e (omega (arith, length-filter p xs))
-]
+use Rattle.ipx_table.proofs.Singles.{length-filter}
 
 -- a filter that leaves one out, at least
 length-left : {X : Type 0} (p q : X → Bool) → ((x : X) → q x ≡ true → p x ≡ false) → (xs : List X) → list_any q xs ≡ true → suc (length (filter p xs)) ≤ length xs

@@ -1,5 +1,5 @@
 -- What one offer more does to records: to their order, to look-ups, and to what a table keeps.
-use Rattle.std.proofs.Common.{◌≡◌, refl, sym, ap, ◌∙◌, subst, ℕ, ◌<◌, ◌≤◌, suc, Bool, true, false, not, ◌&&◌, ◌||◌, cond, nat_lt, if◌then◌else◌, List, [], ◌∷◌, ◌++◌, filter, find, length, set, take, drop, remove, slice_get, Some, inl, inr, arith, true≢false, append-nil, Ordering, Less, Equal, Greater, is_eq, is_lt}
+use Rattle.std.proofs.Common.{◌≡◌, refl, sym, ap, ◌∙◌, subst, ℕ, ◌<◌, ◌≤◌, suc, Bool, true, false, not, ◌&&◌, ◌||◌, cond, nat_lt, if◌then◌else◌, List, [], ◌∷◌, ◌++◌, filter, find, length, set, take, drop, remove, slice_get, Some, inl, inr, arith, true≢false, append-nil, is_eq, is_lt}
 use Rattle.std.specs.List.{AllByRecursion, list_any}
 use Rattle.std.specs.Cmp.{IsTotalOrder}
 use Rattle.std.proofs.lemmas.Cmp.{tied_back, alike_right}
@@ -16,11 +16,6 @@ use Rattle.ipx_table.specs.declared.held.Held.{Held}
 use Rattle.ipx_table.proofs.Order as order
 use Rattle.ipx_table.proofs.Singles.{NonePass, all_then, all-append, all-filter, filter-passes, none_pass, none-any, none-filter, all-kept, length-filter-filter, Around, around, any-around, find-around, cut_at, set-cut}
 
-is_equal : (r : Ordering) → is_eq r ≡ true → r ≡ Equal
-is_equal Less e = absurd (true≢false (sym e))
-is_equal Equal e = refl
-is_equal Greater e = absurd (true≢false (sym e))
-
 module _ {O : Type 0} (rules : Rules O) (total : IsTotalOrder rules.by_key) where
   -- the test that a record is of an offer's key
   abbrev pub of_key : O → Held O → Bool
@@ -28,8 +23,8 @@ module _ {O : Type 0} (rules : Rules O) (total : IsTotalOrder rules.by_key) wher
 
   pub ties_keys : (offer : O) → order.TiesKeys rules.by_key total (of_key offer)
   ties_keys offer x y px py =
-      let xo = is_equal (rules.by_key x.offer offer) px in
-      let yo = is_equal (rules.by_key y.offer offer) py in
+      let xo = order.is_equal (rules.by_key x.offer offer) px in
+      let yo = order.is_equal (rules.by_key y.offer offer) py in
       ap is_lt (total.congr x.offer offer y.offer xo ∙ tied_back total y.offer offer yo)
 
   -- ---- order
@@ -120,7 +115,7 @@ module _ {O : Type 0} (rules : Rules O) (total : IsTotalOrder rules.by_key) wher
             | inl same ↦
                 let none : filter (of_key q) (uncut rules offer true held) ≡ [] =
                 none-filter (of_key q) (uncut rules offer true held) (all_then (λ x. of_key offer x ≡ false) (λ x. of_key q x ≡ false)
-                (λ x apart. sym (ap is_eq (alike_right total offer q x.offer (is_equal (rules.by_key offer q) same))) ∙ apart) (uncut rules offer true held) (apart_from offer held)) in
+                (λ x apart. sym (ap is_eq (alike_right total offer q x.offer (order.is_equal (rules.by_key offer q) same))) ∙ apart) (uncut rules offer true held) (apart_from offer held)) in
                 simp (parts, none, same) (omega arith)
             | inr other ↦
                 simp (parts, other, append-nil (filter (of_key q) (uncut rules offer true held))) (fewer q (λ h. not (cuts rules offer true h.offer)))

@@ -7,6 +7,12 @@ use Rattle.std.proofs.lemmas.Cmp.{upto}
 use Rattle.std.proofs.lemmas.Bool.{cases_Bool}
 use Rattle.ipx_table.specs.Stands.{put, in_order, older}
 use Rattle.ipx_table.specs.declared.held.Held.{Held}
+use Rattle.ipx_table.proofs.Singles.{all_then, all-filter}
+
+pub is_equal : (r : Ordering) → is_eq r ≡ true → r ≡ Equal
+is_equal Less e = absurd (true≢false (sym e))
+is_equal Equal e = refl
+is_equal Greater e = absurd (true≢false (sym e))
 
 module _ {O : Type 0} (by_key : O → O → Ordering) (total : IsTotalOrder by_key) where
   turned_eq : (r s : Ordering) → r ≡ ordering_reverse s → is_eq r ≡ is_eq s
@@ -168,18 +174,6 @@ module _ {O : Type 0} (by_key : O → O → Ordering) (total : IsTotalOrder by_k
       elim (cases_Bool (is_lt (by_key x.offer h.offer))) [
         | inl e ↦ rw e (all.0, all-put P h xs one all.1)
         | inr e ↦ rw e (one, all)
-      ]
-
-  all_then : (P Q : Held O → Type 0) → ((x : Held O) → P x → Q x) → (xs : List (Held O)) → AllByRecursion P xs → AllByRecursion Q xs
-  all_then P Q step [] all = tt
-  all_then P Q step (x ∷ xs) all = (step x all.0, all_then P Q step xs all.1)
-
-  all-filter : (P : Held O → Type 0) (p : Held O → Bool) (xs : List (Held O)) → AllByRecursion P xs → AllByRecursion P (filter p xs)
-  all-filter P p [] all = tt
-  all-filter P p (x ∷ xs) all =
-      elim (cases_Bool (p x)) [
-        | inl e ↦ rw e (all.0, all-filter P p xs all.1)
-        | inr e ↦ rw e (all-filter P p xs all.1)
       ]
 
   least_over : (h x : Held O) (xs : List (Held O)) → is_lt (by_key x.offer h.offer) ≡ false → IsLeast x xs → IsLeast h (x ∷ xs)

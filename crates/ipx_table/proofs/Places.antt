@@ -1,8 +1,8 @@
 -- The list of alive offers, place by place.
-use Rattle.std.proofs.Common.{◌≡◌, refl, sym, ap, ap₂, ◌∙◌, subst, ℕ, ◌<◌, suc, zero, Bool, true, false, ◌&&◌, cond, nat_lt, List, [], ◌∷◌, drop, slice_get, Option, None, Some, is_some, inl, inr, true≢false}
+use Rattle.std.proofs.Common.{◌≡◌, refl, sym, ap, ap₂, ◌∙◌, subst, ℕ, suc, zero, Bool, true, false, ◌&&◌, nat_lt, List, [], ◌∷◌, slice_get, Option, None, Some, is_some, inl, inr, true≢false}
 use Rattle.std.proofs.lemmas.Bool.{cases_Bool, and_parts, and_from, ltb-true, lt-ltb}
 use Rattle.ipx_table.specs.Reading.{Rules}
-use Rattle.ipx_table.specs.Facts.{Fact, Offered, Second, End, Marked, seconds}
+use Rattle.ipx_table.specs.Facts.{Offered, Second, End, Marked, seconds}
 use Rattle.ipx_table.specs.Alive.{alive, lasts, lifetime, IsAliveAt}
 use Rattle.ipx_table.specs.declared.held.Held.{Held}
 

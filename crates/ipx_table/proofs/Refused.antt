@@ -1,12 +1,12 @@
 -- Offers that a table refuses, or that are no better than what it holds, change nothing.
-use Rattle.std.proofs.Common.{◌≡◌, refl, sym, ap, ◌∙◌, subst, ℕ, ◌<◌, suc, zero, Bool, true, false, not, ◌&&◌, nat_lt, if◌then◌else◌, List, [], ◌∷◌, ◌++◌, find, length, slice_get, Option, None, Some, is_some, inl, inr, true≢false}
+use Rattle.std.proofs.Common.{◌≡◌, refl, sym, ap, ◌∙◌, ℕ, suc, zero, Bool, true, false, nat_lt, List, [], ◌∷◌, ◌++◌, find, length, slice_get, Option, None, Some, is_some, inl, inr, true≢false}
 use Rattle.std.specs.List.{list_any}
 use Rattle.std.specs.Cmp.{IsTotalOrder}
 use Rattle.std.proofs.lemmas.Bool.{cases_Bool}
-use Rattle.ipx_table.specs.Reading.{Rules, same_key}
+use Rattle.ipx_table.specs.Reading.{Rules}
 use Rattle.ipx_table.specs.Facts.{Fact, Offered}
 use Rattle.ipx_table.specs.Alive.{alive}
-use Rattle.ipx_table.specs.Accepted.{is_accepted, marked}
+use Rattle.ipx_table.specs.Accepted.{marked}
 use Rattle.ipx_table.specs.AfterOffer.{after_offer}
 use Rattle.ipx_table.specs.Stands.{IsDistinct}
 use Rattle.ipx_table.specs.Taken.{taken, taken_over, taken_beside}

@@ -13,7 +13,7 @@ use Rattle.ipx_table.specs.Alive.{lifetime}
 use Rattle.ipx_table.specs.Stands.{put, in_order, older, is_last, second_later, ended, IsDistinct, IsKept}
 use Rattle.ipx_table.specs.declared.held.Held.{Held}
 use Rattle.ipx_table.proofs.Order as order
-use Rattle.ipx_table.proofs.Singles.{NonePass, all-filter, length-filter-filter, around, cut_at}
+use Rattle.ipx_table.proofs.Singles.{NonePass, all-filter, length-filter, length-filter-filter, around, cut_at}
 
 pub all-at : {X : Type 0} (P : X → Type 0) (xs : List X) (i : ℕ) (d : X) → i < length xs → AllByRecursion P xs → P (get_or xs i d)
 all-at P [] i d l all = absurd (omega (arith, l))
@@ -153,13 +153,6 @@ position_end p xs =
       | inl e ↦ rw e refl
       | inr e ↦ let end : length xs ≡ position_or_len p xs = omega (arith, ltb-false (position_or_len p xs) (length xs) e, place_within p xs) in rw e end
     ]
-
-length-filter : {X : Type 0} (p : X → Bool) (xs : List X) → length (filter p xs) ≤ length xs
-length-filter p [] = omega arith
-length-filter p (x ∷ xs) = elim (cases_Bool (p x)) [
-  | inl e ↦ rw e (omega (arith, length-filter p xs))
-  | inr e ↦ rw e (omega (arith, length-filter p xs))
-]
 
 -- no more have ended than were read
 pub gone-few : {O : Type 0} (by_key : O → O → Ordering) (total : IsTotalOrder by_key) (xs ys : List (Held O)) (gone : List O) (kept place : ℕ)

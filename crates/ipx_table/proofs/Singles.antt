@@ -70,6 +70,13 @@ module _ {X : Type 0} where
         | inr fails ↦ (fails, few_none p xs (rw fails at few))
       ]
 
+  pub length-filter : (p : X → Bool) (xs : List X) → length (filter p xs) ≤ length xs
+  length-filter p [] = omega arith
+  length-filter p (x ∷ xs) = elim (cases_Bool (p x)) [
+    | inl e ↦ rw e (omega (arith, length-filter p xs))
+    | inr e ↦ rw e (omega (arith, length-filter p xs))
+  ]
+
   pub length-filter-filter : (p q : X → Bool) (xs : List X) → length (filter p (filter q xs)) ≤ length (filter p xs)
   length-filter-filter p q [] = omega arith
   length-filter-filter p q (x ∷ xs) =

@@ -1,5 +1,5 @@
 -- A table that stands for facts stands for one fact more after each of its calls.
-use Rattle.std.proofs.Common.{◌≡◌, refl, sym, ap, ◌∙◌, ℕ, Bool, true, false, not, if◌then◌else◌, List, [], ◌∷◌, ◌++◌, filter, find, Option, None, Some, inl, inr, true≢false, Ordering, Less, Equal, Greater, is_eq, is_lt}
+use Rattle.std.proofs.Common.{◌≡◌, refl, sym, ap, ◌∙◌, ℕ, Bool, true, false, not, if◌then◌else◌, List, [], ◌∷◌, ◌++◌, filter, find, Option, None, Some, inl, inr, true≢false, Ordering, is_eq, is_lt}
 use Rattle.std.specs.Option.{option_or}
 use Rattle.std.specs.Cmp.{IsTotalOrder}
 use Rattle.std.proofs.lemmas.Cmp.{tied_back, on_total}
@@ -43,11 +43,6 @@ module _ {O : Type 0} (rules : Rules O) (total : IsTotalOrder rules.by_key) wher
   pub stands-end : (facts : List (Fact O)) → Stands rules [] (facts ++ End ∷ [])
   stands-end facts = ap (in_order rules.by_key) (sym (alive_after-end rules facts))
 
-is_equal : (r : Ordering) → is_eq r ≡ true → r ≡ Equal
-is_equal Less e = absurd (true≢false (sym e))
-is_equal Equal e = refl
-is_equal Greater e = absurd (true≢false (sym e))
-
 -- ---- look-ups by key
 
 module _ {O K : Type 0} (reading : Reading O K) (key_order : K → K → Ordering) (total : IsTotalOrder key_order) (capacity : ℕ) where
@@ -62,8 +57,8 @@ module _ {O K : Type 0} (reading : Reading O K) (key_order : K → K → Orderin
 
   ties : (key : K) → order.TiesKeys rules.by_key rules_total (has key)
   ties key x y px py =
-      ap is_lt (total.congr (reading.key x.offer) key (reading.key y.offer) (is_equal (key_order (reading.key x.offer) key) px)
-      ∙ tied_back total (reading.key y.offer) key (is_equal (key_order (reading.key y.offer) key) py))
+      ap is_lt (total.congr (reading.key x.offer) key (reading.key y.offer) (order.is_equal (key_order (reading.key x.offer) key) px)
+      ∙ tied_back total (reading.key y.offer) key (order.is_equal (key_order (reading.key y.offer) key) py))
 
   pub record-in_order : (key : K) (held : List (Held O)) → record_of reading.key key_order key (in_order rules.by_key held) ≡ find (has key) held
   record-in_order key held = order.find-in_order rules.by_key rules_total (has key) (ties key) held
@@ -92,7 +87,7 @@ module _ {O K : Type 0} (reading : Reading O K) (key_order : K → K → Orderin
       not_cut a x e =
           elim (cases_Bool (is_eq (key_order (reading.key x.offer) (reading.key offer)))) [
             | inl same ↦
-                let through = total.congr (reading.key x.offer) (reading.key offer) key (is_equal (key_order (reading.key x.offer) (reading.key offer)) same) in
+                let through = total.congr (reading.key x.offer) (reading.key offer) key (order.is_equal (key_order (reading.key x.offer) (reading.key offer)) same) in
                 absurd (true≢false (sym e ∙ ap is_eq through ∙ other))
             | inr apart ↦ rw apart refl
           ]

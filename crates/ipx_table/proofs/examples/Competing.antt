@@ -1,6 +1,6 @@
 -- Neighbours compete for one network: the offer with fewer ticks wins, then the one with fewer hops, and only the
 -- neighbour that holds it can make it worse or withdraw it.
-use Rattle.std.proofs.Common.{◌≡◌, List, [], ◌∷◌, ◌++◌, true, false, refl}
+use Rattle.std.proofs.Common.{◌≡◌, [], ◌∷◌, true, refl}
 use Rattle.ipx_table.specs.declared.taken.Taken.TheVariants.{Withdrawn, Nothing, Refreshed, Replaced, Worse, Admitted}
 use Rattle.ipx_table.proofs.examples.Ways.{Way, way, held, offered, alive_after, answer_after}
 

@@ -1,8 +1,7 @@
 -- A table of two: what has no room, what a refresh saves, what the 180th second ends, and what room that makes.
-use Rattle.std.proofs.Common.{◌≡◌, List, [], ◌∷◌, ◌++◌, true, false, refl, replicate}
+use Rattle.std.proofs.Common.{◌≡◌, List, [], ◌∷◌, ◌++◌, false, refl, replicate}
 use Rattle.ipx_table.specs.Facts.{Fact, Offered, Second, End}
 use Rattle.ipx_table.specs.Stands.{in_order, ended}
-use Rattle.ipx_table.specs.Reading.{Rules}
 use Rattle.ipx_table.specs.declared.taken.Taken.TheVariants.{Refreshed, Admitted, Full}
 use Rattle.ipx_table.proofs.examples.Ways.{Way, way, ways, held, alive_after, answer_after}
 

@@ -1,6 +1,5 @@
 -- The offers of the worked examples: a number, and how far it is.
-use Rattle.std.proofs.Common.{ℕ, Bool, ◌&&◌, ◌==◌, nat_le, nat_eq, List, [], ◌∷◌, nat_cmp}
-use Rattle.std.specs.Cmp.Lexicographic.{pointwise}
+use Rattle.std.proofs.Common.{ℕ, Bool, ◌&&◌, ◌==◌, nat_le, List, [], ◌∷◌, nat_cmp}
 use Rattle.ipx_wire.specs.declared.node.Node.{Node}
 use Rattle.ipx_table.specs.Reading.{Reading, Rules, rules_of}
 use Rattle.ipx_table.specs.Facts.{Fact, Offered}
