@@ -1,15 +1,19 @@
-//! How fast packets are read and written, beside copying the same bytes in the same run.
+//! How fast packets are read and written, beside copying the same bytes in the same run; and how fast a
+//! full table is called, beside reading its records in the same run.
 //!
 //! With no word it prints what it can measure; with the word `run` it measures. A copy is what any
-//! program must at least do with a packet, so the ratios hold on any machine.
+//! program must at least do with a packet, and a reading with records that age, so the ratios hold on
+//! any machine.
 #![tactic(auto)]
 
 mod kinds;
 mod packets;
+mod tables;
 mod work;
 
 use crate::kinds::Kind;
 use crate::packets::Packets;
+use crate::tables::{CALLS, Call, RECORDS};
 use std::time::Instant;
 use std::{env, fmt, io};
 
@@ -30,6 +34,10 @@ fn list(rt: &HostRuntime) -> io::Result<()> {
         let entries = kind.entries();
         println!(rt; "{name}: {entries} entries a packet")?;
     }
+    for call in Call::ALL {
+        let name = call.name();
+        println!(rt; "{name}: {RECORDS} records")?;
+    }
     Ok(())
 }
 
@@ -37,6 +45,9 @@ fn measure(rt: &HostRuntime) -> io::Result<()> {
     let packets = Packets::new();
     for kind in Kind::ALL {
         report(rt, kind, &packets)?;
+    }
+    for call in Call::ALL {
+        report_call(rt, call)?;
     }
     Ok(())
 }
@@ -54,6 +65,15 @@ fn report(rt: &HostRuntime, kind: Kind, packets: &Packets) -> io::Result<()> {
     let copies = Tenths(work * 10 / copy.max(1));
     let mark = (seen ^ done) % 10;
     println!(rt; "{name}: {packet} ns a packet, {entry} ns an entry, {copies} copies ({mark})")
+}
+
+fn report_call(rt: &HostRuntime, call: Call) -> io::Result<()> {
+    let timed = tables::measure_call(rt, call)?;
+    let name = call.name();
+    let each = Tenths(timed.calls.wrapping_mul(10) / u128::from(CALLS));
+    let readings = Tenths(timed.calls.wrapping_mul(10) / timed.readings.max(1));
+    let mark = timed.seen % 10;
+    println!(rt; "{name}: {each} ns a call, {readings} readings of {RECORDS} records ({mark})")
 }
 
 /// A number of tenths, shown with a point.
