@@ -1,6 +1,6 @@
 -- What the definitions of alive and marked offers say of one fact more.
 use Rattle.std.proofs.Common.{◌≡◌, refl, ap, ◌∙◌, ℕ, ◌+◌, Bool, true, false, not, ◌&&◌, cond, ◌==◌, if◌then◌else◌, nat_lt, List, [], ◌∷◌, ◌++◌, filter, arith}
-use Rattle.std.proofs.lemmas.Bool.{lt-ltb, le-ltb, ltb-true, ltb-false, eqb-true, eq-eqb, cases_Bool}
+use Rattle.std.proofs.lemmas.Bool.{lt-ltb, le-ltb, ltb-true, ltb-false, eqb-true, eqb-false, cases_Bool}
 use Rattle.std.proofs.Common.{inl, inr}
 use Rattle.ipx_table.specs.Reading.{Rules}
 use Rattle.ipx_table.specs.Facts.{Fact, Offered, Second, End, Marked, seconds}
@@ -66,9 +66,9 @@ module _ {O : Type 0} (rules : Rules O) where
   older_or_ended false n offer rest = refl
   older_or_ended true n offer rest =
       elim (cases_Bool (nat_lt n 180)) [
-        | inl e ↦ rw e (elim (cases_Bool (n == 179)) [
-          | inl last ↦ let no : nat_lt (n + 1) 180 ≡ false = le-ltb (n + 1) 180 (omega (arith, eqb-true n 179 last)) in rw (last, no) refl
-          | inr more ↦ let yes : nat_lt (n + 1) 180 ≡ true = lt-ltb (n + 1) 180 (grind (arith, eq-eqb, ltb-true n 180 e)) in rw (more, yes) refl
+        | inl e ↦ rw e (elim (cases_Bool (n + 1 == 180)) [
+          | inl last ↦ let no : nat_lt (n + 1) 180 ≡ false = le-ltb (n + 1) 180 (omega (arith, eqb-true (n + 1) 180 last)) in rw (last, no) refl
+          | inr more ↦ let yes : nat_lt (n + 1) 180 ≡ true = lt-ltb (n + 1) 180 (omega (arith, ltb-true n 180 e, eqb-false (n + 1) 180 more)) in rw (more, yes) refl
         ])
         | inr e ↦ let no : nat_lt (n + 1) 180 ≡ false = le-ltb (n + 1) 180 (omega (arith, ltb-false n 180 e)) in rw (e, no) refl
       ]

@@ -1,6 +1,7 @@
 pub mod History
 pub mod Living
 pub mod Lookups
+pub mod Members
 pub mod Offers
 pub mod Order
 pub mod Places

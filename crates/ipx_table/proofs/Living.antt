@@ -64,9 +64,9 @@ module _ {O : Type 0} (rules : Rules O) where
       out_own : (h : Held O) → (same_key rules.by_key h.offer offer && rules.same_source h.offer offer) ≡ true → p h ≡ false
       out_own h e = cut_out (same_key rules.by_key h.offer offer) (rules.same_source h.offer offer) (and_parts (same_key rules.by_key h.offer offer) (rules.same_source h.offer offer) e).0
 
-      out_better : (h : Held O) → (same_key rules.by_key h.offer offer && not (rules.same_source h.offer offer) && rules.ranks_above h.offer offer) ≡ true → p h ≡ false
+      out_better : (h : Held O) → (same_key rules.by_key h.offer offer && not (rules.same_source h.offer offer) && rules.is_worse h.offer offer) ≡ true → p h ≡ false
       out_better h e =
-          let known = (and_parts (same_key rules.by_key h.offer offer && not (rules.same_source h.offer offer)) (rules.ranks_above h.offer offer) e).0 in
+          let known = (and_parts (same_key rules.by_key h.offer offer && not (rules.same_source h.offer offer)) (rules.is_worse h.offer offer) e).0 in
           cut_out (same_key rules.by_key h.offer offer) (rules.same_source h.offer offer) (and_parts (same_key rules.by_key h.offer offer) (not (rules.same_source h.offer offer)) known).0
 
       accepted : (refreshes rules offer held || replaces rules offer held || is_new_with_room rules offer held) ≡ true → length (uncut rules offer true held) + 1 ≤ rules.capacity
@@ -76,7 +76,7 @@ module _ {O : Type 0} (rules : Rules O) where
           | inr better ↦ omega (
             arith,
             few,
-            length-left p (λ h. same_key rules.by_key h.offer offer && not (rules.same_source h.offer offer) && rules.ranks_above h.offer offer) out_better held better,
+            length-left p (λ h. same_key rules.by_key h.offer offer && not (rules.same_source h.offer offer) && rules.is_worse h.offer offer) out_better held better,
           )
         ]
         | inr room ↦

@@ -135,9 +135,9 @@ module _ {O : Type 0} (rules : Rules O) (total : IsTotalOrder rules.by_key) wher
       let refreshing : list_any (λ h. of_key offer h && rules.same_source h.offer offer) held ≡ false =
       none-any (λ h. of_key offer h && rules.same_source h.offer offer) held
       (all_then (λ h. of_key offer h ≡ false) (λ h. (of_key offer h && rules.same_source h.offer offer) ≡ false) (λ h e. rw e refl) held each) in
-      let replacing : list_any (λ h. of_key offer h && not (rules.same_source h.offer offer) && rules.ranks_above h.offer offer) held ≡ false =
-      none-any (λ h. of_key offer h && not (rules.same_source h.offer offer) && rules.ranks_above h.offer offer) held
-      (all_then (λ h. of_key offer h ≡ false) (λ h. (of_key offer h && not (rules.same_source h.offer offer) && rules.ranks_above h.offer offer) ≡ false) (λ h e. rw e refl) held each) in
+      let replacing : list_any (λ h. of_key offer h && not (rules.same_source h.offer offer) && rules.is_worse h.offer offer) held ≡ false =
+      none-any (λ h. of_key offer h && not (rules.same_source h.offer offer) && rules.is_worse h.offer offer) held
+      (all_then (λ h. of_key offer h ≡ false) (λ h. (of_key offer h && not (rules.same_source h.offer offer) && rules.is_worse h.offer offer) ≡ false) (λ h e. rw e refl) held each) in
       rw (refreshing, replacing, none) refl
 
   pub not_held-left : (held : List (Held O)) (offer : O) → list_any (of_key offer) held ≡ false
@@ -180,13 +180,13 @@ module _ {O : Type 0} (rules : Rules O) (total : IsTotalOrder rules.by_key) wher
 
   pub held-accepted : (held : List (Held O)) (place : ℕ) (it : Held O) (offer : O) → HeldAt held place it offer
       → is_accepted rules held (Offered offer)
-      ≡ (not (rules.is_down offer) && (rules.same_source it.offer offer || not (rules.same_source it.offer offer) && rules.ranks_above it.offer offer))
+      ≡ (not (rules.is_down offer) && (rules.same_source it.offer offer || not (rules.same_source it.offer offer) && rules.is_worse it.offer offer))
   held-accepted held place it offer h =
       let refreshing = held-any (λ x. of_key offer x && rules.same_source x.offer offer) held place it offer (λ x e. rw e refl) h in
-      let replacing = held-any (λ x. of_key offer x && not (rules.same_source x.offer offer) && rules.ranks_above x.offer offer) held place it offer (λ x e. rw e refl) h in
+      let replacing = held-any (λ x. of_key offer x && not (rules.same_source x.offer offer) && rules.is_worse x.offer offer) held place it offer (λ x e. rw e refl) h in
       let known = held-any (of_key offer) held place it offer (λ x e. e) h in
       rw (refreshing, replacing, known, h.alone.passes)
-      (or_false (not (rules.is_down offer)) (rules.same_source it.offer offer || not (rules.same_source it.offer offer) && rules.ranks_above it.offer offer))
+      (or_false (not (rules.is_down offer)) (rules.same_source it.offer offer || not (rules.same_source it.offer offer) && rules.is_worse it.offer offer))
     where
       or_false : (d b : Bool) → (d && (b || false)) ≡ (d && b)
       or_false true true = refl

@@ -1,14 +1,14 @@
 -- The record with so many smaller keys is that place of the records in order.
-use Rattle.std.proofs.Common.{◌≡◌, refl, sym, ap, ◌∙◌, subst, ℕ, ◌≤◌, ◌==◌, zero, suc, Bool, true, false, cond, List, [], ◌∷◌, filter, length, slice_get, Option, None, Some, option_to_list, inl, inr, arith, Ordering, is_eq, is_lt}
+use Rattle.std.proofs.Common.{◌≡◌, refl, sym, ap, ◌∙◌, subst, ℕ, ◌≤◌, ◌==◌, zero, suc, Bool, true, false, cond, List, [], ◌∷◌, filter, map, length, slice_get, Option, None, Some, option_to_list, inl, inr, arith, Ordering, is_eq, is_lt}
 use Rattle.std.specs.List.{AllByRecursion}
 use Rattle.std.specs.Cmp.{IsTotalOrder}
 use Rattle.std.proofs.lemmas.Cmp.{tied_itself}
 use Rattle.std.proofs.lemmas.Bool.{cases_Bool, eqb-true, eqb-false, eq-eqb, ne_eqb}
 use Rattle.ipx_table.specs.Reading.{same_key}
-use Rattle.ipx_table.specs.Stands.{in_order, IsDistinct, IsAscending}
+use Rattle.ipx_table.specs.Stands.{in_order, is_last, IsDistinct, IsAscending, Ascends}
 use Rattle.ipx_table.specs.declared.held.Held.{Held}
 use Rattle.ipx_table.proofs.Order as order
-use Rattle.ipx_table.proofs.Singles.{NonePass, all_then, none-filter, around}
+use Rattle.ipx_table.proofs.Singles.{length-filter-filter, NonePass, all_then, none-filter, around}
 
 -- a filter doesn't ask how a test that agrees on each is written
 filter-alike : {X : Type 0} (p q : X → Bool) (xs : List X) → AllByRecursion (λ x. p x ≡ q x) xs → filter p xs ≡ filter q xs
@@ -42,6 +42,20 @@ module _ {O : Type 0} (by_key : O → O → Ordering) (total : IsTotalOrder by_k
             | inl e ↦ let more : suc (length (filter p xs)) ≤ 1 = rw e at few in omega (arith, more)
             | inr e ↦ rw e at few
           ]
+
+  ascends-offers : (held : List (Held O)) → IsAscending by_key held → Ascends by_key (map (λ h. h.offer) held)
+  ascends-offers [] up = tt
+  ascends-offers (h ∷ rest) up = (each rest up.0, ascends-offers rest up.1)
+    where
+      each : (xs : List (Held O)) → AllByRecursion (λ x. is_lt (by_key h.offer x.offer) ≡ true) xs → AllByRecursion (λ o. is_lt (by_key h.offer o) ≡ true) (map (λ x. x.offer) xs)
+      each [] all = tt
+      each (x ∷ xs) all = (all.0, each xs all.1)
+
+  -- what ended stands by key
+  pub ended-ascends : (held : List (Held O)) → IsDistinct by_key held → Ascends by_key (map (λ h. h.offer) (in_order by_key (filter is_last held)))
+  ended-ascends held distinct =
+      ascends-offers (in_order by_key (filter is_last held))
+      (ascending-in_order (filter is_last held) (λ q. omega (arith, length-filter-filter (λ h. same_key by_key h.offer q) is_last held, distinct q)))
 
   same_above : (a b : ℕ) → (suc a == suc b) ≡ (a == b)
   same_above a b =

@@ -66,7 +66,7 @@ module _ {O : Type 0} (rules : Rules O) (total : IsTotalOrder rules.by_key) (sam
         ]
         | inr other ↦ elim (cases_Bool (rules.is_down offer)) [
           | inl down ↦ unchanged rules total held place it offer at (held-accepted rules total held place it offer at ∙ rw down refl) other
-          | inr up ↦ elim (cases_Bool (rules.ranks_above it.offer offer)) [
+          | inr up ↦ elim (cases_Bool (rules.is_worse it.offer offer)) [
             | inl worse ↦ let no : false ≡ true = rw (up, other, worse) at refusal in absurd (true≢false (sym no))
             | inr better ↦ unchanged rules total held place it offer at (held-accepted rules total held place it offer at ∙ rw (up, other, better) refl) other
           ]

@@ -5,7 +5,7 @@ use Rattle.std.proofs.lemmas.Cmp.{tied_itself}
 use Rattle.std.specs.List.{AllByRecursion, position_or_len, position}
 use Rattle.std.specs.Option.{unwrap_or}
 use Rattle.std.specs.Cmp.{IsTotalOrder}
-use Rattle.std.proofs.lemmas.Bool.{cases_Bool, ltb-false, eq-eqb}
+use Rattle.std.proofs.lemmas.Bool.{cases_Bool, eqb-false, ltb-false}
 use Rattle.std.proofs.lemmas.Option.{slice_get-get_or}
 use Rattle.std.proofs.lemmas.List.Elements.{filter-append}
 use Rattle.ipx_table.specs.Reading.{same_key}
@@ -44,9 +44,9 @@ module _ {O : Type 0} (by_key : O → O → Ordering) (total : IsTotalOrder by_k
   younger : (held : List (Held O)) → AllByRecursion (λ h. h.age < lifetime) held → AllByRecursion (λ h. h.age < lifetime) (second_later held)
   younger [] young = tt
   younger (h ∷ held) young =
-      elim (cases_Bool (h.age == 179)) [
+      elim (cases_Bool (h.age + 1 == 180)) [
         | inl e ↦ rw e (younger held young.1)
-        | inr e ↦ rw e (grind (arith, eq-eqb, young.0, e), younger held young.1)
+        | inr e ↦ rw e (omega (arith, young.0, eqb-false (h.age + 1) 180 e), younger held young.1)
       ]
 
   pub kept-second : (held : List (Held O)) → IsKept by_key held → IsKept by_key (second_later held)

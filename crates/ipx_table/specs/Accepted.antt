@@ -14,7 +14,7 @@ module _ {O : Type 0} (rules : Rules O) where
   -- an alive offer of the same key, from another source, that is strictly worse: the new one replaces it
   abbrev pub replaces : O → List (Held O) → Bool
   replaces offer held =
-      list_any (λ h. same_key rules.by_key h.offer offer && not (rules.same_source h.offer offer) && rules.ranks_above h.offer offer) held
+      list_any (λ h. same_key rules.by_key h.offer offer && not (rules.same_source h.offer offer) && rules.is_worse h.offer offer) held
 
   -- no alive offer of the same key, and fewer alive offers than the capacity: there is room for a new key
   abbrev pub is_new_with_room : O → List (Held O) → Bool

@@ -1,4 +1,5 @@
 -- The records of a table after one offer more: those that it doesn't cut, and itself where it is accepted.
+-- Only clauses inside the crate speak of it; what a table promises is said by `Stands`.
 use Rattle.std.specs.Prelude.{Bool, not, if◌then◌else◌, List, [], ◌∷◌, ◌++◌}
 use Rattle.std.specs.List.{filter}
 use Rattle.ipx_table.specs.Reading.{Rules}

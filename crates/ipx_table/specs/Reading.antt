@@ -25,7 +25,7 @@ rank_order a b = ordering_then (nat_cmp a.0 b.0) (nat_cmp a.1 b.1)
 pub record Rules (O : Type 0) : Type 0 where
   pub by_key : O → O → Ordering
   pub same_source : O → O → Bool
-  pub ranks_above : O → O → Bool
+  pub is_worse : O → O → Bool
   pub is_down : O → Bool
   pub capacity : ℕ
 
@@ -34,7 +34,7 @@ abbrev pub rules_of : {O K : Type 0} → Reading O K → (K → K → Ordering) 
 rules_of reading order capacity = record {
   by_key = λ a b. order (reading.key a) (reading.key b);
   same_source = λ a b. one_source (reading.source a) (reading.source b);
-  ranks_above = λ a b. is_gt (rank_order (reading.rank a) (reading.rank b));
+  is_worse = λ a b. is_gt (rank_order (reading.rank a) (reading.rank b));
   is_down = reading.is_down;
   capacity = capacity;
 }

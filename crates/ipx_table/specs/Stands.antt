@@ -38,7 +38,7 @@ older h = record { offer = h.offer; age = h.age + 1 }
 
 -- the record is in its last second
 abbrev pub is_last : {O : Type 0} → Held O → Bool
-is_last h = h.age == 179
+is_last h = h.age + 1 == lifetime
 
 -- the records a second later: those that don't end, each a second older
 abbrev pub second_later : {O : Type 0} → List (Held O) → List (Held O)
@@ -57,7 +57,12 @@ IsAscending by_key (h ∷ rest) = AllByRecursion (λ x. is_lt (by_key h.offer x.
 abbrev pub smaller_than : {O K : Type 0} → (O → K) → (K → K → Ordering) → K → List (Held O) → ℕ
 smaller_than key_of order key held = length (filter (λ h. is_lt (order (key_of h.offer) key)) held)
 
--- what a table keeps: no two records are of one key, and none is older than its lifetime
+-- what a table keeps: no two records are of one key, and none has reached its lifetime
 pub record IsKept {O : Type 0} (by_key : O → O → Ordering) (held : List (Held O)) : Type 0 where
   pub distinct : IsDistinct by_key held
   pub young : AllByRecursion (λ h. h.age < lifetime) held
+
+-- offers ascend by their keys
+abbrev pub Ascends : {O : Type 0} → (O → O → Ordering) → List O → Type 0
+Ascends by_key [] = Unit
+Ascends by_key (offer ∷ rest) = AllByRecursion (λ x. is_lt (by_key offer x) ≡ true) rest × Ascends by_key rest

@@ -20,7 +20,7 @@ module _ {O : Type 0} (rules : Rules O) (same_offer : O → O → Bool) where
   taken_up offer room None = if room then Admitted else Full
   taken_up offer room (Some h) =
       if rules.same_source h.offer offer then Refreshed (not (same_offer h.offer offer))
-      else if rules.ranks_above h.offer offer then Replaced
+      else if rules.is_worse h.offer offer then Replaced
       else Worse
 
   -- to an offer, where that is the alive offer of its key, and there is room for one more, or not

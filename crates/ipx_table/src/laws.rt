@@ -6,7 +6,7 @@ ghost use Rattle.ipx_table.specs.Facts.{Fact, Offered, Marked};
 ghost use Rattle.ipx_table.specs.Alive.{alive, lifetime, IsAliveAt};
 ghost use Rattle.ipx_table.specs.Accepted.{marked};
 ghost use Rattle.ipx_table.specs.Taken.{taken};
-ghost use Rattle.ipx_table.specs.Stands.{IsDistinct};
+ghost use Rattle.ipx_table.specs.Stands.{Stands, IsAscending, IsDistinct};
 ghost use Rattle.ipx_table.specs.declared.held.Held.{Held};
 ghost use Rattle.ipx_table.specs.declared.taken.Taken.TheVariants.{Nothing, Worse, Full};
 
@@ -40,4 +40,14 @@ pub fn refused_offers<O: Offer>()
         taken rules O.eq facts offer ≡ Full → alive rules (marked rules (facts ++ Offered offer ∷ [])) ≡ alive rules (marked rules facts) }
     ensures nothing { (capacity : ℕ) (facts : List (Fact O)) (offer : O) → let rules = rules_of O.reading O.Key.cmp capacity in
         taken rules O.eq facts offer ≡ Nothing → alive rules (marked rules (facts ++ Offered offer ∷ [])) ≡ alive rules (marked rules facts) }
+{}
+
+/// A list of records that stands for facts holds the offer of each alive place, with its age, and no other; by key.
+pub fn standing_records<O: Offer>()
+    ensures place { (capacity : ℕ) (facts : List (Fact O)) (records : List (Held O)) (k : ℕ) (held : Held O) → let rules = rules_of O.reading O.Key.cmp capacity in
+        Stands rules records facts → slice_get records k ≡ Some held → (place : ℕ) × IsAliveAt rules (marked rules facts) place held }
+    ensures listed { (capacity : ℕ) (facts : List (Fact O)) (records : List (Held O)) (place : ℕ) (held : Held O) → let rules = rules_of O.reading O.Key.cmp capacity in
+        Stands rules records facts → IsAliveAt rules (marked rules facts) place held → (k : ℕ) × (slice_get records k ≡ Some held) }
+    ensures ascending { (capacity : ℕ) (facts : List (Fact O)) (records : List (Held O)) → let rules = rules_of O.reading O.Key.cmp capacity in
+        Stands rules records facts → IsAscending rules.by_key records }
 {}

@@ -5,7 +5,7 @@
 //!   every list of offers and seconds: the contract of each call says so, by the definitions in `specs/`.
 //! - At most one record a key, and at most as many as its capacity, which is a constant.
 //! - An offer ends when its source withdraws or replaces it, when a better one of another source
-//!   replaces it, or when nothing was heard of it for 180 seconds. Nothing else ends it.
+//!   replaces it, when its source said nothing of it for 180 seconds, or when all is cleared.
 //! - It takes no memory and asks no clock: a second passes where the caller says so.
 //!
 //! What is behind the calls, the order of the records in memory and how they age, is no promise.

@@ -5,7 +5,7 @@ ghost use Rattle.ipx_table.specs.Reading.{rules_of};
 ghost use Rattle.ipx_table.specs.Facts.{Fact, Offered, Second, End};
 ghost use Rattle.ipx_table.specs.Alive.{lifetime};
 ghost use Rattle.ipx_table.specs.Taken.{taken};
-ghost use Rattle.ipx_table.specs.Stands.{Stands, IsAscending, IsDistinct, record_of, smaller_than, second_later, ended as ended_of};
+ghost use Rattle.ipx_table.specs.Stands.{Stands, Ascends, IsAscending, IsDistinct, record_of, smaller_than, second_later, ended as ended_of};
 
 use crate::ageing::age_all;
 use crate::held::Held;
@@ -16,7 +16,8 @@ use crate::taking::take_offer;
 use arrayvec::ArrayVec;
 use std::marker::Model;
 
-/// At most `CAP` offers with their ages, one of a key.
+/// At most `CAP` offers with their ages, one of a key. A clause sees it as the list of its records by key; how they lie
+/// in memory, and in which order they are shown by `Debug`, is no promise.
 #[derive(Debug, Drop)]
 pub struct Table<O: Offer, const CAP: usize> {
     records: ArrayVec<Held<O>, CAP>,
@@ -64,6 +65,7 @@ impl<O: Offer, const CAP: usize> Table<O, CAP> {
         ensures stands { (facts : List (Fact O)) → Stands (rules_of O.reading O.Key.cmp CAP) self.old facts
             → Stands (rules_of O.reading O.Key.cmp CAP) self.new (facts ++ Second ∷ []) }
         ensures ended { result.items ≡ ended_of self.old }
+        ensures by_key { Ascends (rules_of O.reading O.Key.cmp CAP).by_key result.items }
         // What did not end is a second older, and nothing else changed.
         ensures records { self.new ≡ second_later self.old }
     {
@@ -78,7 +80,7 @@ impl<O: Offer, const CAP: usize> Table<O, CAP> {
         self.records.clear();
     }
 
-    /// The record of that key.
+    /// The record of that key; `None` where there is none.
     pub fn get(&self, key: &O::Key) -> Option<Held<O>>
         ensures value { result ≡ record_of O.reading.key O.Key.cmp key.now self.now }
         ensures young { IfSome result (λ h. h.age < lifetime) }
@@ -86,7 +88,7 @@ impl<O: Offer, const CAP: usize> Table<O, CAP> {
         record_at(&self.records, place_of(&self.records, key))
     }
 
-    /// The record with exactly `k` smaller keys.
+    /// The record with exactly `k` smaller keys; `None` where `k` is `len()` or more.
     pub fn get_at(&self, k: usize) -> Option<Held<O>>
         ensures value { result ≡ slice_get self.now k }
         ensures smaller { IfSome result (λ h. smaller_than O.reading.key O.Key.cmp (O.reading.key h.offer) self.now ≡ k) }

@@ -7,17 +7,17 @@ pub enum Taken {
     Withdrawn,
     /// It was down, and there is no record of its key, or one of another source. Nothing changed.
     Nothing,
-    /// It was of the source of the record and took its place, at age 0.
+    /// It was up and of the source of the record, and took its place, at age 0.
     Refreshed {
         /// Whether the offer differs from the one before.
         changed: bool,
     },
-    /// It was better than the record of another source and took its place, at age 0.
+    /// It was up and better than the record of another source, and took its place, at age 0.
     Replaced,
-    /// It was no better than the record of another source. Nothing changed, nor did the age.
+    /// It was up, and no better than the record of another source. Nothing changed, nor did the age.
     Worse,
-    /// There was no record of its key, and there was room: it is held, at age 0.
+    /// It was up, there was no record of its key, and there was room: it is held, at age 0.
     Admitted,
-    /// There was no record of its key, and no room. Nothing changed.
+    /// It was up, and there was neither a record of its key nor room. Nothing changed.
     Full,
 }

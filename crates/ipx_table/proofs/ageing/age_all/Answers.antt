@@ -1,4 +1,4 @@
-use Rattle.std.proofs.Common.{◌≡◌, ◌∙◌, ap, arith, true, false, length, get_or, ◌<◌}
+use Rattle.std.proofs.Common.{◌≡◌, ◌+◌, ◌∙◌, ap, arith, true, false, length, get_or, ◌<◌}
 use Rattle.std.proofs.lemmas.Bool.{eq-eqb, ne_eqb}
 use Rattle.std.proofs.lemmas.Cmp.{on_total}
 use Rattle.ipx_table.specs.Reading.{rules_of}
@@ -16,12 +16,12 @@ loop-place-preserved g c =
     let read = c.index-deref-place.is ∙ ap (λ zs. get_or zs c.loop-place.place c.index-deref-place.result) c.deref.ensures.0 in
     elim c.if-held.branch [
       | then-held w ↦
-          let last : is_last c.index-deref-place.result ≡ true = eq-eqb c.index-deref-place.result.age 179 (omega (arith, w.if-held.true)) in
+          let last : is_last c.index-deref-place.result ≡ true = eq-eqb (c.index-deref-place.result.age + 1) 180 w.if-held.true in
           let step = ages-last r.by_key total c.args.records.now.items c.loop-place.records.items c.loop-place.ended.items c.loop-place.kept c.loop-place.place
           c.index-deref-place.result ages within read c.requires.kept.distinct last in
           rw (w.records-is, w.ended-is, w.kept-is, w.put_by_key.ensures) (step, gone-few r.by_key total _ _ _ _ _ step)
       | else-held w ↦
-          let early : is_last c.index-deref-place.result ≡ false = ne_eqb c.index-deref-place.result.age 179 (λ e. w.if-held.false (omega (arith, e))) in
+          let early : is_last c.index-deref-place.result ≡ false = ne_eqb (c.index-deref-place.result.age + 1) 180 w.if-held.false in
           let step = ages-more r.by_key total c.args.records.now.items c.loop-place.records.items c.loop-place.ended.items c.loop-place.kept c.loop-place.place
           c.index-deref-place.result ages within read early in
           rw (w.records-is, w.ended-is, w.kept-is, w.write_at.ensures) (step, gone-few r.by_key total _ _ _ _ _ step)
