@@ -1,0 +1,180 @@
+-- What is held was offered, and what was offered passed the checks.
+use Rattle.std.proofs.Common.{◌≡◌, refl, sym, ap, subst, ℕ, ◌<◌, ◌&&◌, Bool, true, false, nat_lt, length, List, [], ◌∷◌, ◌++◌, Option, None, Some, Result, Ok, Err, inl, inr, true≢false, is_some, is_lt, Ordering}
+use Rattle.std.specs.List.{AllByRecursion}
+use Rattle.std.proofs.lemmas.Bool.{cases_Bool}
+use Rattle.ipx_table.specs.Reading.{Rules}
+use Rattle.ipx_table.specs.Facts.{Fact, Offered, Second as SecondPassed, End, Marked, seconds}
+use Rattle.ipx_table.specs.Alive.{alive, lasts, lifetime}
+use Rattle.ipx_table.specs.Accepted.{marked, marked_after, is_accepted}
+use Rattle.ipx_table.specs.Stands.{put, in_order}
+use Rattle.ipx_table.specs.declared.held.Held.{Held}
+use Rattle.ipx_wire.specs.Packet.{Parts, packet_of}
+use Rattle.ipx_wire.specs.Rip.{RipParts, rip_of}
+use Rattle.ipx_wire.specs.Sap.{sap_of}
+use Rattle.ipx_wire.specs.declared.address.Address.{Address}
+use Rattle.ipx_wire.specs.declared.node.Node.{Node}
+use Rattle.ipx_wire.specs.declared.packet.PacketFault.{PacketFault}
+use Rattle.ipx_wire.specs.declared.rip.RipFault.{RipFault}
+use Rattle.ipx_wire.specs.declared.rip.Operation.{Operation}
+use Rattle.ipx_wire.specs.declared.sap.Sap.{Sap}
+use Rattle.ipx_wire.specs.declared.sap.SapFault.{SapFault}
+use Rattle.ipx_wire.specs.declared.rip.Operation.TheVariants.{Request, Response}
+use Rattle.ipx_wire.specs.declared.rip.RipEntry.{RipEntry}
+use Rattle.ipx_router.specs.Heard.{Heard, HeardRip, HeardSap, heard, heard_near, heard_in}
+use Rattle.ipx_router.specs.History.{Event, History, Start, Stop, Second, Packet, IsOnPort, runs_after, is_skipped, routes_offered, routes_heard, route_facts_of, route_facts_from, route_facts, routes_held, offers}
+use Rattle.ipx_router.specs.Port.{Port, port_at, same_node, broadcast}
+use Rattle.ipx_router.specs.Relays.{IsTableRoute}
+use Rattle.ipx_router.specs.Routes.{route_rules}
+use Rattle.ipx_router.specs.Why.{checks, is_stopped, first_of, when, is_bad_source, is_own_echo, is_near, is_for_rip}
+use Rattle.ipx_router.specs.declared.why.Why.{Why}
+use Rattle.ipx_router.specs.declared.why.Why.TheVariants.{NotRunning, Malformed, OwnEcho, BadSource}
+
+all-append : {X : Type 0} (P : X → Type 0) (xs ys : List X) → AllByRecursion P xs → AllByRecursion P ys → AllByRecursion P (xs ++ ys)
+all-append P [] ys one two = two
+all-append P (x ∷ xs) ys one two = (one.0, all-append P xs ys one.1 two)
+
+module _ {O : Type 0} (P : O → Type 0) where
+  -- where a fact is an offer, it is such a one
+  abbrev pub OfferIs : Fact O → Type 0
+  OfferIs (Offered offer) = P offer
+  OfferIs SecondPassed = Unit
+  OfferIs End = Unit
+
+  all_alive : (rules : Rules O) (ms : List (Marked O)) → AllByRecursion (λ m. OfferIs m.0) ms → AllByRecursion (λ h. P h.offer) (alive rules ms)
+  all_alive rules [] all = tt
+  all_alive rules ((Offered offer, false) ∷ later) all = all_alive rules later all.1
+  all_alive rules ((SecondPassed, m) ∷ later) all = all_alive rules later all.1
+  all_alive rules ((End, m) ∷ later) all = all_alive rules later all.1
+  all_alive rules ((Offered offer, true) ∷ later) all =
+      elim (cases_Bool (lasts rules offer later && nat_lt (seconds later) lifetime)) [
+        | inl e ↦ rw e (all.0, all_alive rules later all.1)
+        | inr e ↦ rw e (all_alive rules later all.1)
+      ]
+
+  all_marked : (rules : Rules O) (before : List (Marked O)) (facts : List (Fact O)) → AllByRecursion (λ m. OfferIs m.0) before → AllByRecursion OfferIs facts
+      → AllByRecursion (λ m. OfferIs m.0) (marked_after rules before facts)
+  all_marked rules before [] one all = one
+  all_marked rules before (fact ∷ facts) one all =
+      all_marked rules (before ++ (fact, is_accepted rules (alive rules before) fact) ∷ []) facts (all-append (λ m. OfferIs m.0) before ((fact, is_accepted rules (alive rules before) fact) ∷ []) one (all.0, tt)) all.1
+
+  all_put : (by_key : O → O → Ordering) (h : Held O) (xs : List (Held O)) → P h.offer → AllByRecursion (λ h. P h.offer) xs → AllByRecursion (λ h. P h.offer) (put by_key h xs)
+  all_put by_key h [] one all = (one, tt)
+  all_put by_key h (x ∷ xs) one all =
+      elim (cases_Bool (is_lt (by_key x.offer h.offer))) [
+        | inl e ↦ rw e (all.0, all_put by_key h xs one all.1)
+        | inr e ↦ rw e (one, all)
+      ]
+
+  all_in_order : (by_key : O → O → Ordering) (xs : List (Held O)) → AllByRecursion (λ h. P h.offer) xs → AllByRecursion (λ h. P h.offer) (in_order by_key xs)
+  all_in_order by_key [] all = tt
+  all_in_order by_key (x ∷ xs) all = all_put by_key x (in_order by_key xs) all.0 (all_in_order by_key xs all.1)
+
+  all_offers : (xs : List (Held O)) → AllByRecursion (λ h. P h.offer) xs → AllByRecursion P (offers xs)
+  all_offers [] all = tt
+  all_offers (x ∷ xs) all = (all.0, all_offers xs all.1)
+
+  pub all_held : (rules : Rules O) (facts : List (Fact O)) → AllByRecursion OfferIs facts → AllByRecursion P (offers (in_order rules.by_key (alive rules (marked rules facts))))
+  all_held rules facts all =
+      all_offers (in_order rules.by_key (alive rules (marked rules facts)))
+      (all_in_order rules.by_key (alive rules (marked rules facts)) (all_alive rules (marked rules facts) (all_marked rules [] facts tt all)))
+
+-- ---- what was heard passed the checks
+
+passed : (c : Bool) (w : Why) (rest : List (Option Why)) → first_of (when c w ∷ rest) ≡ None → (c ≡ false) × (first_of rest ≡ None)
+passed true w rest e = absurd (true≢false (ap is_some e))
+passed false w rest e = (refl, e)
+
+source_passed : (ports : List Port) (port : Port) (p : Parts) → first_of (checks ports [] port p) ≡ None → is_bad_source p.header ≡ false
+source_passed ports port p e = (passed (is_bad_source p.header) BadSource _ (passed (is_own_echo port p.header) OwnEcho _ e).1).0
+
+abbrev source_of : Heard → Address
+source_of (HeardRip source rip) = source
+source_of (HeardSap source sap) = source
+
+nothing : {X : Type 0} {x : X} {A : Type 0} → None ≡ Some x → A
+nothing e = absurd (true≢false (sym (ap is_some e)))
+
+-- the source of what was heard is the packet's
+named : (other : Address) (m n : Heard) → Some m ≡ Some n → source_of m ≡ source_of n
+named other m n e = ap (λ (o : Option Heard). elim o [ None ↦ other | Some h ↦ source_of h ]) e
+
+rip_source : (source : Address) (r : Result RipParts RipFault) (m : Heard) → elim r [ Ok rip ↦ Some (HeardRip source rip) | Err fault ↦ None ] ≡ Some m → source ≡ source_of m
+rip_source source (Ok rip) m e = named source (HeardRip source rip) m e
+rip_source source (Err fault) m e = nothing e
+
+sap_source : (source : Address) (s : Result Sap SapFault) (m : Heard) → elim s [ Ok sap ↦ Some (HeardSap source sap) | Err fault ↦ None ] ≡ Some m → source ≡ source_of m
+sap_source source (Ok sap) m e = named source (HeardSap source sap) m e
+sap_source source (Err fault) m e = nothing e
+
+near_source : (port : Port) (p : Parts) (m : Heard) → heard_near port p ≡ Some m → p.header.source ≡ source_of m
+near_source port p m e = elim (cases_Bool (is_near port p.header)) [
+  | inr far ↦ nothing (rw far at e)
+  | inl near ↦
+      let said : heard_in p ≡ Some m = rw near at e in
+      elim (cases_Bool (is_for_rip p.header)) [
+        | inl rip ↦ rip_source p.header.source (rip_of p.payload) m (rw rip at said)
+        | inr other ↦ sap_source p.header.source (sap_of p.payload) m (rw other at said)
+      ]
+]
+
+module _ (ports : List Port) (number : ℕ) where
+  judged : (p : Parts) (o : Option Why) (m : Heard) → first_of (checks ports [] (port_at ports number) p) ≡ o
+      → elim o [ Some reason ↦ None | None ↦ heard_near (port_at ports number) p ] ≡ Some m → same_node (source_of m).node broadcast ≡ false
+  judged p (Some reason) m f e = nothing e
+  judged p None m f e =
+      subst (λ (a : Address). same_node a.node broadcast ≡ false) (near_source (port_at ports number) p m e) (source_passed ports (port_at ports number) p f)
+
+  read : (runs : Bool) (r : Result Parts PacketFault) (m : Heard)
+      → elim (first_of (when (is_stopped runs) NotRunning ∷ elim r [ Ok p ↦ None | Err fault ↦ Some (Malformed fault) ]
+      ∷ elim r [ Ok p ↦ checks ports [] (port_at ports number) p | Err fault ↦ [] ])) [
+        | Some reason ↦ None
+        | None ↦ elim r [ Ok p ↦ heard_near (port_at ports number) p | Err fault ↦ None ]
+      ] ≡ Some m
+      → same_node (source_of m).node broadcast ≡ false
+  read false r m e = nothing e
+  read true (Err fault) m e = nothing e
+  read true (Ok p) m e = judged p (first_of (checks ports [] (port_at ports number) p)) m refl e
+
+  -- nobody is heard who calls itself the broadcast
+  heard_source : (runs : Bool) (bytes : List ℕ) (m : Heard) → heard ports runs number bytes ≡ Some m → same_node (source_of m).node broadcast ≡ false
+  heard_source runs bytes m e = read runs (packet_of bytes) m e
+
+  module _ (within : number < length ports) where
+    offered_all : (node : Node) (entries : List RipEntry) → same_node node broadcast ≡ false
+        → AllByRecursion (OfferIs (IsTableRoute ports)) (routes_offered ports number node entries)
+    offered_all node [] one = tt
+    offered_all node (entry ∷ entries) one = elim (cases_Bool (is_skipped ports entry.network)) [
+      | inl e ↦ rw e (offered_all node entries one)
+      | inr e ↦ rw e (record { network = e; port = within; neighbour = one }, offered_all node entries one)
+    ]
+
+    by_operation : (operation : Operation) (node : Node) (entries : List RipEntry) → same_node node broadcast ≡ false
+        → AllByRecursion (OfferIs (IsTableRoute ports)) (elim operation [ Response ↦ routes_offered ports number node entries | Request ↦ [] ])
+    by_operation Response node entries one = offered_all node entries one
+    by_operation Request node entries one = tt
+
+    heard_all : (o : Option Heard) → ((m : Heard) → o ≡ Some m → same_node (source_of m).node broadcast ≡ false)
+        → AllByRecursion (OfferIs (IsTableRoute ports)) (routes_heard ports number o)
+    heard_all None sources = tt
+    heard_all (Some (HeardSap source sap)) sources = tt
+    heard_all (Some (HeardRip source rip)) sources = by_operation rip.operation source.node rip.entries (sources (HeardRip source rip) refl)
+
+facts_all : (ports : List Port) (runs : Bool) (event : Event) → IsOnPort ports event → AllByRecursion (OfferIs (IsTableRoute ports)) (route_facts_of ports runs event)
+facts_all ports runs Start on = tt
+facts_all ports true Stop on = (tt, tt)
+facts_all ports false Stop on = tt
+facts_all ports true Second on = (tt, tt)
+facts_all ports false Second on = tt
+facts_all ports runs (Packet number bytes) on = heard_all ports number on (heard ports runs number bytes) (heard_source ports number runs bytes)
+
+history_all : (ports : List Port) (runs : Bool) (history : History) → AllByRecursion (IsOnPort ports) history
+    → AllByRecursion (OfferIs (IsTableRoute ports)) (route_facts_from ports runs history)
+history_all ports runs [] on = tt
+history_all ports runs (event ∷ events) on =
+    all-append (OfferIs (IsTableRoute ports)) (route_facts_of ports runs event) (route_facts_from ports (runs_after runs event) events)
+    (facts_all ports runs event on.0) (history_all ports (runs_after runs event) events on.1)
+
+pub tables : (ports : List Port) (capacity : ℕ) (history : History) → AllByRecursion (IsOnPort ports) history
+    → AllByRecursion (IsTableRoute ports) (offers (routes_held ports capacity history))
+tables ports capacity history on =
+    all_held (IsTableRoute ports) (route_rules capacity) (route_facts ports history) (history_all ports false history on)

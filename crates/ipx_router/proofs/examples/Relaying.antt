@@ -1,0 +1,135 @@
+-- Packets for other networks, and for all networks.
+use Rattle.std.proofs.Common.{◌≡◌, ℕ, List, [], ◌∷◌, ◌++◌, refl, codes, replicate}
+use Rattle.hex.specs.Hex.{decode_pairs}
+use Rattle.ipx_wire.specs.Address.{address_bytes, address_at}
+use Rattle.ipx_wire.specs.Crossed.{network_bytes, networks_at, network_at}
+use Rattle.ipx_wire.specs.Header.{header_bytes, header_at}
+use Rattle.ipx_wire.specs.Items.{items}
+use Rattle.ipx_wire.specs.Name.{name_of, name_field}
+use Rattle.ipx_wire.specs.Packet.{packet_of}
+use Rattle.ipx_wire.specs.Rip.{rip_of, entry_at, entries_at, entry_bytes}
+use Rattle.ipx_wire.specs.Sap.{sap_of}
+use Rattle.ipx_wire.specs.SapEntries.{sap_entry_at}
+use Rattle.ipx_wire.specs.WriteServices.{service_bytes}
+use Rattle.ipx_router.specs.History.{Start, Packet}
+use Rattle.ipx_router.proofs.examples.Words.{hex, node, sent_by, out, all_nodes, heard_of_30}
+
+-- from node AAh on network 10h to node CCh on network 20h
+abbrev to_c : List ℕ
+to_c = (hex (codes "FFFF001E0000000000200000000000CC4003000000100000000000AA" ++ codes "4003"))
+
+-- with bytes behind it
+abbrev padded : List ℕ
+padded = (hex (codes "FFFF001E0000000000200000000000CC4003000000100000000000AA" ++ codes "4003")) ++ replicate 30 0
+
+-- through fifteen routers
+abbrev far_to_c : List ℕ
+far_to_c = (hex (codes "FFFF001E0F00000000200000000000CC4003000000100000000000AA" ++ codes "4003"))
+
+-- to node CCh on network 30h
+abbrev beyond : List ℕ
+beyond = (hex (codes "FFFF001E0000000000300000000000CC4003000000100000000000AA" ++ codes "4003"))
+
+-- with a checksum
+abbrev checked : List ℕ
+checked = (hex (codes "1234001E0000000000200000000000CC4003000000100000000000AA" ++ codes "4003"))
+
+-- as long as the outgoing port allows
+abbrev longest : List ℕ
+longest = (hex (codes "FFFF02400000000000200000000000CC4003000000100000000000AA" ++ codes "4003") ++ replicate 546 0)
+
+-- to a network of the router's own the node itself is the link
+pub to_a_direct_network : sent_by (Start ∷ []) (Packet 0 to_c)
+    ≡ out 1 (node 0xCC) (hex (codes "FFFF001E0100000000200000000000CC4003000000100000000000AA" ++ codes "4003"))
+    ∷ []
+unfolding decode_pairs header_bytes address_bytes entry_bytes network_bytes service_bytes name_field packet_of header_at address_at rip_of entries_at entry_at sap_of items sap_entry_at name_of networks_at network_at
+to_a_direct_network = refl
+
+-- padding isn't sent on
+pub padding_stays_behind : sent_by (Start ∷ []) (Packet 0 padded)
+    ≡ out 1 (node 0xCC) (hex (codes "FFFF001E0100000000200000000000CC4003000000100000000000AA" ++ codes "4003"))
+    ∷ []
+unfolding decode_pairs header_bytes address_bytes entry_bytes network_bytes service_bytes name_field packet_of header_at address_at rip_of entries_at entry_at sap_of items sap_entry_at name_of networks_at network_at
+padding_stays_behind = refl
+
+-- what came through fifteen routers leaves with sixteen
+pub through_fifteen : sent_by (Start ∷ []) (Packet 0 far_to_c)
+    ≡ out 1 (node 0xCC) (hex (codes "FFFF001E1000000000200000000000CC4003000000100000000000AA" ++ codes "4003"))
+    ∷ []
+unfolding decode_pairs header_bytes address_bytes entry_bytes network_bytes service_bytes name_field packet_of header_at address_at rip_of entries_at entry_at sap_of items sap_entry_at name_of networks_at network_at
+through_fifteen = refl
+
+-- to any other network the neighbour that told the route is the link
+pub by_a_route : sent_by heard_of_30 (Packet 0 beyond)
+    ≡ out 1 (node 0xBB) (hex (codes "FFFF001E0100000000300000000000CC4003000000100000000000AA" ++ codes "4003"))
+    ∷ []
+unfolding decode_pairs header_bytes address_bytes entry_bytes network_bytes service_bytes name_field packet_of header_at address_at rip_of entries_at entry_at sap_of items sap_entry_at name_of networks_at network_at
+by_a_route = refl
+
+-- a checksum is carried as it came
+pub with_its_checksum : sent_by (Start ∷ []) (Packet 0 checked)
+    ≡ out 1 (node 0xCC) (hex (codes "1234001E0100000000200000000000CC4003000000100000000000AA" ++ codes "4003"))
+    ∷ []
+unfolding decode_pairs header_bytes address_bytes entry_bytes network_bytes service_bytes name_field packet_of header_at address_at rip_of entries_at entry_at sap_of items sap_entry_at name_of networks_at network_at
+with_its_checksum = refl
+
+-- 576 bytes pass
+pub just_short_enough : sent_by (Start ∷ []) (Packet 0 longest)
+    ≡ out 1 (node 0xCC) (hex (codes "FFFF02400100000000200000000000CC4003000000100000000000AA" ++ codes "4003") ++ replicate 546 0)
+    ∷ []
+unfolding decode_pairs header_bytes address_bytes entry_bytes network_bytes service_bytes name_field packet_of header_at address_at rip_of entries_at entry_at sap_of items sap_entry_at name_of networks_at network_at
+just_short_enough = refl
+
+-- network 30h is fifteen hops away
+abbrev far_response : List ℕ
+far_response = (hex (codes "FFFF0028000100000020FFFFFFFFFFFF0453000000200000000000BB" ++ codes "0453000200000030000F0002"))
+
+-- a route of fifteen hops isn't told, and packets go by it
+pub by_a_far_route : sent_by (Start ∷ Packet 1 far_response ∷ []) (Packet 0 beyond)
+    ≡ out 1 (node 0xBB) (hex (codes "FFFF001E0100000000300000000000CC4003000000100000000000AA" ++ codes "4003"))
+    ∷ []
+unfolding decode_pairs header_bytes address_bytes entry_bytes network_bytes service_bytes name_field packet_of header_at address_at rip_of entries_at entry_at sap_of items sap_entry_at name_of networks_at network_at
+by_a_far_route = refl
+
+-- from node AAh on network 10h to all networks
+abbrev to_all : List ℕ
+to_all = (hex (codes "FFFF003E001400000010FFFFFFFFFFFF0455000000100000000000AA" ++ codes "0455") ++ replicate 32 0)
+
+-- it has crossed seven
+abbrev crossed_seven : List ℕ
+crossed_seven = (hex (codes "FFFF003E071400000010FFFFFFFFFFFF0455000000100000000000AA" ++ codes "04550000009900000098000000970000009600000095000000940000" ++ codes "009300000000"))
+
+-- it has crossed network 20h
+abbrev crossed_the_other : List ℕ
+crossed_the_other = (hex (codes "FFFF003E011400000010FFFFFFFFFFFF0455000000100000000000AA" ++ codes "045500000020") ++ replicate 27 0 ++ hex (codes "00"))
+
+-- network 10h stands in a place that doesn't count
+abbrev not_counted : List ℕ
+not_counted = (hex (codes "FFFF003E001400000010FFFFFFFFFFFF0455000000100000000000AA" ++ codes "045500000010") ++ replicate 27 0 ++ hex (codes "00"))
+
+-- the arriving network is written in the next place, and the packet leaves for the other one
+pub propagated : sent_by (Start ∷ []) (Packet 0 to_all)
+    ≡ out 1 all_nodes (hex (codes "FFFF003E011400000020FFFFFFFFFFFF0455000000100000000000AA" ++ codes "045500000010") ++ replicate 27 0 ++ hex (codes "00"))
+    ∷ []
+unfolding decode_pairs header_bytes address_bytes entry_bytes network_bytes service_bytes name_field packet_of header_at address_at rip_of entries_at entry_at sap_of items sap_entry_at name_of networks_at network_at
+propagated = refl
+
+-- the eighth network takes the last place
+pub in_the_last_place : sent_by (Start ∷ []) (Packet 0 crossed_seven)
+    ≡ out 1 all_nodes (hex (codes "FFFF003E081400000020FFFFFFFFFFFF0455000000100000000000AA" ++ codes "04550000009900000098000000970000009600000095000000940000" ++ codes "009300000010"))
+    ∷ []
+unfolding decode_pairs header_bytes address_bytes entry_bytes network_bytes service_bytes name_field packet_of header_at address_at rip_of entries_at entry_at sap_of items sap_entry_at name_of networks_at network_at
+in_the_last_place = refl
+
+-- it never leaves for a network that it has crossed
+pub never_back : sent_by (Start ∷ []) (Packet 0 crossed_the_other)
+    ≡ []
+unfolding decode_pairs header_bytes address_bytes entry_bytes network_bytes service_bytes name_field packet_of header_at address_at rip_of entries_at entry_at sap_of items sap_entry_at name_of networks_at network_at
+never_back = refl
+
+-- a place behind those that count says nothing
+pub only_those_counted : sent_by (Start ∷ []) (Packet 0 not_counted)
+    ≡ out 1 all_nodes (hex (codes "FFFF003E011400000020FFFFFFFFFFFF0455000000100000000000AA" ++ codes "045500000010") ++ replicate 27 0 ++ hex (codes "00"))
+    ∷ []
+unfolding decode_pairs header_bytes address_bytes entry_bytes network_bytes service_bytes name_field packet_of header_at address_at rip_of entries_at entry_at sap_of items sap_entry_at name_of networks_at network_at
+only_those_counted = refl

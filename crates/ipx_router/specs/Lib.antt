@@ -1,0 +1,16 @@
+pub mod Bounds
+pub mod Changes
+pub mod Heard
+pub mod History
+pub mod News
+pub mod Outcomes
+pub mod Outgoing
+pub mod Pages
+pub mod Port
+pub mod Relays
+pub mod Routes
+pub mod Sends
+pub mod Services
+pub mod Stands
+pub mod Told
+pub mod Why

@@ -1,0 +1,68 @@
+-- What a router tells of a change, at once: on each port but that of the later offer, or, where there is none, of the earlier.
+use Rattle.std.specs.Prelude.{ℕ, ◌==◌, ◌&&◌, nat_lt, Bool, if◌then◌else◌, List, [], ◌∷◌, None, Some}
+use Rattle.std.specs.List.{flat_map}
+use Rattle.ipx_wire.specs.Name.{same_name}
+use Rattle.ipx_wire.specs.declared.address.Address.{Address}
+use Rattle.ipx_wire.specs.declared.rip.RipEntry.{RipEntry}
+use Rattle.ipx_wire.specs.declared.service.Service.{Service}
+use Rattle.ipx_router.specs.Changes.{Change, changes}
+use Rattle.ipx_router.specs.Port.{Port, port_at, same_node}
+use Rattle.ipx_router.specs.Routes.{network_order}
+use Rattle.ipx_router.specs.Services.{service_order}
+use Rattle.ipx_router.specs.Told.{told_at, dead, farther, down, entry_of}
+use Rattle.ipx_router.specs.declared.route_offer.RouteOffer.{RouteOffer}
+use Rattle.ipx_router.specs.declared.service_offer.ServiceOffer.{ServiceOffer}
+
+-- ---- routes
+
+abbrev pub same_route : RouteOffer → RouteOffer → Bool
+same_route a b =
+    (a.network.0 == b.network.0) && (a.hops == b.hops) && (a.ticks == b.ticks) && (a.port == b.port) && same_node a.node b.node
+
+-- a route as it is told on a port; where the next hop isn't reached any more, it is dead
+abbrev pub route_now : Port → RouteOffer → RipEntry
+route_now port route = if nat_lt route.hops 15 then told_at port.cost (entry_of route) else dead (entry_of route)
+
+abbrev pub route_told : List Port → ℕ → Change RouteOffer → List RipEntry
+route_told ports number change =
+    elim change.after [
+      | Some route ↦ if route.port == number then [] else route_now (port_at ports number) route ∷ []
+      | None ↦ elim change.before [
+        | Some route ↦ if route.port == number then [] else dead (entry_of route) ∷ []
+        | None ↦ []
+      ]
+    ]
+
+-- what changed of the routes, as it is told on a port, by network
+abbrev pub news : List Port → List RouteOffer → List RouteOffer → ℕ → List RipEntry
+news ports before after number = flat_map (route_told ports number) (changes (λ r. r.network) network_order same_route before after)
+
+-- ---- services
+
+abbrev pub same_address : Address → Address → Bool
+same_address a b = (a.network.0 == b.network.0) && same_node a.node b.node && (a.socket.0 == b.socket.0)
+
+abbrev pub same_service : ServiceOffer → ServiceOffer → Bool
+same_service a b =
+    (a.service.kind == b.service.kind) && same_name a.service.name b.service.name && same_address a.service.address b.service.address
+    && (a.service.hops == b.service.hops) && (a.port == b.port) && same_node a.node b.node
+
+-- a service as it is told; where the next hop isn't reached any more, it is down
+abbrev pub service_now : ServiceOffer → Service
+service_now offer = if nat_lt offer.service.hops 15 then farther offer.service else down offer.service
+
+-- one that ended keeps the address that it had before the event
+abbrev pub service_told : ℕ → Change ServiceOffer → List Service
+service_told number change =
+    elim change.after [
+      | Some offer ↦ if offer.port == number then [] else service_now offer ∷ []
+      | None ↦ elim change.before [
+        | Some offer ↦ if offer.port == number then [] else down offer.service ∷ []
+        | None ↦ []
+      ]
+    ]
+
+-- what changed of the services, as it is told on a port, by type and name
+abbrev pub news_services : List ServiceOffer → List ServiceOffer → ℕ → List Service
+news_services before after number =
+    flat_map (service_told number) (changes (λ s. (s.service.kind, s.service.name)) service_order same_service before after)

@@ -1,0 +1,93 @@
+-- Packets that a router sends on: to the network they are for, or to every other network.
+use Rattle.std.specs.Prelude.{◌≡◌, ◌≢◌, ℕ, ◌<◌, ◌≤◌, ◌==◌, ◌&&◌, nat_le, Bool, true, false, not, if◌then◌else◌, List, [], ◌∷◌, length, None, Some}
+use Rattle.std.specs.List.{flat_map}
+use Rattle.ipx_wire.specs.Crossed.{IsCrossed, networks_at, is_among}
+use Rattle.ipx_wire.specs.Forward.{forwarded, propagated}
+use Rattle.ipx_wire.specs.Packet.{Parts, IsPacket}
+use Rattle.ipx_wire.specs.Write.{packet_bytes}
+use Rattle.ipx_wire.specs.declared.network.Network.{Network}
+use Rattle.ipx_wire.specs.declared.node.Node.{Node}
+use Rattle.ipx_router.specs.Outgoing.{ports_up, way_to, is_own_port}
+use Rattle.ipx_router.specs.History.{is_skipped}
+use Rattle.ipx_router.specs.Port.{Port, broadcast, port_at, same_node}
+use Rattle.ipx_router.specs.Why.{is_propagated, is_far, is_own_echo, is_bad_source}
+use Rattle.ipx_router.specs.declared.route_offer.RouteOffer.{RouteOffer}
+
+-- a packet that a router sent: the port on which it leaves, the node to which the link sends it, and its bytes
+pub record Sent : Type 0 where
+  pub port : ℕ
+  pub link : Node
+  pub bytes : List ℕ
+
+-- ---- as a relation, over any tables
+
+-- a route that a table may have: to another network than the ports' and the two that no network has, by a port that
+-- there is, and by one neighbour
+pub record IsTableRoute (ports : List Port) (r : RouteOffer) : Type 0 where
+  pub network : is_skipped ports r.network ≡ false
+  pub port : r.port < length ports
+  pub neighbour : same_node r.node broadcast ≡ false
+
+-- a packet may be sent on: it is neither the port's own nor from a broadcast, and not longer than the outgoing port allows
+pub record MayLeave (ports : List Port) (number : ℕ) (p : Parts) (out : ℕ) : Type 0 where
+  pub no_echo : is_own_echo (port_at ports number) p.header ≡ false
+  pub source : is_bad_source p.header ≡ false
+  pub short : p.header.length ≤ (port_at ports out).longest
+  pub exists : out < length ports
+
+-- a packet for another network leaves by its way, with its transport control one higher
+pub record IsForwarded (ports : List Port) (routes : List RouteOffer) (number : ℕ) (bytes : List ℕ) (s : Sent) : Type 0 where
+  pub packet : Parts
+  pub is : IsPacket bytes packet
+  pub far : is_far (port_at ports number) packet.header ≡ true
+  pub few : packet.header.control ≤ 15
+  pub elsewhere : is_own_port ports packet.header.destination ≡ false
+  pub way : way_to ports routes packet.header.destination ≡ Some (record { port = s.port; link = s.link })
+  pub leaves : MayLeave ports number packet s.port
+  pub written : s.bytes ≡ packet_bytes (forwarded packet)
+
+-- a packet for all networks leaves on another port, if neither that port's network nor the arriving one was crossed
+pub record IsPropagated (ports : List Port) (number : ℕ) (bytes : List ℕ) (s : Sent) : Type 0 where
+  pub packet : Parts
+  pub is : IsPacket bytes packet
+  pub all : is_propagated packet.header ≡ true
+  pub networks : List Network
+  pub crossed : IsCrossed packet.header.control packet.payload networks
+  pub other : s.port ≢ number
+  pub new_here : is_among (port_at ports number).network networks ≡ false
+  pub new_there : is_among (port_at ports s.port).network networks ≡ false
+  pub link : s.link ≡ broadcast
+  pub leaves : MayLeave ports number packet s.port
+  pub written : s.bytes ≡ packet_bytes (propagated (port_at ports number).network (port_at ports s.port).network packet)
+
+-- ---- as the list of what leaves, for packets that no check drops
+
+-- a far packet, by its way
+abbrev pub forwarded_by : List Port → List RouteOffer → Parts → List Sent
+forwarded_by ports routes p =
+    elim (way_to ports routes p.header.destination) [
+      | Some way ↦ record { port = way.port; link = way.link; bytes = packet_bytes (forwarded p) } ∷ []
+      | None ↦ []
+    ]
+
+-- a propagated packet goes out on another port whose network it hasn't crossed, if it isn't too long for it
+abbrev pub goes_out : List Port → ℕ → Parts → ℕ → Bool
+goes_out ports number p out =
+    not (out == number) && not (is_among (port_at ports out).network (networks_at p.header.control p.payload))
+    && nat_le p.header.length (port_at ports out).longest
+
+abbrev pub propagated_on : List Port → ℕ → Parts → ℕ → List Sent
+propagated_on ports number p out =
+    if goes_out ports number p out then record {
+      port = out;
+      link = broadcast;
+      bytes = packet_bytes (propagated (port_at ports number).network (port_at ports out).network p);
+    } ∷ []
+    else []
+
+-- what leaves of a packet that is to be sent on, ports in order
+abbrev pub relayed : List Port → List RouteOffer → ℕ → Parts → List Sent
+relayed ports routes number p =
+    if is_propagated p.header then flat_map (propagated_on ports number p) (ports_up ports)
+    else if is_far (port_at ports number) p.header then forwarded_by ports routes p
+    else []

@@ -1,0 +1,19 @@
+//! What happens to a router.
+
+/// One thing that happens to a router.
+#[derive(Clone, Copy, Debug, PartialEq, Eq)]
+pub enum Event<'a> {
+    /// It is started.
+    Start,
+    /// It is stopped, and forgets what it learned.
+    Stop,
+    /// A second has passed.
+    Second,
+    /// Bytes came in on a port.
+    Packet {
+        /// The number of the port, from 0; there is such a port.
+        port: u8,
+        /// What came in, any bytes at all.
+        bytes: &'a [u8],
+    },
+}

@@ -1,0 +1,112 @@
+ghost use Rattle.std.specs.Prelude.{◌≡◌, IfOk, IfErr};
+
+use ipx_wire::{Network, Node};
+use std::marker::Model;
+use thiserror::Error;
+
+/// Why values make no port, the first that holds.
+#[derive(Clone, Copy, Debug, PartialEq, Eq, Hash, Error)]
+pub enum PortFault {
+    /// The longest packet is under 576 bytes.
+    #[error("a longest packet under 576 bytes")]
+    Longest,
+    /// The cost is 0 ticks.
+    #[error("no cost")]
+    Cost,
+    /// The network is 0, FFFFFFFEh or FFFFFFFFh.
+    #[error("a network number that no network has")]
+    Network,
+    /// The node is the broadcast.
+    #[error("the broadcast as node")]
+    Node,
+}
+
+/// Where a router stands on a network.
+#[derive(Clone, Copy, Debug, PartialEq, Eq)]
+pub struct Port {
+    network: Network,
+    node: Node,
+    cost: u16,
+    longest: u16,
+}
+
+impl Model for Port {
+    ghost use Rattle.ipx_router.specs.Port.{Port, IsPort};
+
+    ghost Value = { Port };
+
+    ghost view = { λ p. record { network = p.network; node = p.node; cost = p.cost; longest = p.longest } };
+
+    ghost invariant = { λ p. IsPort (record { network = p.network; node = p.node; cost = p.cost; longest = p.longest }) };
+
+    ghost inverse = { λ p. record { network = p.network; node = p.node; cost = p.cost; longest = p.longest } };
+}
+
+/// Some port, for places that are not in use: node 0 of network 1.
+impl Default for Port {
+    fn default() -> Port {
+        Port {
+            network: Network(1),
+            node: Node([0; 6]),
+            cost: 1,
+            longest: 576,
+        }
+    }
+}
+
+impl Port {
+    ghost use Rattle.ipx_router.specs.Port.{IsNoPort, IsPort};
+
+    /// A port of a network with a node number there, its cost in ticks, and the bytes of the
+    /// longest packet that may leave on it.
+    pub fn new(network: Network, node: Node, cost: u16, longest: u16) -> Result<Port, PortFault>
+        ensures value { IfOk result (λ p. p ≡ record { network = network; node = node; cost = cost; longest = longest }) }
+        ensures fit { IfOk result IsPort }
+        ensures refused { IfErr result (IsNoPort network node cost longest) }
+    {
+        if longest < 576 {
+            return Err(PortFault::Longest);
+        }
+        if cost == 0 {
+            return Err(PortFault::Cost);
+        }
+        if network.0 == 0 || network.0 >= 0xFFFF_FFFE {
+            return Err(PortFault::Network);
+        }
+        if node == Node::BROADCAST {
+            return Err(PortFault::Node);
+        }
+        Ok(Port {
+            network,
+            node,
+            cost,
+            longest,
+        })
+    }
+
+    pub fn network(&self) -> Network
+        ensures { result ≡ self.now.network }
+    {
+        self.network
+    }
+
+    pub fn node(&self) -> Node
+        ensures { result ≡ self.now.node }
+    {
+        self.node
+    }
+
+    /// The ticks that a packet takes to cross the port's network.
+    pub fn cost(&self) -> u16
+        ensures { result ≡ self.now.cost }
+    {
+        self.cost
+    }
+
+    /// The bytes of the longest packet that may leave on it.
+    pub fn longest(&self) -> u16
+        ensures { result ≡ self.now.longest }
+    {
+        self.longest
+    }
+}

@@ -1,0 +1,41 @@
+//! A service as a neighbour tells it.
+ghost use Rattle.std.proofs.Common.{rules};
+ghost use Rattle.ipx_router.specs.Services.{service_reading};
+
+use ipx_table::Offer;
+use ipx_wire::{Node, Service, ServiceName};
+
+/// A service as a neighbour told it: fewer hops are better. It is known by its type and its name.
+#[derive(Clone, Copy, Debug, Default, PartialEq, Eq, Hash)]
+pub struct ServiceOffer {
+    /// Type, name, address and hops, as heard.
+    pub service: Service,
+    /// The port on which it was heard.
+    pub port: u8,
+    /// The neighbour that told it.
+    pub node: Node,
+}
+
+impl Offer for ServiceOffer {
+    type Key = (u16, ServiceName);
+
+    ghost reading = { service_reading };
+
+    fn key(&self) -> (u16, ServiceName) {
+        (self.service.kind, self.service.name)
+    }
+
+    fn source(&self) -> (u8, Node) {
+        (self.port, self.node)
+    }
+
+    fn rank(&self) -> (u16, u16) {
+        (self.service.hops, 0)
+    }
+
+    fn is_down(&self) -> bool {
+        16 <= self.service.hops
+    }
+
+    ghost alike = { Prim.search rules };
+}
