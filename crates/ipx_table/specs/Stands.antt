@@ -24,9 +24,13 @@ module _ {O : Type 0} (by_key : O → O → Ordering) where
   abbrev pub IsDistinct : List (Held O) → Type 0
   IsDistinct held = (offer : O) → length (filter (λ h. same_key by_key h.offer offer) held) ≤ 1
 
--- the records are the alive offers with their ages, in the order of their keys
+-- the alive offers with their ages, in the order of their keys
+abbrev pub held : {O : Type 0} → Rules O → List (Fact O) → List (Held O)
+held rules facts = in_order rules.by_key (alive rules (marked rules facts))
+
+-- the records are those, and no others
 abbrev pub Stands : {O : Type 0} → Rules O → List (Held O) → List (Fact O) → Type 0
-Stands rules records facts = records ≡ in_order rules.by_key (alive rules (marked rules facts))
+Stands rules records facts = records ≡ held rules facts
 
 -- the record of a key, if there is one
 abbrev pub record_of : {O K : Type 0} → (O → K) → (K → K → Ordering) → K → List (Held O) → Option (Held O)

@@ -1,0 +1,24 @@
+use Rattle.std.proofs.Common.{[], ◌∷◌, ◌++◌, ap, ◌∙◌}
+use Rattle.std.proofs.lemmas.Cmp.{on_total}
+use Rattle.ipx_table.specs.Alive.{alive}
+use Rattle.ipx_table.specs.Accepted.{marked}
+use Rattle.ipx_table.specs.Facts.{Offered}
+use Rattle.ipx_table.specs.Reading.{rules_of}
+use Rattle.ipx_table.proofs.History.{alive_after-offered, alive_after-second}
+use Rattle.ipx_table.proofs.Seconds.{second-in_order}
+use Rattle.ipx_table.proofs.Standing.{record-others}
+use Rattle.ipx_table.specs.Stands.{in_order}
+use Rattle.ipx_table.proofs.laws.next_facts.Goals as goal
+
+pub returns-clause-others : goal.returns-clause-others
+returns-clause-others g c = λ capacity facts offer key.
+    let r = rules_of g.O.Offer.reading g.O.Key.Ord.cmp capacity in
+    let total = g.met.O.Key.Ord.total in
+    record-others g.O.Offer.reading g.O.Key.Ord.cmp total capacity (alive r (marked r facts)) (alive r (marked r (facts ++ Offered offer ∷ []))) offer
+    (ap (in_order r.by_key) (alive_after-offered r facts offer)) key
+
+pub returns-clause-second : goal.returns-clause-second
+returns-clause-second g c = λ capacity facts.
+    let r = rules_of g.O.Offer.reading g.O.Key.Ord.cmp capacity in
+    let total = on_total g.O.Offer.reading.key g.met.O.Key.Ord.total in
+    ap (in_order r.by_key) (alive_after-second r facts) ∙ second-in_order r.by_key total (alive r (marked r facts))
