@@ -26,10 +26,11 @@ use Rattle.ipx_router.specs.Port.{Port, port_at, same_node, broadcast}
 use Rattle.ipx_router.specs.Relays.{IsTableRoute}
 use Rattle.ipx_router.specs.Routes.{route_rules}
 use Rattle.ipx_router.specs.Why.{checks, is_stopped, first_of, when, is_bad_source, is_own_echo, is_near, is_for_rip}
+use Rattle.ipx_router.specs.declared.route_offer.RouteOffer.{RouteOffer}
 use Rattle.ipx_router.specs.declared.why.Why.{Why}
 use Rattle.ipx_router.specs.declared.why.Why.TheVariants.{NotRunning, Malformed, OwnEcho, BadSource}
 
-all-append : {X : Type 0} (P : X → Type 0) (xs ys : List X) → AllByRecursion P xs → AllByRecursion P ys → AllByRecursion P (xs ++ ys)
+pub all-append : {X : Type 0} (P : X → Type 0) (xs ys : List X) → AllByRecursion P xs → AllByRecursion P ys → AllByRecursion P (xs ++ ys)
 all-append P [] ys one two = two
 all-append P (x ∷ xs) ys one two = (one.0, all-append P xs ys one.1 two)
 
@@ -55,9 +56,11 @@ module _ {O : Type 0} (P : O → Type 0) where
       → AllByRecursion (λ m. OfferIs m.0) (marked_after rules before facts)
   all_marked rules before [] one all = one
   all_marked rules before (fact ∷ facts) one all =
-      all_marked rules (before ++ (fact, is_accepted rules (alive rules before) fact) ∷ []) facts (all-append (λ m. OfferIs m.0) before ((fact, is_accepted rules (alive rules before) fact) ∷ []) one (all.0, tt)) all.1
+      all_marked rules (before ++ (fact, is_accepted rules (alive rules before) fact) ∷ []) facts
+      (all-append (λ m. OfferIs m.0) before ((fact, is_accepted rules (alive rules before) fact) ∷ []) one (all.0, tt)) all.1
 
-  all_put : (by_key : O → O → Ordering) (h : Held O) (xs : List (Held O)) → P h.offer → AllByRecursion (λ h. P h.offer) xs → AllByRecursion (λ h. P h.offer) (put by_key h xs)
+  all_put : (by_key : O → O → Ordering) (h : Held O) (xs : List (Held O))
+      → P h.offer → AllByRecursion (λ h. P h.offer) xs → AllByRecursion (λ h. P h.offer) (put by_key h xs)
   all_put by_key h [] one all = (one, tt)
   all_put by_key h (x ∷ xs) one all =
       elim (cases_Bool (is_lt (by_key x.offer h.offer))) [
@@ -73,7 +76,8 @@ module _ {O : Type 0} (P : O → Type 0) where
   all_offers [] all = tt
   all_offers (x ∷ xs) all = (all.0, all_offers xs all.1)
 
-  pub all_held : (rules : Rules O) (facts : List (Fact O)) → AllByRecursion OfferIs facts → AllByRecursion P (offers (in_order rules.by_key (alive rules (marked rules facts))))
+  pub all_held : (rules : Rules O) (facts : List (Fact O)) → AllByRecursion OfferIs facts
+      → AllByRecursion P (offers (in_order rules.by_key (alive rules (marked rules facts))))
   all_held rules facts all =
       all_offers (in_order rules.by_key (alive rules (marked rules facts)))
       (all_in_order rules.by_key (alive rules (marked rules facts)) (all_alive rules (marked rules facts) (all_marked rules [] facts tt all)))
@@ -87,22 +91,24 @@ passed false w rest e = (refl, e)
 source_passed : (ports : List Port) (port : Port) (p : Parts) → first_of (checks ports [] port p) ≡ None → is_bad_source p.header ≡ false
 source_passed ports port p e = (passed (is_bad_source p.header) BadSource _ (passed (is_own_echo port p.header) OwnEcho _ e).1).0
 
-abbrev source_of : Heard → Address
+abbrev pub source_of : Heard → Address
 source_of (HeardRip source rip) = source
 source_of (HeardSap source sap) = source
 
-nothing : {X : Type 0} {x : X} {A : Type 0} → None ≡ Some x → A
+pub nothing : {X : Type 0} {x : X} {A : Type 0} → None ≡ Some x → A
 nothing e = absurd (true≢false (sym (ap is_some e)))
 
 -- the source of what was heard is the packet's
 named : (other : Address) (m n : Heard) → Some m ≡ Some n → source_of m ≡ source_of n
 named other m n e = ap (λ (o : Option Heard). elim o [ None ↦ other | Some h ↦ source_of h ]) e
 
-rip_source : (source : Address) (r : Result RipParts RipFault) (m : Heard) → elim r [ Ok rip ↦ Some (HeardRip source rip) | Err fault ↦ None ] ≡ Some m → source ≡ source_of m
+rip_source : (source : Address) (r : Result RipParts RipFault) (m : Heard)
+    → elim r [ Ok rip ↦ Some (HeardRip source rip) | Err fault ↦ None ] ≡ Some m → source ≡ source_of m
 rip_source source (Ok rip) m e = named source (HeardRip source rip) m e
 rip_source source (Err fault) m e = nothing e
 
-sap_source : (source : Address) (s : Result Sap SapFault) (m : Heard) → elim s [ Ok sap ↦ Some (HeardSap source sap) | Err fault ↦ None ] ≡ Some m → source ≡ source_of m
+sap_source : (source : Address) (s : Result Sap SapFault) (m : Heard)
+    → elim s [ Ok sap ↦ Some (HeardSap source sap) | Err fault ↦ None ] ≡ Some m → source ≡ source_of m
 sap_source source (Ok sap) m e = named source (HeardSap source sap) m e
 sap_source source (Err fault) m e = nothing e
 
@@ -117,27 +123,39 @@ near_source port p m e = elim (cases_Bool (is_near port p.header)) [
       ]
 ]
 
-module _ (ports : List Port) (number : ℕ) where
-  judged : (p : Parts) (o : Option Why) (m : Heard) → first_of (checks ports [] (port_at ports number) p) ≡ o
-      → elim o [ Some reason ↦ None | None ↦ heard_near (port_at ports number) p ] ≡ Some m → same_node (source_of m).node broadcast ≡ false
-  judged p (Some reason) m f e = nothing e
-  judged p None m f e =
-      subst (λ (a : Address). same_node a.node broadcast ≡ false) (near_source (port_at ports number) p m e) (source_passed ports (port_at ports number) p f)
+-- what was heard came in a packet that no check dropped
+pub record CameIn (ports : List Port) (number : ℕ) (bytes : List ℕ) (m : Heard) : Type 0 where
+  pub packet : Parts
+  pub read : packet_of bytes ≡ Ok packet
+  pub passed : first_of (checks ports [] (port_at ports number) packet) ≡ None
+  pub near : heard_near (port_at ports number) packet ≡ Some m
 
-  read : (runs : Bool) (r : Result Parts PacketFault) (m : Heard)
+module _ (ports : List Port) (number : ℕ) where
+  judged : (bytes : List ℕ) (p : Parts) (o : Option Why) (m : Heard) → packet_of bytes ≡ Ok p → first_of (checks ports [] (port_at ports number) p) ≡ o
+      → elim o [ Some reason ↦ None | None ↦ heard_near (port_at ports number) p ] ≡ Some m → CameIn ports number bytes m
+  judged bytes p (Some reason) m r f e = nothing e
+  judged bytes p None m r f e = record { packet = p; read = r; passed = f; near = e }
+
+  read : (runs : Bool) (bytes : List ℕ) (r : Result Parts PacketFault) (m : Heard) → packet_of bytes ≡ r
       → elim (first_of (when (is_stopped runs) NotRunning ∷ elim r [ Ok p ↦ None | Err fault ↦ Some (Malformed fault) ]
       ∷ elim r [ Ok p ↦ checks ports [] (port_at ports number) p | Err fault ↦ [] ])) [
         | Some reason ↦ None
         | None ↦ elim r [ Ok p ↦ heard_near (port_at ports number) p | Err fault ↦ None ]
       ] ≡ Some m
-      → same_node (source_of m).node broadcast ≡ false
-  read false r m e = nothing e
-  read true (Err fault) m e = nothing e
-  read true (Ok p) m e = judged p (first_of (checks ports [] (port_at ports number) p)) m refl e
+      → CameIn ports number bytes m
+  read false bytes r m f e = nothing e
+  read true bytes (Err fault) m f e = nothing e
+  read true bytes (Ok p) m f e = judged bytes p (first_of (checks ports [] (port_at ports number) p)) m f refl e
+
+  pub came_in : (runs : Bool) (bytes : List ℕ) (m : Heard) → heard ports runs number bytes ≡ Some m → CameIn ports number bytes m
+  came_in runs bytes m e = read runs bytes (packet_of bytes) m refl e
 
   -- nobody is heard who calls itself the broadcast
   heard_source : (runs : Bool) (bytes : List ℕ) (m : Heard) → heard ports runs number bytes ≡ Some m → same_node (source_of m).node broadcast ≡ false
-  heard_source runs bytes m e = read runs (packet_of bytes) m e
+  heard_source runs bytes m e =
+      let came = came_in runs bytes m e in
+      subst (λ (a : Address). same_node a.node broadcast ≡ false) (near_source (port_at ports number) came.packet m came.near)
+      (source_passed ports (port_at ports number) came.packet came.passed)
 
   module _ (within : number < length ports) where
     offered_all : (node : Node) (entries : List RipEntry) → same_node node broadcast ≡ false
@@ -159,22 +177,31 @@ module _ (ports : List Port) (number : ℕ) where
     heard_all (Some (HeardSap source sap)) sources = tt
     heard_all (Some (HeardRip source rip)) sources = by_operation rip.operation source.node rip.entries (sources (HeardRip source rip) refl)
 
-facts_all : (ports : List Port) (runs : Bool) (event : Event) → IsOnPort ports event → AllByRecursion (OfferIs (IsTableRoute ports)) (route_facts_of ports runs event)
-facts_all ports runs Start on = tt
-facts_all ports true Stop on = (tt, tt)
-facts_all ports false Stop on = tt
-facts_all ports true Second on = (tt, tt)
-facts_all ports false Second on = tt
-facts_all ports runs (Packet number bytes) on = heard_all ports number on (heard ports runs number bytes) (heard_source ports number runs bytes)
+-- ---- over histories
 
-history_all : (ports : List Port) (runs : Bool) (history : History) → AllByRecursion (IsOnPort ports) history
-    → AllByRecursion (OfferIs (IsTableRoute ports)) (route_facts_from ports runs history)
-history_all ports runs [] on = tt
-history_all ports runs (event ∷ events) on =
-    all-append (OfferIs (IsTableRoute ports)) (route_facts_of ports runs event) (route_facts_from ports (runs_after runs event) events)
-    (facts_all ports runs event on.0) (history_all ports (runs_after runs event) events on.1)
+-- where what each packet offers is such, what a history offers is
+module _ (P : RouteOffer → Type 0) (C : Event → Type 0) (ports : List Port)
+    (packet : (runs : Bool) (number : ℕ) (bytes : List ℕ) → C (Packet number bytes)
+    → AllByRecursion (OfferIs P) (routes_heard ports number (heard ports runs number bytes))) where
+  facts_all : (runs : Bool) (event : Event) → C event → AllByRecursion (OfferIs P) (route_facts_of ports runs event)
+  facts_all runs Start is = tt
+  facts_all true Stop is = (tt, tt)
+  facts_all false Stop is = tt
+  facts_all true Second is = (tt, tt)
+  facts_all false Second is = tt
+  facts_all runs (Packet number bytes) is = packet runs number bytes is
+
+  history_all : (runs : Bool) (history : History) → AllByRecursion C history → AllByRecursion (OfferIs P) (route_facts_from ports runs history)
+  history_all runs [] are = tt
+  history_all runs (event ∷ events) are =
+      all-append (OfferIs P) (route_facts_of ports runs event) (route_facts_from ports (runs_after runs event) events) (facts_all runs event are.0)
+      (history_all (runs_after runs event) events are.1)
+
+  pub routes_all : (capacity : ℕ) (history : History) → AllByRecursion C history → AllByRecursion P (offers (routes_held ports capacity history))
+  routes_all capacity history are = all_held P (route_rules capacity) (route_facts ports history) (history_all false history are)
 
 pub tables : (ports : List Port) (capacity : ℕ) (history : History) → AllByRecursion (IsOnPort ports) history
     → AllByRecursion (IsTableRoute ports) (offers (routes_held ports capacity history))
 tables ports capacity history on =
-    all_held (IsTableRoute ports) (route_rules capacity) (route_facts ports history) (history_all ports false history on)
+    routes_all (IsTableRoute ports) (IsOnPort ports) ports
+    (λ runs number bytes within. heard_all ports number within (heard ports runs number bytes) (heard_source ports number runs bytes)) capacity history on

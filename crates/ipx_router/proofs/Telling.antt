@@ -54,11 +54,11 @@ none_differ key_of order same alike offers (key ∷ keys) =
     one None = refl
     one (Some o) = alike o
 
-route-same : (r : RouteOffer) → same_route r r ≡ true
+pub route-same : (r : RouteOffer) → same_route r r ≡ true
 route-same r =
     simp (eq-eqb r.network.0 r.network.0 refl, eq-eqb r.hops r.hops refl, eq-eqb r.ticks r.ticks refl, eq-eqb r.port r.port refl, pointwise-same r.node.0) refl
 
-service-same : (s : ServiceOffer) → same_service s s ≡ true
+pub service-same : (s : ServiceOffer) → same_service s s ≡ true
 service-same s =
     let a = s.service.address in
     simp (

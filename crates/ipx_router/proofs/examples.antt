@@ -2,6 +2,7 @@
 pub mod Ageing
 pub mod Asking
 pub mod Becoming
+pub mod Bounding
 pub mod Changing
 pub mod Dear
 pub mod Dropping

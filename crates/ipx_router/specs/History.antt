@@ -2,9 +2,8 @@
 use Rattle.std.specs.Prelude.{ℕ, ◌<◌, length, ◌+◌, ◌==◌, ◌||◌, Bool, true, false, if◌then◌else◌, List, [], ◌∷◌, ◌++◌, map, Option, None, Some}
 use Rattle.std.specs.List.{list_any}
 use Rattle.ipx_table.specs.Facts.{Fact, Offered, Second as SecondPassed, End}
-use Rattle.ipx_table.specs.Alive.{alive}
-use Rattle.ipx_table.specs.Accepted.{marked}
-use Rattle.ipx_table.specs.Stands.{in_order}
+use Rattle.ipx_table.specs.Stands.{held}
+use Rattle.ipx_wire.specs.Piece.{IsBytes}
 use Rattle.ipx_wire.specs.declared.network.Network.{Network}
 use Rattle.ipx_wire.specs.declared.node.Node.{Node}
 use Rattle.ipx_wire.specs.declared.rip.Operation.TheVariants.{Request, Response as RipResponse}
@@ -33,6 +32,14 @@ IsOnPort ports Stop = Unit
 IsOnPort ports Second = Unit
 IsOnPort ports (Packet number bytes) = number < length ports
 
+-- what comes are bytes
+abbrev pub IsOfBytes : Event → Type 0
+IsOfBytes Start = Unit
+IsOfBytes Stop = Unit
+IsOfBytes Second = Unit
+IsOfBytes (Packet number bytes) = IsBytes bytes
+
+-- all events so far, the oldest first
 abbrev pub History : Type 0
 History = List Event
 
@@ -45,6 +52,7 @@ runs_after was Stop = false
 runs_after was Second = was
 runs_after was (Packet number bytes) = was
 
+-- whether it runs after events, one after the other
 abbrev pub runs_through : Bool → History → Bool
 runs_through was [] = was
 runs_through was (event ∷ events) = runs_through (runs_after was event) events
@@ -84,6 +92,7 @@ route_facts_of ports runs Stop = if runs then End ∷ [] else []
 route_facts_of ports runs Second = if runs then SecondPassed ∷ [] else []
 route_facts_of ports runs (Packet number bytes) = routes_heard ports number (heard ports runs number bytes)
 
+-- what events say of routes, one after the other
 abbrev pub route_facts_from : List Port → Bool → History → List (Fact RouteOffer)
 route_facts_from ports runs [] = []
 route_facts_from ports runs (event ∷ events) = route_facts_of ports runs event ++ route_facts_from ports (runs_after runs event) events
@@ -121,6 +130,7 @@ service_facts_of ports runs Stop = if runs then End ∷ [] else []
 service_facts_of ports runs Second = if runs then SecondPassed ∷ [] else []
 service_facts_of ports runs (Packet number bytes) = services_heard number (heard ports runs number bytes)
 
+-- what events say of services, one after the other
 abbrev pub service_facts_from : List Port → Bool → History → List (Fact ServiceOffer)
 service_facts_from ports runs [] = []
 service_facts_from ports runs (event ∷ events) = service_facts_of ports runs event ++ service_facts_from ports (runs_after runs event) events
@@ -133,17 +143,15 @@ service_facts ports history = service_facts_from ports false history
 
 -- the alive routes after a history, by network, in a router that holds so many
 abbrev pub routes_held : List Port → ℕ → History → List (Held RouteOffer)
-routes_held ports capacity history =
-    let rules = route_rules capacity in in_order rules.by_key (alive rules (marked rules (route_facts ports history)))
+routes_held ports capacity history = held (route_rules capacity) (route_facts ports history)
 
 -- the alive services after a history, by type and name
 abbrev pub services_held : List Port → ℕ → History → List (Held ServiceOffer)
-services_held ports capacity history =
-    let rules = service_rules capacity in in_order rules.by_key (alive rules (marked rules (service_facts ports history)))
+services_held ports capacity history = held (service_rules capacity) (service_facts ports history)
 
 -- the offers of records
 abbrev pub offers : {O : Type 0} → List (Held O) → List O
-offers held = map (λ h. h.offer) held
+offers records = map (λ h. h.offer) records
 
 -- ---- seconds
 

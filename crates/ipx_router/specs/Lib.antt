@@ -5,6 +5,7 @@ pub mod History
 pub mod News
 pub mod Outcomes
 pub mod Outgoing
+pub mod Packets
 pub mod Pages
 pub mod Port
 pub mod Relays

@@ -1,5 +1,5 @@
 -- What a router tells of a change, at once: on each port but that of the later offer, or, where there is none, of the earlier.
-use Rattle.std.specs.Prelude.{ℕ, ◌==◌, ◌&&◌, nat_lt, Bool, if◌then◌else◌, List, [], ◌∷◌, None, Some}
+use Rattle.std.specs.Prelude.{ℕ, ◌==◌, ◌&&◌, Bool, if◌then◌else◌, List, [], ◌∷◌, None, Some}
 use Rattle.std.specs.List.{flat_map}
 use Rattle.ipx_wire.specs.Name.{same_name}
 use Rattle.ipx_wire.specs.declared.address.Address.{Address}
@@ -9,20 +9,22 @@ use Rattle.ipx_router.specs.Changes.{Change, changes}
 use Rattle.ipx_router.specs.Port.{Port, port_at, same_node}
 use Rattle.ipx_router.specs.Routes.{network_order}
 use Rattle.ipx_router.specs.Services.{service_order}
-use Rattle.ipx_router.specs.Told.{told_at, dead, farther, down, entry_of}
+use Rattle.ipx_router.specs.Told.{is_reached_on, told_at, dead, farther, down, entry_of}
 use Rattle.ipx_router.specs.declared.route_offer.RouteOffer.{RouteOffer}
 use Rattle.ipx_router.specs.declared.service_offer.ServiceOffer.{ServiceOffer}
 
 -- ---- routes
 
+-- two offers of routes are the same, field by field
 abbrev pub same_route : RouteOffer → RouteOffer → Bool
 same_route a b =
     (a.network.0 == b.network.0) && (a.hops == b.hops) && (a.ticks == b.ticks) && (a.port == b.port) && same_node a.node b.node
 
--- a route as it is told on a port; where the next hop isn't reached any more, it is dead
+-- a route as it is told on a port; where the next router on doesn't reach it, it is dead
 abbrev pub route_now : Port → RouteOffer → RipEntry
-route_now port route = if nat_lt route.hops 15 then told_at port.cost (entry_of route) else dead (entry_of route)
+route_now port route = if is_reached_on route.hops then told_at port.cost (entry_of route) else dead (entry_of route)
 
+-- a changed route as it is told on a port: as it is now, or, where it ended, dead; nothing where it was learned
 abbrev pub route_told : List Port → ℕ → Change RouteOffer → List RipEntry
 route_told ports number change =
     elim change.after [
@@ -39,19 +41,21 @@ news ports before after number = flat_map (route_told ports number) (changes (λ
 
 -- ---- services
 
+-- two addresses are the same, field by field
 abbrev pub same_address : Address → Address → Bool
 same_address a b = (a.network.0 == b.network.0) && same_node a.node b.node && (a.socket.0 == b.socket.0)
 
+-- two offers of services are the same, field by field
 abbrev pub same_service : ServiceOffer → ServiceOffer → Bool
 same_service a b =
     (a.service.kind == b.service.kind) && same_name a.service.name b.service.name && same_address a.service.address b.service.address
     && (a.service.hops == b.service.hops) && (a.port == b.port) && same_node a.node b.node
 
--- a service as it is told; where the next hop isn't reached any more, it is down
+-- a service as it is told; where the next router on doesn't reach it, it is down
 abbrev pub service_now : ServiceOffer → Service
-service_now offer = if nat_lt offer.service.hops 15 then farther offer.service else down offer.service
+service_now offer = if is_reached_on offer.service.hops then farther offer.service else down offer.service
 
--- one that ended keeps the address that it had before the event
+-- a changed service as it is told on a port; one that ended keeps the address that it had before the event
 abbrev pub service_told : ℕ → Change ServiceOffer → List Service
 service_told number change =
     elim change.after [

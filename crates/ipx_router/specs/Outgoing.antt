@@ -22,6 +22,10 @@ numbers (suc n) = numbers n ++ n ∷ []
 abbrev pub ports_up : List Port → List ℕ
 ports_up ports = numbers (length ports)
 
+-- a port with that number is up
+abbrev pub is_up : List Port → ℕ → Bool
+is_up ports number = list_any (λ j. j == number) (ports_up ports)
+
 -- the port of that network, if the router has one
 abbrev pub port_of : List Port → Network → Option ℕ
 port_of ports network = find (λ j. (port_at ports j).network.0 == network.0) (ports_up ports)

@@ -1,5 +1,5 @@
 -- A port of a router, as the definitions see it.
-use Rattle.std.specs.Prelude.{◌≡◌, ◌≢◌, ℕ, ◌<◌, ◌≤◌, ◌⊎◌, ◌==◌, ◌||◌, nat_eq, Bool, List, replicate, slice_index_or}
+use Rattle.std.specs.Prelude.{◌≡◌, ◌≢◌, ℕ, ◌^◌, ◌<◌, ◌≤◌, ◌⊎◌, ◌==◌, ◌||◌, nat_eq, Bool, List, length, replicate, slice_index_or}
 use Rattle.std.specs.Cmp.Lexicographic.{pointwise}
 use Rattle.ipx_wire.specs.declared.address.Address.{Address}
 use Rattle.ipx_wire.specs.declared.network.Network.{Network}
@@ -26,8 +26,10 @@ IsReserved network = (network.0 ≡ 0) ⊎ (4294967294 ≤ network.0)
 pub record IsPort (p : Port) : Type 0 where
   pub longest : 576 ≤ p.longest
   pub cost : 0 < p.cost
+  pub ticks : p.cost < 2 ^ 16
   pub some_network : 0 < p.network.0
   pub ordinary_network : p.network.0 < 4294967294
+  pub six_bytes : length p.node.0 ≡ 6
   pub node : p.node ≢ broadcast
 
 -- why values are no port's, the first that holds

@@ -7,7 +7,7 @@ use Rattle.ipx_wire.specs.Packet.{Parts, IsPacket}
 use Rattle.ipx_wire.specs.Write.{packet_bytes}
 use Rattle.ipx_wire.specs.declared.network.Network.{Network}
 use Rattle.ipx_wire.specs.declared.node.Node.{Node}
-use Rattle.ipx_router.specs.Outgoing.{ports_up, way_to, is_own_port}
+use Rattle.ipx_router.specs.Outgoing.{ports_up, is_up, way_to, is_own_port}
 use Rattle.ipx_router.specs.History.{is_skipped}
 use Rattle.ipx_router.specs.Port.{Port, broadcast, port_at, same_node}
 use Rattle.ipx_router.specs.Why.{is_propagated, is_far, is_own_echo, is_bad_source}
@@ -33,7 +33,7 @@ pub record MayLeave (ports : List Port) (number : ℕ) (p : Parts) (out : ℕ) :
   pub no_echo : is_own_echo (port_at ports number) p.header ≡ false
   pub source : is_bad_source p.header ≡ false
   pub short : p.header.length ≤ (port_at ports out).longest
-  pub exists : out < length ports
+  pub up : is_up ports out ≡ true
 
 -- a packet for another network leaves by its way, with its transport control one higher
 pub record IsForwarded (ports : List Port) (routes : List RouteOffer) (number : ℕ) (bytes : List ℕ) (s : Sent) : Type 0 where
@@ -76,6 +76,7 @@ goes_out ports number p out =
     not (out == number) && not (is_among (port_at ports out).network (networks_at p.header.control p.payload))
     && nat_le p.header.length (port_at ports out).longest
 
+-- a propagated packet on a port, if it goes out there
 abbrev pub propagated_on : List Port → ℕ → Parts → ℕ → List Sent
 propagated_on ports number p out =
     if goes_out ports number p out then record {

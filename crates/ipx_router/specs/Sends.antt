@@ -85,6 +85,10 @@ start_on ports number =
     ++ rip_sends ports number (everyone (port_at ports number)) Request (all_routes ∷ [])
     ++ services_query ports number ∷ []
 
+-- that, port after port
+abbrev pub start_sends : List Port → List Sent
+start_sends ports = flat_map (start_on ports) (ports_up ports)
+
 -- ---- answers
 
 -- the entries that a request asks for: all, or those that it names, each once
@@ -158,7 +162,7 @@ packet_sends ports before after runs number bytes =
 
 -- what an event sends
 abbrev pub sends_of : List Port → Holding → Holding → Bool → Bool → Event → List Sent
-sends_of ports before after runs periodic Start = if runs then [] else flat_map (start_on ports) (ports_up ports)
+sends_of ports before after runs periodic Start = if runs then [] else start_sends ports
 sends_of ports before after runs periodic Stop = if runs then flat_map (stop_on ports before) (ports_up ports) else []
 sends_of ports before after runs periodic Second = if runs then flat_map (second_on ports before after periodic) (ports_up ports) else []
 sends_of ports before after runs periodic (Packet number bytes) = packet_sends ports before after runs number bytes

@@ -44,6 +44,10 @@ by_name services = put_services [] services
 
 -- ---- one hop farther, or gone
 
+-- what is so many hops away is still reached from the next router on
+abbrev pub is_reached_on : ℕ → Bool
+is_reached_on hops = nat_lt hops 15
+
 -- an entry as a port of that cost tells it: one hop more, the cost more ticks, at most 65535 (own)
 abbrev pub told_at : ℕ → RipEntry → RipEntry
 told_at cost entry = record {
@@ -80,20 +84,24 @@ direct ports number = flat_map (direct_at ports number) (ports_up ports)
 abbrev pub entry_of : RouteOffer → RipEntry
 entry_of route = record { network = route.network; hops = route.hops; ticks = route.ticks }
 
--- a route is told where it wasn't learned on the port and the next hop is still reached
+-- a route is told where it wasn't learned on the port and is still reached from the next router on
 abbrev pub is_route_told : ℕ → RouteOffer → Bool
-is_route_told number route = not (route.port == number) && nat_lt route.hops 15
+is_route_told number route = not (route.port == number) && is_reached_on route.hops
 
--- all routes that are told on a port, by network
+-- the routes that are told on a port
+abbrev pub learned : List RouteOffer → ℕ → List RipEntry
+learned routes number = map entry_of (filter (is_route_told number) routes)
+
+-- all that is told on a port, by network
 abbrev pub told : List Port → List RouteOffer → ℕ → List RipEntry
 told ports routes number =
-    by_network (map (told_at (port_at ports number).cost) (direct ports number ++ map entry_of (filter (is_route_told number) routes)))
+    by_network (map (told_at (port_at ports number).cost) (direct ports number ++ learned routes number))
 
 -- ---- services
 
--- a service is told where it wasn't learned on the port and the next hop is still reached
+-- a service is told where it wasn't learned on the port and is still reached from the next router on
 abbrev pub is_service_told : ℕ → ServiceOffer → Bool
-is_service_told number offer = not (offer.port == number) && nat_lt offer.service.hops 15
+is_service_told number offer = not (offer.port == number) && is_reached_on offer.service.hops
 
 -- all services that are told on a port, by type and name
 abbrev pub told_services : List ServiceOffer → ℕ → List Service

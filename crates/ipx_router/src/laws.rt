@@ -1,10 +1,15 @@
 //! What holds of the definitions, for all ports, routes, services and histories.
-ghost use Rattle.std.specs.Prelude.{◌≡◌, ℕ, ◌==◌, Bool, false, not, List, [], filter};
+ghost use Rattle.std.specs.Prelude.{◌≡◌, ℕ, ◌<◌, ◌≤◌, ◌==◌, Bool, true, false, not, List, [], ◌∷◌, ◌++◌, length, filter, slice_get, Some, None, Ok};
 ghost use Rattle.std.specs.List.{AllByRecursion};
-ghost use Rattle.ipx_router.specs.History.{History, Start, Stop, Second, Packet, IsOnPort, running, routes_held, offers};
+ghost use Rattle.ipx_wire.specs.Packet.{Parts, packet_of};
+ghost use Rattle.ipx_wire.specs.Piece.{IsBytes};
+ghost use Rattle.ipx_router.specs.Bounds.{most_packets, most_length};
+ghost use Rattle.ipx_router.specs.History.{Event, History, Start, Stop, Second, Packet, IsOnPort, IsOfBytes, running, routes_held, services_held, offers};
 ghost use Rattle.ipx_router.specs.News.{news, news_services};
-ghost use Rattle.ipx_router.specs.Port.{Port};
-ghost use Rattle.ipx_router.specs.Relays.{IsTableRoute};
+ghost use Rattle.ipx_router.specs.Packets.{IsSentFor, IsRelayed};
+ghost use Rattle.ipx_router.specs.Port.{Port, IsPort};
+ghost use Rattle.ipx_router.specs.Relays.{Sent, IsTableRoute, relayed};
+ghost use Rattle.ipx_router.specs.Why.{why};
 ghost use Rattle.ipx_router.specs.Sends.{sends};
 ghost use Rattle.ipx_router.specs.Told.{told, told_services};
 
@@ -41,3 +46,48 @@ pub fn tables()
     ensures { (ports : List Port) (capacity : ℕ) (history : History) → AllByRecursion (IsOnPort ports) history
         → AllByRecursion (IsTableRoute ports) (offers (routes_held ports capacity history)) }
 {}
+
+/// What is listed as sent on of a packet that no check drops is sent on by the relations, over any routes that a table may
+/// have; and what the relations say is sent on comes of a packet that no check drops, and is listed.
+pub fn relays()
+    ensures listed { (ports : List Port) (routes : List RouteOffer) (number : ℕ) (bytes : List ℕ) (p : Parts) (k : ℕ) (s : Sent)
+        → IsBytes bytes → AllByRecursion (IsTableRoute ports) routes
+        → why ports routes true number bytes ≡ None → packet_of bytes ≡ Ok p
+        → slice_get (relayed ports routes number p) k ≡ Some s → IsRelayed ports routes number bytes s }
+    ensures all { (ports : List Port) (routes : List RouteOffer) (number : ℕ) (bytes : List ℕ) (s : Sent)
+        → IsBytes bytes → IsRelayed ports routes number bytes s
+        → (why ports routes true number bytes ≡ None)
+        × ((p : Parts) × (k : ℕ) × (packet_of bytes ≡ Ok p) × (slice_get (relayed ports routes number p) k ≡ Some s)) }
+{
+    ipx_wire::laws::readings();
+}
+
+/// Each packet that an event sends is one by the layouts: routing information or service advertising from the port's own
+/// process, or the packet that came, sent on.
+pub fn packets()
+    ensures { (ports : List Port) (most_routes most_services : ℕ) (history : History) (event : Event)
+        → AllByRecursion IsPort ports → AllByRecursion (IsOnPort ports) (history ++ event ∷ []) → AllByRecursion IsOfBytes (history ++ event ∷ [])
+        → AllByRecursion (IsSentFor ports (offers (routes_held ports most_routes history)) event) (sends ports most_routes most_services history event) }
+{
+    ipx_wire::laws::readings();
+    ipx_wire::laws::service_readings();
+    ipx_wire::laws::reread();
+    relays();
+}
+
+/// An event sends no more packets than stated, where the router has at most 32 ports, and none longer than stated.
+pub fn bounds()
+    ensures few { (ports : List Port) (most_routes most_services : ℕ) (history : History) (event : Event) → length ports ≤ 32 → IsOnPort ports event
+        → length (sends ports most_routes most_services history event)
+        ≤ most_packets (length ports) (length (routes_held ports most_routes history)) (length (services_held ports most_services history)) event }
+    ensures short { (ports : List Port) (most_routes most_services : ℕ) (history : History) (event : Event)
+        → AllByRecursion IsPort ports → AllByRecursion (IsOnPort ports) (history ++ event ∷ []) → AllByRecursion IsOfBytes (history ++ event ∷ [])
+        → AllByRecursion (λ s. length s.bytes ≤ most_length event) (sends ports most_routes most_services history event) }
+{
+    ipx_table::laws::next_facts::<RouteOffer>();
+    ipx_table::laws::next_facts::<ServiceOffer>();
+    ipx_wire::laws::readings();
+    ipx_wire::laws::service_readings();
+    ipx_wire::laws::reread();
+    relays();
+}

@@ -7,7 +7,7 @@
 //! - No definition knows a table, a timer or a queue: what is held is read from the facts of a history.
 //! - Worked examples are computed from them, from bytes in to bytes out.
 //!
-//! The router itself is still to come; the thin one of the command stands elsewhere.
+//! The router itself is still to come; the thin one of the command stands on these definitions.
 #![tactic(auto)]
 
 mod event;

@@ -22,7 +22,7 @@ pub enum PortFault {
 }
 
 /// Where a router stands on a network.
-#[derive(Clone, Copy, Debug, PartialEq, Eq)]
+#[derive(Clone, Copy, Debug, PartialEq, Eq, Hash)]
 pub struct Port {
     network: Network,
     node: Node,

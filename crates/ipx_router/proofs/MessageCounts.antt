@@ -1,0 +1,127 @@
+-- What a router hears has few entries.
+use Rattle.std.proofs.Common.{◌≡◌, refl, ap, ℕ, zero, suc, ◌-◌, ◌/◌, ◌≤◌, ◌==◌, nat_lt, Bool, List, [], drop, length, Option, None, Some, Result, Ok, Err, IfOk, IfSome, inl, inr, arith}
+use Rattle.std.proofs.lemmas.Bool.{cases_Bool, ltb-false}
+use Rattle.ipx_wire.specs.Items.{items}
+use Rattle.ipx_wire.specs.Packet.{Parts, packet_of}
+use Rattle.ipx_wire.specs.Rip.{RipParts, entries_at, entries_of, operated, operation_field, operation_of, rip_of}
+use Rattle.ipx_wire.specs.Sap.{query_of, response_of, numbered_of, sap_of}
+use Rattle.ipx_wire.specs.SapEntries.{sap_entry_at}
+use Rattle.ipx_wire.specs.declared.address.Address.{Address}
+use Rattle.ipx_wire.specs.declared.packet.PacketFault.{PacketFault}
+use Rattle.ipx_wire.specs.declared.rip.Operation.{Operation}
+use Rattle.ipx_wire.specs.declared.rip.RipFault.{RipFault}
+use Rattle.ipx_wire.specs.declared.sap.Sap.{Sap}
+use Rattle.ipx_wire.specs.declared.sap.Sap.TheVariants.{Query, Response as SapResponse}
+use Rattle.ipx_wire.specs.declared.sap.SapFault.{SapFault}
+use Rattle.ipx_router.specs.Heard.{Heard, HeardRip, HeardSap, heard, heard_in, heard_near}
+use Rattle.ipx_router.specs.Port.{Port, port_at}
+use Rattle.ipx_router.specs.Why.{is_near, is_for_rip, why}
+use Rattle.ipx_router.specs.declared.why.Why.{Why}
+
+-- ---- entries
+
+length-entries_at : (n : ℕ) (bytes : List ℕ) → length (entries_at n bytes) ≡ n
+unfolding entries_at
+length-entries_at zero bytes = refl
+length-entries_at (suc n) bytes = ap suc (length-entries_at n (drop 8 bytes))
+
+length-items : {E : Type 0} (read : List ℕ → E) (size n : ℕ) (bytes : List ℕ) → length (items read size n bytes) ≡ n
+unfolding items
+length-items read size zero bytes = refl
+length-items read size (suc n) bytes = ap suc (length-items read size n (drop size bytes))
+
+-- routing information has at most fifty entries, a response of services at most seven
+abbrev pub FitsRip : RipParts → Type 0
+FitsRip rip = length rip.entries ≤ 50
+
+abbrev pub FitsSap : Sap → Type 0
+FitsSap (Query nearest kind) = Unit
+FitsSap (SapResponse nearest entries) = length entries ≤ 7
+
+entries_fit : (operation : Operation) (payload : List ℕ) → IfOk (entries_of operation payload) FitsRip
+entries_fit operation payload = elim (cases_Bool (nat_lt (length payload) 10)) [
+  | inl short ↦ rw short tt
+  | inr some ↦ elim (cases_Bool (nat_lt 409 (length payload))) [
+    | inl long ↦ rw (some, long) tt
+    | inr few ↦ rw (some, few) (omega (arith, ltb-false 409 (length payload) few, length-entries_at ((length payload - 2) / 8) (drop 2 payload)))
+  ]
+]
+
+operated_fits : (number : ℕ) (operation : Option Operation) (payload : List ℕ) → IfOk (operated number operation payload) FitsRip
+operated_fits number None payload = tt
+operated_fits number (Some operation) payload = entries_fit operation payload
+
+rip_fits : (payload : List ℕ) → IfOk (rip_of payload) FitsRip
+unfolding rip_of
+rip_fits payload = elim (cases_Bool (nat_lt (length payload) 2)) [
+  | inl short ↦ rw short tt
+  | inr long ↦ rw long (operated_fits (operation_field payload) (operation_of (operation_field payload)) payload)
+]
+
+query_fits : (nearest : Bool) (payload : List ℕ) → IfOk (query_of nearest payload) FitsSap
+query_fits nearest payload = elim (cases_Bool (nat_lt (length payload) 4)) [ inl short ↦ rw short tt | inr long ↦ rw long tt ]
+
+response_fits : (nearest : Bool) (payload : List ℕ) → IfOk (response_of nearest payload) FitsSap
+response_fits nearest payload = elim (cases_Bool (nat_lt (length payload) 66)) [
+  | inl short ↦ rw short tt
+  | inr some ↦ elim (cases_Bool (nat_lt 513 (length payload))) [
+    | inl long ↦ rw (some, long) tt
+    | inr few ↦ rw (some, few) (omega (arith, ltb-false 513 (length payload) few, length-items sap_entry_at 64 ((length payload - 2) / 64) (drop 2 payload)))
+  ]
+]
+
+numbered_fits : (number : ℕ) (payload : List ℕ) → IfOk (numbered_of number payload) FitsSap
+numbered_fits number payload = elim (cases_Bool (number == 1)) [
+  | inl one ↦ rw one (query_fits _ payload)
+  | inr not_one ↦ elim (cases_Bool (number == 2)) [
+    | inl two ↦ rw (not_one, two) (response_fits _ payload)
+    | inr not_two ↦ elim (cases_Bool (number == 3)) [
+      | inl three ↦ rw (not_one, not_two, three) (query_fits _ payload)
+      | inr not_three ↦ elim (cases_Bool (number == 4)) [
+        | inl four ↦ rw (not_one, not_two, not_three, four) (response_fits _ payload)
+        | inr not_four ↦ rw (not_one, not_two, not_three, not_four) tt
+      ]
+    ]
+  ]
+]
+
+sap_fits : (payload : List ℕ) → IfOk (sap_of payload) FitsSap
+unfolding sap_of
+sap_fits payload = elim (cases_Bool (nat_lt (length payload) 2)) [
+  | inl short ↦ rw short tt
+  | inr long ↦ rw long (numbered_fits (operation_field payload) payload)
+]
+
+-- ---- messages
+
+-- a message has no more entries than a packet
+abbrev pub Fits : Heard → Type 0
+Fits (HeardRip source rip) = FitsRip rip
+Fits (HeardSap source sap) = FitsSap sap
+
+rip_heard : (source : Address) (r : Result RipParts RipFault) → IfOk r FitsRip → IfSome (elim r [ Ok rip ↦ Some (HeardRip source rip) | Err fault ↦ None ]) Fits
+rip_heard source (Ok rip) fits = fits
+rip_heard source (Err fault) fits = tt
+
+sap_heard : (source : Address) (r : Result Sap SapFault) → IfOk r FitsSap → IfSome (elim r [ Ok sap ↦ Some (HeardSap source sap) | Err fault ↦ None ]) Fits
+sap_heard source (Ok sap) fits = fits
+sap_heard source (Err fault) fits = tt
+
+heard_in-fits : (p : Parts) → IfSome (heard_in p) Fits
+heard_in-fits p = elim (cases_Bool (is_for_rip p.header)) [
+  | inl rip ↦ rw rip (rip_heard p.header.source (rip_of p.payload) (rip_fits p.payload))
+  | inr sap ↦ rw sap (sap_heard p.header.source (sap_of p.payload) (sap_fits p.payload))
+]
+
+heard_near-fits : (port : Port) (p : Parts) → IfSome (heard_near port p) Fits
+heard_near-fits port p = elim (cases_Bool (is_near port p.header)) [ inl near ↦ rw near (heard_in-fits p) | inr far ↦ rw far tt ]
+
+-- what is heard is a message of few entries
+pub heard-fits : (ports : List Port) (runs : Bool) (number : ℕ) (bytes : List ℕ) → IfSome (heard ports runs number bytes) Fits
+heard-fits ports runs number bytes = judged (why ports [] runs number bytes) (packet_of bytes)
+  where
+    judged : (reason : Option Why) (r : Result Parts PacketFault)
+        → IfSome (elim reason [ Some why ↦ None | None ↦ elim r [ Ok p ↦ heard_near (port_at ports number) p | Err fault ↦ None ] ]) Fits
+    judged (Some why) r = tt
+    judged None (Ok p) = heard_near-fits (port_at ports number) p
+    judged None (Err fault) = tt

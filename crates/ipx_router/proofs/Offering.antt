@@ -1,0 +1,79 @@
+-- What a message offers, no more than it has entries, and what one event more says.
+use Rattle.std.proofs.Common.{◌≡◌, refl, ap, ◌∙◌, ℕ, suc, ◌≤◌, Bool, List, [], ◌∷◌, ◌++◌, map, length, Option, None, Some, inl, inr, arith, sym, append_assoc, append-nil}
+use Rattle.std.proofs.lemmas.Bool.{cases_Bool}
+use Rattle.ipx_table.specs.Facts.{Fact, Offered}
+use Rattle.ipx_wire.specs.declared.node.Node.{Node}
+use Rattle.ipx_wire.specs.declared.rip.RipEntry.{RipEntry}
+use Rattle.ipx_wire.specs.declared.sap_entries.SapEntry.{SapEntry}
+use Rattle.ipx_router.specs.History.{Event, History, is_skipped, route_offer, routes_offered, services_offered, runs_after, runs_through, route_facts_of, route_facts_from, service_facts_of, service_facts_from}
+use Rattle.ipx_router.specs.Port.{Port}
+use Rattle.ipx_router.specs.declared.service_offer.ServiceOffer.{ServiceOffer}
+
+-- ---- what a message offers
+
+-- the facts are offers, and not more than so many
+pub record FewOffers {O : Type 0} (most : ℕ) (facts : List (Fact O)) : Type 0 where
+  pub offered : List O
+  pub are : facts ≡ map Offered offered
+  pub few : length offered ≤ most
+
+pub no_offers : {O : Type 0} → FewOffers {O = O} 0 []
+no_offers = record { offered = []; are = refl; few = omega arith }
+
+one_more : {O : Type 0} (most : ℕ) (offer : O) (facts : List (Fact O)) → FewOffers most facts → FewOffers (suc most) (Offered offer ∷ facts)
+one_more most offer facts rest = record {
+  offered = offer ∷ rest.offered;
+  are = ap (λ fs. Offered offer ∷ fs) rest.are;
+  few = omega (arith, rest.few);
+}
+
+less_one : {O : Type 0} (most : ℕ) (facts : List (Fact O)) → FewOffers most facts → FewOffers (suc most) facts
+less_one most facts rest = record { offered = rest.offered; are = rest.are; few = omega (arith, rest.few) }
+
+pub few_routes : (ports : List Port) (number : ℕ) (node : Node) (entries : List RipEntry)
+    → FewOffers (length entries) (routes_offered ports number node entries)
+few_routes ports number node [] = no_offers
+few_routes ports number node (entry ∷ entries) =
+    let rest = few_routes ports number node entries in
+    elim (cases_Bool (is_skipped ports entry.network)) [
+      | inl skipped ↦ rw skipped (less_one (length entries) (routes_offered ports number node entries) rest)
+      | inr taken ↦ rw taken (one_more (length entries) (route_offer number node entry) (routes_offered ports number node entries) rest)
+    ]
+
+-- an entry without a name offers nothing
+named : (number : ℕ) (node : Node) (entry : SapEntry) (name : Option (List ℕ)) (most : ℕ) (facts : List (Fact ServiceOffer)) → FewOffers most facts
+    → FewOffers (suc most) (elim name [
+      | None ↦ []
+      | Some name ↦ Offered (record {
+        service = record { kind = entry.kind; name = name; address = entry.address; hops = entry.hops };
+        port = number;
+        node = node;
+      }) ∷ []
+    ] ++ facts)
+named number node entry None most facts rest = less_one most facts rest
+named number node entry (Some name) most facts rest = one_more most _ facts rest
+
+pub few_services : (number : ℕ) (node : Node) (entries : List SapEntry) → FewOffers (length entries) (services_offered number node entries)
+few_services number node [] = no_offers
+few_services number node (entry ∷ entries) =
+    named number node entry entry.name (length entries) (services_offered number node entries) (few_services number node entries)
+
+-- ---- one event more
+
+pub route_facts-more : (ports : List Port) (runs : Bool) (history : History) (event : Event)
+    → route_facts_from ports runs (history ++ event ∷ []) ≡ route_facts_from ports runs history ++ route_facts_of ports (runs_through runs history) event
+route_facts-more ports runs [] event = append-nil (route_facts_of ports runs event)
+route_facts-more ports runs (first ∷ history) event =
+    let now = route_facts_of ports runs first in
+    let next = runs_after runs first in
+    ap (λ fs. now ++ fs) (route_facts-more ports next history event)
+    ∙ sym (append_assoc now (route_facts_from ports next history) (route_facts_of ports (runs_through next history) event))
+
+pub service_facts-more : (ports : List Port) (runs : Bool) (history : History) (event : Event)
+    → service_facts_from ports runs (history ++ event ∷ []) ≡ service_facts_from ports runs history ++ service_facts_of ports (runs_through runs history) event
+service_facts-more ports runs [] event = append-nil (service_facts_of ports runs event)
+service_facts-more ports runs (first ∷ history) event =
+    let now = service_facts_of ports runs first in
+    let next = runs_after runs first in
+    ap (λ fs. now ++ fs) (service_facts-more ports next history event)
+    ∙ sym (append_assoc now (service_facts_from ports next history) (service_facts_of ports (runs_through next history) event))

@@ -1,0 +1,86 @@
+-- Which checks a packet passes that is sent on, and that it passes them all.
+use Rattle.std.proofs.Common.{◌≡◌, refl, sym, ap, ◌<◌, ◌≤◌, ◌&&◌, not, Bool, true, false, List, [], ◌∷◌, length, Option, Result, Ok, Err, None, Some, is_some, true≢false, arith}
+use Rattle.std.specs.List.{AllByRecursion}
+use Rattle.std.proofs.lemmas.Bool.{and_parts, not-true, lt-leb, le-ltb}
+use Rattle.ipx_wire.specs.Crossed.{networks_at, is_among}
+use Rattle.ipx_wire.specs.Packet.{Parts}
+use Rattle.ipx_wire.specs.declared.packet.PacketFault.{PacketFault}
+use Rattle.ipx_router.specs.Outgoing.{Way, way_to, is_own_port}
+use Rattle.ipx_router.specs.Port.{Port, port_at, is_local}
+use Rattle.ipx_router.specs.Why.{checks, first_of, when, is_propagated, is_far, is_own_echo, is_bad_source, is_crossed_short, is_crossed_full, is_crossed_seen, is_through_too_many, is_far_side, is_too_long}
+use Rattle.ipx_router.specs.declared.route_offer.RouteOffer.{RouteOffer}
+use Rattle.ipx_router.specs.declared.why.Why.{Why}
+use Rattle.ipx_router.specs.declared.why.Why.TheVariants.{Malformed}
+
+-- ---- a list of checks
+
+abbrev IsNone : Option Why → Type 0
+IsNone check = check ≡ None
+
+-- no check of a list holds, if the first that holds is none
+all_none : (list : List (Option Why)) → first_of list ≡ None → AllByRecursion IsNone list
+all_none [] e = tt
+all_none (Some reason ∷ list) e = absurd (true≢false (ap is_some e))
+all_none (None ∷ list) e = (refl, all_none list e)
+
+unmet : (c : Bool) (reason : Why) → when c reason ≡ None → c ≡ false
+unmet true reason e = absurd (true≢false (ap is_some e))
+unmet false reason e = refl
+
+-- what is found of what was read from bytes, while the router runs
+abbrev pub judged : List Port → List RouteOffer → Port → Result Parts PacketFault → Option Why
+judged ports routes port r =
+    first_of (elim r [ Ok p ↦ None | Err fault ↦ Some (Malformed fault) ] ∷ elim r [ Ok p ↦ checks ports routes port p | Err fault ↦ [] ])
+
+-- a part of a test that fails, if the part before it holds
+pub asked : (a b : Bool) → a ≡ true → (a && b) ≡ false → b ≡ false
+asked true b holds e = e
+asked false b holds e = absurd (true≢false (sym holds))
+
+-- ---- what a packet passed that no check drops
+
+pub record Passes (ports : List Port) (routes : List RouteOffer) (port : Port) (p : Parts) : Type 0 where
+  pub no_echo : is_own_echo port p.header ≡ false
+  pub source : is_bad_source p.header ≡ false
+  pub roomy : is_crossed_short p ≡ false
+  pub free : is_crossed_full p ≡ false
+  pub unseen : is_crossed_seen port p ≡ false
+  pub few : is_through_too_many port p.header ≡ false
+  pub elsewhere : is_far_side ports port p.header ≡ false
+  pub short : is_too_long ports routes port p.header ≡ false
+
+pub passes : (ports : List Port) (routes : List RouteOffer) (port : Port) (p : Parts) → first_of (checks ports routes port p) ≡ None → Passes ports routes port p
+passes ports routes port p e =
+    let all = all_none (checks ports routes port p) e in
+    record {
+      no_echo = unmet _ _ all.0;
+      source = unmet _ _ all.1.0;
+      roomy = unmet _ _ all.1.1.0;
+      free = unmet _ _ all.1.1.1.0;
+      unseen = unmet _ _ all.1.1.1.1.0;
+      few = unmet _ _ all.1.1.1.1.1.1.1.1.1.1.1.0;
+      elsewhere = unmet _ _ all.1.1.1.1.1.1.1.1.1.1.1.1.0;
+      short = unmet _ _ all.1.1.1.1.1.1.1.1.1.1.1.1.1.1.0;
+    }
+
+-- ---- what is sent on passes all checks
+
+module _ (ports : List Port) (routes : List RouteOffer) (port : Port) (p : Parts) where
+  -- a far one
+  pub far_passes : (way : Way) → is_own_echo port p.header ≡ false → is_bad_source p.header ≡ false → is_far port p.header ≡ true
+      → p.header.control ≤ 15 → is_own_port ports p.header.destination ≡ false → way_to ports routes p.header.destination ≡ Some way
+      → p.header.length ≤ (port_at ports way.port).longest → first_of (checks ports routes port p) ≡ None
+  far_passes way no_echo source far few elsewhere routed short =
+      let parts = and_parts (not (is_propagated p.header)) (not (is_local port p.header.destination.network)) far in
+      let one = not-true (is_propagated p.header) parts.0 in
+      let beyond = not-true (is_local port p.header.destination.network) parts.1 in
+      let control = lt-leb 16 p.header.control (omega (arith, few)) in
+      let fits = le-ltb (port_at ports way.port).longest p.header.length short in
+      rw (no_echo, source, one, beyond, control, elsewhere, routed, fits) refl
+
+  -- a propagated one
+  pub propagated_passes : is_own_echo port p.header ≡ false → is_bad_source p.header ≡ false → is_propagated p.header ≡ true
+      → 32 ≤ length p.payload → p.header.control < 8 → is_among port.network (networks_at p.header.control p.payload) ≡ false
+      → first_of (checks ports routes port p) ≡ None
+  propagated_passes no_echo source all roomy free unseen =
+      rw (no_echo, source, all, le-ltb (length p.payload) 32 roomy, lt-leb 8 p.header.control free, unseen) refl

@@ -1,0 +1,41 @@
+use Rattle.std.proofs.Common.{[], ◌∷◌}
+use Rattle.ipx_router.specs.History.{IsOfBytes, routes_held, offers}
+use Rattle.ipx_router.specs.Sends.{sends}
+use Rattle.ipx_router.proofs.Counting.{few_packets}
+use Rattle.ipx_router.proofs.Every.{all_behind}
+use Rattle.ipx_router.proofs.SentFor.{sendings}
+use Rattle.ipx_router.proofs.SentLengths.{short}
+use Rattle.ipx_router.proofs.Wire.{Readings, Rereadings}
+use Rattle.ipx_router.proofs.laws.bounds.Goals as goal
+
+pub returns-clause-few : goal.returns-clause-few
+returns-clause-few c = λ ports most_routes most_services history event.
+    few_packets ports most_routes most_services
+    (record {
+      route_offered = c.next_facts.ensures.others most_routes;
+      route_second = c.next_facts.ensures.second most_routes;
+      service_offered = c.next_facts-2.ensures.others most_services;
+      service_second = c.next_facts-2.ensures.second most_services;
+    })
+    history event
+
+pub returns-clause-short : goal.returns-clause-short
+returns-clause-short c ports most_routes most_services history event are on bytes =
+    let readings : Readings = record {
+      packet_read = c.readings.ensures.packet_read;
+      packet_front = c.readings.ensures.packet_front;
+      rip_read = c.readings.ensures.rip_read;
+      sap_read = c.service_readings.ensures.sap_read;
+    } in
+    let again : Rereadings = record {
+      rip_packet_again = c.reread.ensures.rip_packet;
+      rip_again = c.reread.ensures.rip;
+      query_packet_again = c.reread.ensures.query_packet;
+      query_again = c.reread.ensures.query;
+      sap_packet_again = c.reread.ensures.sap_packet;
+      sap_again = c.reread.ensures.sap;
+      forwarded_again = c.reread.ensures.forwarded;
+      propagated_again = c.reread.ensures.propagated;
+    } in
+    short readings again ports are (offers (routes_held ports most_routes history)) event (sends ports most_routes most_services history event)
+    (all_behind IsOfBytes history (event ∷ []) bytes).0 (sendings readings again c.relays.ensures.listed ports are most_routes most_services history event on bytes)
