@@ -2,14 +2,16 @@ use Rattle.std.proofs.Common.{◌≡◌, ℕ, zero, suc, ◌+◌, ◌-◌, ◌*�
 use Rattle.std.proofs.lemmas.Bool.{cases_Bool, cases_lt, eq-eqb}
 use Rattle.std.specs.List.{flat_map}
 use Rattle.ipx_wire.specs.declared.rip.RipEntry.{RipEntry}
-use Rattle.ipx_cmd.specs.Pages.{pages_from, pages, sheets}
-use Rattle.ipx_cmd.specs.Port.{Port, port_at}
-use Rattle.ipx_cmd.specs.Told.{numbers, put_entry, put_entries, by_network, told_at, direct_at, direct, is_told, learned, told}
-use Rattle.ipx_cmd.specs.declared.thin.route.RouteOffer.{RouteOffer}
+use Rattle.ipx_router.specs.Pages.{pages_from, pages, sheets}
+use Rattle.ipx_router.specs.Port.{Port, port_at}
+use Rattle.ipx_router.specs.Outgoing.{numbers}
+use Rattle.ipx_router.specs.Told.{put_entry, put_entries, by_network, told_at, direct_at, direct, is_route_told, learned, told}
+use Rattle.ipx_router.specs.declared.route_offer.RouteOffer.{RouteOffer}
 use Rattle.ipx_wire.specs.declared.address.Address.{Address}
 use Rattle.ipx_wire.specs.declared.rip.Operation.TheVariants.{Request, Response}
-use Rattle.ipx_cmd.specs.Port.{everyone}
-use Rattle.ipx_cmd.specs.Sends.{all_routes, page_sent, tells, rip_broadcast, services_query, start_on, start_sends}
+use Rattle.ipx_router.specs.Port.{everyone}
+use Rattle.ipx_router.specs.Sends.{all_routes, entries_sent, rip_sends, services_query, start_on, start_sends}
+use Rattle.ipx_cmd.specs.Router.{tells}
 use Rattle.std.proofs.lemmas.List.Concat.{flat_map-append}
 use Rattle.std.proofs.lemmas.List.{length-map}
 use Rattle.ipx_cmd.proofs.Paging.{room_left, page_full}
@@ -59,7 +61,7 @@ length-direct ports number (suc n) below =
 pub length-learned : (routes : List RouteOffer) (number : ℕ) → length (learned routes number) ≤ length routes
 length-learned [] number = omega arith
 length-learned (r ∷ routes) number =
-    elim (cases_Bool (is_told number r)) [
+    elim (cases_Bool (is_route_told number r)) [
       | inl tells ↦ rw tells (omega (arith, length-learned routes number))
       | inr other ↦ rw other (omega (arith, length-learned routes number))
     ]
@@ -105,7 +107,7 @@ pub length-tells : (ports : List Port) (routes : List RouteOffer) (number : ℕ)
 length-tells ports routes number asker below =
     omega (
       arith,
-      length-map (pages 50 (told ports routes number)) (page_sent ports number asker Response),
+      length-map (pages 50 (told ports routes number)) (entries_sent ports number asker Response),
       length-pages (told ports routes number),
       length-told ports routes number below,
     )
@@ -114,10 +116,10 @@ length-tells ports routes number asker below =
 length-start_on : (ports : List Port) (number : ℕ) → number < length ports → length ports ≤ 32 → length (start_on ports number) ≤ 3
 length-start_on ports number below few =
     let all = tells ports [] number (everyone (port_at ports number)) in
-    let asked = rip_broadcast ports number Request (all_routes ∷ []) in
+    let asked = rip_sends ports number (everyone (port_at ports number)) Request (all_routes ∷ []) in
     let one : length asked ≡ 1 = refl in
-    let query : length (services_query ports number) ≡ 1 = refl in
-    omega (arith, length-append (all ++ asked) (services_query ports number), length-append all asked, length-tells ports [] number (everyone (port_at ports number)) below, one, query)
+    let query : length (services_query ports number ∷ []) ≡ 1 = refl in
+    omega (arith, length-append (all ++ asked) (services_query ports number ∷ []), length-append all asked, length-tells ports [] number (everyone (port_at ports number)) below, one, query)
 
 each_three : (ports : List Port) (n : ℕ) → n ≤ length ports → length ports ≤ 32 → length (flat_map (start_on ports) (numbers n)) ≤ 3 * n
 each_three ports zero within few = omega arith

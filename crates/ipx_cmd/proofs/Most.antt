@@ -1,11 +1,13 @@
 use Rattle.std.proofs.Common.{◌≡◌, ℕ, ◌+◌, ◌-◌, ◌*◌, ◌<◌, ◌≤◌, max, List, length, ap, arith, subst}
 use Rattle.ipx_wire.specs.declared.address.Address.{Address}
-use Rattle.ipx_cmd.specs.Pages.{sheets}
-use Rattle.ipx_cmd.specs.Port.{Port}
+use Rattle.ipx_router.specs.Pages.{sheets}
+use Rattle.ipx_router.specs.Port.{Port}
 use Rattle.ipx_cmd.specs.Router.{SendsAtMost}
-use Rattle.ipx_cmd.specs.Sends.{tells, start_sends}
-use Rattle.ipx_cmd.specs.Sent.{Sent, Sends}
-use Rattle.ipx_cmd.specs.declared.thin.route.RouteOffer.{RouteOffer}
+use Rattle.ipx_cmd.specs.Router.{tells}
+use Rattle.ipx_router.specs.Sends.{start_sends}
+use Rattle.ipx_router.specs.Relays.{Sent}
+use Rattle.ipx_cmd.specs.Sent.{Sends}
+use Rattle.ipx_router.specs.declared.route_offer.RouteOffer.{RouteOffer}
 use Rattle.ipx_cmd.proofs.Lengths.{length-start, length-tells}
 use Rattle.ipx_cmd.proofs.Sendings.{at_most, at_most_weaker}
 

@@ -1,7 +1,7 @@
 use Rattle.std.proofs.Common.{◌≡◌, ℕ, ◌<◌, ◌≤◌, List, [], ◌∷◌, ◌++◌, length, min, take, drop, refl, sym, ap, ◌∙◌, arith, append_assoc, append-nil, length-append, inl, inr}
 use Rattle.std.proofs.lemmas.List.{take_at, drop_at, take_all, drop_all}
 use Rattle.std.proofs.lemmas.Bool.{cases_lt, lt-ltb, le-ltb}
-use Rattle.ipx_cmd.specs.Pages.{pages_from, pages}
+use Rattle.ipx_router.specs.Pages.{pages_from, pages}
 
 -- one more item for a page with room
 pub room_left : {X : Type 0} (n : ℕ) (page : List X) (x : X) (xs : List X) → length page < n → pages_from n page (x ∷ xs) ≡ pages_from n (page ++ x ∷ []) xs

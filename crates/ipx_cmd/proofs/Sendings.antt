@@ -1,9 +1,10 @@
 use Rattle.std.proofs.Common.{◌≡◌, ℕ, ◌+◌, ◌<◌, ◌≤◌, List, [], ◌∷◌, ◌++◌, length, take, drop, map, refl, sym, ap, ◌∙◌, arith, subst, append_assoc, append-nil, length-append, lit<}
 use Rattle.std.proofs.lemmas.List.{take_at}
 use Rattle.std.specs.List.{AllByRecursion}
-use Rattle.ipx_cmd.specs.Pages.{pages}
+use Rattle.ipx_router.specs.Pages.{pages}
 use Rattle.ipx_cmd.specs.Router.{SendsAtMost}
-use Rattle.ipx_cmd.specs.Sent.{Sent, IsShortPacket, Sends, Grows}
+use Rattle.ipx_router.specs.Relays.{Sent}
+use Rattle.ipx_cmd.specs.Sent.{IsShortPacket, Sends, Grows}
 use Rattle.ipx_cmd.proofs.Paging.{pages-first}
 
 pub all-append : {X : Type 0} (P : X → Type 0) (xs ys : List X) → AllByRecursion P xs → AllByRecursion P ys → AllByRecursion P (xs ++ ys)

@@ -4,9 +4,10 @@ use Rattle.std.proofs.lemmas.List.Elements.{filter-append}
 use Rattle.std.proofs.lemmas.List.Concat.{flat_map-append}
 use Rattle.std.specs.List.{flat_map}
 use Rattle.ipx_wire.specs.declared.rip.RipEntry.{RipEntry}
-use Rattle.ipx_cmd.specs.Port.{Port, port_at}
-use Rattle.ipx_cmd.specs.Told.{numbers, put_entry, put_entries, by_network, told_at, direct_at, direct, entry_of, is_told, learned, told}
-use Rattle.ipx_cmd.specs.declared.thin.route.RouteOffer.{RouteOffer}
+use Rattle.ipx_router.specs.Port.{Port, port_at}
+use Rattle.ipx_router.specs.Outgoing.{numbers}
+use Rattle.ipx_router.specs.Told.{put_entry, put_entries, by_network, told_at, direct_at, direct, entry_of, is_route_told, learned, told}
+use Rattle.ipx_router.specs.declared.route_offer.RouteOffer.{RouteOffer}
 
 -- an entry goes before one of a greater network
 put_before : (e x : RipEntry) (xs : List RipEntry) → nat_lt e.network.0 x.network.0 ≡ true → put_entry e (x ∷ xs) ≡ e ∷ x ∷ xs
@@ -58,7 +59,7 @@ direct_more cost ports number n =
 
 pub learned-append : (number : ℕ) (xs ys : List RouteOffer) → learned (xs ++ ys) number ≡ learned xs number ++ learned ys number
 learned-append number xs ys =
-    ap (map entry_of) (filter-append (is_told number) xs ys) ∙ map-append entry_of (filter (is_told number) xs) (filter (is_told number) ys)
+    ap (map entry_of) (filter-append (is_route_told number) xs ys) ∙ map-append entry_of (filter (is_route_told number) xs) (filter (is_route_told number) ys)
 
 -- one more route among those that are told
 pub learned_more : (cost : ℕ) (number : ℕ) (routes : List RouteOffer) (i : ℕ) (d : RouteOffer) (placed : List RipEntry) → i < length routes

@@ -1,5 +1,5 @@
 -- Worked examples of what a router of two ports sends and drops, each computed from the definitions.
-use Rattle.std.proofs.Common.{◌≡◌, ℕ, List, [], ◌∷◌, codes, Ok, Err, true, false, refl, replicate}
+use Rattle.std.proofs.Common.{◌≡◌, ℕ, List, [], ◌∷◌, codes, Ok, Err, true, false, refl}
 use Rattle.hex.proofs.OnLiterals.{hex_on_literals}
 use Rattle.hex.specs.Hex.{decode_of}
 use Rattle.ipx_wire.specs.Address.{address_bytes, address_at}
@@ -8,13 +8,12 @@ use Rattle.ipx_wire.specs.Packet.{packet_of}
 use Rattle.ipx_wire.specs.Rip.{entry_bytes, entry_at, entries_at, rip_of}
 use Rattle.ipx_wire.specs.declared.node.Node.{Node}
 use Rattle.ipx_wire.specs.declared.packet.PacketFault.TheVariants.{Short}
-use Rattle.ipx_cmd.specs.Bounds.{Packet, Start, most_packets, most_length}
-use Rattle.ipx_cmd.specs.Pages.{pages}
-use Rattle.ipx_cmd.specs.Port.{Port, broadcast}
+use Rattle.ipx_cmd.specs.Router.{Packet, Start}
+use Rattle.ipx_router.specs.Port.{Port, broadcast}
 use Rattle.ipx_cmd.specs.Router.{State, outcome, sends}
-use Rattle.ipx_cmd.specs.Sent.{Sent}
+use Rattle.ipx_router.specs.Relays.{Sent}
 use Rattle.ipx_cmd.specs.declared.thin.event.Outcome.TheVariants.{Dropped}
-use Rattle.ipx_cmd.specs.declared.thin.why.Why.TheVariants.{NotRunning, Malformed, OwnEcho, BadSource, NoRoute, NotNeighbour}
+use Rattle.ipx_router.specs.declared.why.Why.TheVariants.{NotRunning, Malformed, OwnEcho, BadSource, NoRoute, NotNeighbour}
 
 -- the bytes of hexadecimal text
 abbrev bytes : List ℕ → List ℕ
@@ -104,32 +103,3 @@ a_far_packet = refl
 pub no_neighbour : outcome running (Packet 0 (bytes (codes "FFFF0028000100000010FFFFFFFFFFFF0453000000990000000000AA045300020000003000010002"))) ≡ Dropped NotNeighbour
 unfolding hex_on_literals header_at address_at packet_of
 no_neighbour = refl
-
--- pages of fifty, the last one shorter, and none of nothing
-pub two_pages : pages {X = ℕ} 50 (replicate 51 7) ≡ replicate 50 7 ∷ (7 ∷ []) ∷ []
-two_pages = refl
-
-pub one_page : pages {X = ℕ} 50 (replicate 50 7) ≡ replicate 50 7 ∷ []
-one_page = refl
-
-pub no_page : pages {X = ℕ} 50 (replicate 0 7) ≡ []
-no_page = refl
-
--- two ports: six packets at a start, two for a packet with 61 routes and 7 services held, and three with 100 routes
-pub most_of_a_start : most_packets 2 0 0 Start ≡ 6
-most_of_a_start = refl
-
-pub most_of_a_packet : most_packets 2 61 7 (Packet 0 []) ≡ 2
-most_of_a_packet = refl
-
-pub most_of_a_long_answer : most_packets 2 100 0 (Packet 0 []) ≡ 3
-most_of_a_long_answer = refl
-
--- a router's own packets have at most 480 bytes, whatever came
-pub longest_of_no_packet : most_length (Packet 0 (replicate 600 0)) ≡ 480
-unfolding packet_of header_at address_at
-longest_of_no_packet = refl
-
-pub longest_of_a_request : most_length (Packet 0 general_request) ≡ 480
-unfolding hex_on_literals packet_of header_at address_at
-longest_of_a_request = refl

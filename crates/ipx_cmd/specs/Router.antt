@@ -2,20 +2,24 @@
 use Rattle.std.specs.Prelude.{◌≡◌, ℕ, ◌<◌, ◌≤◌, ◌==◌, Bool, true, if◌then◌else◌, List, [], length, take, Result, Ok, Err}
 use Rattle.std.specs.List.{list_any}
 use Rattle.ipx_wire.specs.declared.rip.Operation.TheVariants.{Request, Response}
-use Rattle.ipx_cmd.specs.Bounds.{Happened, Start, Packet}
-use Rattle.ipx_cmd.specs.Port.{Port, port_at}
-use Rattle.ipx_cmd.specs.Sends.{asks_all, request_sends, start_sends}
-use Rattle.ipx_cmd.specs.Sent.{Sent, Sends}
-use Rattle.ipx_cmd.specs.Why.{judged}
-use Rattle.ipx_cmd.specs.declared.thin.event.Event.{Event}
+use Rattle.ipx_wire.specs.declared.address.Address.{Address}
+use Rattle.ipx_wire.specs.declared.rip.RipEntry.{RipEntry}
+use Rattle.ipx_router.specs.History.{Event, Start as Starts, Packet as Comes}
+use Rattle.ipx_router.specs.Port.{Port, port_at}
+use Rattle.ipx_router.specs.Relays.{Sent}
+use Rattle.ipx_router.specs.Sends.{rip_sends, reply_to, start_sends}
+use Rattle.ipx_router.specs.Told.{told}
+use Rattle.ipx_router.specs.declared.route_offer.RouteOffer.{RouteOffer}
+use Rattle.ipx_router.specs.declared.why.Why.{Why}
+use Rattle.ipx_cmd.specs.Judged.{judged}
+use Rattle.ipx_cmd.specs.Sent.{Sends}
+use Rattle.ipx_cmd.specs.declared.thin.event.Event.{Event as ThinEvent}
 use Rattle.ipx_cmd.specs.declared.thin.event.Event.TheVariants.{Start as StartEvent, Packet as PacketEvent}
 use Rattle.ipx_cmd.specs.declared.thin.event.Outcome.{Outcome}
 use Rattle.ipx_cmd.specs.declared.thin.event.Outcome.TheVariants.{Started, AlreadyRunning, Learned, Answered, Dropped}
 use Rattle.ipx_cmd.specs.declared.thin.judge.Message.{Message}
 use Rattle.ipx_cmd.specs.declared.thin.router.PortsFault.{PortsFault}
 use Rattle.ipx_cmd.specs.declared.thin.router.PortsFault.TheVariants.{NoPort, TooMany, SameNetwork}
-use Rattle.ipx_cmd.specs.declared.thin.route.RouteOffer.{RouteOffer}
-use Rattle.ipx_cmd.specs.declared.thin.why.Why.{Why}
 
 -- the ports by number, the routes that are held, and whether it runs
 pub record State : Type 0 where
@@ -23,24 +27,32 @@ pub record State : Type 0 where
   pub routes : List RouteOffer
   pub running : Bool
 
+-- the two events that a thin router knows
+pub data Happened : Type 0 where
+  Start : Happened
+  Packet : (port : ℕ) (bytes : List ℕ) → Happened
+
 -- the event without its slices
-abbrev pub happened : Event → Happened
+abbrev pub happened : ThinEvent → Happened
 happened StartEvent = Start
 happened (PacketEvent port bytes) = Packet port bytes.now
 
--- the event is on a port that the router has
-abbrev pub IsOnPort : ℕ → Happened → Type 0
-IsOnPort ports Start = Unit {0}
-IsOnPort ports (Packet port bytes) = port < ports
+-- the same among all events
+abbrev pub event_of : Happened → Event
+event_of Start = Starts
+event_of (Packet port bytes) = Comes port bytes
 
 -- some port before the place has the network of the port there
 abbrev pub is_again : List Port → ℕ → Bool
 is_again ports place = list_any (λ p. p.network.0 == (port_at ports place).network.0) (take place ports)
 
--- whether a router runs after an event
-abbrev pub runs_after : State → Happened → Bool
-runs_after state Start = true
-runs_after state (Packet port bytes) = state.running
+-- whether some entry asks for every route
+abbrev pub asks_all : List RipEntry → Bool
+asks_all entries = list_any (λ e. e.network.0 == 4294967295) entries
+
+-- all that is told on a port, to an address
+abbrev pub tells : List Port → List RouteOffer → ℕ → Address → List Sent
+tells ports routes number to = rip_sends ports number to Response (told ports routes number)
 
 -- what is made of a message
 abbrev pub outcome_heard : Result Message Why → Outcome
@@ -55,7 +67,7 @@ outcome state (Packet port bytes) = outcome_heard (judged state.ports state.runn
 -- the packets that answer a request
 abbrev pub request_answers : State → ℕ → Message → List Sent
 request_answers state port message =
-    if asks_all message.rip.entries then request_sends state.ports state.routes port message.source else []
+    if asks_all message.rip.entries then tells state.ports state.routes port (reply_to (port_at state.ports port) message.source) else []
 
 -- the packets that answer a message, but for what a response changes
 abbrev pub answers : State → ℕ → Result Message Why → List Sent

@@ -1,15 +1,9 @@
--- A packet that a router sent.
-use Rattle.std.specs.Prelude.{◌≡◌, ℕ, ◌≤◌, List, ◌++◌, length}
+-- What an outbox gains.
+use Rattle.std.specs.Prelude.{◌≡◌, ◌≤◌, List, ◌++◌, length}
 use Rattle.std.specs.List.{AllByRecursion}
 use Rattle.ipx_wire.specs.Packet.{Parts, IsPacket}
-use Rattle.ipx_cmd.specs.Bounds.{most_own_length}
-use Rattle.ipx_wire.specs.declared.node.Node.{Node}
-
--- the port on which it leaves, the node to which the link sends it, and its bytes
-pub record Sent : Type 0 where
-  pub port : ℕ
-  pub link : Node
-  pub bytes : List ℕ
+use Rattle.ipx_router.specs.Bounds.{most_own_length}
+use Rattle.ipx_router.specs.Relays.{Sent}
 
 -- it is a packet, and not longer than a router's own packets may be
 pub record IsShortPacket (s : Sent) : Type 0 where

@@ -16,6 +16,7 @@ mod replay_tests;
 #[cfg(test)]
 mod tests;
 pub mod thin;
+mod why_word;
 mod words;
 
 pub use crate::chosen::{ChooseFault, Chosen, Run, choose};

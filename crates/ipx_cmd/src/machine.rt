@@ -1,14 +1,17 @@
 //! What the lines of a script act on: the ports named so far, and then the router that they make.
 ghost use Rattle.std.specs.Prelude.{◌≡◌, length};
-ghost use Rattle.ipx_cmd.specs.Router.{happened, IsOnPort};
+ghost use Rattle.ipx_router.specs.History.{IsOnPort};
+ghost use Rattle.ipx_cmd.specs.Router.{event_of, happened};
 ghost use Rattle.ipx_cmd.specs.PortWord.{port_fault};
 
 use crate::command::{Command, MOST_PORTS, Stage, read_line};
 use crate::fault::LineFault;
 use crate::output::{drop_line, out_line, route_line};
 use crate::refusal::Refusal;
-use crate::thin::{Event, Outbox, Outcome, Port, PortFault, PortsFault, Router};
+use crate::thin::{Event, Outbox, Outcome, PortsFault, Router};
+use crate::why_word::WhyWord;
 use arrayvec::ArrayVec;
+use ipx_router::{Port, PortFault};
 use ipx_wire::{Network, Node};
 use std::alloc::Global;
 
@@ -133,11 +136,11 @@ fn happen(
     event: Event<'_>,
     text: &mut String,
 ) -> Result<(), Refusal>
-    requires { IsOnPort (length router.old.ports) (happened event) }
+    requires { IsOnPort router.old.ports (event_of (happened event)) }
 {
     outbox.clear();
     match router.step(event, outbox)? {
-        Outcome::Dropped(why) => drop_line(text, &why)?,
+        Outcome::Dropped(why) => drop_line(text, &WhyWord(why))?,
         _ => write_sent(outbox, text)?,
     }
     Ok(())

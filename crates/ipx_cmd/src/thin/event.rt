@@ -1,4 +1,4 @@
-use crate::thin::why::Why;
+use ipx_router::Why;
 
 /// What happens to a router.
 #[derive(Clone, Copy, Debug)]

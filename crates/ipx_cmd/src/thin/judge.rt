@@ -5,12 +5,12 @@
 //! isn't for this network; it is for another node; it is for another socket; its source is on
 //! another network; its data are no routing information packet.
 ghost use Rattle.std.specs.Prelude.{◌≡◌, ◌==◌, ◌<◌, ◌≤◌, ◌&&◌, ◌||◌, not, length, IfOk, Some};
-ghost use Rattle.ipx_cmd.specs.Port.{port_at, broadcast};
-ghost use Rattle.ipx_cmd.specs.Why.{same_node, is_local, is_near, header_checks, first_of, judged, judged_packet};
+ghost use Rattle.ipx_router.specs.Port.{port_at, broadcast, same_node, is_local};
+ghost use Rattle.ipx_router.specs.Why.{is_near, first_of};
+ghost use Rattle.ipx_cmd.specs.Judged.{header_checks, judged, judged_packet};
 ghost use Rattle.ipx_wire.specs.Packet.{packet_of};
 
-use crate::thin::port::Port;
-use crate::thin::why::Why;
+use ipx_router::{Port, Why};
 use ipx_wire::{Address, Header, Network, Node, Packet, Rip, Socket};
 
 /// The type of packets that are propagated.
@@ -88,7 +88,7 @@ fn first_why(port: &Port, header: &Header) -> Option<Why>
 
 /// Whether the network number means the port's own network.
 fn is_local(port: &Port, network: Network) -> bool
-    ensures { result ≡ is_local port.now network.0 }
+    ensures { result ≡ is_local port.now network }
 {
     network.0 == 0 || network == port.network()
 }

@@ -4,9 +4,8 @@ ghost use Rattle.std.specs.Prelude.{◌≡◌, ◌==◌, ◌&&◌, not, nat_lt, 
 ghost use Rattle.std.specs.List.{list_any};
 
 use crate::thin::judge::Message;
-use crate::thin::port::Port;
-use crate::thin::route::RouteOffer;
 use crate::thin::told::UNREACHABLE;
+use ipx_router::{Port, RouteOffer};
 use ipx_wire::{Network, Node, OutOfMemory, RipEntry};
 use std::alloc::Global;
 

@@ -2,14 +2,13 @@
 ghost use Rattle.std.specs.Prelude.{◌≡◌, ◌<◌, ◌≤◌, nat_lt, if◌then◌else◌, length, IfOk, OnOk, OnErr};
 ghost use Rattle.ipx_cmd.specs.Router.{SendsAtMost};
 ghost use Rattle.ipx_cmd.specs.Sent.{Grows};
-ghost use Rattle.ipx_cmd.specs.Told.{told_at, entry_of, dead};
+ghost use Rattle.ipx_router.specs.Told.{told_at, entry_of, dead};
 
 use crate::thin::judge::port_of;
 use crate::thin::outbox::Outbox;
-use crate::thin::port::Port;
-use crate::thin::route::RouteOffer;
 use crate::thin::send::{everyone, send_pages};
 use crate::thin::told::{UNREACHABLE, dead, entry_of, place, told_at};
+use ipx_router::{Port, RouteOffer};
 use ipx_wire::{Operation, OutOfMemory, RipEntry};
 use std::alloc::Global;
 

@@ -31,7 +31,7 @@ pub struct Outbox {
 
 impl Model for Outbox {
     ghost use Rattle.std.specs.Prelude.{List, map};
-    ghost use Rattle.ipx_cmd.specs.Sent.{Sent};
+    ghost use Rattle.ipx_router.specs.Relays.{Sent};
 
     ghost Value = { List Sent };
 
@@ -39,7 +39,7 @@ impl Model for Outbox {
 }
 
 impl Outbox {
-    ghost use Rattle.ipx_cmd.specs.Sent.{Sent};
+    ghost use Rattle.ipx_router.specs.Relays.{Sent};
 
     /// An outbox without packets.
     pub fn new(alloc: Global) -> Outbox

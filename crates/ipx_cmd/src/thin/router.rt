@@ -1,18 +1,16 @@
-ghost use Rattle.ipx_cmd.specs.Bounds.{Start, Packet};
-ghost use Rattle.ipx_cmd.specs.Router.{is_again};
-ghost use Rattle.ipx_cmd.specs.Sends.{asks_all};
+ghost use Rattle.ipx_cmd.specs.Router.{Start, Packet, asks_all, is_again};
 ghost use Rattle.std.specs.Option.{option_map};
 ghost use Rattle.std.specs.Prelude.{◌≡◌, ◌<◌, ◌≤◌, ◌==◌, ℕ, true, false, [], nat_lt, length, slice_get, Ok, IfOk, IfErr, OnOk, OnErr};
 
 use crate::thin::event::{Event, Outcome};
+use crate::thin::held::Held;
 use crate::thin::judge::{Message, judge, port_of};
 use crate::thin::learn::{Taught, teach};
 use crate::thin::news::tell_gained;
 use crate::thin::outbox::Outbox;
-use crate::thin::port::Port;
-use crate::thin::route::{Held, RouteOffer};
 use crate::thin::send::{reply_to, send_start, tell};
 use arrayvec::ArrayVec;
+use ipx_router::{Port, RouteOffer};
 use ipx_wire::{Network, Operation, OutOfMemory};
 use std::alloc::Global;
 use std::marker::Model;
@@ -53,8 +51,9 @@ impl<const P: usize, const R: usize> Model for Router<P, R> {
 }
 
 impl<const P: usize, const R: usize> Router<P, R> {
-    ghost use Rattle.ipx_cmd.specs.Bounds.{most_packets};
-    ghost use Rattle.ipx_cmd.specs.Router.{request_answers, happened, outcome, runs_after, sends, IsNoRouter, IsOnPort, IsResponse, SendsAtMost};
+    ghost use Rattle.ipx_router.specs.Bounds.{most_packets};
+    ghost use Rattle.ipx_router.specs.History.{IsOnPort, runs_after};
+    ghost use Rattle.ipx_cmd.specs.Router.{event_of, request_answers, happened, outcome, sends, IsNoRouter, IsResponse, SendsAtMost};
     ghost use Rattle.ipx_cmd.specs.Sent.{Grows, Sends};
 
     /// A router with these ports, numbered from 0, which is stopped and holds nothing.
@@ -115,12 +114,12 @@ impl<const P: usize, const R: usize> Router<P, R> {
 
     /// Takes an event: changes the table, and appends what is sent to the outbox.
     pub fn step(&mut self, event: Event<'_>, outbox: &mut Outbox) -> Result<Outcome, OutOfMemory>
-        requires { IsOnPort (length self.old.ports) (happened event) }
+        requires { IsOnPort self.old.ports (event_of (happened event)) }
         ensures capacity { length self.new.routes ≤ R }
         ensures ports { self.new.ports ≡ self.old.ports }
-        ensures running { OnOk result (self.new.running ≡ runs_after self.old (happened event.entry)) }
+        ensures running { OnOk result (self.new.running ≡ runs_after self.old.running (event_of (happened event.entry))) }
         ensures outcome { IfOk result (λ o. o ≡ outcome self.old (happened event.entry)) }
-        ensures most { OnOk result (SendsAtMost (most_packets (length self.old.ports) (length self.old.routes) 0 (happened event.entry)) outbox.old outbox.new) }
+        ensures most { OnOk result (SendsAtMost (most_packets (length self.old.ports) (length self.old.routes) 0 (event_of (happened event.entry))) outbox.old outbox.new) }
 
         // What is sent, but for what a response changes: that is only bounded.
         ensures sends { OnOk result ((¬ IsResponse self.old (happened event.entry)) → Sends outbox.old outbox.new (sends self.old (happened event.entry))) }
@@ -145,7 +144,7 @@ impl<const P: usize, const R: usize> Router<P, R> {
         ensures started { OnOk result (self.new ≡ record self.old { running = true }) }
         ensures outcome { IfOk result (λ o. o ≡ outcome self.old Start) }
         ensures sends { OnOk result (Sends outbox.old outbox.new (sends self.old Start)) }
-        ensures most { OnOk result (SendsAtMost (most_packets (length self.old.ports) (length self.old.routes) 0 Start) outbox.old outbox.new) }
+        ensures most { OnOk result (SendsAtMost (most_packets (length self.old.ports) (length self.old.routes) 0 (event_of Start)) outbox.old outbox.new) }
         ensures capacity { length self.old.routes ≤ R }
         ensures router { OnErr result (self.new ≡ self.old) }
         ensures outbox { OnErr result (Grows outbox.old outbox.new) }
@@ -169,7 +168,7 @@ impl<const P: usize, const R: usize> Router<P, R> {
         ensures ports { self.new.ports ≡ self.old.ports }
         ensures running { self.new.running ≡ self.old.running }
         ensures outcome { IfOk result (λ o. o ≡ outcome self.old (Packet port bytes.now)) }
-        ensures most { OnOk result (SendsAtMost (most_packets (length self.old.ports) (length self.old.routes) 0 (Packet port bytes.now)) outbox.old outbox.new) }
+        ensures most { OnOk result (SendsAtMost (most_packets (length self.old.ports) (length self.old.routes) 0 (event_of (Packet port bytes.now))) outbox.old outbox.new) }
         ensures sends { OnOk result ((¬ IsResponse self.old (Packet port bytes.now)) → Sends outbox.old outbox.new (sends self.old (Packet port bytes.now))) }
         ensures keeps { OnOk result ((¬ IsResponse self.old (Packet port bytes.now)) → self.new ≡ self.old) }
         ensures router { OnErr result (self.new ≡ self.old) }
@@ -195,7 +194,7 @@ impl<const P: usize, const R: usize> Router<P, R> {
         requires { port < length self.now.ports }
         ensures outcome { IfOk result (λ o. o ≡ Outcome.Answered) }
         ensures sends { OnOk result (Sends outbox.old outbox.new (request_answers self.now port message.now)) }
-        ensures most { OnOk result (SendsAtMost (most_packets (length self.now.ports) (length self.now.routes) 0 (Packet port [])) outbox.old outbox.new) }
+        ensures most { OnOk result (SendsAtMost (most_packets (length self.now.ports) (length self.now.routes) 0 (event_of (Packet port []))) outbox.old outbox.new) }
         ensures outbox { OnErr result (Grows outbox.old outbox.new) }
     {
         if !asks_all(message) {
@@ -218,7 +217,7 @@ impl<const P: usize, const R: usize> Router<P, R> {
         ensures ports { self.new.ports ≡ self.old.ports }
         ensures running { self.new.running ≡ self.old.running }
         ensures outcome { IfOk result (λ o. o ≡ Outcome.Learned) }
-        ensures most { OnOk result (SendsAtMost (most_packets (length self.old.ports) (length self.old.routes) 0 (Packet port [])) outbox.old outbox.new) }
+        ensures most { OnOk result (SendsAtMost (most_packets (length self.old.ports) (length self.old.routes) 0 (event_of (Packet port []))) outbox.old outbox.new) }
         ensures router { OnErr result (self.new ≡ self.old) }
         ensures outbox { OnErr result (Grows outbox.old outbox.new) }
     {

@@ -1,16 +1,16 @@
 //! What a router sends of its own: entries in packets of fifty, and the packets of a start.
 ghost use Rattle.std.specs.Prelude.{◌≡◌, ◌<◌, ◌≤◌, [], ◌∷◌, length, OnOk, OnErr};
 ghost use Rattle.ipx_wire.specs.declared.rip.Operation.TheVariants.{Request, Response};
-ghost use Rattle.ipx_cmd.specs.Port.{port_at, own_address, everyone};
-ghost use Rattle.ipx_cmd.specs.Sends.{all_routes, at_socket, page_sent, reply_to, rip_broadcast, rip_sends, services_query, start_on, start_sends, tells};
+ghost use Rattle.ipx_router.specs.Port.{port_at, own_address, own_services, everyone, every_server};
+ghost use Rattle.ipx_router.specs.Sends.{all_routes, entries_sent, reply_to, rip_broadcast, rip_sends, services_query, start_on, start_sends};
+ghost use Rattle.ipx_cmd.specs.Router.{tells};
 ghost use Rattle.ipx_cmd.specs.Sent.{Grows, Sends};
-ghost use Rattle.ipx_cmd.specs.Told.{told};
+ghost use Rattle.ipx_router.specs.Told.{told};
 
 use crate::thin::judge::port_of;
 use crate::thin::outbox::Outbox;
-use crate::thin::port::Port;
-use crate::thin::route::RouteOffer;
 use crate::thin::told::told;
+use ipx_router::{Port, RouteOffer};
 use ipx_wire::{
     Address, Network, Node, Operation, OutOfMemory, RipEntry, Socket, write_query, write_rip,
 };
@@ -70,7 +70,7 @@ fn announce(
     number: u8,
 ) -> Result<(), OutOfMemory>
     requires { number < length ports.now }
-    ensures ok { OnOk result (Sends outbox.old outbox.new (rip_broadcast ports.now number Response (told ports.now [] number))) }
+    ensures ok { OnOk result (Sends outbox.old outbox.new (rip_broadcast ports.now number (told ports.now [] number))) }
     ensures err { OnErr result (Grows outbox.old outbox.new) }
 {
     let to = everyone(&port_of(ports, usize::from(number)));
@@ -79,7 +79,7 @@ fn announce(
 
 fn ask_routes(outbox: &mut Outbox, ports: &[Port], number: u8) -> Result<(), OutOfMemory>
     requires { number < length ports.now }
-    ensures ok { OnOk result (Sends outbox.old outbox.new (rip_broadcast ports.now number Request (all_routes ∷ []))) }
+    ensures ok { OnOk result (Sends outbox.old outbox.new (rip_sends ports.now number (everyone (port_at ports.now number)) Request (all_routes ∷ []))) }
     ensures err { OnErr result (Grows outbox.old outbox.new) }
 {
     let all = RipEntry {
@@ -93,12 +93,12 @@ fn ask_routes(outbox: &mut Outbox, ports: &[Port], number: u8) -> Result<(), Out
 
 fn ask_services(outbox: &mut Outbox, ports: &[Port], number: u8) -> Result<(), OutOfMemory>
     requires { number < length ports.now }
-    ensures ok { OnOk result (Sends outbox.old outbox.new (services_query ports.now number)) }
+    ensures ok { OnOk result (Sends outbox.old outbox.new (services_query ports.now number ∷ [])) }
     ensures err { OnErr result (Grows outbox.old outbox.new) }
 {
     let port = port_of(ports, usize::from(number));
-    let from = at_socket(Socket::SAP, own_address(&port));
-    let to = at_socket(Socket::SAP, everyone(&port));
+    let from = own_services(&port);
+    let to = every_server(&port);
     let mut bytes = [0; 34];
     let count = write_query(from, to, false, EVERY_TYPE, &mut bytes);
     outbox.push(number, Node::BROADCAST, &bytes[..count])
@@ -138,7 +138,7 @@ fn send_page(
     requires port { number < length ports.now }
     requires some { 1 ≤ length page.now }
     requires most { length page.now ≤ 50 }
-    ensures ok { OnOk result (Sends outbox.old outbox.new (page_sent ports.now number to operation page.now ∷ [])) }
+    ensures ok { OnOk result (Sends outbox.old outbox.new (entries_sent ports.now number to operation page.now ∷ [])) }
     ensures err { OnErr result (Grows outbox.old outbox.new) }
 {
     let from = own_address(&port_of(ports, usize::from(number)));
@@ -179,8 +179,22 @@ pub fn reply_to(port: &Port, source: Address) -> Address
     }
 }
 
-fn at_socket(socket: Socket, address: Address) -> Address
-    ensures { result ≡ at_socket socket.0 address }
+/// The port's service process.
+fn own_services(port: &Port) -> Address
+    ensures { result ≡ own_services port.now }
 {
-    Address { socket, ..address }
+    Address {
+        socket: Socket::SAP,
+        ..own_address(port)
+    }
+}
+
+/// The service processes of all nodes of the port's network.
+fn every_server(port: &Port) -> Address
+    ensures { result ≡ every_server port.now }
+{
+    Address {
+        socket: Socket::SAP,
+        ..everyone(port)
+    }
 }

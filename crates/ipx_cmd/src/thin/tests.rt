@@ -1,4 +1,5 @@
-use super::{Event, Held, Outbox, Outcome, Port, PortFault, PortsFault, RouteOffer, Router, Why};
+use super::{Event, Held, Outbox, Outcome, PortsFault, Router};
+use ipx_router::{Port, PortFault, RouteOffer, Why};
 use ipx_wire::{Network, Node};
 use std::test::Fail;
 

@@ -1,12 +1,11 @@
 //! What a router tells on a port: the networks of its other ports, and the routes that it didn't
 //! learn there and whose next hop is still reached.
 ghost use Rattle.std.specs.Prelude.{◌≡◌, ◌<◌, ◌≤◌, ◌++◌, [], ◌∷◌, length, take, drop, map, IfOk, OnOk};
-ghost use Rattle.ipx_cmd.specs.Port.{port_at};
-ghost use Rattle.ipx_cmd.specs.Told.{by_network, dead, direct, direct_at, entry_of, is_told, learned, put_entry, put_entries, told, told_at};
+ghost use Rattle.ipx_router.specs.Port.{port_at};
+ghost use Rattle.ipx_router.specs.Told.{by_network, dead, direct, direct_at, entry_of, is_route_told, learned, put_entry, put_entries, told, told_at};
 
 use crate::thin::judge::port_of;
-use crate::thin::port::Port;
-use crate::thin::route::RouteOffer;
+use ipx_router::{Port, RouteOffer};
 use ipx_wire::{OutOfMemory, RipEntry};
 use std::alloc::Global;
 
@@ -95,7 +94,7 @@ fn place_route(
 }
 
 fn is_told(number: usize, route: &RouteOffer) -> bool
-    ensures { result ≡ is_told number route.now }
+    ensures { result ≡ is_route_told number route.now }
 {
     usize::from(route.port) != number && route.hops < UNREACHABLE - 1
 }

@@ -3,9 +3,10 @@ use Rattle.std.proofs.lemmas.Result.{on_ok_weaker}
 use Rattle.ipx_wire.specs.declared.address.Address.{Address}
 use Rattle.ipx_wire.specs.Packet.{IsPacket}
 use Rattle.ipx_wire.specs.Write.{rip_packet, rip_packet_parts}
-use Rattle.ipx_cmd.specs.Port.{port_at, own_address}
-use Rattle.ipx_cmd.specs.Sends.{page_sent}
-use Rattle.ipx_cmd.specs.Sent.{Sent, IsShortPacket}
+use Rattle.ipx_router.specs.Port.{port_at, own_address}
+use Rattle.ipx_router.specs.Sends.{entries_sent}
+use Rattle.ipx_router.specs.Relays.{Sent}
+use Rattle.ipx_cmd.specs.Sent.{IsShortPacket}
 use Rattle.ipx_cmd.proofs.Sendings.{sends_one, written}
 use Rattle.ipx_cmd.proofs.thin.send.send_page.Goals as goal
 
@@ -16,7 +17,7 @@ same_packet : (c : goal.After-push) → rip_packet c.own_address-from.result c.a
     ≡ rip_packet (own_address (port_at c.args.ports.now c.args.number)) c.args.to c.args.operation c.args.page.now
 same_packet c = ap (λ (a : Address). rip_packet a c.args.to c.args.operation c.args.page.now) (from_is c)
 
-short : (c : goal.After-push) → IsShortPacket (page_sent c.args.ports.now c.args.number c.args.to c.args.operation c.args.page.now)
+short : (c : goal.After-push) → IsShortPacket (entries_sent c.args.ports.now c.args.number c.args.to c.args.operation c.args.page.now)
 short c =
     let parts = rip_packet_parts c.own_address-from.result c.args.to c.args.operation c.args.page.now in
     record {

@@ -1,5 +1,5 @@
 use Rattle.std.proofs.Common.{◌≡◌, map, take}
-use Rattle.ipx_cmd.specs.Told.{put_entries, told_at, learned}
+use Rattle.ipx_router.specs.Told.{put_entries, told_at, learned}
 use Rattle.ipx_cmd.proofs.thin.told.place_learned.Given as goal
 
 abbrev pub invariant-loop-route : goal.invariant-loop-route

@@ -1,5 +1,5 @@
 use Rattle.std.proofs.Common.{◌≡◌, ◌++◌, take, drop}
-use Rattle.ipx_cmd.specs.Told.{put_entry}
+use Rattle.ipx_router.specs.Told.{put_entry}
 use Rattle.ipx_cmd.proofs.thin.told.place_of.Given as goal
 
 abbrev pub invariant-loop-index : goal.invariant-loop-index

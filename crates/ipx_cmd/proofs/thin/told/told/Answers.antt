@@ -1,5 +1,5 @@
 use Rattle.std.proofs.Common.{◌∙◌, ap}
-use Rattle.ipx_cmd.specs.Port.{Port}
+use Rattle.ipx_router.specs.Port.{Port}
 use Rattle.ipx_cmd.proofs.Telling.{told_made}
 use Rattle.ipx_cmd.proofs.thin.told.told.Goals as goal
 

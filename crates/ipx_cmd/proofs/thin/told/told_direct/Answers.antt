@@ -1,6 +1,6 @@
 use Rattle.std.proofs.Common.{◌∙◌, ap, sym, map, List}
 use Rattle.ipx_wire.specs.declared.rip.RipEntry.{RipEntry}
-use Rattle.ipx_cmd.specs.Told.{put_entries, told_at, direct_at}
+use Rattle.ipx_router.specs.Told.{put_entries, told_at, direct_at}
 use Rattle.ipx_cmd.proofs.Telling.{direct_more}
 use Rattle.ipx_cmd.proofs.thin.told.told_direct.Goals as goal
 

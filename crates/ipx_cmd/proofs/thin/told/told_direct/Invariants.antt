@@ -1,6 +1,7 @@
 use Rattle.std.proofs.Common.{◌≡◌, map}
 use Rattle.std.specs.List.{flat_map}
-use Rattle.ipx_cmd.specs.Told.{by_network, told_at, direct_at, numbers}
+use Rattle.ipx_router.specs.Told.{by_network, told_at, direct_at}
+use Rattle.ipx_router.specs.Outgoing.{numbers}
 use Rattle.ipx_cmd.proofs.thin.told.told_direct.Given as goal
 
 abbrev pub invariant-loop-other : goal.invariant-loop-other
