@@ -1,4 +1,5 @@
--- What changed in an event: the keys whose offers differ before and after it, by key. A key without an offer counts.
+-- What changed in an event (IPX Router Specification, immediate broadcasts): the keys whose offers differ before and
+-- after it, by key. A key without an offer counts.
 use Rattle.std.specs.Prelude.{Bool, true, false, not, if◌then◌else◌, List, [], ◌∷◌, map, filter, Option, None, Some}
 use Rattle.std.specs.List.{find}
 use Rattle.std.specs.Ordering.{is_eq, is_lt}

@@ -1,4 +1,4 @@
--- What a router hears: near packets that no check drops.
+-- What a router hears (IPX Router Specification, RIP and SAP packets): near packets that no check drops.
 use Rattle.std.specs.Prelude.{ℕ, Bool, if◌then◌else◌, List, [], Option, None, Some, Ok, Err}
 use Rattle.ipx_wire.specs.Packet.{Parts, packet_of}
 use Rattle.ipx_wire.specs.Rip.{RipParts, rip_of}

@@ -1,4 +1,5 @@
--- What a router tells of a change, at once: on each port but that of the later offer, or, where there is none, of the earlier.
+-- What a router tells of a change, at once (IPX Router Specification, immediate broadcasts): on each port but that of the
+-- later offer, or, where there is none, of the earlier.
 use Rattle.std.specs.Prelude.{ℕ, ◌==◌, ◌&&◌, Bool, if◌then◌else◌, List, [], ◌∷◌, None, Some}
 use Rattle.std.specs.List.{flat_map}
 use Rattle.ipx_wire.specs.Name.{same_name}

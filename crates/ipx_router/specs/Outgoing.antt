@@ -1,4 +1,4 @@
--- Where a packet for another network leaves.
+-- Where a packet for another network leaves (IPX Router Specification, packet forwarding).
 use Rattle.std.specs.Prelude.{ℕ, zero, suc, ◌==◌, ◌&&◌, Bool, List, [], ◌∷◌, ◌++◌, length, Option, None, Some}
 use Rattle.std.specs.List.{find, list_any}
 use Rattle.std.specs.Option.{option_map}

@@ -1,4 +1,4 @@
--- A list cut into packets.
+-- A list cut into packets (IPX Router Specification, entries in a packet).
 use Rattle.std.specs.Prelude.{ℕ, ◌+◌, ◌-◌, ◌/◌, nat_lt, if◌then◌else◌, List, [], ◌∷◌, ◌++◌, length}
 
 -- the pieces of n of a page that is begun and what follows it

@@ -1,4 +1,4 @@
--- A port of a router, as the definitions see it.
+-- A port of a router (IPX Router Specification, networks, nodes and costs in ticks).
 use Rattle.std.specs.Prelude.{◌≡◌, ◌≢◌, ℕ, ◌^◌, ◌<◌, ◌≤◌, ◌⊎◌, ◌==◌, ◌||◌, nat_eq, Bool, List, length, replicate, slice_index_or}
 use Rattle.std.specs.Cmp.Lexicographic.{pointwise}
 use Rattle.ipx_wire.specs.declared.address.Address.{Address}

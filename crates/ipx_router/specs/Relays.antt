@@ -1,4 +1,5 @@
--- Packets that a router sends on: to the network they are for, or to every other network.
+-- Packets that a router sends on (IPX Router Specification, packet forwarding and NetBIOS propagation): to the network
+-- they are for, or to every other network.
 use Rattle.std.specs.Prelude.{◌≡◌, ◌≢◌, ℕ, ◌<◌, ◌≤◌, ◌==◌, ◌&&◌, nat_le, Bool, true, false, not, if◌then◌else◌, List, [], ◌∷◌, length, None, Some}
 use Rattle.std.specs.List.{flat_map}
 use Rattle.ipx_wire.specs.Crossed.{IsCrossed, networks_at, is_among}

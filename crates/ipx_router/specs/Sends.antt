@@ -1,4 +1,5 @@
--- What each event sends: ports in order, on one port routing information before services.
+-- What each event sends (IPX Router Specification, periodic and immediate broadcasts, requests and queries): ports in
+-- order, on one port routing information before services.
 use Rattle.std.specs.Prelude.{ℕ, ◌+◌, ◌%◌, ◌==◌, ◌||◌, Bool, false, if◌then◌else◌, List, [], ◌∷◌, ◌++◌, map, filter, None, Some, Ok, Err}
 use Rattle.std.specs.List.{flat_map, list_any}
 use Rattle.std.specs.Ordering.{nat_cmp, ordering_then, is_lt}

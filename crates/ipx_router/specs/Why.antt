@@ -1,4 +1,5 @@
--- Why a packet is dropped: the first check that holds of it, in the order of the checks.
+-- Why a packet is dropped (IPX Router Specification, packet checks): the first check that holds of it, in the order of
+-- the checks.
 use Rattle.std.specs.Prelude.{ℕ, Bool, true, false, not, ◌==◌, ◌&&◌, ◌||◌, nat_lt, nat_le, if◌then◌else◌, List, [], ◌∷◌, length, Option, None, Some, is_none, Ok, Err}
 use Rattle.ipx_wire.specs.Crossed.{networks_at, is_among}
 use Rattle.ipx_wire.specs.Packet.{Parts, packet_of}
