@@ -3,7 +3,7 @@ ghost use Rattle.std.specs.Prelude.{◌≡◌, ◌↔◌, ℕ, ◌≤◌, ◌<�
 ghost use Rattle.std.specs.List.{AllByRecursion};
 ghost use Rattle.std.specs.Ordering.{is_eq};
 ghost use Rattle.ipx_table.specs.Reading.{rules_of};
-ghost use Rattle.ipx_table.specs.Facts.{Fact, Offered, Second, Marked};
+ghost use Rattle.ipx_table.specs.Facts.{Fact, Offered, Second, End, Marked};
 ghost use Rattle.ipx_table.specs.Alive.{alive, lifetime, IsAliveAt};
 ghost use Rattle.ipx_table.specs.Accepted.{marked};
 ghost use Rattle.ipx_table.specs.Taken.{taken};
@@ -53,12 +53,14 @@ pub fn standing_records<O: Offer>()
         Stands rules records facts → IsAscending rules.by_key records }
 {}
 
-/// What one fact more does to the records: an offer changes that of its own key alone, and with a second those that
-/// end go, and the rest are a second older.
+/// What one fact more does to the records: an offer changes that of its own key alone; with a second those that end go,
+/// and the rest are a second older; with an end all go.
 pub fn next_facts<O: Offer>()
     ensures others { (capacity : ℕ) (facts : List (Fact O)) (offer : O) (key : O.Key) → let rules = rules_of O.reading O.Key.cmp capacity in
         is_eq (O.Key.cmp (O.reading.key offer) key) ≡ false
         → record_of O.reading.key O.Key.cmp key (held_after rules (facts ++ Offered offer ∷ [])) ≡ record_of O.reading.key O.Key.cmp key (held_after rules facts) }
     ensures second { (capacity : ℕ) (facts : List (Fact O)) → let rules = rules_of O.reading O.Key.cmp capacity in
         held_after rules (facts ++ Second ∷ []) ≡ second_later (held_after rules facts) }
+    ensures end { (capacity : ℕ) (facts : List (Fact O)) → let rules = rules_of O.reading O.Key.cmp capacity in
+        held_after rules (facts ++ End ∷ []) ≡ [] }
 {}

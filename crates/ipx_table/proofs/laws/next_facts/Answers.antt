@@ -4,7 +4,7 @@ use Rattle.ipx_table.specs.Alive.{alive}
 use Rattle.ipx_table.specs.Accepted.{marked}
 use Rattle.ipx_table.specs.Facts.{Offered}
 use Rattle.ipx_table.specs.Reading.{rules_of}
-use Rattle.ipx_table.proofs.History.{alive_after-offered, alive_after-second}
+use Rattle.ipx_table.proofs.History.{alive_after-offered, alive_after-second, alive_after-end}
 use Rattle.ipx_table.proofs.Seconds.{second-in_order}
 use Rattle.ipx_table.proofs.Standing.{record-others}
 use Rattle.ipx_table.specs.Stands.{in_order}
@@ -22,3 +22,8 @@ returns-clause-second g c = λ capacity facts.
     let r = rules_of g.O.Offer.reading g.O.Key.Ord.cmp capacity in
     let total = on_total g.O.Offer.reading.key g.met.O.Key.Ord.total in
     ap (in_order r.by_key) (alive_after-second r facts) ∙ second-in_order r.by_key total (alive r (marked r facts))
+
+pub returns-clause-end : goal.returns-clause-end
+returns-clause-end g c = λ capacity facts.
+    let r = rules_of g.O.Offer.reading g.O.Key.Ord.cmp capacity in
+    ap (in_order r.by_key) (alive_after-end r facts)
