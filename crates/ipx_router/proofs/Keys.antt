@@ -5,6 +5,7 @@ use Rattle.std.specs.Ordering.{ordering_reverse}
 use Rattle.std.specs.Cmp.{IsTotalOrder}
 use Rattle.std.proofs.lemmas.Bool.{cases_Bool}
 use Rattle.ipx_router.specs.Changes.{offer_of, same_or_none, put_key, put_keys, change_at, differs, changes}
+use Rattle.ipx_router.proofs.Every.{all_then}
 
 -- ---- how many pass a test
 
@@ -42,10 +43,6 @@ filter-mapped p f (x ∷ xs) = elim (cases_Bool (p (f x))) [
   | inl e ↦ rw e (omega (arith, filter-mapped p f xs))
   | inr e ↦ rw e (filter-mapped p f xs)
 ]
-
-all_so : {X : Type 0} (P Q : X → Type 0) → ((x : X) → P x → Q x) → (xs : List X) → AllByRecursion P xs → AllByRecursion Q xs
-all_so P Q so [] all = tt
-all_so P Q so (x ∷ xs) all = (so x all.0, all_so P Q so xs all.1)
 
 -- ---- the three answers
 
@@ -89,7 +86,7 @@ module _ {O K : Type 0} (key_of : O → K) (order : K → K → Ordering) (same 
   rises-put key [] up = (tt, tt)
   rises-put key (other ∷ keys) up = elim (cases_Bool (is_lt (order key other))) [
     | inl less ↦ rw less (
-      (less, all_so (λ x. is_lt (order other x) ≡ true) (λ x. is_lt (order key x) ≡ true) (λ x l. less_through key other x less l) keys up.0),
+      (less, all_then (λ x. is_lt (order other x) ≡ true) (λ x. is_lt (order key x) ≡ true) (λ x l. less_through key other x less l) keys up.0),
       up,
     )
     | inr more ↦ elim (cases_Bool (is_eq (order key other))) [
@@ -112,7 +109,7 @@ module _ {O K : Type 0} (key_of : O → K) (order : K → K → Ordering) (same 
   single key (first ∷ keys) up = elim (cases_Bool (is_eq (order key first))) [
     | inl equal ↦
         let none = none_passes (λ other. is_eq (order key other)) keys
-        (all_so (λ x. is_lt (order first x) ≡ true) (λ x. is_eq (order key x) ≡ false) (λ x l. behind x equal l) keys up.0) in
+        (all_then (λ x. is_lt (order first x) ≡ true) (λ x. is_eq (order key x) ≡ false) (λ x l. behind x equal l) keys up.0) in
         rw equal (omega (arith, none))
     | inr apart ↦ rw apart (single key keys up.1)
   ]

@@ -15,9 +15,11 @@ pub mod Owned
 pub mod PageCounts
 pub mod PageItems
 pub mod Passing
+pub mod PortFaults
 pub mod PortPlaces
 pub mod Relations
 pub mod Relayed
+pub mod Rising
 pub mod Sendings
 pub mod SentFor
 pub mod SentLengths

@@ -1,11 +1,8 @@
 -- Lists made piece by piece: what stands in them, and that what was put there is found again.
-use Rattle.std.proofs.Common.{◌≡◌, sym, ap, subst, ◌∙◌, ℕ, zero, suc, ◌<◌, ◌==◌, ◌||◌, Bool, true, false, List, [], ◌∷◌, ◌++◌, length, Option, None, Some, inl, inr, true≢false, arith}
+use Rattle.std.proofs.Common.{◌≡◌, sym, ap, subst, ℕ, zero, suc, ◌==◌, Bool, true, List, [], ◌∷◌, ◌++◌, Option, None, Some, inl, inr, true≢false}
 use Rattle.std.specs.List.{AllByRecursion, find, flat_map, list_any, slice_get}
-use Rattle.std.proofs.lemmas.Bool.{cases_Bool, cases_lt, eqb-true, eqb-false, or_left, or_right}
-use Rattle.std.proofs.lemmas.List.Folds.{list_any-append}
-use Rattle.ipx_router.specs.Outgoing.{numbers, ports_up, is_up}
-use Rattle.ipx_router.specs.Port.{Port}
-use Rattle.ipx_router.proofs.Tables.{all-append, nothing}
+use Rattle.std.proofs.lemmas.Bool.{cases_Bool, eqb-true}
+use Rattle.ipx_router.proofs.Tables.{nothing}
 
 -- ---- what stands in a list
 
@@ -26,12 +23,6 @@ found P test (y ∷ ys) x all e = elim (cases_Bool (test y)) [
   | inl it ↦ it_is P x y (rw it at e) all.0
   | inr other ↦ found P test ys x all.1 (rw other at e)
 ]
-
--- what holds of each piece holds of all together
-pub all_pieces : {X Y : Type 0} (P : X → Type 0) (Q : Y → Type 0) (f : X → List Y) (xs : List X) → AllByRecursion P xs
-    → ((x : X) → P x → AllByRecursion Q (f x)) → AllByRecursion Q (flat_map f xs)
-all_pieces P Q f [] all each = tt
-all_pieces P Q f (x ∷ xs) all each = all-append Q (f x) (flat_map f xs) (each x all.0) (all_pieces P Q f xs all.1 each)
 
 -- ---- what was put into a list
 
@@ -55,35 +46,3 @@ piece_found f (x ∷ xs) number k y listed there = elim (cases_Bool (x == number
       let (place, stands) = piece_found f xs number k y (rw other at listed) there in
       behind (f x) (flat_map f xs) place y stands
 ]
-
--- ---- the ports that are up
-
-below : (n j : ℕ) → j < suc n → (n == j) ≡ false → j < n
-below n j within other = elim (cases_lt j n) [
-  | inl less ↦ less
-  | inr same ↦ absurd (eqb-false n j other (omega (arith, within, same)))
-]
-
--- each number below n is among the numbers below n
-number_listed : (n j : ℕ) → j < n → list_any (λ i. i == j) (numbers n) ≡ true
-number_listed zero j within = absurd (omega (arith, within))
-number_listed (suc n) j within =
-    list_any-append (λ i. i == j) (numbers n) (n ∷ [])
-    ∙ elim (cases_Bool (n == j)) [
-      | inl same ↦ or_right (list_any (λ i. i == j) (numbers n)) ((n == j) || false) (or_left (n == j) false same)
-      | inr other ↦ or_left (list_any (λ i. i == j) (numbers n)) ((n == j) || false) (number_listed n j (below n j within other))
-    ]
-
--- what holds of each number below n holds of all of them
-numbers_pass : (P : ℕ → Type 0) (n : ℕ) → ((j : ℕ) → j < n → P j) → AllByRecursion P (numbers n)
-numbers_pass P zero each = tt
-numbers_pass P (suc n) each =
-    all-append P (numbers n) (n ∷ []) (numbers_pass P n (λ j within. each j (omega (arith, within)))) (each n (omega arith), tt)
-
--- a port that there is is up
-pub up : (ports : List Port) (number : ℕ) → number < length ports → is_up ports number ≡ true
-up ports number within = number_listed (length ports) number within
-
--- all ports that are listed as up are up
-pub all_up : (ports : List Port) → AllByRecursion (λ j. is_up ports j ≡ true) (ports_up ports)
-all_up ports = numbers_pass (λ j. is_up ports j ≡ true) (length ports) (up ports)

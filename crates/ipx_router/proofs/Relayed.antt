@@ -17,7 +17,9 @@ use Rattle.ipx_router.specs.Port.{Port, port_at}
 use Rattle.ipx_router.specs.Relays.{Sent, IsTableRoute, IsForwarded, IsPropagated, forwarded_by, goes_out, propagated_on, relayed}
 use Rattle.ipx_router.specs.Why.{why, is_propagated, is_far}
 use Rattle.ipx_router.specs.declared.route_offer.RouteOffer.{RouteOffer}
-use Rattle.ipx_router.proofs.Outlets.{it_is, one_of_all, found, all_pieces, up, all_up}
+use Rattle.ipx_router.proofs.Every.{all-flat_map}
+use Rattle.ipx_router.proofs.Outlets.{it_is, one_of_all, found}
+use Rattle.ipx_router.proofs.PortPlaces.{within-is_up, all_up}
 use Rattle.ipx_router.proofs.Passing.{Passes, passes, asked, judged}
 use Rattle.ipx_router.proofs.Tables.{nothing}
 
@@ -59,7 +61,7 @@ way_up ports routes destination way table e = by (port_of ports destination.netw
     by None None direct served e = nothing e
     by None (Some r) direct served e =
         it_is (λ (w : Way). is_up ports w.port ≡ true) way (record { port = r.port; link = r.node }) e
-        (up ports r.port (found (IsTableRoute ports) (λ r. r.network.0 == destination.network.0) routes r table served).port)
+        (within-is_up ports r.port (found (IsTableRoute ports) (λ r. r.network.0 == destination.network.0) routes r table served).port)
 
 -- ---- what is listed is what the relations say
 
@@ -111,7 +113,7 @@ module _
         → slice_get (flat_map (propagated_on ports number p) (ports_up ports)) k ≡ Some s → IsPropagated ports number bytes s
     listed_propagated k s are all e =
         one_of_all (IsPropagated ports number bytes) (flat_map (propagated_on ports number p) (ports_up ports)) k s
-        (all_pieces (λ out. is_up ports out ≡ true) (IsPropagated ports number bytes) (propagated_on ports number p) (ports_up ports) (all_up ports) each) e
+        (all-flat_map (λ out. is_up ports out ≡ true) (IsPropagated ports number bytes) (propagated_on ports number p) each (ports_up ports) (all_up ports)) e
       where
         each : (out : ℕ) → is_up ports out ≡ true → AllByRecursion (IsPropagated ports number bytes) (propagated_on ports number p out)
         each out is_up = elim (cases_Bool (goes_out ports number p out)) [

@@ -1,5 +1,5 @@
 -- What changed in an event (IPX Router Specification, immediate broadcasts): the keys whose offers differ before and
--- after it, by key. A key without an offer counts.
+-- after it, by key. That a key has no offer counts as a value.
 use Rattle.std.specs.Prelude.{Bool, true, false, not, if◌then◌else◌, List, [], ◌∷◌, map, filter, Option, None, Some}
 use Rattle.std.specs.List.{find}
 use Rattle.std.specs.Ordering.{is_eq, is_lt}
@@ -15,6 +15,7 @@ module _ {O K : Type 0} (key_of : O → K) (order : K → K → Ordering) (same 
   abbrev pub offer_of : K → List O → Option O
   offer_of key offers = find (λ o. is_eq (order (key_of o) key)) offers
 
+  -- the same offer twice, or none twice
   abbrev pub same_or_none : Option O → Option O → Bool
   same_or_none None None = true
   same_or_none None (Some b) = false
@@ -34,9 +35,11 @@ module _ {O K : Type 0} (key_of : O → K) (order : K → K → Ordering) (same 
   put_keys [] keys = keys
   put_keys (o ∷ offers) keys = put_key (key_of o) (put_keys offers keys)
 
+  -- the offers of a key before and after
   abbrev pub change_at : List O → List O → K → Change O
   change_at before after key = record { before = offer_of key before; after = offer_of key after }
 
+  -- they aren't the same
   abbrev pub differs : Change O → Bool
   differs change = not (same_or_none change.before change.after)
 

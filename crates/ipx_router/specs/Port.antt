@@ -18,7 +18,7 @@ pub record Port : Type 0 where
 abbrev pub broadcast : Node
 broadcast = record { 0 = replicate 6 255 }
 
--- no network has these numbers: the local one, the default route's and that of all routes
+-- no port may be on these networks: the local one, the default route's and that of all routes
 abbrev pub IsReserved : Network → Type 0
 IsReserved network = (network.0 ≡ 0) ⊎ (4294967294 ≤ network.0)
 
@@ -39,7 +39,7 @@ IsNoPort network node cost longest Cost = (576 ≤ longest) × (cost ≡ 0)
 IsNoPort network node cost longest BadNetwork = (576 ≤ longest) × (0 < cost) × IsReserved network
 IsNoPort network node cost longest BadNode = (576 ≤ longest) × (0 < cost) × (0 < network.0) × (network.0 < 4294967294) × (node ≡ broadcast)
 
--- the port with exactly so many others before it
+-- the port with exactly so many others before it; past the last, one of network 0, which no port has
 abbrev pub port_at : List Port → ℕ → Port
 port_at ports number = slice_index_or ports number (record { network = record { 0 = 0 }; node = broadcast; cost = 0; longest = 0 })
 

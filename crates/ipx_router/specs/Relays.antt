@@ -29,7 +29,8 @@ pub record IsTableRoute (ports : List Port) (r : RouteOffer) : Type 0 where
   pub port : r.port < length ports
   pub neighbour : same_node r.node broadcast ≡ false
 
--- a packet may be sent on: it is neither the port's own nor from a broadcast, and not longer than the outgoing port allows
+-- a packet may be sent on: it is neither the port's own nor from a broadcast, and not longer than the outgoing port, which
+-- is up, allows
 pub record MayLeave (ports : List Port) (number : ℕ) (p : Parts) (out : ℕ) : Type 0 where
   pub no_echo : is_own_echo (port_at ports number) p.header ≡ false
   pub source : is_bad_source p.header ≡ false

@@ -27,6 +27,7 @@ use Rattle.ipx_router.specs.declared.service_offer.ServiceOffer.{ServiceOffer}
 
 -- ---- entries and services, in packets
 
+-- a packet of entries, from the port's routing process to an address
 abbrev pub entries_sent : List Port → ℕ → Address → Operation → List RipEntry → Sent
 entries_sent ports number to operation page = record {
   port = number;
@@ -42,6 +43,7 @@ rip_sends ports number to operation entries = map (entries_sent ports number to 
 abbrev pub rip_broadcast : List Port → ℕ → List RipEntry → List Sent
 rip_broadcast ports number entries = rip_sends ports number (everyone (port_at ports number)) Response entries
 
+-- a packet of services, from the port's service process to an address
 abbrev pub services_sent : List Port → ℕ → Address → Bool → List Service → Sent
 services_sent ports number to nearest page = record {
   port = number;
@@ -86,7 +88,7 @@ start_on ports number =
     ++ rip_sends ports number (everyone (port_at ports number)) Request (all_routes ∷ [])
     ++ services_query ports number ∷ []
 
--- that, port after port
+-- the packets of a start, port after port
 abbrev pub start_sends : List Port → List Sent
 start_sends ports = flat_map (start_on ports) (ports_up ports)
 

@@ -34,6 +34,7 @@ put_service service (other ∷ services) =
     if is_lt (service_order (service.kind, service.name) (other.kind, other.name)) then service ∷ other ∷ services
     else other ∷ put_service service services
 
+-- services in their places among those that are placed, one after the other
 abbrev pub put_services : List Service → List Service → List Service
 put_services placed [] = placed
 put_services placed (service ∷ services) = put_services (put_service service placed) services

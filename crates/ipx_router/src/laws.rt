@@ -1,17 +1,22 @@
 //! What holds of the definitions, for all ports, routes, services and histories.
-ghost use Rattle.std.specs.Prelude.{◌≡◌, ℕ, ◌<◌, ◌≤◌, ◌==◌, Bool, true, false, not, List, [], ◌∷◌, ◌++◌, length, filter, slice_get, Some, None, Ok};
+ghost use Rattle.std.specs.Prelude.{◌≡◌, ◌↔◌, ◌⊎◌, ℕ, ◌^◌, ◌<◌, ◌≤◌, ◌==◌, Bool, true, false, not, List, [], ◌∷◌, ◌++◌, length, filter, map, slice_get, Some, None, Ok};
 ghost use Rattle.std.specs.List.{AllByRecursion};
+ghost use Rattle.std.specs.List.Sorted.{IsStrictlyIncreasing};
 ghost use Rattle.ipx_wire.specs.Packet.{Parts, packet_of};
 ghost use Rattle.ipx_wire.specs.Piece.{IsBytes};
+ghost use Rattle.ipx_wire.specs.declared.address.Address.{Address};
+ghost use Rattle.ipx_wire.specs.declared.network.Network.{Network};
+ghost use Rattle.ipx_wire.specs.declared.node.Node.{Node};
 ghost use Rattle.ipx_router.specs.Bounds.{most_packets, most_length};
 ghost use Rattle.ipx_router.specs.History.{Event, History, Start, Stop, Second, Packet, IsOnPort, IsOfBytes, running, routes_held, services_held, offers};
-ghost use Rattle.ipx_router.specs.News.{news, news_services};
+ghost use Rattle.ipx_router.specs.News.{news, news_services, same_address, same_route, same_service};
 ghost use Rattle.ipx_router.specs.Packets.{IsSentFor, IsRelayed};
-ghost use Rattle.ipx_router.specs.Port.{Port, IsPort};
+ghost use Rattle.ipx_router.specs.Port.{Port, IsPort, IsNoPort, same_node};
 ghost use Rattle.ipx_router.specs.Relays.{Sent, IsTableRoute, relayed};
 ghost use Rattle.ipx_router.specs.Why.{why};
 ghost use Rattle.ipx_router.specs.Sends.{sends};
 ghost use Rattle.ipx_router.specs.Told.{told, told_services};
+ghost use Rattle.ipx_router.specs.declared.port.PortFault.{PortFault};
 
 use crate::route_offer::RouteOffer;
 use crate::service_offer::ServiceOffer;
@@ -40,8 +45,24 @@ pub fn no_news()
     ensures services { (services : List ServiceOffer) (number : ℕ) → news_services services services number ≡ [] }
 {}
 
+/// Offers are the same exactly where they are equal, and so are addresses and nodes.
+pub fn same_offers()
+    ensures routes { (a b : RouteOffer) → (same_route a b ≡ true ↔ a ≡ b) }
+    ensures services { (a b : ServiceOffer) → (same_service a b ≡ true ↔ a ≡ b) }
+    ensures addresses { (a b : Address) → (same_address a b ≡ true ↔ a ≡ b) }
+    ensures nodes { (a b : Node) → (same_node a b ≡ true ↔ a ≡ b) }
+{}
+
+/// Values make a port or there is a fault, never both, and one fault only.
+pub fn port_values()
+    ensures never_both { (p : Port) (fault : PortFault) → IsPort p → IsNoPort p.network p.node p.cost p.longest fault → ⊥ }
+    ensures either { (p : Port) → p.cost < 2 ^ 16 → length p.node.0 ≡ 6 → IsPort p ⊎ ((fault : PortFault) × IsNoPort p.network p.node p.cost p.longest fault) }
+    ensures one_fault { (network : Network) (node : Node) (cost longest : ℕ) (f g : PortFault)
+        → IsNoPort network node cost longest f → IsNoPort network node cost longest g → f ≡ g }
+{}
+
 /// The routes that are held after any history are such as a table may have: none is to network 0, FFFFFFFFh or a
-/// port's own, and none is by the broadcast.
+/// port's own; each is by a port that there is, and by one neighbour, not the broadcast.
 pub fn tables()
     ensures { (ports : List Port) (capacity : ℕ) (history : History) → AllByRecursion (IsOnPort ports) history
         → AllByRecursion (IsTableRoute ports) (offers (routes_held ports capacity history)) }
@@ -49,6 +70,7 @@ pub fn tables()
 
 /// What is listed as sent on of a packet that no check drops is sent on by the relations, over any routes that a table may
 /// have; and what the relations say is sent on comes of a packet that no check drops, and is listed.
+/// What is listed leaves on rising port numbers, so on each port at most once.
 pub fn relays()
     ensures listed { (ports : List Port) (routes : List RouteOffer) (number : ℕ) (bytes : List ℕ) (p : Parts) (k : ℕ) (s : Sent)
         → IsBytes bytes → AllByRecursion (IsTableRoute ports) routes
@@ -58,6 +80,7 @@ pub fn relays()
         → IsBytes bytes → IsRelayed ports routes number bytes s
         → (why ports routes true number bytes ≡ None)
         × ((p : Parts) × (k : ℕ) × (packet_of bytes ≡ Ok p) × (slice_get (relayed ports routes number p) k ≡ Some s)) }
+    ensures in_order { (ports : List Port) (routes : List RouteOffer) (number : ℕ) (p : Parts) → IsStrictlyIncreasing (map (λ s. s.port) (relayed ports routes number p)) }
 {
     ipx_wire::laws::readings();
 }

@@ -56,3 +56,24 @@ pub to_the_socket : sent_by heard_of_30 (Packet 0 from_another_socket)
     ∷ []
 unfolding decode_pairs header_bytes address_bytes entry_bytes network_bytes service_bytes name_field packet_of header_at address_at rip_of entries_at entry_at sap_of items sap_entry_at name_of networks_at network_at
 to_the_socket = refl
+
+-- node AAh asks for network 30h, and writes network 0 as its own
+abbrev from_network_0 : List ℕ
+from_network_0 = hex (codes "FFFF0028000100000010FFFFFFFFFFFF0453000000000000000000AA" ++ codes "0453000100000030FFFFFFFF")
+
+-- node AAh asks for network 0 alone
+abbrev for_network_0 : List ℕ
+for_network_0 = hex (codes "FFFF0028000100000010FFFFFFFFFFFF0453000000100000000000AA" ++ codes "0453000100000000FFFFFFFF")
+
+-- an asker that calls its network 0 is answered on the network of the port
+pub to_the_network_of_the_port : sent_by heard_of_30 (Packet 0 from_network_0)
+    ≡ out 0 (node 0xAA) (hex (codes "FFFF00280001000000100000000000AA045300000010000000000001" ++ codes "045300020000003000020003"))
+    ∷ []
+unfolding decode_pairs header_bytes address_bytes entry_bytes network_bytes service_bytes name_field packet_of header_at address_at rip_of entries_at entry_at sap_of items sap_entry_at name_of networks_at network_at
+to_the_network_of_the_port = refl
+
+-- network 0 isn't told to an asker: only FFFFFFFFh asks for all
+pub network_0_is_no_route : sent_by heard_of_30 (Packet 0 for_network_0)
+    ≡ []
+unfolding decode_pairs header_bytes address_bytes entry_bytes network_bytes service_bytes name_field packet_of header_at address_at rip_of entries_at entry_at sap_of items sap_entry_at name_of networks_at network_at
+network_0_is_no_route = refl

@@ -43,3 +43,44 @@ longest_of_no_packet = refl
 pub longest_of_a_long_packet : most_length (Packet 0 (replicate 2 255 ++ 2 ∷ 88 ∷ [] ++ replicate 600 0)) ≡ 600
 unfolding packet_of header_at address_at
 longest_of_a_long_packet = refl
+
+-- each of two ports tells the other's network too: with 49 routes one full packet a port
+pub most_with_49_routes : most_packets 2 49 0 Second ≡ 2
+most_with_49_routes = refl
+
+pub most_of_a_stop_with_49_routes : most_packets 2 49 0 Stop ≡ 2
+most_of_a_stop_with_49_routes = refl
+
+-- and a second one with 50
+pub most_with_50_routes : most_packets 2 50 0 Second ≡ 4
+most_with_50_routes = refl
+
+pub most_of_a_stop_with_50_routes : most_packets 2 50 0 Stop ≡ 4
+most_of_a_stop_with_50_routes = refl
+
+-- seven services fill a packet
+pub most_with_7_services : most_packets 2 49 7 Second ≡ 4
+most_with_7_services = refl
+
+-- and the eighth begins another
+pub most_with_8_services : most_packets 2 49 8 Second ≡ 6
+most_with_8_services = refl
+
+-- where nothing is held, three ports tell of a packet at most once each
+pub most_of_a_packet_to_three : most_packets 3 0 0 (Packet 0 []) ≡ 3
+most_of_a_packet_to_three = refl
+
+-- a single port has no other network to answer with: 50 routes fill one packet, the 51st begins another
+pub most_of_a_full_answer : most_packets 1 50 0 (Packet 0 []) ≡ 1
+most_of_a_full_answer = refl
+
+pub most_of_more_than_one_answer : most_packets 1 51 0 (Packet 0 []) ≡ 2
+most_of_more_than_one_answer = refl
+
+-- 128 services are 18 full packets and two services more
+pub most_of_a_query : most_packets 2 0 128 (Packet 0 []) ≡ 19
+most_of_a_query = refl
+
+-- a start of three ports: three packets on each
+pub most_of_a_start_of_three : most_packets 3 100 100 Start ≡ 9
+most_of_a_start_of_three = refl

@@ -92,3 +92,21 @@ pub networks_of_no_route : sent_by (Start ∷ []) (Packet 1 skipped)
     ∷ []
 unfolding decode_pairs header_bytes address_bytes entry_bytes network_bytes service_bytes name_field packet_of header_at address_at rip_of entries_at entry_at sap_of items sap_entry_at name_of networks_at network_at
 networks_of_no_route = refl
+
+-- node BBh knows network FFFFFFFEh
+abbrev of_the_default : List ℕ
+of_the_default = hex (codes "FFFF0028000100000020FFFFFFFFFFFF0453000000200000000000BB" ++ codes "04530002FFFFFFFE00010002")
+
+-- network FFFFFFFEh is one as any other: it is told at once
+pub the_default_is_learned : sent_by (Start ∷ []) (Packet 1 of_the_default)
+    ≡ out 0 all_nodes (hex (codes "FFFF0028000100000010FFFFFFFFFFFF045300000010000000000001" ++ codes "04530002FFFFFFFE00020003"))
+    ∷ []
+unfolding decode_pairs header_bytes address_bytes entry_bytes network_bytes service_bytes name_field packet_of header_at address_at rip_of entries_at entry_at sap_of items sap_entry_at name_of networks_at network_at
+the_default_is_learned = refl
+
+-- and to whoever asks
+pub the_default_is_told : sent_by (Start ∷ Packet 1 of_the_default ∷ []) (Packet 0 general_request)
+    ≡ out 0 (node 0xAA) (hex (codes "FFFF00300001000000100000000000AA045300000010000000000001" ++ codes "045300020000002000010002FFFFFFFE00020003"))
+    ∷ []
+unfolding decode_pairs header_bytes address_bytes entry_bytes network_bytes service_bytes name_field packet_of header_at address_at rip_of entries_at entry_at sap_of items sap_entry_at name_of networks_at network_at
+the_default_is_told = refl

@@ -147,3 +147,18 @@ passes = refl
 pub odd_control_and_network : why two_ports [] true 0 (hex (codes "FFFF0028050100000010FFFFFFFFFFFF0453000000000000000000AA" ++ codes "04530001FFFFFFFFFFFFFFFF")) ≡ None
 unfolding decode_pairs header_bytes address_bytes entry_bytes network_bytes service_bytes name_field packet_of header_at address_at rip_of entries_at entry_at sap_of items sap_entry_at name_of networks_at network_at
 odd_control_and_network = refl
+
+-- for a socket without a process and from another network: the socket is judged first
+pub socket_before_network : why two_ports [] true 0 (hex (codes "FFFF001E000000000010FFFFFFFFFFFF4003000000990000000000AA" ++ codes "4003")) ≡ Some OtherSocket
+unfolding decode_pairs header_bytes address_bytes entry_bytes network_bytes service_bytes name_field packet_of header_at address_at rip_of entries_at entry_at sap_of items sap_entry_at name_of networks_at network_at
+socket_before_network = refl
+
+-- through sixteen routers to the node of the other port: the routers are judged first
+pub too_many_before_far_side : why two_ports [] true 0 (hex (codes "FFFF001E1000000000200000000000024003000000100000000000AA" ++ codes "4003")) ≡ Some TooManyRouters
+unfolding decode_pairs header_bytes address_bytes entry_bytes network_bytes service_bytes name_field packet_of header_at address_at rip_of entries_at entry_at sap_of items sap_entry_at name_of networks_at network_at
+too_many_before_far_side = refl
+
+-- through sixteen routers to a network that nobody told of
+pub too_many_before_no_route : why two_ports [] true 0 (hex (codes "FFFF001E1000000000990000000000CC4003000000100000000000AA" ++ codes "4003")) ≡ Some TooManyRouters
+unfolding decode_pairs header_bytes address_bytes entry_bytes network_bytes service_bytes name_field packet_of header_at address_at rip_of entries_at entry_at sap_of items sap_entry_at name_of networks_at network_at
+too_many_before_no_route = refl

@@ -133,3 +133,69 @@ pub only_those_counted : sent_by (Start ∷ []) (Packet 0 not_counted)
     ∷ []
 unfolding decode_pairs header_bytes address_bytes entry_bytes network_bytes service_bytes name_field packet_of header_at address_at rip_of entries_at entry_at sap_of items sap_entry_at name_of networks_at network_at
 only_those_counted = refl
+
+-- to all networks, with network 0 as the destination
+abbrev to_all_of_here : List ℕ
+to_all_of_here = hex (codes "FFFF003E001400000000FFFFFFFFFFFF0455000000100000000000AA" ++ codes "0455") ++ replicate 32 0
+
+-- to all networks, with network 99h as the destination
+abbrev to_all_from_afar : List ℕ
+to_all_from_afar = hex (codes "FFFF003E001400000099FFFFFFFFFFFF0455000000100000000000AA" ++ codes "0455") ++ replicate 32 0
+
+-- what is for all networks leaves for the others, also where it names network 0
+pub propagated_from_network_0 : sent_by (Start ∷ []) (Packet 0 to_all_of_here)
+    ≡ out 1 all_nodes (hex (codes "FFFF003E011400000020FFFFFFFFFFFF0455000000100000000000AA" ++ codes "045500000010") ++ replicate 28 0)
+    ∷ []
+unfolding decode_pairs header_bytes address_bytes entry_bytes network_bytes service_bytes name_field packet_of header_at address_at rip_of entries_at entry_at sap_of items sap_entry_at name_of networks_at network_at
+propagated_from_network_0 = refl
+
+-- or any other
+pub propagated_whatever_it_names : sent_by (Start ∷ []) (Packet 0 to_all_from_afar)
+    ≡ out 1 all_nodes (hex (codes "FFFF003E011400000020FFFFFFFFFFFF0455000000100000000000AA" ++ codes "045500000010") ++ replicate 28 0)
+    ∷ []
+unfolding decode_pairs header_bytes address_bytes entry_bytes network_bytes service_bytes name_field packet_of header_at address_at rip_of entries_at entry_at sap_of items sap_entry_at name_of networks_at network_at
+propagated_whatever_it_names = refl
+
+-- to node 2 on network 30h; the router is node 2 on network 20h
+abbrev to_2_beyond : List ℕ
+to_2_beyond = hex (codes "FFFF001E0000000000300000000000024003000000100000000000AA" ++ codes "4003")
+
+-- to node 1 on network 20h; the router is node 1 on network 10h
+abbrev to_1_over_there : List ℕ
+to_1_over_there = hex (codes "FFFF001E0000000000200000000000014003000000100000000000AA" ++ codes "4003")
+
+-- a node of another network that has the number of a port is no port of the router
+pub a_namesake_beyond : sent_by heard_of_30 (Packet 0 to_2_beyond)
+    ≡ out 1 (node 0xBB) (hex (codes "FFFF001E0100000000300000000000024003000000100000000000AA" ++ codes "4003"))
+    ∷ []
+unfolding decode_pairs header_bytes address_bytes entry_bytes network_bytes service_bytes name_field packet_of header_at address_at rip_of entries_at entry_at sap_of items sap_entry_at name_of networks_at network_at
+a_namesake_beyond = refl
+
+-- nor is one on the network of another port
+pub a_namesake_on_a_direct_network : sent_by (Start ∷ []) (Packet 0 to_1_over_there)
+    ≡ out 1 (node 0x01) (hex (codes "FFFF001E0100000000200000000000014003000000100000000000AA" ++ codes "4003"))
+    ∷ []
+unfolding decode_pairs header_bytes address_bytes entry_bytes network_bytes service_bytes name_field packet_of header_at address_at rip_of entries_at entry_at sap_of items sap_entry_at name_of networks_at network_at
+a_namesake_on_a_direct_network = refl
+
+-- to all nodes of network 20h
+abbrev to_all_of_20 : List ℕ
+to_all_of_20 = hex (codes "FFFF001E000000000020FFFFFFFFFFFF4003000000100000000000AA" ++ codes "4003")
+
+-- to all nodes of network 30h
+abbrev to_all_of_30 : List ℕ
+to_all_of_30 = hex (codes "FFFF001E000000000030FFFFFFFFFFFF4003000000100000000000AA" ++ codes "4003")
+
+-- a broadcast to another network is forwarded as any packet for it
+pub a_broadcast_to_a_direct_network : sent_by (Start ∷ []) (Packet 0 to_all_of_20)
+    ≡ out 1 all_nodes (hex (codes "FFFF001E010000000020FFFFFFFFFFFF4003000000100000000000AA" ++ codes "4003"))
+    ∷ []
+unfolding decode_pairs header_bytes address_bytes entry_bytes network_bytes service_bytes name_field packet_of header_at address_at rip_of entries_at entry_at sap_of items sap_entry_at name_of networks_at network_at
+a_broadcast_to_a_direct_network = refl
+
+-- beyond it to the neighbour alone
+pub a_broadcast_by_a_route : sent_by heard_of_30 (Packet 0 to_all_of_30)
+    ≡ out 1 (node 0xBB) (hex (codes "FFFF001E010000000030FFFFFFFFFFFF4003000000100000000000AA" ++ codes "4003"))
+    ∷ []
+unfolding decode_pairs header_bytes address_bytes entry_bytes network_bytes service_bytes name_field packet_of header_at address_at rip_of entries_at entry_at sap_of items sap_entry_at name_of networks_at network_at
+a_broadcast_by_a_route = refl

@@ -140,3 +140,34 @@ pub a_stop_ends_services : sent_by known Stop
     ∷ []
 unfolding decode_pairs header_bytes address_bytes entry_bytes network_bytes service_bytes name_field packet_of header_at address_at rip_of entries_at entry_at sap_of items sap_entry_at name_of networks_at network_at
 a_stop_ends_services = refl
+
+-- service A alone
+abbrev a_alone : List ℕ
+a_alone = hex (codes "FFFF0060000400000020FFFFFFFFFFFF0452000000200000000000BB" ++ codes "04520002000441") ++ replicate 50 0 ++ hex (codes "3000000000000104510002")
+
+-- a service that ends between two periods is told as down at that second
+pub a_service_ends_between_periods : sent_by (Start ∷ Second ∷ Packet 1 a_alone ∷ replicate 179 Second) Second
+    ≡ out 0 all_nodes (hex (codes "FFFF0060000400000010FFFFFFFFFFFF045200000010000000000001" ++ codes "04520002000441") ++ replicate 50 0 ++ hex (codes "3000000000000104510010"))
+    ∷ []
+unfolding decode_pairs header_bytes address_bytes entry_bytes network_bytes service_bytes name_field packet_of header_at address_at rip_of entries_at entry_at sap_of items sap_entry_at name_of networks_at network_at
+a_service_ends_between_periods = refl
+
+-- and not before
+pub not_yet_ended : sent_by (Start ∷ Second ∷ Packet 1 a_alone ∷ replicate 178 Second) Second
+    ≡ out 0 all_nodes (hex (codes "FFFF0028000100000010FFFFFFFFFFFF045300000010000000000001" ++ codes "045300020000002000010002"))
+    ∷ out 0 all_nodes (hex (codes "FFFF0060000400000010FFFFFFFFFFFF045200000010000000000001" ++ codes "04520002000441") ++ replicate 50 0 ++ hex (codes "3000000000000104510003"))
+    ∷ out 1 all_nodes (hex (codes "FFFF0028000100000020FFFFFFFFFFFF045300000020000000000002" ++ codes "045300020000001000010002"))
+    ∷ []
+unfolding decode_pairs header_bytes address_bytes entry_bytes network_bytes service_bytes name_field packet_of header_at address_at rip_of entries_at entry_at sap_of items sap_entry_at name_of networks_at network_at
+not_yet_ended = refl
+
+-- node AAh asks for the services of type 5, and writes network 0 as its own
+abbrev from_network_0 : List ℕ
+from_network_0 = hex (codes "FFFF0022000400000010FFFFFFFFFFFF0452000000000000000000AA" ++ codes "400300010005")
+
+-- an asker that calls its network 0 is answered on the network of the port
+pub services_to_the_network_of_the_port : sent_by known (Packet 0 from_network_0)
+    ≡ out 0 (node 0xAA) (hex (codes "FFFF00600004000000100000000000AA400300000010000000000001" ++ codes "04520002000543") ++ replicate 50 0 ++ hex (codes "3000000000000104510002"))
+    ∷ []
+unfolding decode_pairs header_bytes address_bytes entry_bytes network_bytes service_bytes name_field packet_of header_at address_at rip_of entries_at entry_at sap_of items sap_entry_at name_of networks_at network_at
+services_to_the_network_of_the_port = refl
