@@ -11,7 +11,7 @@ use Rattle.ipx_wire.specs.declared.address.Address.{Address}
 use Rattle.ipx_wire.specs.declared.rip.Operation.TheVariants.{Request, Response}
 use Rattle.ipx_router.specs.Port.{everyone}
 use Rattle.ipx_router.specs.Sends.{all_routes, entries_sent, rip_sends, services_query, start_on, start_sends}
-use Rattle.ipx_cmd.specs.Router.{tells}
+use Rattle.ipx_cmd.specs.Thin.{tells}
 use Rattle.std.proofs.lemmas.List.Concat.{flat_map-append}
 use Rattle.std.proofs.lemmas.List.{length-map}
 use Rattle.ipx_cmd.proofs.Paging.{room_left, page_full}

@@ -2,7 +2,7 @@ use Rattle.std.proofs.Common.{◌≡◌, ℕ, ◌+◌, ◌<◌, ◌≤◌, List,
 use Rattle.std.proofs.lemmas.List.{take_at}
 use Rattle.std.specs.List.{AllByRecursion}
 use Rattle.ipx_router.specs.Pages.{pages}
-use Rattle.ipx_cmd.specs.Router.{SendsAtMost}
+use Rattle.ipx_cmd.specs.Thin.{SendsAtMost}
 use Rattle.ipx_router.specs.Relays.{Sent}
 use Rattle.ipx_cmd.specs.Sent.{IsShortPacket, Sends, Grows}
 use Rattle.ipx_cmd.proofs.Paging.{pages-first}

@@ -8,9 +8,9 @@ use Rattle.ipx_wire.specs.Packet.{packet_of}
 use Rattle.ipx_wire.specs.Rip.{entry_bytes, entry_at, entries_at, rip_of}
 use Rattle.ipx_wire.specs.declared.node.Node.{Node}
 use Rattle.ipx_wire.specs.declared.packet.PacketFault.TheVariants.{Short}
-use Rattle.ipx_cmd.specs.Router.{Packet, Start}
+use Rattle.ipx_cmd.specs.Thin.{Packet, Start}
 use Rattle.ipx_router.specs.Port.{Port, broadcast}
-use Rattle.ipx_cmd.specs.Router.{State, outcome, sends}
+use Rattle.ipx_cmd.specs.Thin.{State, outcome, sends}
 use Rattle.ipx_router.specs.Relays.{Sent}
 use Rattle.ipx_cmd.specs.declared.thin.event.Outcome.TheVariants.{Dropped}
 use Rattle.ipx_router.specs.declared.why.Why.TheVariants.{NotRunning, Malformed, OwnEcho, BadSource, NoRoute, NotNeighbour}

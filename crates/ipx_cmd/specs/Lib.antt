@@ -7,8 +7,8 @@ pub mod Line
 pub mod Output
 pub mod PortWord
 pub mod Replayed
-pub mod Router
 pub mod Script
 pub mod Sent
+pub mod Thin
 pub mod WhyWord
 pub mod Words

@@ -1,7 +1,7 @@
 //! What the lines of a script act on: the ports named so far, and then the router that they make.
 ghost use Rattle.std.specs.Prelude.{◌≡◌, length};
 ghost use Rattle.ipx_router.specs.History.{IsOnPort};
-ghost use Rattle.ipx_cmd.specs.Router.{event_of, happened};
+ghost use Rattle.ipx_cmd.specs.Thin.{event_of, happened};
 ghost use Rattle.ipx_cmd.specs.PortWord.{port_fault};
 
 use crate::command::{Command, MOST_PORTS, Stage, read_line};

@@ -2,6 +2,7 @@
 //! has and that isn't held, while there is room.
 ghost use Rattle.std.specs.Prelude.{◌≡◌, ◌==◌, ◌&&◌, not, nat_lt, ◌+◌, ◌<◌, ◌≤◌, length, IfOk, OnOk, OnErr};
 ghost use Rattle.std.specs.List.{list_any};
+ghost use Rattle.ipx_router.specs.History.{is_skipped, route_offer};
 
 use crate::thin::judge::Message;
 use crate::thin::told::UNREACHABLE;
@@ -44,7 +45,7 @@ pub fn teach(
 }
 
 fn offer_of(number: u8, node: Node, entry: RipEntry) -> RouteOffer
-    ensures { result ≡ record { network = entry.network; hops = entry.hops; ticks = entry.ticks; port = number; node = node } }
+    ensures { result ≡ route_offer number node entry }
 {
     RouteOffer {
         network: entry.network,
@@ -57,14 +58,17 @@ fn offer_of(number: u8, node: Node, entry: RipEntry) -> RouteOffer
 
 /// Whether the table takes the offer where it has room.
 fn is_taken(ports: &[Port], routes: &[RouteOffer], offer: &RouteOffer) -> bool
-    ensures { result ≡ (nat_lt offer.now.hops 16 && not (offer.now.network.0 == 0) && not (offer.now.network.0 == 4294967295)
-        && not (list_any (λ p. p.network.0 == offer.now.network.0) ports.now) && not (list_any (λ r. r.network.0 == offer.now.network.0) routes.now)) }
+    ensures { result ≡ (nat_lt offer.now.hops 16 && not (is_skipped ports.now offer.now.network)
+        && not (list_any (λ r. r.network.0 == offer.now.network.0) routes.now)) }
 {
-    offer.hops < UNREACHABLE
-        && offer.network != Network(0)
-        && offer.network != Network::ALL_ROUTES
-        && !is_direct(ports, offer.network)
-        && !is_held(routes, offer.network)
+    offer.hops < UNREACHABLE && !is_skipped(ports, offer.network) && !is_held(routes, offer.network)
+}
+
+/// Whether no route is taken for that network.
+fn is_skipped(ports: &[Port], network: Network) -> bool
+    ensures { result ≡ is_skipped ports.now network }
+{
+    network == Network(0) || network == Network::ALL_ROUTES || is_direct(ports, network)
 }
 
 fn is_direct(ports: &[Port], network: Network) -> bool

@@ -1,8 +1,8 @@
 //! What a response added, told at once on each port but that on which it came.
 ghost use Rattle.std.specs.Prelude.{◌≡◌, ◌<◌, ◌≤◌, nat_lt, if◌then◌else◌, length, IfOk, OnOk, OnErr};
-ghost use Rattle.ipx_cmd.specs.Router.{SendsAtMost};
+ghost use Rattle.ipx_cmd.specs.Thin.{SendsAtMost};
 ghost use Rattle.ipx_cmd.specs.Sent.{Grows};
-ghost use Rattle.ipx_router.specs.Told.{told_at, entry_of, dead};
+ghost use Rattle.ipx_router.specs.News.{route_now};
 
 use crate::thin::judge::port_of;
 use crate::thin::outbox::Outbox;
@@ -48,28 +48,28 @@ fn tell_gained_on(
         return Ok(());
     }
     let port = port_of(ports, usize::from(other));
-    let entries = news(alloc, port.cost(), gained)?;
+    let entries = news(alloc, &port, gained)?;
     let to = everyone(&port);
     send_pages(outbox, ports, other, to, Operation::Response, &entries)
 }
 
-/// The routes as a port of that cost tells them, by network.
-fn news(alloc: Global, cost: u16, gained: &[RouteOffer]) -> Result<Vec<RipEntry>, OutOfMemory>
+/// The routes as the port tells them, by network.
+fn news(alloc: Global, port: &Port, gained: &[RouteOffer]) -> Result<Vec<RipEntry>, OutOfMemory>
     ensures { IfOk result (λ v. length v.items ≡ length gained.now) }
 {
     let mut entries = Vec::new(alloc);
     for route in gained {
-        place(&mut entries, news_of(cost, route))?;
+        place(&mut entries, news_of(port, route))?;
     }
     Ok(entries)
 }
 
-/// The route as a port of that cost tells it: dead where its next hop isn't reached.
-fn news_of(cost: u16, route: &RouteOffer) -> RipEntry
-    ensures { result ≡ (if nat_lt route.now.hops 15 then told_at cost (entry_of route.now) else dead (entry_of route.now)) }
+/// The route as the port tells it: dead where the next router on doesn't reach it.
+fn news_of(port: &Port, route: &RouteOffer) -> RipEntry
+    ensures { result ≡ route_now port.now route.now }
 {
     if route.hops < UNREACHABLE - 1 {
-        told_at(cost, entry_of(route))
+        told_at(port.cost(), entry_of(route))
     } else {
         dead(entry_of(route))
     }

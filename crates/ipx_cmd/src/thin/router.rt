@@ -1,4 +1,4 @@
-ghost use Rattle.ipx_cmd.specs.Router.{Start, Packet, asks_all, is_again};
+ghost use Rattle.ipx_cmd.specs.Thin.{Start, Packet, asks_all, is_again};
 ghost use Rattle.std.specs.Option.{option_map};
 ghost use Rattle.std.specs.Prelude.{◌≡◌, ◌<◌, ◌≤◌, ◌==◌, ℕ, true, false, [], nat_lt, length, slice_get, Ok, IfOk, IfErr, OnOk, OnErr};
 
@@ -41,7 +41,7 @@ pub struct Router<const P: usize, const R: usize> {
 
 impl<const P: usize, const R: usize> Model for Router<P, R> {
     ghost use Rattle.std.specs.Prelude.{◌≤◌, length};
-    ghost use Rattle.ipx_cmd.specs.Router.{State};
+    ghost use Rattle.ipx_cmd.specs.Thin.{State};
 
     ghost Value = { State };
 
@@ -53,7 +53,7 @@ impl<const P: usize, const R: usize> Model for Router<P, R> {
 impl<const P: usize, const R: usize> Router<P, R> {
     ghost use Rattle.ipx_router.specs.Bounds.{most_packets};
     ghost use Rattle.ipx_router.specs.History.{IsOnPort, runs_after};
-    ghost use Rattle.ipx_cmd.specs.Router.{event_of, request_answers, happened, outcome, sends, IsNoRouter, IsResponse, SendsAtMost};
+    ghost use Rattle.ipx_cmd.specs.Thin.{event_of, request_answers, happened, outcome, sends, IsNoRouter, IsResponse, SendsAtMost};
     ghost use Rattle.ipx_cmd.specs.Sent.{Grows, Sends};
 
     /// A router with these ports, numbered from 0, which is stopped and holds nothing.

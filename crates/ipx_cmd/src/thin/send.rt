@@ -3,7 +3,7 @@ ghost use Rattle.std.specs.Prelude.{◌≡◌, ◌<◌, ◌≤◌, [], ◌∷◌
 ghost use Rattle.ipx_wire.specs.declared.rip.Operation.TheVariants.{Request, Response};
 ghost use Rattle.ipx_router.specs.Port.{port_at, own_address, own_services, everyone, every_server};
 ghost use Rattle.ipx_router.specs.Sends.{all_routes, entries_sent, reply_to, rip_broadcast, rip_sends, services_query, start_on, start_sends};
-ghost use Rattle.ipx_cmd.specs.Router.{tells};
+ghost use Rattle.ipx_cmd.specs.Thin.{tells};
 ghost use Rattle.ipx_cmd.specs.Sent.{Grows, Sends};
 ghost use Rattle.ipx_router.specs.Told.{told};
 

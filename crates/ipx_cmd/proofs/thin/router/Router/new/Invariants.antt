@@ -1,5 +1,5 @@
 use Rattle.std.proofs.Common.{◌≡◌, ℕ, ◌<◌, false, take}
-use Rattle.ipx_cmd.specs.Router.{is_again}
+use Rattle.ipx_cmd.specs.Thin.{is_again}
 use Rattle.ipx_cmd.proofs.thin.router.Router.new.Given as goal
 
 abbrev pub invariant-loop-place : goal.invariant-loop-place

@@ -1,5 +1,5 @@
 use Rattle.std.proofs.Common.{◌∙◌, ap, rules}
-use Rattle.ipx_cmd.specs.Router.{State}
+use Rattle.ipx_cmd.specs.Thin.{State}
 use Rattle.ipx_cmd.proofs.Most.{start_most}
 use Rattle.ipx_cmd.proofs.thin.router.Router.start.Goals as goal
 
