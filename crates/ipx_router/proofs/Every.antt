@@ -9,6 +9,10 @@ module _ {X : Type 0} where
   all_then P Q step [] all = tt
   all_then P Q step (x ∷ xs) all = (step x all.0, all_then P Q step xs all.1)
 
+  pub all_both : (P Q : X → Type 0) (xs : List X) → AllByRecursion P xs → AllByRecursion Q xs → AllByRecursion (λ x. P x × Q x) xs
+  all_both P Q [] one two = tt
+  all_both P Q (x ∷ xs) one two = ((one.0, two.0), all_both P Q xs one.1 two.1)
+
   pub all_before : (P : X → Type 0) (xs ys : List X) → AllByRecursion P (xs ++ ys) → AllByRecursion P xs
   all_before P [] ys all = tt
   all_before P (x ∷ xs) ys all = (all.0, all_before P xs ys all.1)

@@ -4,8 +4,8 @@ use Rattle.std.specs.List.{AllByRecursion}
 use Rattle.std.proofs.lemmas.Bool.{cases_Bool}
 use Rattle.ipx_table.specs.Facts.{Offered}
 use Rattle.ipx_wire.specs.Name.{IsServiceName}
+use Rattle.ipx_wire.specs.Piece.{IsBytes}
 use Rattle.ipx_wire.specs.Rip.{IsEntry}
-use Rattle.ipx_wire.specs.WriteServices.{IsService}
 use Rattle.ipx_wire.specs.declared.node.Node.{Node}
 use Rattle.ipx_wire.specs.declared.rip.Operation.{Operation}
 use Rattle.ipx_wire.specs.declared.rip.Operation.TheVariants.{Request, Response}
@@ -19,6 +19,7 @@ use Rattle.ipx_router.specs.Services.{service_rules}
 use Rattle.ipx_router.specs.Told.{entry_of}
 use Rattle.ipx_router.specs.declared.route_offer.RouteOffer.{RouteOffer}
 use Rattle.ipx_router.specs.declared.service_offer.ServiceOffer.{ServiceOffer}
+use Rattle.ipx_router.proofs.ByteFields.{IsTellable}
 use Rattle.ipx_router.proofs.Hearing.{IsAdvertised, IsHeard, heard_is}
 use Rattle.ipx_router.proofs.Tables.{all-append, OfferIs, all_held, routes_all}
 use Rattle.ipx_router.proofs.Wire.{Readings}
@@ -28,7 +29,7 @@ abbrev pub RouteFits : RouteOffer → Type 0
 RouteFits route = IsEntry (entry_of route)
 
 abbrev pub ServiceFits : ServiceOffer → Type 0
-ServiceFits offer = IsService offer.service
+ServiceFits offer = IsTellable offer.service
 
 -- ---- what is offered fits
 
@@ -44,9 +45,9 @@ services_fit : (number : ℕ) (node : Node) (entries : List SapEntry) → AllByR
     → AllByRecursion (OfferIs ServiceFits) (services_offered number node entries)
 services_fit number node [] all = tt
 services_fit number node (entry ∷ entries) all =
-    all-append (OfferIs ServiceFits) _ (services_offered number node entries) (one entry.name all.0.named) (services_fit number node entries all.1)
+    all-append (OfferIs ServiceFits) _ (services_offered number node entries) (one entry.name all.0.named all.0.of_bytes) (services_fit number node entries all.1)
   where
-    one : (name : Option (List ℕ)) → IfSome name IsServiceName → AllByRecursion (OfferIs ServiceFits) (elim name [
+    one : (name : Option (List ℕ)) → IfSome name IsServiceName → IfSome name IsBytes → AllByRecursion (OfferIs ServiceFits) (elim name [
       | None ↦ []
       | Some name ↦ Offered (record {
         service = record { kind = entry.kind; name = name; address = entry.address; hops = entry.hops };
@@ -54,8 +55,15 @@ services_fit number node (entry ∷ entries) all =
         node = node;
       }) ∷ []
     ])
-    one None named = tt
-    one (Some name) named = (record { kind = all.0.kind; named = named; address = all.0.address; hops = all.0.hops }, tt)
+    one None named bytes = tt
+    one (Some name) named bytes = (
+      record {
+        ranges = record { kind = all.0.kind; named = named; address = all.0.address; hops = all.0.hops };
+        name = bytes;
+        node = all.0.node;
+      },
+      tt,
+    )
 
 -- ---- what is heard offers what fits
 

@@ -1,15 +1,15 @@
 -- What is heard of bytes is what the layouts allow.
-use Rattle.std.proofs.Common.{◌≡◌, refl, sym, ap, subst, ℕ, zero, suc, ◌<◌, ◌^◌, Bool, List, [], ◌∷◌, ◌++◌, Option, None, Some, IfSome, Result, Ok, Err, arith, inl, inr}
-use Rattle.std.specs.List.{AllByRecursion}
+use Rattle.std.proofs.Common.{◌≡◌, refl, sym, ap, subst, ℕ, ◌<◌, ◌^◌, Bool, List, ◌++◌, Option, None, Some, IfSome, Result, Ok, Err, inl, inr}
+use Rattle.std.specs.Int.{to_be_bytes, w16}
+use Rattle.std.specs.List.{AllByRecursion, flat_map}
 use Rattle.std.proofs.lemmas.Bool.{cases_Bool}
 use Rattle.ipx_wire.specs.Address.{IsAddress}
-use Rattle.ipx_wire.specs.Header.{header_bytes}
 use Rattle.ipx_wire.specs.Name.{IsServiceName}
-use Rattle.ipx_wire.specs.Packet.{Parts, IsPacket}
+use Rattle.ipx_wire.specs.Packet.{Parts}
 use Rattle.ipx_wire.specs.Piece.{IsBytes}
 use Rattle.ipx_wire.specs.Rip.{RipParts, IsEntry, rip_of}
-use Rattle.ipx_wire.specs.Sap.{IsSap, sap_of}
-use Rattle.ipx_wire.specs.SapEntries.{Stored, IsStored, IsNamed}
+use Rattle.ipx_wire.specs.Sap.{IsSap, IsResponse, response_number, sap_of}
+use Rattle.ipx_wire.specs.SapEntries.{Stored, IsStored, IsNamed, stored_bytes}
 use Rattle.ipx_wire.specs.declared.rip.RipFault.{RipFault}
 use Rattle.ipx_wire.specs.declared.sap.Sap.{Sap}
 use Rattle.ipx_wire.specs.declared.sap.Sap.TheVariants.{Query, Response}
@@ -18,16 +18,21 @@ use Rattle.ipx_wire.specs.declared.sap_entries.SapEntry.{SapEntry}
 use Rattle.ipx_router.specs.Heard.{Heard, HeardRip, HeardSap, heard, heard_near, heard_in}
 use Rattle.ipx_router.specs.Port.{Port, port_at}
 use Rattle.ipx_router.specs.Why.{is_near, is_for_rip}
-use Rattle.ipx_router.proofs.Every.{all-map}
+use Rattle.ipx_router.proofs.ByteFields.{IsPlace, parts_bytes, stored_field, stored_node, name_bytes}
+use Rattle.ipx_router.proofs.ByteLists.{bytes_before, bytes_behind, bytes_each}
+use Rattle.ipx_router.proofs.Every.{all-map, all_both}
 use Rattle.ipx_router.proofs.Tables.{nothing, source_of, came_in}
 use Rattle.ipx_router.proofs.Wire.{Readings}
 
--- an entry that advertises a service: each field is a number of its width, and the name, if there is one, is a name
+-- an entry that advertises a service: each field is a number of its width, the name, if there is one, is a name, and name
+-- and node are bytes
 pub record IsAdvertised (e : SapEntry) : Type 0 where
   pub kind : e.kind < 2 ^ 16
   pub named : IfSome e.name IsServiceName
   pub address : IsAddress e.address
   pub hops : e.hops < 2 ^ 16
+  pub of_bytes : IfSome e.name IsBytes
+  pub node : IsBytes e.address.node.0
 
 -- the entries are in their ranges
 abbrev pub IsSaid : Heard → Type 0
@@ -35,26 +40,10 @@ IsSaid (HeardRip source rip) = AllByRecursion IsEntry rip.entries
 IsSaid (HeardSap source (Query nearest kind)) = Unit
 IsSaid (HeardSap source (Response nearest entries)) = AllByRecursion IsAdvertised entries
 
--- so is the source
+-- so is the source, whose node is bytes
 pub record IsHeard (m : Heard) : Type 0 where
-  pub source : IsAddress (source_of m)
+  pub source : IsPlace (source_of m)
   pub said : IsSaid m
-
--- ---- the bytes of the data
-
-bytes_before : (xs ys : List ℕ) → IsBytes (xs ++ ys) → IsBytes xs
-bytes_before [] ys are i = omega arith
-bytes_before (x ∷ xs) ys are zero = are 0
-bytes_before (x ∷ xs) ys are (suc i) = bytes_before xs ys (λ j. are (suc j)) i
-
-bytes_behind : (xs ys : List ℕ) → IsBytes (xs ++ ys) → IsBytes ys
-bytes_behind [] ys are = are
-bytes_behind (x ∷ xs) ys are = bytes_behind xs ys (λ j. are (suc j))
-
-payload_bytes : (bytes : List ℕ) (p : Parts) → IsBytes bytes → IsPacket bytes p → IsBytes p.payload
-payload_bytes bytes p are is =
-    bytes_behind (header_bytes p.header) p.payload
-    (bytes_before (header_bytes p.header ++ p.payload) is.padding (subst IsBytes is.layout are))
 
 -- ---- what the data say
 
@@ -62,34 +51,52 @@ advertised_name : (field : List ℕ) (name : Option (List ℕ)) → IsNamed fiel
 advertised_name field None is = tt
 advertised_name field (Some name) is = is.named
 
-advertised : (s : Stored) → IsStored s → IsAdvertised s.entry
-advertised s is = record { kind = is.kind; named = advertised_name s.field s.entry.name is.name; address = is.address; hops = is.hops }
+advertised : (s : Stored) → IsStored s × IsBytes (stored_bytes s) → IsAdvertised s.entry
+advertised s (is, are) = record {
+  kind = is.kind;
+  named = advertised_name s.field s.entry.name is.name;
+  address = is.address;
+  hops = is.hops;
+  of_bytes = name_bytes s.field s.entry.name is.name (stored_field s are);
+  node = stored_node s are;
+}
+
+-- the bytes of the entries, one after the other
+entries_of_bytes : (payload : List ℕ) (nearest : Bool) (entries : List SapEntry) (is : IsResponse payload nearest entries) → IsBytes payload
+    → AllByRecursion (λ s. IsBytes (stored_bytes s)) is.stored
+entries_of_bytes payload nearest entries is are =
+    let operation = to_be_bytes w16 (response_number nearest) in
+    let stored = flat_map stored_bytes is.stored in
+    let all : IsBytes (operation ++ stored ++ is.further) = subst IsBytes is.layout are in
+    bytes_each stored_bytes is.stored (bytes_behind operation stored (bytes_before (operation ++ stored) is.further all))
 
 -- the one in a Some
 same : (m n : Heard) → Some m ≡ Some n → m ≡ n
 same m n e = ap (λ (o : Option Heard). elim o [ None ↦ m | Some h ↦ h ]) e
 
 module _ (readings : Readings) where
-  rip_heard : (p : Parts) (r : Result RipParts RipFault) (m : Heard) → IsBytes p.payload → IsAddress p.header.source → rip_of p.payload ≡ r
+  rip_heard : (p : Parts) (r : Result RipParts RipFault) (m : Heard) → IsBytes p.payload → IsPlace p.header.source → rip_of p.payload ≡ r
       → elim r [ Ok rip ↦ Some (HeardRip p.header.source rip) | Err fault ↦ None ] ≡ Some m → IsHeard m
   rip_heard p (Err fault) m are from e f = nothing f
   rip_heard p (Ok rip) m are from e f =
       let is = (readings.rip_read p.payload rip are).0 e in
       subst IsHeard (same (HeardRip p.header.source rip) m f) (record { source = from; said = is.ranges })
 
-  sap_said : (p : Parts) (s : Sap) → IsSap p.payload s → IsSaid (HeardSap p.header.source s)
-  sap_said p (Query nearest kind) is = tt
-  sap_said p (Response nearest entries) is =
-      subst (AllByRecursion IsAdvertised) (sym is.told) (all-map IsStored IsAdvertised (λ s. s.entry) advertised is.stored is.each)
+  sap_said : (p : Parts) (s : Sap) → IsBytes p.payload → IsSap p.payload s → IsSaid (HeardSap p.header.source s)
+  sap_said p (Query nearest kind) are is = tt
+  sap_said p (Response nearest entries) are is =
+      subst (AllByRecursion IsAdvertised) (sym is.told)
+      (all-map (λ s. IsStored s × IsBytes (stored_bytes s)) IsAdvertised (λ s. s.entry) advertised is.stored
+      (all_both IsStored (λ s. IsBytes (stored_bytes s)) is.stored is.each (entries_of_bytes p.payload nearest entries is are)))
 
-  sap_heard : (p : Parts) (r : Result Sap SapFault) (m : Heard) → IsBytes p.payload → IsAddress p.header.source → sap_of p.payload ≡ r
+  sap_heard : (p : Parts) (r : Result Sap SapFault) (m : Heard) → IsBytes p.payload → IsPlace p.header.source → sap_of p.payload ≡ r
       → elim r [ Ok sap ↦ Some (HeardSap p.header.source sap) | Err fault ↦ None ] ≡ Some m → IsHeard m
   sap_heard p (Err fault) m are from e f = nothing f
   sap_heard p (Ok sap) m are from e f =
       let is = (readings.sap_read p.payload sap are).0 e in
-      subst IsHeard (same (HeardSap p.header.source sap) m f) (record { source = from; said = sap_said p sap is })
+      subst IsHeard (same (HeardSap p.header.source sap) m f) (record { source = from; said = sap_said p sap are is })
 
-  near_heard : (port : Port) (p : Parts) (m : Heard) → IsBytes p.payload → IsAddress p.header.source → heard_near port p ≡ Some m → IsHeard m
+  near_heard : (port : Port) (p : Parts) (m : Heard) → IsBytes p.payload → IsPlace p.header.source → heard_near port p ≡ Some m → IsHeard m
   near_heard port p m are from e = elim (cases_Bool (is_near port p.header)) [
     | inr far ↦ nothing (rw far at e)
     | inl near ↦
@@ -105,4 +112,5 @@ module _ (readings : Readings) where
   heard_is ports number bytes are runs m e =
       let came = came_in ports number runs bytes m e in
       let is = (readings.packet_read bytes came.packet are).0 came.read in
-      near_heard (port_at ports number) came.packet m (payload_bytes bytes came.packet are is) is.header.source came.near
+      let parts = parts_bytes bytes came.packet are is in
+      near_heard (port_at ports number) came.packet m parts.payload (record { ranges = is.header.source; node = parts.source }) came.near

@@ -1,5 +1,7 @@
 pub mod Announcing
 pub mod Answering
+pub mod ByteFields
+pub mod ByteLists
 pub mod Counting
 pub mod Differences
 pub mod Every
@@ -21,6 +23,7 @@ pub mod Relations
 pub mod Relayed
 pub mod Rising
 pub mod Sendings
+pub mod SentBytes
 pub mod SentFor
 pub mod SentLengths
 pub mod Tables

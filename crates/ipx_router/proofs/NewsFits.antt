@@ -5,7 +5,6 @@ use Rattle.std.specs.Ordering.{is_eq}
 use Rattle.std.specs.declared.cmp.Ordering.{Ordering}
 use Rattle.std.proofs.lemmas.Bool.{cases_Bool, ltb-true}
 use Rattle.ipx_wire.specs.Rip.{IsEntry}
-use Rattle.ipx_wire.specs.WriteServices.{IsService}
 use Rattle.ipx_router.specs.Changes.{Change, change_at, changes, differs, put_keys}
 use Rattle.ipx_router.specs.News.{same_route, same_service, route_now, route_told, news, service_now, service_told, news_services}
 use Rattle.ipx_router.specs.Port.{Port, port_at}
@@ -14,6 +13,7 @@ use Rattle.ipx_router.specs.Services.{service_order}
 use Rattle.ipx_router.specs.Told.{is_reached_on, entry_of, dead, down}
 use Rattle.ipx_router.specs.declared.route_offer.RouteOffer.{RouteOffer}
 use Rattle.ipx_router.specs.declared.service_offer.ServiceOffer.{ServiceOffer}
+use Rattle.ipx_router.proofs.ByteFields.{IsTellable}
 use Rattle.ipx_router.proofs.Every.{all-filter, all-find, all-map, all-flat_map}
 use Rattle.ipx_router.proofs.Fitting.{RouteFits, ServiceFits}
 use Rattle.ipx_router.proofs.ToldFits.{told_at_fits, dead_fits, farther_fits, down_fits}
@@ -67,21 +67,21 @@ news_fit ports before after number old new =
 
 -- ---- services
 
-service_now_fits : (offer : ServiceOffer) → ServiceFits offer → IsService (service_now offer)
+service_now_fits : (offer : ServiceOffer) → ServiceFits offer → IsTellable (service_now offer)
 service_now_fits offer is = elim (cases_Bool (is_reached_on offer.service.hops)) [
   | inl e ↦ rw e (farther_fits offer.service is (ltb-true offer.service.hops 15 e))
   | inr e ↦ rw e (down_fits offer.service is)
 ]
 
 service_told_fits : (number : ℕ) (before after : Option ServiceOffer) → IfSome before ServiceFits → IfSome after ServiceFits
-    → AllByRecursion IsService (service_told number (record { before = before; after = after }))
-service_told_fits number before (Some offer) old new = one_or_none IsService (offer.port == number) (service_now offer) (service_now_fits offer new)
-service_told_fits number (Some offer) None old new = one_or_none IsService (offer.port == number) (down offer.service) (down_fits offer.service old)
+    → AllByRecursion IsTellable (service_told number (record { before = before; after = after }))
+service_told_fits number before (Some offer) old new = one_or_none IsTellable (offer.port == number) (service_now offer) (service_now_fits offer new)
+service_told_fits number (Some offer) None old new = one_or_none IsTellable (offer.port == number) (down offer.service) (down_fits offer.service old)
 service_told_fits number None None old new = tt
 
 pub news_services_fit : (before after : List ServiceOffer) (number : ℕ) → AllByRecursion ServiceFits before → AllByRecursion ServiceFits after
-    → AllByRecursion IsService (news_services before after number)
+    → AllByRecursion IsTellable (news_services before after number)
 news_services_fit before after number old new =
-    all-flat_map (ChangeOf ServiceFits) IsService (service_told number) (λ c is. service_told_fits number c.before c.after is.0 is.1)
+    all-flat_map (ChangeOf ServiceFits) IsTellable (service_told number) (λ c is. service_told_fits number c.before c.after is.0 is.1)
     (changes (λ s. (s.service.kind, s.service.name)) service_order same_service before after)
     (changes_fit ServiceFits (λ s. (s.service.kind, s.service.name)) service_order same_service before after old new)

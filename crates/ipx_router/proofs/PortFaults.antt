@@ -2,6 +2,7 @@
 use Rattle.std.proofs.Common.{◌≡◌, sym, ap, ◌<◌, ◌^◌, ◌⊎◌, length, inl, inr, arith}
 use Rattle.std.specs.Cmp.Lexicographic.{same_text, other_text}
 use Rattle.std.proofs.lemmas.Bool.{cases_Bool, cases_eq, cases_lt}
+use Rattle.ipx_wire.specs.Piece.{IsBytes}
 use Rattle.ipx_wire.specs.declared.node.Node.{Node}
 use Rattle.ipx_router.specs.Port.{Port, IsPort, IsNoPort, broadcast, same_node}
 use Rattle.ipx_router.specs.declared.port.PortFault.{PortFault}
@@ -14,8 +15,8 @@ broadcast_or_other node = elim (cases_Bool (same_node node broadcast)) [
   | inr other ↦ inr (λ e. other_text node.0 broadcast.0 (sym other) (ap (λ n. n.0) e))
 ]
 
-pub either : (p : Port) → p.cost < 2 ^ 16 → length p.node.0 ≡ 6 → IsPort p ⊎ ((fault : PortFault) × IsNoPort p.network p.node p.cost p.longest fault)
-either p ticks six = elim (cases_lt p.longest 576) [
+pub either : (p : Port) → p.cost < 2 ^ 16 → length p.node.0 ≡ 6 → IsBytes p.node.0 → IsPort p ⊎ ((fault : PortFault) × IsNoPort p.network p.node p.cost p.longest fault)
+either p ticks six bytes = elim (cases_lt p.longest 576) [
   | inl short ↦ inr (Longest, short)
   | inr long ↦ elim (cases_eq p.cost 0) [
     | inl free ↦ inr (Cost, (long, free))
@@ -36,6 +37,7 @@ either p ticks six = elim (cases_lt p.longest 576) [
                     some_network = network;
                     ordinary_network = ordinary;
                     six_bytes = six;
+                    bytes = bytes;
                     node = one;
                   })
                 ]

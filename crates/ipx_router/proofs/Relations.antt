@@ -13,9 +13,10 @@ use Rattle.ipx_router.specs.Port.{Port, port_at, is_local}
 use Rattle.ipx_router.specs.Relays.{Sent, IsForwarded, IsPropagated, forwarded_by, goes_out, propagated_on, relayed}
 use Rattle.ipx_router.specs.Why.{checks, first_of, why, is_propagated}
 use Rattle.ipx_router.specs.declared.route_offer.RouteOffer.{RouteOffer}
+use Rattle.ipx_router.proofs.ByteFields.{parts_bytes}
 use Rattle.ipx_router.proofs.Outlets.{piece_found}
 use Rattle.ipx_router.proofs.Passing.{judged, far_passes, propagated_passes}
-use Rattle.ipx_router.proofs.Relayed.{payload_bytes, networks_listed}
+use Rattle.ipx_router.proofs.Relayed.{networks_listed}
 
 -- no check drops the packet, and it stands in the list of what is sent on
 abbrev Listed : List Port → List RouteOffer → ℕ → List ℕ → Sent → Type 0
@@ -60,7 +61,7 @@ module _
   read_networks f =
       let control = f.packet.header.control in
       let payload = f.packet.payload in
-      let crossed = (crossed_read control payload f.networks (payload_bytes bytes f.packet are f.is)).1 f.crossed in
+      let crossed = (crossed_read control payload f.networks (parts_bytes bytes f.packet are f.is).payload).1 f.crossed in
       same_networks f.networks (networks_at control payload) (sym crossed ∙ networks_listed control payload f.crossed.eight f.crossed.free)
 
   does_go : (f : IsPropagated ports number bytes s) → goes_out ports number f.packet s.port ≡ true

@@ -1,11 +1,10 @@
 -- What is listed as sent on is what the relations say.
-use Rattle.std.proofs.Common.{◌≡◌, ◌↔◌, refl, sym, ap, ◌∙◌, ℕ, zero, suc, ◌<◌, ◌≤◌, ◌==◌, if◌then◌else◌, Bool, true, false, List, [], ◌∷◌, ◌++◌, length, Option, None, Some, Ok, inl, inr, arith}
+use Rattle.std.proofs.Common.{◌≡◌, ◌↔◌, refl, sym, ap, ◌∙◌, ℕ, zero, suc, ◌<◌, ◌≤◌, ◌==◌, if◌then◌else◌, Bool, true, false, List, [], ◌∷◌, length, Option, None, Some, Ok, inl, inr, arith}
 use Rattle.std.specs.List.{AllByRecursion, flat_map, slice_get}
 use Rattle.std.specs.Option.{option_map}
 use Rattle.std.proofs.lemmas.Bool.{cases_Bool, and_parts, not-true, eqb-false, ltb-false, leb-true, leb-false, lt-ltb, le-ltb}
 use Rattle.ipx_wire.specs.Crossed.{IsCrossed, crossed_of, networks_at, is_among}
 use Rattle.ipx_wire.specs.Forward.{forwarded}
-use Rattle.ipx_wire.specs.Header.{header_bytes}
 use Rattle.ipx_wire.specs.Packet.{Parts, IsPacket, packet_of}
 use Rattle.ipx_wire.specs.Piece.{IsBytes}
 use Rattle.ipx_wire.specs.Write.{packet_bytes}
@@ -17,29 +16,14 @@ use Rattle.ipx_router.specs.Port.{Port, port_at}
 use Rattle.ipx_router.specs.Relays.{Sent, IsTableRoute, IsForwarded, IsPropagated, forwarded_by, goes_out, propagated_on, relayed}
 use Rattle.ipx_router.specs.Why.{why, is_propagated, is_far}
 use Rattle.ipx_router.specs.declared.route_offer.RouteOffer.{RouteOffer}
+use Rattle.ipx_router.proofs.ByteFields.{parts_bytes}
 use Rattle.ipx_router.proofs.Every.{all-flat_map}
 use Rattle.ipx_router.proofs.Outlets.{it_is, one_of_all, found}
 use Rattle.ipx_router.proofs.PortPlaces.{within-is_up, all_up}
 use Rattle.ipx_router.proofs.Passing.{Passes, passes, asked, judged}
 use Rattle.ipx_router.proofs.Tables.{nothing}
 
--- ---- the data of a packet, and the networks that it crossed
-
--- parts of bytes are bytes
-front_bytes : (xs ys : List ℕ) → IsBytes (xs ++ ys) → IsBytes xs
-front_bytes [] ys are i = omega arith
-front_bytes (x ∷ xs) ys are zero = are 0
-front_bytes (x ∷ xs) ys are (suc i) = front_bytes xs ys (λ k. are (suc k)) i
-
-back_bytes : (xs ys : List ℕ) → IsBytes (xs ++ ys) → IsBytes ys
-back_bytes [] ys are = are
-back_bytes (x ∷ xs) ys are = back_bytes xs ys (λ k. are (suc k))
-
--- and so are a packet's data
-pub payload_bytes : (bytes : List ℕ) (p : Parts) → IsBytes bytes → IsPacket bytes p → IsBytes p.payload
-payload_bytes bytes p are is =
-    let all : IsBytes (header_bytes p.header ++ p.payload ++ is.padding) = rw is.layout at are in
-    back_bytes (header_bytes p.header) p.payload (front_bytes (header_bytes p.header ++ p.payload) is.padding all)
+-- ---- the networks that a packet crossed
 
 -- with room for eight networks, and fewer than eight crossed, the first ones are read
 pub networks_listed : (control : ℕ) (payload : List ℕ) → 32 ≤ length payload → control < 8 → crossed_of control payload ≡ Ok (networks_at control payload)
@@ -106,7 +90,7 @@ module _
         let control = p.header.control in
         let eight = ltb-false (length p.payload) 32 (asked _ _ all passed.roomy) in
         let free = leb-false 8 control (asked _ _ all passed.free) in
-        (crossed_read control p.payload (networks_at control p.payload) (payload_bytes bytes p are is)).0 (networks_listed control p.payload eight free)
+        (crossed_read control p.payload (networks_at control p.payload) (parts_bytes bytes p are is).payload).0 (networks_listed control p.payload eight free)
 
     -- of a packet for all networks
     listed_propagated : (k : ℕ) (s : Sent) → IsBytes bytes → is_propagated p.header ≡ true

@@ -3,7 +3,6 @@ use Rattle.std.proofs.Common.{ℕ, ◌<◌, inl, inr, Bool, true, false, if◌th
 use Rattle.std.specs.List.{AllByRecursion, flat_map}
 use Rattle.std.proofs.lemmas.Bool.{cases_Bool}
 use Rattle.ipx_wire.specs.Rip.{IsEntry}
-use Rattle.ipx_wire.specs.WriteServices.{IsService}
 use Rattle.ipx_wire.specs.declared.rip.Operation.{Operation}
 use Rattle.ipx_wire.specs.declared.rip.Operation.TheVariants.{Request, Response}
 use Rattle.ipx_wire.specs.declared.sap.Sap.TheVariants.{Query, Response as SapResponse}
@@ -15,6 +14,7 @@ use Rattle.ipx_router.specs.Port.{Port, IsPort, port_at, everyone}
 use Rattle.ipx_router.specs.Relays.{Sent}
 use Rattle.ipx_router.specs.Sends.{rip_broadcast, rip_sends, services_query, reply_to, all_routes, start_on, asked, of_kind, is_nearer, nearest_of, Holding, second_on, stop_on, news_on, heard_sends}
 use Rattle.ipx_router.specs.Told.{told, told_services, by_network, by_name, dead, down}
+use Rattle.ipx_router.proofs.ByteFields.{IsTellable}
 use Rattle.ipx_router.proofs.Every.{all-filter, all-map, all-flat_map}
 use Rattle.ipx_router.proofs.Fitting.{RouteFits, ServiceFits}
 use Rattle.ipx_router.proofs.Hearing.{IsHeard}
@@ -32,11 +32,11 @@ pub record Fits (held : Holding) : Type 0 where
 
 -- ---- the nearest service
 
-nearest_fits : (services : List Service) → AllByRecursion IsService services → AllByRecursion IsService (nearest_of services)
+nearest_fits : (services : List Service) → AllByRecursion IsTellable services → AllByRecursion IsTellable (nearest_of services)
 nearest_fits [] all = tt
 nearest_fits (service ∷ services) all = nearer (nearest_of services) (nearest_fits services all.1)
   where
-    nearer : (found : List Service) → AllByRecursion IsService found → AllByRecursion IsService (elim found [
+    nearer : (found : List Service) → AllByRecursion IsTellable found → AllByRecursion IsTellable (elim found [
       | [] ↦ service ∷ []
       | ◌∷◌ best rest ↦ if is_nearer best service then best ∷ [] else service ∷ []
     ])
@@ -46,7 +46,7 @@ nearest_fits (service ∷ services) all = nearer (nearest_of services) (nearest_
       | inr e ↦ rw e (all.0, tt)
     ]
 
-either_fits : (c : Bool) (xs ys : List Service) → AllByRecursion IsService xs → AllByRecursion IsService ys → AllByRecursion IsService (if c then xs else ys)
+either_fits : (c : Bool) (xs ys : List Service) → AllByRecursion IsTellable xs → AllByRecursion IsTellable ys → AllByRecursion IsTellable (if c then xs else ys)
 either_fits true xs ys one two = one
 either_fits false xs ys one two = two
 
@@ -72,7 +72,7 @@ module _ (readings : Readings) (again : Rereadings) (ports : List Port) (are : A
     stop_owned number within =
         broadcasts_owned readings again ports are number within (map dead (told ports before.routes number)) (map down (told_services before.services number))
         (all-map IsEntry IsEntry dead dead_fits (told ports before.routes number) (told_fits ports are before.routes number old.routes))
-        (all-map IsService IsService down down_fits (told_services before.services number) (told_services_fit before.services number old.services))
+        (all-map IsTellable IsTellable down down_fits (told_services before.services number) (told_services_fit before.services number old.services))
 
     news_owned : (number : ℕ) → number < length ports → AllByRecursion (IsOwned ports) (news_on ports before after number)
     news_owned number within =
@@ -90,7 +90,7 @@ module _ (readings : Readings) (again : Rereadings) (ports : List Port) (are : A
         (by_network (told ports after.routes number ++ ended)) (by_name (told_services after.services number ++ lost))
         (by_network_fit (told ports after.routes number ++ ended) (all-append IsEntry (told ports after.routes number) ended
         (told_fits ports are after.routes number new.routes) (news_fit ports before.routes after.routes number old.routes new.routes)))
-        (by_name_fit (told_services after.services number ++ lost) (all-append IsService (told_services after.services number) lost
+        (by_name_fit (told_services after.services number ++ lost) (all-append IsTellable (told_services after.services number) lost
         (told_services_fit after.services number new.services) (news_services_fit before.services after.services number old.services new.services)))
 
     -- ---- answers
@@ -110,8 +110,8 @@ module _ (readings : Readings) (again : Rereadings) (ports : List Port) (are : A
     heard_owned number within (HeardSap source (SapResponse nearest entries)) is = each_owned (news_on ports before after) news_owned
     heard_owned number within (HeardSap source (Query nearest kind)) is =
         let services = of_kind kind (told_services before.services number) in
-        let fits : AllByRecursion IsService services =
-        all-filter IsService _ (told_services before.services number) (told_services_fit before.services number old.services) in
+        let fits : AllByRecursion IsTellable services =
+        all-filter IsTellable _ (told_services before.services number) (told_services_fit before.services number old.services) in
         sap_owned readings again ports are number within (reply_to (port_at ports number) source) nearest (if nearest then nearest_of services else services)
         (reply_is (port_at ports number) source (port-all IsPort ports number are within) is.source)
         (either_fits nearest (nearest_of services) services (nearest_fits services fits) fits)

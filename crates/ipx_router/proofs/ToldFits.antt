@@ -4,7 +4,6 @@ use Rattle.std.specs.List.{AllByRecursion}
 use Rattle.std.specs.Ordering.{is_lt}
 use Rattle.std.proofs.lemmas.Bool.{cases_Bool, cases_lt, lt-ltb, le-ltb, ltb-true}
 use Rattle.ipx_wire.specs.Rip.{IsEntry}
-use Rattle.ipx_wire.specs.WriteServices.{IsService}
 use Rattle.ipx_wire.specs.declared.rip.RipEntry.{RipEntry}
 use Rattle.ipx_wire.specs.declared.service.Service.{Service}
 use Rattle.ipx_router.specs.Outgoing.{ports_up}
@@ -13,6 +12,7 @@ use Rattle.ipx_router.specs.Services.{service_order}
 use Rattle.ipx_router.specs.Told.{put_entry, put_entries, by_network, put_service, put_services, by_name, is_reached_on, told_at, dead, farther, down, direct_at, direct, entry_of, is_route_told, told, is_service_told, told_services}
 use Rattle.ipx_router.specs.declared.route_offer.RouteOffer.{RouteOffer}
 use Rattle.ipx_router.specs.declared.service_offer.ServiceOffer.{ServiceOffer}
+use Rattle.ipx_router.proofs.ByteFields.{IsTellable}
 use Rattle.ipx_router.proofs.Every.{all_passed, all-map, all-flat_map}
 use Rattle.ipx_router.proofs.Fitting.{RouteFits, ServiceFits}
 use Rattle.ipx_router.proofs.PortPlaces.{port-all, ports_up-within}
@@ -37,8 +37,8 @@ put_entries_fit placed (entry ∷ entries) some all = put_entries_fit (put_entry
 pub by_network_fit : (entries : List RipEntry) → AllByRecursion IsEntry entries → AllByRecursion IsEntry (by_network entries)
 by_network_fit entries all = put_entries_fit [] entries tt all
 
-put_service_fits : (service : Service) (services : List Service) → IsService service → AllByRecursion IsService services
-    → AllByRecursion IsService (put_service service services)
+put_service_fits : (service : Service) (services : List Service) → IsTellable service → AllByRecursion IsTellable services
+    → AllByRecursion IsTellable (put_service service services)
 put_service_fits service [] one all = (one, tt)
 put_service_fits service (other ∷ services) one all =
     elim (cases_Bool (is_lt (service_order (service.kind, service.name) (other.kind, other.name)))) [
@@ -46,13 +46,13 @@ put_service_fits service (other ∷ services) one all =
       | inr e ↦ rw e (all.0, put_service_fits service services one all.1)
     ]
 
-put_services_fit : (placed services : List Service) → AllByRecursion IsService placed → AllByRecursion IsService services
-    → AllByRecursion IsService (put_services placed services)
+put_services_fit : (placed services : List Service) → AllByRecursion IsTellable placed → AllByRecursion IsTellable services
+    → AllByRecursion IsTellable (put_services placed services)
 put_services_fit placed [] some all = some
 put_services_fit placed (service ∷ services) some all =
     put_services_fit (put_service service placed) services (put_service_fits service placed all.0 some) all.1
 
-pub by_name_fit : (services : List Service) → AllByRecursion IsService services → AllByRecursion IsService (by_name services)
+pub by_name_fit : (services : List Service) → AllByRecursion IsTellable services → AllByRecursion IsTellable (by_name services)
 by_name_fit services all = put_services_fit [] services tt all
 
 -- ---- one hop farther, or gone
@@ -73,11 +73,19 @@ told_at_fits cost entry is = record { network = is.0.network; hops = omega (arit
 pub dead_fits : (entry : RipEntry) → IsEntry entry → IsEntry (dead entry)
 dead_fits entry is = record { network = is.network; hops = lit< tt; ticks = lit< tt }
 
-pub farther_fits : (service : Service) → IsService service → service.hops < 15 → IsService (farther service)
-farther_fits service is reached = record { kind = is.kind; named = is.named; address = is.address; hops = omega (arith, reached) }
+pub farther_fits : (service : Service) → IsTellable service → service.hops < 15 → IsTellable (farther service)
+farther_fits service is reached = record {
+  ranges = record { kind = is.ranges.kind; named = is.ranges.named; address = is.ranges.address; hops = omega (arith, reached) };
+  name = is.name;
+  node = is.node;
+}
 
-pub down_fits : (service : Service) → IsService service → IsService (down service)
-down_fits service is = record { kind = is.kind; named = is.named; address = is.address; hops = lit< tt }
+pub down_fits : (service : Service) → IsTellable service → IsTellable (down service)
+down_fits service is = record {
+  ranges = record { kind = is.ranges.kind; named = is.ranges.named; address = is.ranges.address; hops = lit< tt };
+  name = is.name;
+  node = is.node;
+}
 
 -- ---- routes
 
@@ -111,10 +119,10 @@ module _ (ports : List Port) (are : AllByRecursion IsPort ports) where
 -- ---- services
 
 pub told_services_fit : (services : List ServiceOffer) (number : ℕ) → AllByRecursion ServiceFits services
-    → AllByRecursion IsService (told_services services number)
+    → AllByRecursion IsTellable (told_services services number)
 told_services_fit services number all =
     let passed = all_passed ServiceFits (is_service_told number) services all in
     by_name_fit (map (λ s. farther s.service) (filter (is_service_told number) services))
-    (all-map (λ s. ServiceFits s × (is_service_told number s ≡ true)) IsService (λ s. farther s.service)
+    (all-map (λ s. ServiceFits s × (is_service_told number s ≡ true)) IsTellable (λ s. farther s.service)
     (λ s is. farther_fits s.service is.0 (ltb-true s.service.hops 15 (second_passes (not (s.port == number)) (is_reached_on s.service.hops) is.1)))
     (filter (is_service_told number) services) passed)

@@ -9,10 +9,12 @@ pub mod Costs
 pub mod Dear
 pub mod Dropping
 pub mod FarServices
+pub mod Making
 pub mod Orders
 pub mod Relaying
 pub mod Serving
 pub mod Starting
 pub mod Stopping
+pub mod TableRoutes
 pub mod ThreePorts
 pub mod Words

@@ -1,6 +1,7 @@
 -- A port of a router (IPX Router Specification, networks, nodes and costs in ticks).
 use Rattle.std.specs.Prelude.{◌≡◌, ◌≢◌, ℕ, ◌^◌, ◌<◌, ◌≤◌, ◌⊎◌, ◌==◌, ◌||◌, nat_eq, Bool, List, length, replicate, slice_index_or}
 use Rattle.std.specs.Cmp.Lexicographic.{pointwise}
+use Rattle.ipx_wire.specs.Piece.{IsBytes}
 use Rattle.ipx_wire.specs.declared.address.Address.{Address}
 use Rattle.ipx_wire.specs.declared.network.Network.{Network}
 use Rattle.ipx_wire.specs.declared.node.Node.{Node}
@@ -30,6 +31,7 @@ pub record IsPort (p : Port) : Type 0 where
   pub some_network : 0 < p.network.0
   pub ordinary_network : p.network.0 < 4294967294
   pub six_bytes : length p.node.0 ≡ 6
+  pub bytes : IsBytes p.node.0
   pub node : p.node ≢ broadcast
 
 -- why values are no port's, the first that holds

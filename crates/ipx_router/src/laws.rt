@@ -56,7 +56,7 @@ pub fn same_offers()
 /// Values make a port or there is a fault, never both, and one fault only.
 pub fn port_values()
     ensures never_both { (p : Port) (fault : PortFault) → IsPort p → IsNoPort p.network p.node p.cost p.longest fault → ⊥ }
-    ensures either { (p : Port) → p.cost < 2 ^ 16 → length p.node.0 ≡ 6 → IsPort p ⊎ ((fault : PortFault) × IsNoPort p.network p.node p.cost p.longest fault) }
+    ensures either { (p : Port) → p.cost < 2 ^ 16 → length p.node.0 ≡ 6 → IsBytes p.node.0 → IsPort p ⊎ ((fault : PortFault) × IsNoPort p.network p.node p.cost p.longest fault) }
     ensures one_fault { (network : Network) (node : Node) (cost longest : ℕ) (f g : PortFault)
         → IsNoPort network node cost longest f → IsNoPort network node cost longest g → f ≡ g }
 {}
@@ -86,11 +86,14 @@ pub fn relays()
 }
 
 /// Each packet that an event sends is one by the layouts: routing information or service advertising from the port's own
-/// process, or the packet that came, sent on.
+/// process, or the packet that came, sent on. What is sent are bytes.
 pub fn packets()
-    ensures { (ports : List Port) (most_routes most_services : ℕ) (history : History) (event : Event)
+    ensures layouts { (ports : List Port) (most_routes most_services : ℕ) (history : History) (event : Event)
         → AllByRecursion IsPort ports → AllByRecursion (IsOnPort ports) (history ++ event ∷ []) → AllByRecursion IsOfBytes (history ++ event ∷ [])
         → AllByRecursion (IsSentFor ports (offers (routes_held ports most_routes history)) event) (sends ports most_routes most_services history event) }
+    ensures bytes { (ports : List Port) (most_routes most_services : ℕ) (history : History) (event : Event)
+        → AllByRecursion IsPort ports → AllByRecursion (IsOnPort ports) (history ++ event ∷ []) → AllByRecursion IsOfBytes (history ++ event ∷ [])
+        → AllByRecursion (λ s. IsBytes s.bytes) (sends ports most_routes most_services history event) }
 {
     ipx_wire::laws::readings();
     ipx_wire::laws::service_readings();

@@ -1,4 +1,5 @@
 ghost use Rattle.std.specs.Prelude.{◌≡◌, IfOk, IfErr};
+ghost use Rattle.ipx_wire.specs.Piece.{IsBytes};
 
 use ipx_wire::{Network, Node};
 use std::marker::Model;
@@ -76,6 +77,7 @@ impl Port {
         if node == Node::BROADCAST {
             return Err(PortFault::Node);
         }
+        are_bytes(&node.0);
         Ok(Port {
             network,
             node,
@@ -110,3 +112,8 @@ impl Port {
         self.longest
     }
 }
+
+/// What a slice of bytes holds are bytes: its type says so, and a call of this says it to a proof.
+fn are_bytes(bytes: &[u8])
+    ensures { IsBytes bytes.now }
+{}
