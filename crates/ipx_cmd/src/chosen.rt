@@ -99,6 +99,3 @@ fn file_in(alloc: Global, matches: &ArgMatches<'_>) -> Result<Option<String>, Al
         None => Ok(None),
     }
 }
-
-#[cfg(test)]
-mod tests;

@@ -58,6 +58,3 @@ pub fn status(run: &Result<Ended, RunFault>) -> u8
         Err(RunFault::Memory) => 3,
     }
 }
-
-#[cfg(test)]
-mod tests;

@@ -11,10 +11,6 @@ mod output;
 mod play;
 mod player;
 mod refusal;
-#[cfg(test)]
-mod replay_tests;
-#[cfg(test)]
-mod tests;
 pub mod thin;
 mod why_word;
 mod words;

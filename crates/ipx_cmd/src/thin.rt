@@ -8,8 +8,6 @@ mod news;
 mod outbox;
 mod router;
 mod send;
-#[cfg(test)]
-mod tests;
 mod told;
 
 pub use self::event::{Event, Outcome};

@@ -1,4 +1,6 @@
-use super::{ChooseFault, Run, choose};
+//! Which words of the command line choose a run.
+
+use ipx_cmd::{ChooseFault, Run, choose};
 
 #[test]
 fn replays_standard_input_or_a_file(rt: HostRuntime) {

@@ -1,4 +1,6 @@
-use super::{Ended, RunFault, status};
+//! The exit status of each end of a run, and the name of each fault.
+
+use ipx_cmd::{Ended, RunFault, status};
 use ipx_wire::OutOfMemory;
 use std::alloc::AllocError;
 use std::test::Fail;

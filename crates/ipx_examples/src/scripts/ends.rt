@@ -1,5 +1,5 @@
 use super::{START, joined, play};
-use crate::{Ended, RunFault, replay};
+use ipx_cmd::{Ended, RunFault, replay};
 use ipx_wire::{Intake, Outlet};
 use std::io;
 use std::io::{ErrorKind, Read, Write};

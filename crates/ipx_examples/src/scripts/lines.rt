@@ -1,5 +1,5 @@
 use super::play;
-use crate::Ended;
+use ipx_cmd::Ended;
 use std::alloc::{AllocError, Global};
 
 /// The most bytes of a line.

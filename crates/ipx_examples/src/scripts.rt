@@ -1,12 +1,13 @@
 //! Whole runs of scripts: what they write, and how they end.
 
+mod case;
 mod ends;
 mod faults;
 mod lines;
 mod packets;
 mod table;
 
-use crate::{Ended, RunFault, replay};
+use ipx_cmd::{Ended, RunFault, replay};
 use ipx_wire::{Intake, Outlet};
 use std::alloc::{AllocError, Global};
 
