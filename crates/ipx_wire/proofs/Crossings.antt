@@ -1,17 +1,18 @@
-use Rattle.std.proofs.Common.{◌≡◌, ◌==◌, true, inl, inr, IfOk, IfErr, ℕ, zero, suc, ◌+◌, ◌*◌, ◌≤◌, ◌<◌, List, [], ◌∷◌, ◌++◌, length, take, drop, slice_get, Some, Ok, Err, Result, refl, sym, ap, ◌∙◌, arith, append_assoc, length-append, length-drop, take-add}
+use Rattle.std.proofs.Common.{◌≡◌, ◌==◌, true, inl, inr, IfOk, IfErr, ℕ, ◌*◌, ◌≤◌, ◌<◌, List, [], ◌∷◌, ◌++◌, length, take, drop, slice_get, Some, Ok, Err, Result, refl, sym, ap, ◌∙◌, arith, length-append}
 use Rattle.std.proofs.lemmas.Bool.{cases_lt, eq-eqb, lt-ltb, le-ltb}
-use Rattle.std.proofs.lemmas.List.{drop_at, drop-drop, take-append-drop}
+use Rattle.std.proofs.lemmas.List.{take-append-drop}
 use Rattle.std.proofs.lemmas.List.Folds.{list_any_at}
 use Rattle.std.proofs.lemmas.Option.{get_or_from_slice_get, slice_get_within}
 use Rattle.std.proofs.lemmas.Nat.{from_be_bytes-to_be_bytes_4}
 use Rattle.std.specs.List.{flat_map, AllByRecursion}
 use Rattle.ipx_wire.specs.Piece.{IsBytes}
 use Rattle.ipx_wire.specs.Crossed.{IsNetwork, IsCrossed, IsNotCrossed, is_among, network_bytes, network_at, networks_at, crossed_of}
+use Rattle.ipx_wire.specs.Numbers.{crossed_places, crossed_bytes}
 use Rattle.ipx_wire.specs.declared.crossed.CrossedFault.{CrossedFault}
 use Rattle.ipx_wire.specs.declared.crossed.CrossedFault.TheVariants.{Short, Full}
 use Rattle.ipx_wire.specs.declared.network.Network.{Network}
 use Rattle.ipx_wire.proofs.Pieces.{bytes_32, range_32}
-use Rattle.ipx_wire.proofs.Entries.{bytes_behind}
+use Rattle.ipx_wire.proofs.Items.{length-items, items_back, items_each, items_again, slice_get-items}
 
 -- a network is four bytes
 pub length-network_bytes : (n : Network) → length (network_bytes n) ≡ 4
@@ -25,9 +26,7 @@ length-networks (n ∷ ns) =
     omega (arith, length-append (network_bytes n) (flat_map network_bytes ns), length-network_bytes n, length-networks ns)
 
 pub length-networks_at : (n : ℕ) (bytes : List ℕ) → length (networks_at n bytes) ≡ n
-unfolding networks_at
-length-networks_at zero bytes = refl
-length-networks_at (suc n) bytes = ap suc (length-networks_at n (drop 4 bytes))
+length-networks_at n bytes = length-items (λ b. network_at b 0) 4 n bytes
 
 -- the bytes of a network are read as that network, whatever follows
 network_again : (n : Network) (further : List ℕ) → IsNetwork n → network_at (network_bytes n ++ further) 0 ≡ n
@@ -45,54 +44,31 @@ unfolding network_at
 network_range bytes are room = range_32 bytes 0 are (omega arith)
 
 -- a network further on
-network_shifted : (bytes : List ℕ) (place : ℕ) → network_at (drop 4 bytes) place ≡ network_at bytes (4 + place)
+network_shifted : (bytes : List ℕ) (place : ℕ) → network_at (drop place bytes) 0 ≡ network_at bytes place
 unfolding network_at
-network_shifted bytes place = rw (drop-drop place 4 bytes) refl
+network_shifted bytes place = refl
 
 -- networks that were read have the bytes that were read
 networks_back : (n : ℕ) (bytes : List ℕ) → IsBytes bytes → 4 * n ≤ length bytes → flat_map network_bytes (networks_at n bytes) ≡ take (4 * n) bytes
-unfolding networks_at
-networks_back zero bytes are room = refl
-networks_back (suc n) bytes are room =
-    let later : 4 * n ≤ length (drop 4 bytes) = omega (arith, length-drop 4 bytes) in
-    let whole : 4 * suc n ≡ 4 + 4 * n = omega arith in
-    ap (λ (x : List ℕ). x ++ flat_map network_bytes (networks_at n (drop 4 bytes))) (network_back bytes are (omega arith))
-    ∙ ap (λ (x : List ℕ). take 4 bytes ++ x) (networks_back n (drop 4 bytes) (bytes_behind bytes 4 are) later)
-    ∙ sym (take-add 4 (4 * n) bytes)
-    ∙ ap (λ (k : ℕ). take k bytes) (sym whole)
+networks_back n bytes are room = items_back (λ b. network_at b 0) network_bytes 4 network_back n bytes are room
 
 -- so have all networks that are read
 networks_ranges : (n : ℕ) (bytes : List ℕ) → IsBytes bytes → 4 * n ≤ length bytes → AllByRecursion IsNetwork (networks_at n bytes)
-unfolding networks_at
-networks_ranges zero bytes are room = tt
-networks_ranges (suc n) bytes are room =
-    (network_range bytes are (omega arith), networks_ranges n (drop 4 bytes) (bytes_behind bytes 4 are) (omega (arith, length-drop 4 bytes)))
+networks_ranges n bytes are room = items_each (λ b. network_at b 0) IsNetwork 4 network_range n bytes are room
 
 -- the bytes of networks are read as these networks, whatever follows
 networks_again : (ns : List Network) (further : List ℕ) → AllByRecursion IsNetwork ns → networks_at (length ns) (flat_map network_bytes ns ++ further) ≡ ns
-unfolding networks_at
-networks_again [] further are = refl
-networks_again (n ∷ ns) further are =
-    let regrouped = append_assoc (network_bytes n) (flat_map network_bytes ns) further in
-    ap (λ (x : List ℕ). network_at x 0 ∷ networks_at (length ns) (drop 4 x)) regrouped
-    ∙ ap (λ (x : Network). x ∷ networks_at (length ns) (drop 4 (network_bytes n ++ (flat_map network_bytes ns ++ further)))) (network_again n (flat_map network_bytes ns ++ further) are.0)
-    ∙ ap (λ (x : List ℕ). n ∷ networks_at (length ns) x) (drop_at (network_bytes n) (flat_map network_bytes ns ++ further) 4 (length-network_bytes n))
-    ∙ ap (λ (x : List Network). n ∷ x) (networks_again ns further are.1)
+networks_again ns further are =
+    items_again (λ b. network_at b 0) network_bytes IsNetwork 4 (λ n is. length-network_bytes n) (λ n further is. network_again n further is) ns further are
 
 -- the network with k others before it
 pub slice_get-networks_at : (n k : ℕ) (bytes : List ℕ) → k < n → slice_get (networks_at n bytes) k ≡ Some (network_at bytes (4 * k))
-unfolding networks_at
-slice_get-networks_at zero k bytes below = absurd (omega arith)
-slice_get-networks_at (suc n) zero bytes below = refl
-slice_get-networks_at (suc n) (suc k) bytes below =
-    let next : 4 + 4 * k ≡ 4 * suc k = omega arith in
-    slice_get-networks_at n k (drop 4 bytes) (omega arith)
-    ∙ ap Some (network_shifted bytes (4 * k) ∙ ap (network_at bytes) next)
+slice_get-networks_at n k bytes below = slice_get-items (λ b. network_at b 0) 4 n k bytes below ∙ ap Some (network_shifted bytes (4 * k))
 
 -- the comparisons that a list of networks crossed passes
 pub record Listed (control : ℕ) (payload : List ℕ) : Type 0 where
-  pub eight : 32 ≤ length payload
-  pub free : control < 8
+  pub eight : crossed_bytes ≤ length payload
+  pub free : control < crossed_places
 
 -- what passes them is such a list
 pub is_crossed : (control : ℕ) (payload : List ℕ) → IsBytes payload → Listed control payload → IsCrossed control payload (networks_at control payload)
@@ -119,24 +95,24 @@ crossed_networks control payload ns is =
     ∙ networks_again ns is.further is.ranges
 
 -- the three ends of the comparisons
-pub crossed_short : (control : ℕ) (payload : List ℕ) → length payload < 32 → crossed_of control payload ≡ Err Short
+pub crossed_short : (control : ℕ) (payload : List ℕ) → length payload < crossed_bytes → crossed_of control payload ≡ Err Short
 unfolding crossed_of
-crossed_short control payload short = rw (lt-ltb (length payload) 32 short) refl
+crossed_short control payload short = rw (lt-ltb (length payload) crossed_bytes short) refl
 
-pub crossed_full : (control : ℕ) (payload : List ℕ) → 32 ≤ length payload → 8 ≤ control → crossed_of control payload ≡ Err Full
+pub crossed_full : (control : ℕ) (payload : List ℕ) → crossed_bytes ≤ length payload → crossed_places ≤ control → crossed_of control payload ≡ Err Full
 unfolding crossed_of
-crossed_full control payload eight full = rw (le-ltb (length payload) 32 eight, le-ltb control 8 full) refl
+crossed_full control payload eight full = rw (le-ltb (length payload) crossed_bytes eight, le-ltb control crossed_places full) refl
 
 pub crossed_listed : (control : ℕ) (payload : List ℕ) → Listed control payload → crossed_of control payload ≡ Ok (networks_at control payload)
 unfolding crossed_of
-crossed_listed control payload listed = rw (le-ltb (length payload) 32 listed.eight, lt-ltb control 8 listed.free) refl
+crossed_listed control payload listed = rw (le-ltb (length payload) crossed_bytes listed.eight, lt-ltb control crossed_places listed.free) refl
 
 -- networks that are answered are such a list by the relation
 pub crossed_found : (control : ℕ) (payload : List ℕ) → IsBytes payload → IfOk (crossed_of control payload) (IsCrossed control payload)
 crossed_found control payload are =
-    elim (cases_lt (length payload) 32) [
+    elim (cases_lt (length payload) crossed_bytes) [
       | inl short ↦ rw (crossed_short control payload short) tt
-      | inr eight ↦ elim (cases_lt control 8) [
+      | inr eight ↦ elim (cases_lt control crossed_places) [
         | inl free ↦
             let listed : Listed control payload = record { eight = eight; free = free } in
             rw (crossed_listed control payload listed) (is_crossed control payload are listed)
@@ -147,9 +123,9 @@ crossed_found control payload are =
 -- a fault that is answered is the first that holds
 pub crossed_refused : (control : ℕ) (payload : List ℕ) → IfErr (crossed_of control payload) (IsNotCrossed control payload)
 crossed_refused control payload =
-    elim (cases_lt (length payload) 32) [
+    elim (cases_lt (length payload) crossed_bytes) [
       | inl short ↦ rw (crossed_short control payload short) short
-      | inr eight ↦ elim (cases_lt control 8) [
+      | inr eight ↦ elim (cases_lt control crossed_places) [
         | inl free ↦
             let listed : Listed control payload = record { eight = eight; free = free } in
             rw (crossed_listed control payload listed) tt

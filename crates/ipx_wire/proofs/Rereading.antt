@@ -4,6 +4,7 @@ use Rattle.std.proofs.lemmas.List.{take_at, take-append-drop, flat_map_more}
 use Rattle.std.specs.List.{flat_map, AllByRecursion}
 use Rattle.ipx_wire.specs.Address.{IsAddress}
 use Rattle.ipx_wire.specs.Header.{IsHeader, header_bytes}
+use Rattle.ipx_wire.specs.Numbers.{most_entries}
 use Rattle.ipx_wire.specs.Packet.{Parts, IsPacket}
 use Rattle.ipx_wire.specs.Rip.{IsEntry, IsRip}
 use Rattle.ipx_wire.specs.Crossed.{IsNetwork, IsCrossed, network_bytes}
@@ -39,7 +40,7 @@ header_alone h further is long there =
 
 -- a routing information packet's bytes are read as that packet
 pub rip_packet_again : (from to : Address) (operation : Operation) (entries : List RipEntry) (further : List ℕ) → IsAddress from → IsAddress to
-    → length entries ≤ 50 → IsPacket (rip_packet from to operation entries ++ further) (rip_packet_parts from to operation entries)
+    → length entries ≤ most_entries → IsPacket (rip_packet from to operation entries ++ further) (rip_packet_parts from to operation entries)
 rip_packet_again from to operation entries further from_is to_is most =
     let size : (rip_packet_parts from to operation entries).header.length ≡ 30 + length (rip_payload operation entries) =
     omega (arith, length-rip_payload operation entries) in
@@ -47,7 +48,7 @@ rip_packet_again from to operation entries further from_is to_is most =
     (own_ranges 1 from to (2 + 8 * length entries) (lit< tt) from_is to_is (omega arith)) size
 
 -- its data are read as its operation and entries
-pub rip_again : (operation : Operation) (entries : List RipEntry) (further : List ℕ) → AllByRecursion IsEntry entries → 1 ≤ length entries → length entries ≤ 50
+pub rip_again : (operation : Operation) (entries : List RipEntry) (further : List ℕ) → AllByRecursion IsEntry entries → 1 ≤ length entries → length entries ≤ most_entries
     → length further < 8 → IsRip (rip_payload operation entries ++ further) (record { operation = operation; entries = entries })
 rip_again operation entries further ranges some most few =
     record { further = further; layout = refl; some = some; most = most; ignored = few; ranges = ranges }

@@ -6,6 +6,7 @@ use Rattle.std.specs.List.{flat_map, AllByRecursion}
 use Rattle.ipx_wire.specs.Address.{IsAddress}
 use Rattle.ipx_wire.specs.Header.{header_bytes}
 use Rattle.ipx_wire.specs.Name.{IsServiceName, IsName, name_of, name_field}
+use Rattle.ipx_wire.specs.Numbers.{most_services}
 use Rattle.ipx_wire.specs.Sap.{IsQuery, IsResponse, response_number}
 use Rattle.ipx_wire.specs.Write.{query_payload}
 use Rattle.ipx_wire.specs.SapEntries.{Stored, IsStored, stored_bytes}
@@ -68,8 +69,8 @@ told_stored : (ss : List Service) → map entry_of ss ≡ map (λ s. s.entry) (m
 told_stored [] = refl
 told_stored (s ∷ ss) = ap (λ (es : List SapEntry). entry_of s ∷ es) (told_stored ss)
 
--- what is written of 1 to 7 services is the response that tells them, whatever fewer than 64 bytes follow
-pub response_again : (nearest : Bool) (ss : List Service) (further : List ℕ) → 1 ≤ length ss → length ss ≤ 7 → AllByRecursion IsService ss → length further < 64
+-- what is written of as many services as a packet may have is the response that tells them, whatever fewer than 64 bytes follow
+pub response_again : (nearest : Bool) (ss : List Service) (further : List ℕ) → 1 ≤ length ss → length ss ≤ most_services → AllByRecursion IsService ss → length further < 64
     → IsResponse (sap_payload nearest ss ++ further) nearest (map entry_of ss)
 response_again nearest ss further some most are few =
     let front = to_be_bytes w16 (response_number nearest) in
@@ -85,7 +86,7 @@ response_again nearest ss further some most are few =
       each = all_stored ss are;
     }
 
-pub is_written_response : (nearest : Bool) (ss : List Service) → 1 ≤ length ss → length ss ≤ 7 → AllByRecursion IsService ss
+pub is_written_response : (nearest : Bool) (ss : List Service) → 1 ≤ length ss → length ss ≤ most_services → AllByRecursion IsService ss
     → IsResponse (sap_payload nearest ss) nearest (map entry_of ss)
 is_written_response nearest ss some most are =
     subst (λ (x : List ℕ). IsResponse x nearest (map entry_of ss)) (append-nil (sap_payload nearest ss))
@@ -125,7 +126,7 @@ each_more is xs i d below before this =
 
 -- the packet of services is read again, whatever bytes follow
 pub sap_packet_again : (from to : Address) (nearest : Bool) (services : List Service) (further : List ℕ) → IsAddress from → IsAddress to
-    → length services ≤ 7 → AllByRecursion IsService services
+    → length services ≤ most_services → AllByRecursion IsService services
     → IsPacket (sap_packet from to nearest services ++ further) (sap_packet_parts from to nearest services)
 sap_packet_again from to nearest services further from_is to_is most are = record {
   header = own_ranges 4 from to (2 + 64 * length services) (lit< tt) from_is to_is (omega (arith, most));

@@ -1,5 +1,6 @@
 -- Packets that a router sends on, with the fields changed that it changes (IPX Router Specification).
 use Rattle.std.specs.Prelude.{ℕ, ◌+◌, ◌*◌, List, ◌++◌, take, drop}
+use Rattle.ipx_wire.specs.Numbers.{no_checksum}
 use Rattle.ipx_wire.specs.Packet.{Parts}
 use Rattle.ipx_wire.specs.Crossed.{network_bytes}
 use Rattle.ipx_wire.specs.declared.network.Network.{Network}
@@ -18,7 +19,7 @@ crossing control network payload =
 abbrev pub propagated : Network → Network → Parts → Parts
 propagated arrived outgoing p = record {
   header = record p.header {
-    checksum = 65535;
+    checksum = no_checksum;
     control = p.header.control + 1;
     destination = record p.header.destination { network = outgoing };
   };

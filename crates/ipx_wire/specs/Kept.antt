@@ -10,8 +10,8 @@ pub record IsKept (h : Header) (whole : List ℕ) : Type 0 where
   pub counted : h.length ≡ length whole
   pub enough : 30 ≤ length whole
 
--- 1 to 50 entries, and the bytes of so many
-pub record IsCounted (count : ℕ) (body : List ℕ) : Type 0 where
-  pub some : 1 ≤ count
-  pub most : count ≤ 50
-  pub enough : 8 * count ≤ length body
+-- so many items, not fewer and not more than there may be, and the bytes of as many of that size
+pub record IsCounted (least greatest size : ℕ) (count : ℕ) (body : List ℕ) : Type 0 where
+  pub some : least ≤ count
+  pub most : count ≤ greatest
+  pub enough : size * count ≤ length body

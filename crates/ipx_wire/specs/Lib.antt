@@ -7,6 +7,7 @@ pub mod Header
 pub mod Items
 pub mod Kept
 pub mod Name
+pub mod Numbers
 pub mod Packet
 pub mod Piece
 pub mod Put

@@ -1,7 +1,9 @@
 -- The data of a routing information packet: an operation and entries (IPX Router Specification).
-use Rattle.std.specs.Prelude.{◌≡◌, ℕ, zero, suc, ◌+◌, ◌-◌, ◌/◌, ◌<◌, ◌≤◌, ◌^◌, ◌⊎◌, ◌≢◌, ◌==◌, nat_lt, if◌then◌else◌, List, [], ◌∷◌, ◌++◌, length, drop, Option, None, Some, Result, Ok, Err}
+use Rattle.std.specs.Prelude.{◌≡◌, ℕ, ◌+◌, ◌-◌, ◌/◌, ◌<◌, ◌≤◌, ◌^◌, ◌⊎◌, ◌≢◌, ◌==◌, nat_lt, if◌then◌else◌, List, ◌++◌, length, drop, Option, None, Some, Result, Ok, Err}
 use Rattle.std.specs.Int.{to_be_bytes, from_be_bytes, w16, w32}
 use Rattle.std.specs.List.{flat_map, AllByRecursion}
+use Rattle.ipx_wire.specs.Items.{items}
+use Rattle.ipx_wire.specs.Numbers.{most_entries}
 use Rattle.ipx_wire.specs.Piece.{piece}
 use Rattle.ipx_wire.specs.declared.rip.Operation.{Operation}
 use Rattle.ipx_wire.specs.declared.rip.Operation.TheVariants.{Request, Response}
@@ -28,9 +30,8 @@ entry_at bytes place = record {
 }
 
 -- the first n entries of bytes, eight bytes each
-unfoldable pub entries_at : ℕ → List ℕ → List RipEntry
-entries_at zero bytes = []
-entries_at (suc n) bytes = entry_at bytes 0 ∷ entries_at n (drop 8 bytes)
+abbrev pub entries_at : ℕ → List ℕ → List RipEntry
+entries_at n bytes = items (λ b. entry_at b 0) 8 n bytes
 
 -- the number of an operation: 1 request, 2 response
 abbrev pub operation_number : Operation → ℕ
@@ -46,12 +47,12 @@ pub record RipParts : Type 0 where
   pub operation : Operation
   pub entries : List RipEntry
 
--- the data are the operation, 1 to 50 entries, and fewer than eight further bytes, which say nothing (own)
+-- the data are the operation, 1 or more entries up to the most, and fewer than eight further bytes, which say nothing (own)
 pub record IsRip (payload : List ℕ) (r : RipParts) : Type 0 where
   pub further : List ℕ
   pub layout : payload ≡ to_be_bytes w16 (operation_number r.operation) ++ flat_map entry_bytes r.entries ++ further
   pub some : 1 ≤ length r.entries
-  pub most : length r.entries ≤ 50
+  pub most : length r.entries ≤ most_entries
   pub ignored : length further < 8
   pub ranges : AllByRecursion IsEntry r.entries
 

@@ -2,6 +2,7 @@
 use Rattle.std.specs.Prelude.{◌≡◌, ℕ, ◌-◌, ◌/◌, ◌<◌, ◌≤◌, ◌^◌, ◌⊎◌, ◌≢◌, ◌==◌, nat_lt, Bool, true, false, if◌then◌else◌, List, ◌++◌, length, drop, map, Result, Ok, Err}
 use Rattle.std.specs.Int.{to_be_bytes, from_be_bytes, w16}
 use Rattle.std.specs.List.{flat_map, AllByRecursion}
+use Rattle.ipx_wire.specs.Numbers.{most_services}
 use Rattle.ipx_wire.specs.Piece.{piece}
 use Rattle.ipx_wire.specs.Rip.{operation_field}
 use Rattle.ipx_wire.specs.SapEntries.{Stored, IsStored, stored_bytes, sap_entries_at}
@@ -22,14 +23,14 @@ pub record IsQuery (payload : List ℕ) (nearest : Bool) (kind : ℕ) : Type 0 w
   pub layout : payload ≡ to_be_bytes w16 (query_number nearest) ++ to_be_bytes w16 kind ++ further
   pub range : kind < 2 ^ 16
 
--- the data are a response's operation, 1 to 7 entries, and fewer than 64 further bytes, which say nothing (own)
+-- the data are a response's operation, 1 or more entries up to the most, and fewer than 64 further bytes, which say nothing (own)
 pub record IsResponse (payload : List ℕ) (nearest : Bool) (entries : List SapEntry) : Type 0 where
   pub stored : List Stored
   pub further : List ℕ
   pub layout : payload ≡ to_be_bytes w16 (response_number nearest) ++ flat_map stored_bytes stored ++ further
   pub told : entries ≡ map (λ s. s.entry) stored
   pub some : 1 ≤ length entries
-  pub most : length entries ≤ 7
+  pub most : length entries ≤ most_services
   pub ignored : length further < 64
   pub each : AllByRecursion IsStored stored
 

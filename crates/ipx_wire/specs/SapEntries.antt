@@ -1,5 +1,5 @@
 -- The entries of a service advertising packet, 64 bytes each (IPX Router Specification).
-use Rattle.std.specs.Prelude.{◌≡◌, ℕ, ◌*◌, ◌<◌, ◌≤◌, ◌^◌, List, ◌++◌, length, Option, None, Some}
+use Rattle.std.specs.Prelude.{◌≡◌, ℕ, ◌<◌, ◌^◌, List, ◌++◌, length, Option, None, Some}
 use Rattle.std.specs.Int.{to_be_bytes, from_be_bytes, w16}
 use Rattle.ipx_wire.specs.Piece.{piece}
 use Rattle.ipx_wire.specs.Items.{items}
@@ -41,9 +41,3 @@ sap_entry_at bytes = record {
 -- the first n entries of bytes
 abbrev pub sap_entries_at : ℕ → List ℕ → List SapEntry
 sap_entries_at n bytes = items sap_entry_at 64 n bytes
-
--- 1 to 7 entries, and the bytes of so many
-pub record IsSapCounted (count : ℕ) (body : List ℕ) : Type 0 where
-  pub some : 1 ≤ count
-  pub most : count ≤ 7
-  pub enough : 64 * count ≤ length body

@@ -3,6 +3,7 @@ use Rattle.std.specs.Prelude.{ℕ, ◌+◌, ◌*◌, Bool, if◌then◌else◌, 
 use Rattle.std.specs.Int.{to_be_bytes, w16}
 use Rattle.std.specs.List.{flat_map}
 use Rattle.ipx_wire.specs.Header.{header_bytes}
+use Rattle.ipx_wire.specs.Numbers.{no_checksum, rip_type, sap_type}
 use Rattle.ipx_wire.specs.Packet.{Parts}
 use Rattle.ipx_wire.specs.Rip.{entry_bytes, operation_number}
 use Rattle.ipx_wire.specs.declared.address.Address.{Address}
@@ -10,10 +11,10 @@ use Rattle.ipx_wire.specs.declared.header.Header.{Header}
 use Rattle.ipx_wire.specs.declared.rip.Operation.{Operation}
 use Rattle.ipx_wire.specs.declared.rip.RipEntry.{RipEntry}
 
--- the header of a router's own packet: checksum FFFFh (own), transport control 0, and so many bytes of data
+-- the header of a router's own packet: no checksum (own), transport control 0, and so many bytes of data
 abbrev pub own_header : ℕ → Address → Address → ℕ → Header
 own_header kind from to size = record {
-  checksum = 65535;
+  checksum = no_checksum;
   length = 30 + size;
   control = 0;
   kind = kind;
@@ -25,10 +26,10 @@ own_header kind from to size = record {
 abbrev pub rip_payload : Operation → List RipEntry → List ℕ
 rip_payload operation entries = to_be_bytes w16 (operation_number operation) ++ flat_map entry_bytes entries
 
--- a routing information packet, type 1
+-- a routing information packet
 abbrev pub rip_packet_parts : Address → Address → Operation → List RipEntry → Parts
 rip_packet_parts from to operation entries = record {
-  header = own_header 1 from to (2 + 8 * length entries);
+  header = own_header rip_type from to (2 + 8 * length entries);
   payload = rip_payload operation entries;
 }
 
@@ -40,10 +41,10 @@ query_number nearest = if nearest then 3 else 1
 abbrev pub query_payload : Bool → ℕ → List ℕ
 query_payload nearest kind = to_be_bytes w16 (query_number nearest) ++ to_be_bytes w16 kind
 
--- a service query, type 4
+-- a service query
 abbrev pub query_packet_parts : Address → Address → Bool → ℕ → Parts
 query_packet_parts from to nearest kind = record {
-  header = own_header 4 from to 4;
+  header = own_header sap_type from to 4;
   payload = query_payload nearest kind;
 }
 

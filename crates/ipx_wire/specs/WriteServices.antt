@@ -4,6 +4,7 @@ use Rattle.std.specs.Int.{to_be_bytes, w16}
 use Rattle.std.specs.List.{flat_map}
 use Rattle.ipx_wire.specs.Address.{IsAddress, address_bytes}
 use Rattle.ipx_wire.specs.Name.{IsServiceName, name_field}
+use Rattle.ipx_wire.specs.Numbers.{sap_type}
 use Rattle.ipx_wire.specs.Packet.{Parts}
 use Rattle.ipx_wire.specs.Sap.{response_number}
 use Rattle.ipx_wire.specs.Write.{own_header, packet_bytes}
@@ -30,10 +31,10 @@ entry_of s = record { kind = s.kind; name = Some s.name; address = s.address; ho
 abbrev pub sap_payload : Bool → List Service → List ℕ
 sap_payload nearest services = to_be_bytes w16 (response_number nearest) ++ flat_map service_bytes services
 
--- a response, type 4
+-- a response
 abbrev pub sap_packet_parts : Address → Address → Bool → List Service → Parts
 sap_packet_parts from to nearest services = record {
-  header = own_header 4 from to (2 + 64 * length services);
+  header = own_header sap_type from to (2 + 64 * length services);
   payload = sap_payload nearest services;
 }
 

@@ -28,17 +28,21 @@ pub struct Crossed<'a> {
 impl<'a> Model for Crossed<'a> {
     ghost use Rattle.std.specs.Prelude.{List};
     ghost use Rattle.ipx_wire.specs.declared.network.Network.{Network};
-    ghost use Rattle.ipx_wire.specs.Crossed.{networks_at, IsListed};
+    ghost use Rattle.std.specs.Prelude.{◌-◌};
+    ghost use Rattle.ipx_wire.specs.Crossed.{networks_at};
+    ghost use Rattle.ipx_wire.specs.Kept.{IsCounted};
+    ghost use Rattle.ipx_wire.specs.Numbers.{crossed_places};
 
     ghost Value = { List Network };
 
     ghost view = { λ c. networks_at c.count c.payload.now };
 
-    ghost invariant = { λ c. IsListed c.count c.payload.now };
+    ghost invariant = { λ c. IsCounted 0 (crossed_places - 1) 4 c.count c.payload.now };
 }
 
 impl<'a> Crossed<'a> {
     ghost use Rattle.ipx_wire.specs.Crossed.{IsCrossed, IsNotCrossed, crossed_of, is_among};
+    ghost use Rattle.ipx_wire.specs.Numbers.{crossed_places};
 
     /// How many places the list has.
     const PLACES: u8 = 8;
@@ -75,7 +79,7 @@ impl<'a> Crossed<'a> {
     /// How many networks were crossed, 0 to 7: as many as the transport control says.
     pub fn len(&self) -> usize
         ensures value { result ≡ length self.now }
-        ensures most { result < 8 }
+        ensures most { result < crossed_places }
     {
         self.count
     }
@@ -108,6 +112,3 @@ fn network_from(bytes: &[u8], place: usize) -> Network
 {
     Network(u32_at(bytes, place))
 }
-
-#[cfg(test)]
-mod tests;

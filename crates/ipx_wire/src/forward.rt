@@ -110,6 +110,3 @@ fn put_bytes(out: &mut [u8], place: usize, bytes: &[u8])
 {
     out[place..place + bytes.len()].copy_from_slice(bytes);
 }
-
-#[cfg(test)]
-mod tests;

@@ -79,6 +79,3 @@ impl<R: Read> Intake<R> {
         self.failed
     }
 }
-
-#[cfg(test)]
-mod tests;

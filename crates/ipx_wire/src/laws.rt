@@ -3,6 +3,7 @@ ghost use Rattle.std.specs.Prelude.{◌≡◌, ◌↔◌, ℕ, ◌+◌, ◌-◌,
 ghost use Rattle.std.specs.List.{AllByRecursion};
 ghost use Rattle.ipx_wire.specs.Address.{IsAddress};
 ghost use Rattle.ipx_wire.specs.Header.{IsHeader, header_bytes};
+ghost use Rattle.ipx_wire.specs.Numbers.{most_entries, most_services};
 ghost use Rattle.ipx_wire.specs.Forward.{forwarded, propagated};
 ghost use Rattle.ipx_wire.specs.Write.{packet_bytes, rip_packet, rip_packet_parts, rip_payload, query_packet, query_packet_parts, query_payload};
 ghost use Rattle.ipx_wire.specs.Piece.{IsBytes, piece};
@@ -58,17 +59,17 @@ pub fn reread()
     ensures packet { (p : Parts) (further : List ℕ) → IsHeader p.header → p.header.length ≡ 30 + length p.payload
         → IsPacket (packet_bytes p ++ further) p }
     ensures rip_packet { (from to : Address) (operation : Operation) (entries : List RipEntry) (further : List ℕ) → IsAddress from → IsAddress to
-        → length entries ≤ 50 → IsPacket (rip_packet from to operation entries ++ further) (rip_packet_parts from to operation entries) }
-    ensures rip { (operation : Operation) (entries : List RipEntry) (further : List ℕ) → AllByRecursion IsEntry entries → 1 ≤ length entries → length entries ≤ 50
+        → length entries ≤ most_entries → IsPacket (rip_packet from to operation entries ++ further) (rip_packet_parts from to operation entries) }
+    ensures rip { (operation : Operation) (entries : List RipEntry) (further : List ℕ) → AllByRecursion IsEntry entries → 1 ≤ length entries → length entries ≤ most_entries
         → length further < 8 → IsRip (rip_payload operation entries ++ further) (record { operation = operation; entries = entries }) }
     ensures query_packet { (from to : Address) (nearest : Bool) (kind : ℕ) (further : List ℕ) → IsAddress from → IsAddress to
         → IsPacket (query_packet from to nearest kind ++ further) (query_packet_parts from to nearest kind) }
     ensures query { (nearest : Bool) (kind : ℕ) (further : List ℕ) → kind < 2 ^ 16
         → IsSap (query_payload nearest kind ++ further) (Query nearest kind) }
     ensures sap_packet { (from to : Address) (nearest : Bool) (services : List Service) (further : List ℕ) → IsAddress from → IsAddress to
-        → length services ≤ 7 → AllByRecursion IsService services
+        → length services ≤ most_services → AllByRecursion IsService services
         → IsPacket (sap_packet from to nearest services ++ further) (sap_packet_parts from to nearest services) }
-    ensures sap { (nearest : Bool) (services : List Service) (further : List ℕ) → 1 ≤ length services → length services ≤ 7 → AllByRecursion IsService services
+    ensures sap { (nearest : Bool) (services : List Service) (further : List ℕ) → 1 ≤ length services → length services ≤ most_services → AllByRecursion IsService services
         → length further < 64 → IsSap (sap_payload nearest services ++ further) (Response nearest (map entry_of services)) }
     ensures forwarded { (bytes : List ℕ) (p : Parts) (further : List ℕ) → IsPacket bytes p → p.header.control < 255
         → IsPacket (packet_bytes (forwarded p) ++ further) (forwarded p) }
@@ -126,8 +127,8 @@ pub fn constants()
     ensures advertising { Socket.SAP.0 ≡ 0x452 }
     ensures header_size { Header.SIZE ≡ 30 }
     ensures entry_size { RipEntry.SIZE ≡ 8 }
-    ensures most_entries { RipEntry.MOST ≡ 50 }
+    ensures most_entries { RipEntry.MOST ≡ most_entries }
     ensures name_size { ServiceName.SIZE ≡ 48 }
     ensures service_size { SapEntry.SIZE ≡ 64 }
-    ensures most_services { SapEntry.MOST ≡ 7 }
+    ensures most_services { SapEntry.MOST ≡ most_services }
 {}

@@ -33,8 +33,6 @@ mod sap_entries;
 mod service;
 mod service_name;
 mod socket;
-#[cfg(test)]
-mod tests;
 mod write;
 mod write_services;
 

@@ -14,6 +14,9 @@ use std::fmt;
 pub struct Network(pub u32);
 
 impl Network {
+    /// FFFFFFFEh, the default route: it leads to every network that no other route leads to.
+    pub const DEFAULT_ROUTE: Network = Network(0xFFFF_FFFE);
+
     /// FFFFFFFFh, which in a request asks for every route.
     pub const ALL_ROUTES: Network = Network(0xFFFF_FFFF);
 

@@ -24,6 +24,3 @@ impl<T: Drop> From<AllocFailed<T>> for OutOfMemory {
         OutOfMemory
     }
 }
-
-#[cfg(test)]
-mod tests;

@@ -59,6 +59,3 @@ impl<W: Write> Outlet<W> {
         self.failed
     }
 }
-
-#[cfg(test)]
-mod tests;

@@ -64,6 +64,9 @@ impl RipEntry {
 
     /// The most entries that one packet has.
     pub const MOST: usize = 50;
+
+    /// So many hops or more mean that a network or a service isn't reached.
+    pub const UNREACHABLE: u16 = 16;
 }
 
 /// The data of a routing information packet; its entries are lent from the bytes that they were read from.
@@ -77,15 +80,17 @@ pub struct Rip<'a> {
 impl<'a> Model for Rip<'a> {
     ghost use Rattle.ipx_wire.specs.Rip.{RipParts, entries_at};
     ghost use Rattle.ipx_wire.specs.Kept.{IsCounted};
+    ghost use Rattle.ipx_wire.specs.Numbers.{most_entries};
 
     ghost Value = { RipParts };
 
     ghost view = { λ r. record { operation = r.operation; entries = entries_at r.count r.body.now } };
 
-    ghost invariant = { λ r. IsCounted r.count r.body.now };
+    ghost invariant = { λ r. IsCounted 1 most_entries 8 r.count r.body.now };
 }
 
 impl<'a> Rip<'a> {
+    ghost use Rattle.ipx_wire.specs.Numbers.{most_entries};
     ghost use Rattle.ipx_wire.specs.Rip.{RipParts, IsRip, IsNoRip, rip_of};
 
     /// Reads the data of a packet. Fewer than eight bytes behind the last entry are ignored.
@@ -131,7 +136,7 @@ impl<'a> Rip<'a> {
     pub fn len(&self) -> usize
         ensures value { result ≡ length self.now.entries }
         ensures some { 1 ≤ result }
-        ensures most { result ≤ 50 }
+        ensures most { result ≤ most_entries }
     {
         self.count
     }

@@ -104,6 +104,3 @@ fn response(nearest: bool, payload: &[u8]) -> Result<Sap<'_>, SapFault>
     let entries = SapEntries::of(count, body);
     Ok(Sap::Response { nearest, entries })
 }
-
-#[cfg(test)]
-mod tests;

@@ -1,6 +1,8 @@
 //! The entries of service advertising packets, read one by one from the bytes that hold them.
 ghost use Rattle.ipx_wire.specs.Piece.{piece};
-ghost use Rattle.ipx_wire.specs.SapEntries.{sap_entry_at, sap_entries_at, IsSapCounted};
+ghost use Rattle.ipx_wire.specs.SapEntries.{sap_entry_at, sap_entries_at};
+ghost use Rattle.ipx_wire.specs.Kept.{IsCounted};
+ghost use Rattle.ipx_wire.specs.Numbers.{most_services};
 ghost use Rattle.std.specs.Prelude.{◌≡◌, ◌<◌, ◌≤◌, length, slice_get, Some};
 
 use crate::address::Address;
@@ -40,19 +42,21 @@ impl<'a> Model for SapEntries<'a> {
     ghost use Rattle.ipx_wire.specs.Piece.{piece};
     ghost use Rattle.std.specs.Prelude.{List};
     ghost use Rattle.ipx_wire.specs.declared.sap_entries.SapEntry.{SapEntry};
-    ghost use Rattle.ipx_wire.specs.SapEntries.{sap_entries_at, IsSapCounted};
+    ghost use Rattle.ipx_wire.specs.SapEntries.{sap_entries_at};
+    ghost use Rattle.ipx_wire.specs.Kept.{IsCounted};
+    ghost use Rattle.ipx_wire.specs.Numbers.{most_services};
 
     ghost Value = { List SapEntry };
 
     ghost view = { λ s. sap_entries_at s.count s.body.now };
 
-    ghost invariant = { λ s. IsSapCounted s.count s.body.now };
+    ghost invariant = { λ s. IsCounted 1 most_services 64 s.count s.body.now };
 }
 
 impl<'a> SapEntries<'a> {
     /// The first `count` entries of bytes that have so many.
     pub(crate) fn of(count: usize, body: &'a [u8]) -> SapEntries<'a>
-        requires { IsSapCounted count body.now }
+        requires { IsCounted 1 most_services 64 count body.now }
         ensures { result ≡ sap_entries_at count body.entry.now }
     {
         SapEntries { count, body }
@@ -62,7 +66,7 @@ impl<'a> SapEntries<'a> {
     pub fn len(&self) -> usize
         ensures value { result ≡ length self.now }
         ensures some { 1 ≤ result }
-        ensures most { result ≤ 7 }
+        ensures most { result ≤ most_services }
     {
         self.count
     }

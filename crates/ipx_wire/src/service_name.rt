@@ -156,6 +156,3 @@ fn clear_behind(bytes: &mut [u8], count: usize)
     let (_, rest) = bytes.split_at_mut(count);
     rest.fill(0);
 }
-
-#[cfg(test)]
-mod tests;

@@ -1,6 +1,7 @@
 //! Whole packets of a router's own, written to the front of a slice.
 ghost use Rattle.std.specs.Prelude.{◌≡◌, ◌+◌, ◌*◌, ◌^◌, ◌<◌, ◌≤◌, ◌++◌, length, drop};
 ghost use Rattle.std.specs.List.{flat_map};
+ghost use Rattle.ipx_wire.specs.Numbers.{most_entries};
 ghost use Rattle.ipx_wire.specs.Packet.{IsPacket};
 ghost use Rattle.ipx_wire.specs.Put.{PutsAt};
 ghost use Rattle.ipx_wire.specs.Rip.{entry_bytes};
@@ -29,7 +30,7 @@ pub fn write_rip(
     out: &mut [u8],
 ) -> usize
     requires some { 1 ≤ length entries.now }
-    requires most { length entries.now ≤ 50 }
+    requires most { length entries.now ≤ most_entries }
     requires room { 32 + 8 * length entries.now ≤ length out.old }
     ensures count { result ≡ 32 + 8 * length entries.now }
     ensures bytes { out.new ≡ rip_packet from to operation entries.now ++ drop (32 + 8 * length entries.now) out.old }

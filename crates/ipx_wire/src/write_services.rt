@@ -2,6 +2,7 @@
 ghost use Rattle.std.specs.Prelude.{◌≡◌, ◌+◌, ◌*◌, ◌≤◌, ◌++◌, length, drop, map};
 ghost use Rattle.std.specs.List.{flat_map, AllByRecursion};
 ghost use Rattle.ipx_wire.specs.Name.{IsServiceName, name_field};
+ghost use Rattle.ipx_wire.specs.Numbers.{most_services};
 ghost use Rattle.ipx_wire.specs.Packet.{IsPacket};
 ghost use Rattle.ipx_wire.specs.Put.{PutsAt};
 ghost use Rattle.ipx_wire.specs.Sap.{IsResponse};
@@ -28,7 +29,7 @@ pub fn write_sap(
     out: &mut [u8],
 ) -> usize
     requires some { 1 ≤ length services.now }
-    requires most { length services.now ≤ 7 }
+    requires most { length services.now ≤ most_services }
     requires room { 32 + 64 * length services.now ≤ length out.old }
     ensures count { result ≡ 32 + 64 * length services.now }
     ensures bytes { out.new ≡ sap_packet from to nearest services.now ++ drop (32 + 64 * length services.now) out.old }
@@ -78,6 +79,3 @@ fn put_name(out: &mut [u8], place: usize, name: ServiceName)
     let field = name.field();
     out[place..place + ServiceName::SIZE].copy_from_slice(&field);
 }
-
-#[cfg(test)]
-mod tests;

@@ -1,7 +1,8 @@
 -- The networks crossed, as the transport control counts them.
 use Rattle.std.proofs.Common.{◌≡◌, ℕ, List, [], ◌∷◌, ◌++◌, true, false, refl, codes, replicate, lit<, Ok, Err}
 use Rattle.hex.specs.Hex.{decode_pairs}
-use Rattle.ipx_wire.specs.Crossed.{IsCrossed, network_bytes, network_at, networks_at, crossed_of, is_among}
+use Rattle.ipx_wire.specs.Items.{items}
+use Rattle.ipx_wire.specs.Crossed.{IsCrossed, network_bytes, network_at, crossed_of, is_among}
 use Rattle.ipx_wire.specs.declared.crossed.CrossedFault.TheVariants.{Short, Full}
 use Rattle.ipx_wire.specs.declared.network.Network.{Network}
 use Rattle.ipx_wire.proofs.examples.Words.{hex}
@@ -25,7 +26,7 @@ eight_crossed = refl
 
 -- two networks were crossed
 pub two_crossed : crossed_of 2 two_of_eight ≡ Ok (network 0x10 ∷ network 0x20 ∷ [])
-unfolding decode_pairs crossed_of networks_at network_at
+unfolding decode_pairs crossed_of items network_at
 two_crossed = refl
 
 -- by their layout too
@@ -42,12 +43,12 @@ two_are = record {
 
 -- seven networks were crossed, and an eighth place is left
 pub seven_crossed : crossed_of 7 (replicate 32 0) ≡ Ok (replicate 7 (network 0))
-unfolding crossed_of networks_at network_at
+unfolding crossed_of items network_at
 seven_crossed = refl
 
 -- what stands behind those that are counted was not crossed
 pub only_the_counted : crossed_of 1 two_of_eight ≡ Ok (network 0x10 ∷ [])
-unfolding decode_pairs crossed_of networks_at network_at
+unfolding decode_pairs crossed_of items network_at
 only_the_counted = refl
 
 pub first_is_among : is_among (network 0x10) (network 0x10 ∷ []) ≡ true

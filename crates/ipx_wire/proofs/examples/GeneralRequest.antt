@@ -1,10 +1,11 @@
 -- A node asks its network for every route.
 use Rattle.std.proofs.Common.{◌≡◌, ℕ, List, [], ◌∷◌, ◌++◌, refl, codes, lit<, Ok}
 use Rattle.hex.specs.Hex.{decode_pairs}
+use Rattle.ipx_wire.specs.Items.{items}
 use Rattle.ipx_wire.specs.Address.{address_bytes, address_at}
 use Rattle.ipx_wire.specs.Header.{header_bytes, header_at}
 use Rattle.ipx_wire.specs.Packet.{Parts, IsPacket, packet_of}
-use Rattle.ipx_wire.specs.Rip.{RipParts, IsRip, entry_bytes, entry_at, entries_at, rip_of}
+use Rattle.ipx_wire.specs.Rip.{RipParts, IsRip, entry_bytes, entry_at, rip_of}
 use Rattle.ipx_wire.specs.declared.rip.Operation.TheVariants.{Request}
 use Rattle.ipx_wire.proofs.examples.Words.{hex, node, everyone, rip_at, entry}
 
@@ -54,7 +55,7 @@ packet_is = record {
 
 -- its data are read as the request
 pub data_read : rip_of payload ≡ Ok rip_parts
-unfolding decode_pairs rip_of entries_at entry_at
+unfolding decode_pairs rip_of items entry_at
 data_read = refl
 
 -- they are the request's by its layout

@@ -1,10 +1,11 @@
 -- Bytes that nothing counts change nothing: padding of a packet, and less than an entry behind the last one.
 use Rattle.std.proofs.Common.{◌≡◌, ◌++◌, refl, replicate, lit<, Ok}
 use Rattle.hex.specs.Hex.{decode_pairs}
+use Rattle.ipx_wire.specs.Items.{items}
 use Rattle.ipx_wire.specs.Address.{address_bytes, address_at}
 use Rattle.ipx_wire.specs.Header.{header_bytes, header_at}
 use Rattle.ipx_wire.specs.Packet.{IsPacket, packet_of}
-use Rattle.ipx_wire.specs.Rip.{IsRip, entry_bytes, entry_at, entries_at, rip_of}
+use Rattle.ipx_wire.specs.Rip.{IsRip, entry_bytes, entry_at, rip_of}
 use Rattle.ipx_wire.proofs.examples.GeneralRequest.{payload, bytes, parts, rip_parts, packet_is, data_are}
 
 -- twenty bytes behind the length are padding
@@ -19,7 +20,7 @@ padded_is = record { header = packet_is.header; padding = replicate 20 0; layout
 
 -- seven bytes behind the last entry are ignored
 pub seven_bytes : rip_of (payload ++ replicate 7 0xff) ≡ Ok rip_parts
-unfolding decode_pairs rip_of entries_at entry_at
+unfolding decode_pairs rip_of items entry_at
 seven_bytes = refl
 
 -- by their layout too

@@ -1,10 +1,11 @@
 -- A router tells its neighbours a route: network 30h, one hop, two ticks.
 use Rattle.std.proofs.Common.{◌≡◌, ℕ, List, [], ◌∷◌, ◌++◌, refl, codes, Ok}
 use Rattle.hex.specs.Hex.{decode_pairs}
+use Rattle.ipx_wire.specs.Items.{items}
 use Rattle.ipx_wire.specs.Address.{address_at}
 use Rattle.ipx_wire.specs.Header.{header_at}
 use Rattle.ipx_wire.specs.Packet.{Parts, packet_of}
-use Rattle.ipx_wire.specs.Rip.{RipParts, entry_at, entries_at, rip_of}
+use Rattle.ipx_wire.specs.Rip.{RipParts, entry_at, rip_of}
 use Rattle.ipx_wire.specs.declared.rip.Operation.TheVariants.{Response}
 use Rattle.ipx_wire.proofs.examples.Words.{hex, node, everyone, rip_at, entry}
 
@@ -37,5 +38,5 @@ packet_read = refl
 
 -- its data are read as the response
 pub data_read : rip_of payload ≡ Ok rip_parts
-unfolding decode_pairs rip_of entries_at entry_at
+unfolding decode_pairs rip_of items entry_at
 data_read = refl

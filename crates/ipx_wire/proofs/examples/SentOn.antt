@@ -1,8 +1,9 @@
 -- Packets that a router of networks 10h and 20h sends on.
 use Rattle.std.proofs.Common.{◌≡◌, ℕ, List, [], ◌∷◌, ◌++◌, refl, codes, replicate, Ok}
 use Rattle.hex.specs.Hex.{decode_pairs}
+use Rattle.ipx_wire.specs.Items.{items}
 use Rattle.ipx_wire.specs.Address.{address_bytes, address_at}
-use Rattle.ipx_wire.specs.Crossed.{network_bytes, network_at, networks_at, crossed_of}
+use Rattle.ipx_wire.specs.Crossed.{network_bytes, network_at, crossed_of}
 use Rattle.ipx_wire.specs.Forward.{forwarded, propagated}
 use Rattle.ipx_wire.specs.Header.{header_bytes, header_at}
 use Rattle.ipx_wire.specs.Packet.{Parts, packet_of}
@@ -78,7 +79,7 @@ call_sent_on_twice = refl
 -- the next router reads both
 pub both_crossed : crossed_of 2 (propagated (network 0x20) (network 0x30) (propagated (network 0x10) (network 0x20) (call 0xffff 0 (replicate 32 0)))).payload
     ≡ Ok (network 0x10 ∷ network 0x20 ∷ [])
-unfolding network_bytes crossed_of networks_at network_at
+unfolding network_bytes crossed_of items network_at
 both_crossed = refl
 
 -- with seven crossed the eighth place is written, and a checksum that came is left out

@@ -1,5 +1,6 @@
 use Rattle.std.proofs.Common.{◌≡◌, List, ℕ, ◌+◌, ap, ◌∙◌, arith, subst, length}
 use Rattle.ipx_wire.specs.Forward.{crossing, propagated}
+use Rattle.ipx_wire.specs.Numbers.{no_checksum}
 use Rattle.ipx_wire.specs.Put.{PutsAt}
 use Rattle.ipx_wire.specs.declared.header.Header.{Header}
 use Rattle.ipx_wire.specs.declared.network.Network.{Network}
@@ -8,7 +9,7 @@ use Rattle.ipx_wire.proofs.forward.write_crossed.Goals as goal
 
 -- the header that is written, from the header that came and the one that is raised
 abbrev changed : Network → Header → Header → Header
-changed outgoing came one_more = record one_more { checksum = 65535; destination = record came.destination { network = outgoing } }
+changed outgoing came one_more = record one_more { checksum = no_checksum; destination = record came.destination { network = outgoing } }
 
 -- the data that were written are those of the propagated packet
 listed : (c : goal.After-slice_known-3-1) → crossing c.header-header.result.control c.args.arrived c.payload-payload.result.now

@@ -7,13 +7,13 @@ pub overflow_mul-k : goal.overflow_mul-k
 overflow_mul-k c =
     let count = length-networks_at c.self.inside.count c.self.inside.payload.now in
     let same = ap (λ (ns : List Network). length ns) c.self.view_is in
-    omega (arith, count, same, c.self.invariant.free, c.self.told)
+    omega (arith, count, same, c.self.invariant.most, c.self.told)
 
 pub network_from-requires : goal.network_from-requires
 network_from-requires c =
     let count = length-networks_at c.self.inside.count c.self.inside.payload.now in
     let same = ap (λ (ns : List Network). length ns) c.self.view_is in
-    omega (arith, count, same, c.self.invariant.free, c.self.invariant.eight, c.self.told)
+    omega (arith, count, same, c.self.invariant.most, c.self.invariant.enough, c.self.told)
 
 pub returns : goal.returns
 returns c =
