@@ -3,11 +3,11 @@ use Rattle.std.proofs.Common.{◌≡◌, refl, ap, ◌∙◌, ℕ, ◌+◌, Bool
 use Rattle.std.proofs.lemmas.Bool.{lt-ltb, le-ltb, ltb-true, ltb-false, eqb-true, eqb-false, cases_Bool}
 use Rattle.std.proofs.Common.{inl, inr}
 use Rattle.ipx_table.specs.Reading.{Rules}
-use Rattle.ipx_table.specs.Facts.{Fact, Offered, Second, End, Marked, seconds}
+use Rattle.ipx_table.specs.Facts.{Fact, Offered, Second, PortEnd, End, Marked, seconds}
 use Rattle.ipx_table.specs.Alive.{cuts, lasts, alive, lifetime}
 use Rattle.ipx_table.specs.Accepted.{is_accepted, marked_after, marked}
 use Rattle.ipx_table.specs.AfterOffer.{fresh, uncut, after_offer}
-use Rattle.ipx_table.specs.Stands.{second_later}
+use Rattle.ipx_table.specs.Stands.{second_later, without_port}
 use Rattle.ipx_table.specs.declared.held.Held.{Held}
 
 and_assoc : (a b c : Bool) → (a && (b && c)) ≡ ((a && b) && c)
@@ -20,19 +20,30 @@ module _ {O : Type 0} (rules : Rules O) where
   lasts-more offer ((Offered later, a) ∷ rest) m =
       rw (lasts-more offer rest m) (and_assoc (not (cuts rules later a offer)) (lasts rules offer rest) (lasts rules offer (m ∷ [])))
   lasts-more offer ((Second, a) ∷ rest) m = lasts-more offer rest m
+  lasts-more offer ((PortEnd port, a) ∷ rest) m =
+      rw (lasts-more offer rest m) (and_assoc (not (rules.port offer == port)) (lasts rules offer rest) (lasts rules offer (m ∷ [])))
   lasts-more offer ((End, a) ∷ rest) m = refl
 
   seconds-offered : (ms : List (Marked O)) (offer : O) (a : Bool) → seconds (ms ++ (Offered offer, a) ∷ []) ≡ seconds ms
   seconds-offered [] offer a = refl
   seconds-offered ((Offered later, m) ∷ rest) offer a = seconds-offered rest offer a
   seconds-offered ((Second, m) ∷ rest) offer a = ap (λ n. n + 1) (seconds-offered rest offer a)
+  seconds-offered ((PortEnd port, m) ∷ rest) offer a = seconds-offered rest offer a
   seconds-offered ((End, m) ∷ rest) offer a = seconds-offered rest offer a
 
   seconds-second : (ms : List (Marked O)) (m : Bool) → seconds (ms ++ (Second, m) ∷ []) ≡ seconds ms + 1
   seconds-second [] m = refl
   seconds-second ((Offered later, a) ∷ rest) m = seconds-second rest m
   seconds-second ((Second, a) ∷ rest) m = ap (λ n. n + 1) (seconds-second rest m)
+  seconds-second ((PortEnd port, a) ∷ rest) m = seconds-second rest m
   seconds-second ((End, a) ∷ rest) m = seconds-second rest m
+
+  seconds-port : (ms : List (Marked O)) (port : ℕ) (m : Bool) → seconds (ms ++ (PortEnd port, m) ∷ []) ≡ seconds ms
+  seconds-port [] port m = refl
+  seconds-port ((Offered later, a) ∷ rest) port m = seconds-port rest port m
+  seconds-port ((Second, a) ∷ rest) port m = ap (λ n. n + 1) (seconds-port rest port m)
+  seconds-port ((PortEnd other, a) ∷ rest) port m = seconds-port rest port m
+  seconds-port ((End, a) ∷ rest) port m = seconds-port rest port m
 
   -- one alive place, with or without a cut behind it
   kept_or_cut : (p : Held O → Bool) (l y c : Bool) (h : Held O) (rest tail : List (Held O)) → p h ≡ not c
@@ -57,6 +68,7 @@ module _ {O : Type 0} (rules : Rules O) where
       (record { offer = first; age = seconds later }) (alive rules later) (if a then fresh offer ∷ [] else []) refl)
   alive-offered ((Offered first, false) ∷ later) offer a = alive-offered later offer a
   alive-offered ((Second, m) ∷ later) offer a = alive-offered later offer a
+  alive-offered ((PortEnd port, m) ∷ later) offer a = alive-offered later offer a
   alive-offered ((End, m) ∷ later) offer a = alive-offered later offer a
 
   -- one alive place, in its last second or before it
@@ -86,7 +98,32 @@ module _ {O : Type 0} (rules : Rules O) where
       and_true false = refl
   alive-second ((Offered first, false) ∷ later) m = alive-second later m
   alive-second ((Second, a) ∷ later) m = alive-second later m
+  alive-second ((PortEnd port, a) ∷ later) m = alive-second later m
   alive-second ((End, a) ∷ later) m = alive-second later m
+
+  -- one alive place, that ends with its port or stays
+  stays_or_ends : (p : Held O → Bool) (l y c : Bool) (h : Held O) (rest : List (Held O)) → p h ≡ not c
+      → cond ((l && (not c && true)) && y) (h ∷ filter p rest) (filter p rest) ≡ filter p (cond (l && y) (h ∷ rest) rest)
+  stays_or_ends p true true true h rest e = rw e refl
+  stays_or_ends p true true false h rest e = rw e refl
+  stays_or_ends p true false true h rest e = refl
+  stays_or_ends p true false false h rest e = refl
+  stays_or_ends p false true c h rest e = refl
+  stays_or_ends p false false c h rest e = refl
+
+  pub alive-port : (ms : List (Marked O)) (port : ℕ) (m : Bool) → alive rules (ms ++ (PortEnd port, m) ∷ []) ≡ without_port rules.port port (alive rules ms)
+  alive-port [] port m = refl
+  alive-port ((Offered first, true) ∷ later) port m =
+      let known = alive-port later port m in
+      let lasting = lasts-more first later (PortEnd port, m) in
+      let aged = seconds-port later port m in
+      rw (lasting, aged, known)
+      (stays_or_ends (λ h. not (rules.port h.offer == port)) (lasts rules first later) (nat_lt (seconds later) lifetime) (rules.port first == port)
+      (record { offer = first; age = seconds later }) (alive rules later) refl)
+  alive-port ((Offered first, false) ∷ later) port m = alive-port later port m
+  alive-port ((Second, a) ∷ later) port m = alive-port later port m
+  alive-port ((PortEnd other, a) ∷ later) port m = alive-port later port m
+  alive-port ((End, a) ∷ later) port m = alive-port later port m
 
   pub alive-end : (ms : List (Marked O)) (m : Bool) → alive rules (ms ++ (End, m) ∷ []) ≡ []
   alive-end [] m = refl
@@ -100,6 +137,7 @@ module _ {O : Type 0} (rules : Rules O) where
       and_false false = refl
   alive-end ((Offered first, false) ∷ later) m = alive-end later m
   alive-end ((Second, a) ∷ later) m = alive-end later m
+  alive-end ((PortEnd port, a) ∷ later) m = alive-end later m
   alive-end ((End, a) ∷ later) m = alive-end later m
 
   marked_after-more : (before : List (Marked O)) (facts : List (Fact O)) (fact : Fact O)
@@ -116,6 +154,10 @@ module _ {O : Type 0} (rules : Rules O) where
 
   pub alive_after-second : (facts : List (Fact O)) → alive rules (marked rules (facts ++ Second ∷ [])) ≡ second_later (alive rules (marked rules facts))
   alive_after-second facts = ap (alive rules) (marked_after-more [] facts Second) ∙ alive-second (marked rules facts) false
+
+  pub alive_after-port : (facts : List (Fact O)) (port : ℕ)
+      → alive rules (marked rules (facts ++ PortEnd port ∷ [])) ≡ without_port rules.port port (alive rules (marked rules facts))
+  alive_after-port facts port = ap (alive rules) (marked_after-more [] facts (PortEnd port)) ∙ alive-port (marked rules facts) port false
 
   pub alive_after-end : (facts : List (Fact O)) → alive rules (marked rules (facts ++ End ∷ [])) ≡ []
   alive_after-end facts = ap (alive rules) (marked_after-more [] facts End) ∙ alive-end (marked rules facts) false

@@ -1,5 +1,5 @@
 -- What one offer more does to records: to their order, to look-ups, and to what a table keeps.
-use Rattle.std.proofs.Common.{◌≡◌, refl, sym, ap, ◌∙◌, subst, ℕ, ◌<◌, ◌≤◌, suc, Bool, true, false, not, ◌&&◌, ◌||◌, cond, nat_lt, if◌then◌else◌, List, [], ◌∷◌, ◌++◌, filter, find, length, set, take, drop, remove, slice_get, Some, inl, inr, arith, true≢false, append-nil, is_eq, is_lt}
+use Rattle.std.proofs.Common.{◌≡◌, refl, sym, ap, ◌∙◌, subst, ℕ, ◌<◌, ◌≤◌, suc, ◌==◌, Bool, true, false, not, ◌&&◌, ◌||◌, cond, nat_lt, if◌then◌else◌, List, [], ◌∷◌, ◌++◌, filter, find, length, set, take, drop, remove, slice_get, Option, None, Some, inl, inr, arith, true≢false, append-nil, is_eq, is_lt}
 use Rattle.std.specs.List.{AllByRecursion, list_any}
 use Rattle.std.specs.Cmp.{IsTotalOrder}
 use Rattle.std.proofs.lemmas.Cmp.{tied_back, alike_right}
@@ -8,10 +8,11 @@ use Rattle.std.proofs.lemmas.List.Elements.{filter-append}
 use Rattle.ipx_table.specs.Reading.{Rules, same_key}
 use Rattle.ipx_table.specs.Facts.{Offered}
 use Rattle.ipx_table.specs.Alive.{cuts, lifetime}
-use Rattle.ipx_table.specs.Accepted.{is_accepted}
+use Rattle.ipx_table.specs.Accepted.{is_accepted, has_share, may_replace}
 use Rattle.ipx_table.specs.AfterOffer.{fresh, uncut, after_offer}
 use Rattle.ipx_table.specs.Stands.{put, in_order, IsDistinct, IsKept}
-use Rattle.ipx_table.specs.Taken.{taken_over}
+use Rattle.ipx_table.specs.Taken.{taken_over, taken_beside, taken_down, taken_up}
+use Rattle.ipx_table.specs.declared.taken.Taken.{Taken}
 use Rattle.ipx_table.specs.declared.held.Held.{Held}
 use Rattle.ipx_table.proofs.Order as order
 use Rattle.ipx_table.proofs.Singles.{NonePass, all_then, all-append, all-filter, filter-passes, none_pass, none-any, none-filter, all-kept, length-filter-filter, Around, around, any-around, find-around, cut_at, set-cut}
@@ -29,11 +30,26 @@ module _ {O : Type 0} (rules : Rules O) (total : IsTotalOrder rules.by_key) wher
 
   -- ---- order
 
+  pub count-in_order : (p : Held O → Bool) (held : List (Held O)) → length (filter p (in_order rules.by_key held)) ≡ length (filter p held)
+  count-in_order p held = ap length (order.filter-in_order rules.by_key total p held) ∙ order.length-in_order rules.by_key total (filter p held)
+
+  pub share-in_order : (offer : O) (held : List (Held O)) → has_share rules offer (in_order rules.by_key held) ≡ has_share rules offer held
+  share-in_order offer held = ap (λ n. nat_lt n (rules.share (rules.port offer))) (count-in_order (λ h. rules.port h.offer == rules.port offer) held)
+
   pub accepted-in_order : (offer : O) (held : List (Held O)) → is_accepted rules (in_order rules.by_key held) (Offered offer) ≡ is_accepted rules held (Offered offer)
   accepted-in_order offer held =
       let any = λ (p : Held O → Bool). order.list_any-in_order rules.by_key total p held in
       let size = order.length-in_order rules.by_key total held in
-      simp (any, size) refl
+      let shared = λ (share : Bool) (h : Held O). rules.port h.offer == rules.port offer || share in
+      ap (λ (share : Bool). not (rules.is_down offer) && (list_any (λ h. of_key offer h && rules.same_source h.offer offer) (in_order rules.by_key held)
+      || list_any (λ h. of_key offer h && not (rules.same_source h.offer offer) && rules.is_worse h.offer offer && shared share h) (in_order rules.by_key held)
+      || (not (list_any (of_key offer) (in_order rules.by_key held)) && nat_lt (length (in_order rules.by_key held)) rules.capacity && share))) (share-in_order offer held)
+      ∙ rw (
+        any (λ h. of_key offer h && rules.same_source h.offer offer),
+        any (λ h. of_key offer h && not (rules.same_source h.offer offer) && rules.is_worse h.offer offer && may_replace rules offer held h),
+        any (of_key offer),
+        size,
+      ) refl
 
   apart_from : (offer : O) (held : List (Held O)) → NonePass (of_key offer) (uncut rules offer true held)
   apart_from offer held = filter-passes (λ x. of_key offer x ≡ false) (λ h. not (cuts rules offer true h.offer)) (λ x e. means (of_key offer x) (rules.same_source x.offer offer) e) held
@@ -68,20 +84,27 @@ module _ {O : Type 0} (rules : Rules O) (total : IsTotalOrder rules.by_key) wher
       → in_order rules.by_key (after_offer rules xs offer) ≡ in_order rules.by_key (after_offer rules ys offer)
   after_in_order xs ys offer e = in_order-after xs offer ∙ ap (λ held. placed held offer) e ∙ sym (in_order-after ys offer)
 
+  taken_up-in_order : (same_offer : O → O → Bool) (held : List (Held O)) (offer : O) (known : Option (Held O))
+      → taken_up rules same_offer (in_order rules.by_key held) offer known ≡ taken_up rules same_offer held offer known
+  taken_up-in_order same_offer held offer None =
+      let size = order.length-in_order rules.by_key total held in
+      let count = count-in_order (λ h. rules.port h.offer == rules.port offer) held in
+      rw (size, count) refl
+  taken_up-in_order same_offer held offer (Some h) =
+      let count = count-in_order (λ x. rules.port x.offer == rules.port offer) held in
+      rw count refl
+
   pub taken-in_order : (same_offer : O → O → Bool) (held : List (Held O)) (offer : O)
       → taken_over rules same_offer (in_order rules.by_key held) offer ≡ taken_over rules same_offer held offer
   taken-in_order same_offer held offer =
-      let size = order.length-in_order rules.by_key total held in
-      let found = order.find-in_order rules.by_key total (of_key offer) (ties_keys offer) held in
-      rw (size, found) refl
+      ap (taken_beside rules same_offer (in_order rules.by_key held) offer) (order.find-in_order rules.by_key total (of_key offer) (ties_keys offer) held)
+      ∙ ap (λ (t : Taken). if rules.is_down offer then taken_down rules same_offer offer (find (of_key offer) held) else t)
+      (taken_up-in_order same_offer held offer (find (of_key offer) held))
 
   -- ---- what a table keeps
 
   abbrev pub AreYoung : List (Held O) → Type 0
   AreYoung held = AllByRecursion (λ h. h.age < lifetime) held
-
-  pub count-in_order : (p : Held O → Bool) (held : List (Held O)) → length (filter p (in_order rules.by_key held)) ≡ length (filter p held)
-  count-in_order p held = ap length (order.filter-in_order rules.by_key total p held) ∙ order.length-in_order rules.by_key total (filter p held)
 
   pub kept-in_order : (xs ys : List (Held O)) → in_order rules.by_key xs ≡ in_order rules.by_key ys → IsKept rules.by_key ys → IsKept rules.by_key xs
   kept-in_order xs ys e kept = record {
@@ -89,6 +112,12 @@ module _ {O : Type 0} (rules : Rules O) (total : IsTotalOrder rules.by_key) wher
         (sym (count-in_order (of_key offer) ys) ∙ ap (λ held. length (filter (of_key offer) held)) (sym e) ∙ count-in_order (of_key offer) xs) (kept.distinct offer);
     young = order.all-from_order rules.by_key total (λ h. h.age < lifetime) xs
         (subst (λ held. AreYoung held) (sym e) (order.all-in_order rules.by_key total (λ h. h.age < lifetime) ys kept.young));
+  }
+
+  pub kept-filter : (p : Held O → Bool) (held : List (Held O)) → IsKept rules.by_key held → IsKept rules.by_key (filter p held)
+  kept-filter p held kept = record {
+    distinct = λ q. omega (arith, length-filter-filter (of_key q) p held, kept.distinct q);
+    young = all-filter (λ h. h.age < lifetime) p held kept.young;
   }
 
   pub kept-after : (held : List (Held O)) (offer : O) → IsKept rules.by_key held → IsKept rules.by_key (after_offer rules held offer)
@@ -129,25 +158,25 @@ module _ {O : Type 0} (rules : Rules O) (total : IsTotalOrder rules.by_key) wher
       (all_then (λ h. of_key offer h ≡ false) (λ h. not (cuts rules offer a h.offer) ≡ true) (λ h e. rw e refl) held (none_pass (of_key offer) held none))
 
   pub not_held-accepted : (held : List (Held O)) (offer : O) → list_any (of_key offer) held ≡ false
-      → is_accepted rules held (Offered offer) ≡ (not (rules.is_down offer) && nat_lt (length held) rules.capacity)
+      → is_accepted rules held (Offered offer) ≡ (not (rules.is_down offer) && (nat_lt (length held) rules.capacity && has_share rules offer held))
   not_held-accepted held offer none =
       let each = none_pass (of_key offer) held none in
       let refreshing : list_any (λ h. of_key offer h && rules.same_source h.offer offer) held ≡ false =
       none-any (λ h. of_key offer h && rules.same_source h.offer offer) held
       (all_then (λ h. of_key offer h ≡ false) (λ h. (of_key offer h && rules.same_source h.offer offer) ≡ false) (λ h e. rw e refl) held each) in
-      let replacing : list_any (λ h. of_key offer h && not (rules.same_source h.offer offer) && rules.is_worse h.offer offer) held ≡ false =
-      none-any (λ h. of_key offer h && not (rules.same_source h.offer offer) && rules.is_worse h.offer offer) held
-      (all_then (λ h. of_key offer h ≡ false) (λ h. (of_key offer h && not (rules.same_source h.offer offer) && rules.is_worse h.offer offer) ≡ false) (λ h e. rw e refl) held each) in
+      let replacing : list_any (λ h. of_key offer h && not (rules.same_source h.offer offer) && rules.is_worse h.offer offer && may_replace rules offer held h) held ≡ false =
+      none-any (λ h. of_key offer h && not (rules.same_source h.offer offer) && rules.is_worse h.offer offer && may_replace rules offer held h) held
+      (all_then (λ h. of_key offer h ≡ false) (λ h. (of_key offer h && not (rules.same_source h.offer offer) && rules.is_worse h.offer offer && may_replace rules offer held h) ≡ false) (λ h e. rw e refl) held each) in
       rw (refreshing, replacing, none) refl
 
   pub not_held-left : (held : List (Held O)) (offer : O) → list_any (of_key offer) held ≡ false
-      → (not (rules.is_down offer) && nat_lt (length held) rules.capacity) ≡ false → held ≡ after_offer rules held offer
+      → (not (rules.is_down offer) && (nat_lt (length held) rules.capacity && has_share rules offer held)) ≡ false → held ≡ after_offer rules held offer
   not_held-left held offer none nay =
       let refused = not_held-accepted held offer none ∙ nay in
       rw (refused, not_held-uncut held offer false none) (sym (append-nil held))
 
   pub not_held-added : (held : List (Held O)) (offer : O) → list_any (of_key offer) held ≡ false
-      → (not (rules.is_down offer) && nat_lt (length held) rules.capacity) ≡ true → held ++ fresh offer ∷ [] ≡ after_offer rules held offer
+      → (not (rules.is_down offer) && (nat_lt (length held) rules.capacity && has_share rules offer held)) ≡ true → held ++ fresh offer ∷ [] ≡ after_offer rules held offer
   not_held-added held offer none yea =
       let admitted = not_held-accepted held offer none ∙ yea in
       rw (admitted, not_held-uncut held offer true none) refl
@@ -180,13 +209,13 @@ module _ {O : Type 0} (rules : Rules O) (total : IsTotalOrder rules.by_key) wher
 
   pub held-accepted : (held : List (Held O)) (place : ℕ) (it : Held O) (offer : O) → HeldAt held place it offer
       → is_accepted rules held (Offered offer)
-      ≡ (not (rules.is_down offer) && (rules.same_source it.offer offer || not (rules.same_source it.offer offer) && rules.is_worse it.offer offer))
+      ≡ (not (rules.is_down offer) && (rules.same_source it.offer offer || not (rules.same_source it.offer offer) && rules.is_worse it.offer offer && may_replace rules offer held it))
   held-accepted held place it offer h =
       let refreshing = held-any (λ x. of_key offer x && rules.same_source x.offer offer) held place it offer (λ x e. rw e refl) h in
-      let replacing = held-any (λ x. of_key offer x && not (rules.same_source x.offer offer) && rules.is_worse x.offer offer) held place it offer (λ x e. rw e refl) h in
+      let replacing = held-any (λ x. of_key offer x && not (rules.same_source x.offer offer) && rules.is_worse x.offer offer && may_replace rules offer held x) held place it offer (λ x e. rw e refl) h in
       let known = held-any (of_key offer) held place it offer (λ x e. e) h in
       rw (refreshing, replacing, known, h.alone.passes)
-      (or_false (not (rules.is_down offer)) (rules.same_source it.offer offer || not (rules.same_source it.offer offer) && rules.is_worse it.offer offer))
+      (or_false (not (rules.is_down offer)) (rules.same_source it.offer offer || not (rules.same_source it.offer offer) && rules.is_worse it.offer offer && may_replace rules offer held it))
     where
       or_false : (d b : Bool) → (d && (b || false)) ≡ (d && b)
       or_false true true = refl

@@ -53,7 +53,7 @@ module _ {O : Type 0} (by_key : O → O → Ordering) (total : IsTotalOrder by_k
   gt_turned r Equal e = ap is_gt e
   gt_turned r Greater e = ap is_gt e
 
-  above_turned : (a b : O) → is_gt (by_key a b) ≡ is_lt (by_key b a)
+  pub above_turned : (a b : O) → is_gt (by_key a b) ≡ is_lt (by_key b a)
   above_turned a b = gt_turned (by_key a b) (by_key b a) (total.antisymm a b)
 
   -- what isn't below another isn't below what that one isn't below

@@ -2,7 +2,7 @@
 use Rattle.std.proofs.Common.{◌≡◌, refl, sym, ap, ap₂, ◌∙◌, subst, ℕ, suc, zero, Bool, true, false, ◌&&◌, nat_lt, List, [], ◌∷◌, slice_get, Option, None, Some, is_some, inl, inr, true≢false}
 use Rattle.std.proofs.lemmas.Bool.{cases_Bool, and_parts, and_from, ltb-true, lt-ltb}
 use Rattle.ipx_table.specs.Reading.{Rules}
-use Rattle.ipx_table.specs.Facts.{Offered, Second, End, Marked, seconds}
+use Rattle.ipx_table.specs.Facts.{Offered, Second, PortEnd, End, Marked, seconds}
 use Rattle.ipx_table.specs.Alive.{alive, lasts, lifetime, IsAliveAt}
 use Rattle.ipx_table.specs.declared.held.Held.{Held}
 
@@ -21,17 +21,20 @@ module _ {O : Type 0} (rules : Rules O) where
   abbrev offer_in : O → Marked O → O
   offer_in other (Offered offer, mark) = offer
   offer_in other (Second, mark) = other
+  offer_in other (PortEnd port, mark) = other
   offer_in other (End, mark) = other
 
   abbrev is_offered : Marked O → Bool
   is_offered (Offered offer, mark) = true
   is_offered (Second, mark) = false
+  is_offered (PortEnd port, mark) = false
   is_offered (End, mark) = false
 
   pub place_of : (facts : List (Marked O)) (k : ℕ) (held : Held O) → slice_get (alive rules facts) k ≡ Some held → (place : ℕ) × IsAliveAt rules facts place held
   place_of [] k held e = absurd (true≢false (sym (ap is_some e)))
   place_of ((Offered offer, false) ∷ later) k held e = let p = place_of later k held e in (suc p.0, behind (Offered offer, false) later p.0 held p.1)
   place_of ((Second, mark) ∷ later) k held e = let p = place_of later k held e in (suc p.0, behind (Second, mark) later p.0 held p.1)
+  place_of ((PortEnd port, mark) ∷ later) k held e = let p = place_of later k held e in (suc p.0, behind (PortEnd port, mark) later p.0 held p.1)
   place_of ((End, mark) ∷ later) k held e = let p = place_of later k held e in (suc p.0, behind (End, mark) later p.0 held p.1)
   place_of ((Offered offer, true) ∷ later) k held e =
       elim (cases_Bool (lasts rules offer later && nat_lt (seconds later) lifetime)) [
@@ -54,6 +57,7 @@ module _ {O : Type 0} (rules : Rules O) where
   listed_at [] place held a = absurd (true≢false (sym (ap is_some a.accepted)))
   listed_at ((Offered offer, false) ∷ later) zero held a = absurd (true≢false (sym (ap (λ (m : Marked O). m.1) (inside a.accepted))))
   listed_at ((Second, mark) ∷ later) zero held a = absurd (true≢false (sym (ap is_offered (inside a.accepted))))
+  listed_at ((PortEnd port, mark) ∷ later) zero held a = absurd (true≢false (sym (ap is_offered (inside a.accepted))))
   listed_at ((End, mark) ∷ later) zero held a = absurd (true≢false (sym (ap is_offered (inside a.accepted))))
   listed_at ((Offered offer, true) ∷ later) zero held a =
       let same : offer ≡ held.offer = ap (offer_in offer) (inside a.accepted) in
@@ -63,6 +67,7 @@ module _ {O : Type 0} (rules : Rules O) where
       (zero, rw lives (ap Some (ap₂ (λ (o : O) (n : ℕ). let h : Held O = record { offer = o; age = n } in h) same (sym a.age))))
   listed_at ((Offered offer, false) ∷ later) (suc place) held a = listed_at later place held (before (Offered offer, false) later place held a)
   listed_at ((Second, mark) ∷ later) (suc place) held a = listed_at later place held (before (Second, mark) later place held a)
+  listed_at ((PortEnd port, mark) ∷ later) (suc place) held a = listed_at later place held (before (PortEnd port, mark) later place held a)
   listed_at ((End, mark) ∷ later) (suc place) held a = listed_at later place held (before (End, mark) later place held a)
   listed_at ((Offered offer, true) ∷ later) (suc place) held a =
       let there = listed_at later place held (before (Offered offer, true) later place held a) in

@@ -1,5 +1,5 @@
 -- The record with so many smaller keys is that place of the records in order.
-use Rattle.std.proofs.Common.{◌≡◌, refl, sym, ap, ◌∙◌, subst, ℕ, ◌≤◌, ◌==◌, zero, suc, Bool, true, false, cond, List, [], ◌∷◌, filter, map, length, slice_get, Option, None, Some, option_to_list, inl, inr, arith, Ordering, is_eq, is_lt}
+use Rattle.std.proofs.Common.{◌≡◌, refl, sym, ap, ◌∙◌, subst, ℕ, ◌≤◌, ◌==◌, zero, suc, Bool, true, false, cond, List, [], ◌∷◌, filter, map, length, slice_get, Option, None, Some, IfSome, option_to_list, inl, inr, arith, Ordering, is_eq, is_lt}
 use Rattle.std.specs.List.{AllByRecursion}
 use Rattle.std.specs.Cmp.{IsTotalOrder}
 use Rattle.std.proofs.lemmas.Cmp.{tied_itself}
@@ -8,7 +8,7 @@ use Rattle.ipx_table.specs.Reading.{same_key}
 use Rattle.ipx_table.specs.Stands.{in_order, is_last, IsDistinct, IsAscending, Ascends}
 use Rattle.ipx_table.specs.declared.held.Held.{Held}
 use Rattle.ipx_table.proofs.Order as order
-use Rattle.ipx_table.proofs.Singles.{length-filter-filter, NonePass, all_then, none-filter, around}
+use Rattle.ipx_table.proofs.Singles.{length-filter-filter, NonePass, all_then, filter-passes, none-filter, around}
 
 -- a filter doesn't ask how a test that agrees on each is written
 filter-alike : {X : Type 0} (p q : X → Bool) (xs : List X) → AllByRecursion (λ x. p x ≡ q x) xs → filter p xs ≡ filter q xs
@@ -117,3 +117,14 @@ module _ {O : Type 0} (by_key : O → O → Ordering) (total : IsTotalOrder by_k
       everywhere : {P : Held O → Type 0} (xs : List (Held O)) → ((h : Held O) → P h) → AllByRecursion P xs
       everywhere [] each = tt
       everywhere (x ∷ xs) each = (each x, everywhere xs each)
+
+  -- the record at a place has as many smaller keys
+  pub smaller-ascending : (held : List (Held O)) (k : ℕ) → IsAscending by_key held → IfSome (slice_get held k) (λ h. below h.offer held ≡ k)
+  smaller-ascending held k up =
+      option-all (λ h. below h.offer held ≡ k) (slice_get held k)
+      (subst (λ hs. AllByRecursion (λ h. below h.offer held ≡ k) hs) (rank-ascending held k up)
+      (filter-passes (λ h. below h.offer held ≡ k) (λ h. below h.offer held == k) (λ h e. eqb-true (below h.offer held) k e) held))
+    where
+      option-all : (P : Held O → Type 0) (o : Option (Held O)) → AllByRecursion P (option_to_list o) → IfSome o P
+      option-all P None all = tt
+      option-all P (Some x) all = all.0

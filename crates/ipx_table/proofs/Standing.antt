@@ -1,19 +1,19 @@
 -- A table that stands for facts stands for one fact more after each of its calls.
-use Rattle.std.proofs.Common.{◌≡◌, refl, sym, ap, ◌∙◌, ℕ, Bool, true, false, not, if◌then◌else◌, List, [], ◌∷◌, ◌++◌, filter, find, Option, None, Some, inl, inr, true≢false, Ordering, is_eq, is_lt}
+use Rattle.std.proofs.Common.{◌≡◌, refl, sym, ap, ◌∙◌, ℕ, ◌==◌, Bool, true, false, not, if◌then◌else◌, List, [], ◌∷◌, ◌++◌, filter, find, Option, None, Some, inl, inr, true≢false, Ordering, is_eq, is_lt}
 use Rattle.std.specs.Option.{option_or}
 use Rattle.std.specs.Cmp.{IsTotalOrder}
 use Rattle.std.proofs.lemmas.Cmp.{tied_back, on_total}
 use Rattle.std.proofs.lemmas.Bool.{cases_Bool}
 use Rattle.std.proofs.lemmas.List.Folds.{find-append}
 use Rattle.ipx_table.specs.Reading.{Reading, Rules, rules_of}
-use Rattle.ipx_table.specs.Facts.{Fact, Offered, Second, End}
+use Rattle.ipx_table.specs.Facts.{Fact, Offered, Second, PortEnd, End}
 use Rattle.ipx_table.specs.Alive.{alive, cuts}
 use Rattle.ipx_table.specs.Accepted.{marked, is_accepted}
 use Rattle.ipx_table.specs.AfterOffer.{fresh, uncut, after_offer}
 use Rattle.ipx_table.specs.Taken.{taken, taken_over}
-use Rattle.ipx_table.specs.Stands.{Stands, in_order, second_later, record_of}
+use Rattle.ipx_table.specs.Stands.{Stands, in_order, second_later, without_port, record_of}
 use Rattle.ipx_table.specs.declared.held.Held.{Held}
-use Rattle.ipx_table.proofs.History.{alive_after-offered, alive_after-second, alive_after-end}
+use Rattle.ipx_table.proofs.History.{alive_after-offered, alive_after-second, alive_after-port, alive_after-end}
 use Rattle.ipx_table.proofs.Order as order
 use Rattle.ipx_table.proofs.Offers as offers
 use Rattle.ipx_table.proofs.Seconds as seconds
@@ -40,14 +40,22 @@ module _ {O : Type 0} (rules : Rules O) (total : IsTotalOrder rules.by_key) wher
       ∙ sym (seconds.second-in_order rules.by_key total (alive rules (marked rules facts)))
       ∙ ap (in_order rules.by_key) (sym (alive_after-second rules facts))
 
+  pub stands-port : (held : List (Held O)) (facts : List (Fact O)) (port : ℕ)
+      → Stands rules (in_order rules.by_key held) facts → Stands rules (in_order rules.by_key (without_port rules.port port held)) (facts ++ PortEnd port ∷ [])
+  stands-port held facts port stands =
+      let stays = λ (h : Held O). not (rules.port h.offer == port) in
+      sym (order.filter-in_order rules.by_key total stays held) ∙ ap (filter stays) stands
+      ∙ order.filter-in_order rules.by_key total stays (alive rules (marked rules facts))
+      ∙ ap (in_order rules.by_key) (sym (alive_after-port rules facts port))
+
   pub stands-end : (facts : List (Fact O)) → Stands rules [] (facts ++ End ∷ [])
   stands-end facts = ap (in_order rules.by_key) (sym (alive_after-end rules facts))
 
 -- ---- look-ups by key
 
-module _ {O K : Type 0} (reading : Reading O K) (key_order : K → K → Ordering) (total : IsTotalOrder key_order) (capacity : ℕ) where
+module _ {O K : Type 0} (reading : Reading O K) (key_order : K → K → Ordering) (total : IsTotalOrder key_order) (capacity : ℕ) (shares : List ℕ) where
   abbrev rules : Rules O
-  rules = rules_of reading key_order capacity
+  rules = rules_of reading key_order capacity shares
 
   pub rules_total : IsTotalOrder rules.by_key
   rules_total = on_total reading.key total

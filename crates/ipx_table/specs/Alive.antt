@@ -1,7 +1,7 @@
 -- Which offers are alive: accepted, not 180 seconds old, not ended, and not cut by a later offer.
-use Rattle.std.specs.Prelude.{◌≡◌, ℕ, suc, ◌<◌, nat_lt, Bool, true, false, not, ◌&&◌, ◌||◌, if◌then◌else◌, List, [], ◌∷◌, drop, slice_get, Some}
+use Rattle.std.specs.Prelude.{◌≡◌, ℕ, suc, ◌<◌, ◌==◌, nat_lt, Bool, true, false, not, ◌&&◌, ◌||◌, if◌then◌else◌, List, [], ◌∷◌, drop, slice_get, Some}
 use Rattle.ipx_table.specs.Reading.{Rules, same_key}
-use Rattle.ipx_table.specs.Facts.{Offered, Second, End, Marked, seconds}
+use Rattle.ipx_table.specs.Facts.{Offered, Second, PortEnd, End, Marked, seconds}
 use Rattle.ipx_table.specs.declared.held.Held.{Held}
 
 -- an offer that nobody refreshes lives for so many seconds (own)
@@ -13,11 +13,12 @@ module _ {O : Type 0} (rules : Rules O) where
   abbrev pub cuts : O → Bool → O → Bool
   cuts later accepted earlier = same_key rules.by_key earlier later && (rules.same_source earlier later || accepted)
 
-  -- nothing of what stands after an offer cuts it, and there is no end among it
+  -- nothing of what stands after an offer cuts it, and there is no end of all or of its port among it
   abbrev pub lasts : O → List (Marked O) → Bool
   lasts offer [] = true
   lasts offer ((Offered later, accepted) ∷ rest) = not (cuts later accepted offer) && lasts offer rest
   lasts offer ((Second, mark) ∷ rest) = lasts offer rest
+  lasts offer ((PortEnd port, mark) ∷ rest) = not (rules.port offer == port) && lasts offer rest
   lasts offer ((End, mark) ∷ rest) = false
 
   -- the offer of a place is alive: it is accepted and lasts, and under 180 seconds stand after it; its age is their number
@@ -27,7 +28,7 @@ module _ {O : Type 0} (rules : Rules O) where
     pub age : held.age ≡ seconds (drop (suc place) facts)
     pub young : held.age < lifetime
 
-  -- the alive offers with their ages, in the order of their places; a place is a cell and what stands after it
+  -- the alive offers with their ages, in the order of their places; the oldest first
   abbrev pub alive : List (Marked O) → List (Held O)
   alive [] = []
   alive ((Offered offer, true) ∷ later) =
@@ -35,4 +36,5 @@ module _ {O : Type 0} (rules : Rules O) where
       else alive later
   alive ((Offered offer, false) ∷ later) = alive later
   alive ((Second, mark) ∷ later) = alive later
+  alive ((PortEnd port, mark) ∷ later) = alive later
   alive ((End, mark) ∷ later) = alive later

@@ -1,7 +1,11 @@
 pub mod Accepted
 pub mod AfterOffer
 pub mod Alive
+pub mod Answers
 pub mod Facts
 pub mod Reading
+pub mod Shares
+pub mod Slots
+pub mod Sought
 pub mod Stands
 pub mod Taken

@@ -66,6 +66,19 @@ pub record IsKept {O : Type 0} (by_key : O → O → Ordering) (held : List (Hel
   pub distinct : IsDistinct by_key held
   pub young : AllByRecursion (λ h. h.age < lifetime) held
 
+-- the records that stay where the offers of a port end
+abbrev pub without_port : {O : Type 0} → (O → ℕ) → ℕ → List (Held O) → List (Held O)
+without_port port_by port held = filter (λ h. not (port_by h.offer == port)) held
+
+-- the offers that end with their port
+abbrev pub ended_with_port : {O : Type 0} → (O → ℕ) → ℕ → List (Held O) → List O
+ended_with_port port_by port held = map (λ h. h.offer) (filter (λ h. port_by h.offer == port) held)
+
+-- what a table has: its records by key, and the shares of its ports
+pub record Contents (O : Type 0) : Type 0 where
+  pub records : List (Held O)
+  pub shares : List ℕ
+
 -- offers ascend by their keys
 abbrev pub Ascends : {O : Type 0} → (O → O → Ordering) → List O → Type 0
 Ascends by_key [] = Unit

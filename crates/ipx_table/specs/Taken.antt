@@ -1,10 +1,10 @@
 -- What a table answers to an offer.
-use Rattle.std.specs.Prelude.{nat_lt, Bool, not, if◌then◌else◌, List, length, Option, None, Some}
+use Rattle.std.specs.Prelude.{nat_lt, Bool, not, ◌&&◌, if◌then◌else◌, List, length, Option, None, Some}
 use Rattle.std.specs.List.{find}
 use Rattle.ipx_table.specs.Reading.{Rules, same_key}
 use Rattle.ipx_table.specs.Facts.{Fact}
 use Rattle.ipx_table.specs.Alive.{alive}
-use Rattle.ipx_table.specs.Accepted.{marked}
+use Rattle.ipx_table.specs.Accepted.{marked, has_share, may_replace}
 use Rattle.ipx_table.specs.declared.held.Held.{Held}
 use Rattle.ipx_table.specs.declared.taken.Taken.{Taken}
 use Rattle.ipx_table.specs.declared.taken.Taken.TheVariants.{Withdrawn, Nothing, Refreshed, Replaced, Worse, Admitted, Full}
@@ -15,22 +15,22 @@ module _ {O : Type 0} (rules : Rules O) (same_offer : O → O → Bool) where
   taken_down offer None = Nothing
   taken_down offer (Some h) = if rules.same_source h.offer offer then Withdrawn else Nothing
 
-  -- to an offer that is up
-  abbrev pub taken_up : O → Bool → Option (Held O) → Taken
-  taken_up offer room None = if room then Admitted else Full
-  taken_up offer room (Some h) =
+  -- to an offer that is up: rank is judged before the share
+  abbrev pub taken_up : List (Held O) → O → Option (Held O) → Taken
+  taken_up held offer None = if nat_lt (length held) rules.capacity && has_share rules offer held then Admitted else Full
+  taken_up held offer (Some h) =
       if rules.same_source h.offer offer then Refreshed (not (same_offer h.offer offer))
-      else if rules.is_worse h.offer offer then Replaced
-      else Worse
+      else if not (rules.is_worse h.offer offer) then Worse
+      else if may_replace rules offer held h then Replaced
+      else Full
 
-  -- to an offer, where that is the alive offer of its key, and there is room for one more, or not
-  abbrev pub taken_beside : O → Bool → Option (Held O) → Taken
-  taken_beside offer room known = if rules.is_down offer then taken_down offer known else taken_up offer room known
+  -- to an offer, where that is the alive offer of its key
+  abbrev pub taken_beside : List (Held O) → O → Option (Held O) → Taken
+  taken_beside held offer known = if rules.is_down offer then taken_down offer known else taken_up held offer known
 
   -- to an offer, where those are alive
   abbrev pub taken_over : List (Held O) → O → Taken
-  taken_over held offer =
-      taken_beside offer (nat_lt (length held) rules.capacity) (find (λ h. same_key rules.by_key h.offer offer) held)
+  taken_over held offer = taken_beside held offer (find (λ h. same_key rules.by_key h.offer offer) held)
 
   -- to an offer, after the facts
   abbrev pub taken : List (Fact O) → O → Taken

@@ -1,131 +1,184 @@
 //! The table.
-ghost use Rattle.std.specs.Prelude.{◌≡◌, ◌↔◌, ◌<◌, ◌≤◌, ◌==◌, List, [], ◌∷◌, ◌++◌, length, slice_get, IfSome, false, true};
+ghost use Rattle.std.specs.Prelude.{◌≡◌, ◌↔◌, ℕ, ◌<◌, ◌≤◌, ◌==◌, List, [], ◌∷◌, ◌++◌, length, slice_get, IfSome, false, true};
+ghost use Rattle.std.specs.List.{AllByRecursion};
 ghost use Rattle.std.specs.Ordering.{is_eq};
-ghost use Rattle.ipx_table.specs.Reading.{rules_of};
-ghost use Rattle.ipx_table.specs.Facts.{Fact, Offered, Second, End};
+ghost use Rattle.ipx_table.specs.Reading.{rules_of, port_of, count_by};
+ghost use Rattle.ipx_table.specs.Shares.{most_shares};
+ghost use Rattle.ipx_table.specs.Facts.{Fact, Offered, Second, PortEnd, End};
 ghost use Rattle.ipx_table.specs.Alive.{lifetime};
 ghost use Rattle.ipx_table.specs.Taken.{taken};
-ghost use Rattle.ipx_table.specs.Stands.{Stands, Ascends, IsAscending, IsDistinct, record_of, smaller_than, second_later, ended as ended_of};
+ghost use Rattle.ipx_table.specs.Stands.{Stands, Ascends, IsAscending, IsDistinct, record_of, smaller_than, second_later, ended as ended_of, without_port, ended_with_port};
 
-use crate::ageing::age_all;
+use crate::clock::{next_slot, with_age};
+use crate::ending::Ending;
 use crate::held::Held;
 use crate::offer::Offer;
-use crate::place::{place_of, place_ranked, record_at};
+use crate::sharing::count_by as counted_by;
+use crate::slotted::Slotted;
+use crate::sought::place_in;
 use crate::taken::Taken;
-use crate::taking::take_offer;
+use crate::taking::{record_found, take_offer};
 use arrayvec::ArrayVec;
 use std::marker::Model;
 
-/// At most `CAP` offers with their ages, one of a key. A clause sees it as the list of its records by key; how they lie
-/// in memory, and in which order they are shown by `Debug`, is no promise.
+/// How many ports may be given a share.
+const MOST_SHARES: usize = 32;
+
+/// At most `CAP` offers with their ages, one of a key, and the shares of the ports. A clause sees the list of its records
+/// by key, and the shares; how they lie in memory, and how `Debug` shows them, is no promise.
 #[derive(Debug, Drop)]
 pub struct Table<O: Offer, const CAP: usize> {
-    records: ArrayVec<Held<O>, CAP>,
+    records: Slotted<O, CAP>,
+    clock: u8,
+    shares: ArrayVec<u16, MOST_SHARES>,
 }
 
 impl<O: Offer, const CAP: usize> Model for Table<O, CAP> {
-    ghost use Rattle.std.specs.Prelude.{List};
-    ghost use Rattle.ipx_table.specs.Stands.{in_order, IsKept};
-    ghost use Rattle.ipx_table.specs.declared.held.Held.{Held};
+    ghost use Rattle.ipx_table.specs.Slots.{seen, IsSorted};
+    ghost use Rattle.ipx_table.specs.Stands.{Contents};
 
-    ghost Value = { List (Held O) };
+    ghost Value = { Contents O };
 
-    ghost view = { λ t. in_order (λ a b. O.Key.cmp (O.reading.key a) (O.reading.key b)) t.records.items };
+    ghost view = { λ t. record { records = seen t.clock t.records; shares = t.shares.items } };
 
-    ghost invariant = { λ t. IsKept (λ a b. O.Key.cmp (O.reading.key a) (O.reading.key b)) t.records.items };
+    ghost invariant = { λ t. IsSorted (λ a b. O.Key.cmp (O.reading.key a) (O.reading.key b)) t.records t.clock };
 }
 
 impl<O: Offer, const CAP: usize> Table<O, CAP> {
-    /// A table that holds nothing.
+    /// An empty table. Any port may fill it.
     pub fn new() -> Table<O, CAP>
-        ensures empty { result ≡ [] }
-        ensures stands { Stands (rules_of O.reading O.Key.cmp CAP) result [] }
+        ensures empty { result.records ≡ [] }
+        ensures shares { result.shares ≡ [] }
+        ensures stands { Stands (rules_of O.reading O.Key.cmp CAP []) result.records [] }
     {
         Table {
-            records: ArrayVec::new(),
+            records: Slotted::new(),
+            clock: 0,
+            shares: ArrayVec::new(),
         }
     }
 
-    /// Takes an offer, and tells what became of it.
-    pub fn offer(&mut self, offer: O) -> Taken
-        ensures stands { (facts : List (Fact O)) → Stands (rules_of O.reading O.Key.cmp CAP) self.old facts
-            → Stands (rules_of O.reading O.Key.cmp CAP) self.new (facts ++ Offered offer ∷ []) }
-        ensures answer { (facts : List (Fact O)) → Stands (rules_of O.reading O.Key.cmp CAP) self.old facts
-            → result ≡ taken (rules_of O.reading O.Key.cmp CAP) O.eq facts offer }
-        // The records of other keys stay as they are.
-        ensures others { (key : O.Key) → is_eq (O.Key.cmp (O.reading.key offer) key) ≡ false
-            → record_of O.reading.key O.Key.cmp key self.new ≡ record_of O.reading.key O.Key.cmp key self.old }
+    /// An empty table. `shares[k]` is the most records that port `k` may have; a port without an entry may fill the table.
+    pub fn with_shares(shares: &[u16]) -> Table<O, CAP>
+        requires few { length shares.now ≤ most_shares }
+        ensures empty { result.records ≡ [] }
+        ensures shares { result.shares ≡ shares.now }
+        ensures stands { Stands (rules_of O.reading O.Key.cmp CAP shares.now) result.records [] }
     {
-        take_offer(&mut self.records, offer)
+        let mut kept = ArrayVec::new();
+        let _ = kept.try_extend_from_slice(shares);
+        Table {
+            records: Slotted::new(),
+            clock: 0,
+            shares: kept,
+        }
     }
 
-    /// Lets a second pass: each record is a second older, and those that are 180 seconds old end.
-    /// Answers the offers that ended, by key.
-    pub fn second(&mut self) -> ArrayVec<O, CAP>
-        ensures stands { (facts : List (Fact O)) → Stands (rules_of O.reading O.Key.cmp CAP) self.old facts
-            → Stands (rules_of O.reading O.Key.cmp CAP) self.new (facts ++ Second ∷ []) }
-        ensures ended { result.items ≡ ended_of self.old }
-        ensures by_key { Ascends (rules_of O.reading O.Key.cmp CAP).by_key result.items }
-        // What did not end is a second older, and nothing else changed.
-        ensures records { self.new ≡ second_later self.old }
+    /// Takes an offer. Returns what became of it.
+    pub fn offer(&mut self, offer: O) -> Taken
+        ensures stands { (facts : List (Fact O)) → Stands (rules_of O.reading O.Key.cmp CAP self.old.shares) self.old.records facts
+            → Stands (rules_of O.reading O.Key.cmp CAP self.old.shares) self.new.records (facts ++ Offered offer ∷ []) }
+        ensures answer { (facts : List (Fact O)) → Stands (rules_of O.reading O.Key.cmp CAP self.old.shares) self.old.records facts
+            → result ≡ taken (rules_of O.reading O.Key.cmp CAP self.old.shares) O.eq facts offer }
+        // The records of other keys stay as they are.
+        ensures others { (key : O.Key) → is_eq (O.Key.cmp (O.reading.key offer) key) ≡ false
+            → record_of O.reading.key O.Key.cmp key self.new.records ≡ record_of O.reading.key O.Key.cmp key self.old.records }
+        ensures shares { self.new.shares ≡ self.old.shares }
     {
-        age_all(&mut self.records)
+        take_offer(&mut self.records, &self.shares, self.clock, offer)
+    }
+
+    /// Lets a second pass: each record is a second older, and those that are 180 seconds old expire.
+    /// Returns the offers that expired, by key.
+    pub fn second(&mut self) -> ArrayVec<O, CAP>
+        ensures stands { (facts : List (Fact O)) → Stands (rules_of O.reading O.Key.cmp CAP self.old.shares) self.old.records facts
+            → Stands (rules_of O.reading O.Key.cmp CAP self.old.shares) self.new.records (facts ++ Second ∷ []) }
+        ensures ended { result.items ≡ ended_of self.old.records }
+        ensures by_key { Ascends (rules_of O.reading O.Key.cmp CAP self.old.shares).by_key result.items }
+        // What did not expire is a second older, and nothing else changed.
+        ensures records { self.new.records ≡ second_later self.old.records }
+        ensures shares { self.new.shares ≡ self.old.shares }
+    {
+        self.clock = next_slot(self.clock);
+        self.records.end_slot(self.clock)
+    }
+
+    /// Ends the offers that came by that port. Returns them, by key.
+    pub fn end_port(&mut self, port: u8) -> ArrayVec<O, CAP>
+        ensures stands { (facts : List (Fact O)) → Stands (rules_of O.reading O.Key.cmp CAP self.old.shares) self.old.records facts
+            → Stands (rules_of O.reading O.Key.cmp CAP self.old.shares) self.new.records (facts ++ PortEnd port ∷ []) }
+        ensures ended { result.items ≡ ended_with_port (port_of O.reading) port self.old.records }
+        ensures by_key { Ascends (rules_of O.reading O.Key.cmp CAP self.old.shares).by_key result.items }
+        // The other records stay as they are, with their ages.
+        ensures records { self.new.records ≡ without_port (port_of O.reading) port self.old.records }
+        ensures shares { self.new.shares ≡ self.old.shares }
+    {
+        self.records.end(Ending::Port(port))
     }
 
     /// Ends all offers.
     pub fn clear(&mut self)
-        ensures empty { self.new ≡ [] }
-        ensures stands { (facts : List (Fact O)) → Stands (rules_of O.reading O.Key.cmp CAP) self.new (facts ++ End ∷ []) }
+        ensures empty { self.new.records ≡ [] }
+        ensures stands { (facts : List (Fact O)) → Stands (rules_of O.reading O.Key.cmp CAP self.old.shares) self.new.records (facts ++ End ∷ []) }
+        ensures shares { self.new.shares ≡ self.old.shares }
     {
         self.records.clear();
     }
 
     /// The record of that key; `None` where there is none.
     pub fn get(&self, key: &O::Key) -> Option<Held<O>>
-        ensures value { result ≡ record_of O.reading.key O.Key.cmp key.now self.now }
+        ensures value { result ≡ record_of O.reading.key O.Key.cmp key.now self.now.records }
         ensures young { IfSome result (λ h. h.age < lifetime) }
     {
-        record_at(&self.records, place_of(&self.records, key))
+        let found = place_in(self.records.offers(), *key);
+        with_age(self.clock, record_found(&self.records, found))
     }
 
     /// The record with exactly `k` smaller keys; `None` where `k` is `len()` or more.
     pub fn get_at(&self, k: usize) -> Option<Held<O>>
-        ensures value { result ≡ slice_get self.now k }
-        ensures smaller { IfSome result (λ h. smaller_than O.reading.key O.Key.cmp (O.reading.key h.offer) self.now ≡ k) }
+        ensures value { result ≡ slice_get self.now.records k }
+        ensures smaller { IfSome result (λ h. smaller_than O.reading.key O.Key.cmp (O.reading.key h.offer) self.now.records ≡ k) }
         ensures young { IfSome result (λ h. h.age < lifetime) }
     {
-        record_at(&self.records, place_ranked(&self.records, k))
+        with_age(self.clock, self.records.get(k))
     }
 
-    /// How many offers are held, at most `CAP`.
+    /// How many records there are, at most `CAP`.
     pub fn len(&self) -> usize
-        ensures value { result ≡ length self.now }
+        ensures value { result ≡ length self.now.records }
         ensures fits { result ≤ CAP }
         // The records stand by key, and no two are of one key.
-        ensures ascending { IsAscending (rules_of O.reading O.Key.cmp CAP).by_key self.now }
-        ensures distinct { IsDistinct (rules_of O.reading O.Key.cmp CAP).by_key self.now }
+        ensures ascending { IsAscending (rules_of O.reading O.Key.cmp CAP self.now.shares).by_key self.now.records }
+        ensures distinct { IsDistinct (rules_of O.reading O.Key.cmp CAP self.now.shares).by_key self.now.records }
     {
         self.records.len()
     }
 
-    /// Whether nothing is held.
-    pub fn is_empty(&self) -> bool
-        ensures { result ≡ (length self.now == 0) }
+    /// How many records came by that port.
+    pub fn count(&self, port: u8) -> usize
+        ensures { result ≡ count_by (port_of O.reading) port self.now.records }
     {
-        self.records.is_empty()
+        counted_by(self.records.offers(), port)
     }
 
-    /// Whether as many are held as there may be.
+    /// Whether there is no record.
+    pub fn is_empty(&self) -> bool
+        ensures { result ≡ (length self.now.records == 0) }
+    {
+        self.records.len() == 0
+    }
+
+    /// Whether there are as many records as there may be.
     pub fn is_full(&self) -> bool
-        ensures { result ≡ (length self.now == CAP) }
+        ensures { result ≡ (length self.now.records == CAP) }
     {
         self.records.is_full()
     }
 }
 
-/// A table that holds nothing.
+/// An empty table.
 impl<O: Offer, const CAP: usize> Default for Table<O, CAP> {
-    ghost is_default = { λ table. table ≡ [] };
+    ghost is_default = { λ table. table ≡ record { records = []; shares = [] } };
 
     fn default() -> Table<O, CAP> {
         Table::new()

@@ -1,4 +1,4 @@
-//! What a table answers to an offer.
+//! What a table returns for an offer.
 
 /// What a table did with an offer.
 #[derive(Clone, Copy, Debug, PartialEq, Eq, Hash)]
@@ -12,12 +12,15 @@ pub enum Taken {
         /// Whether the offer differs from the one before.
         changed: bool,
     },
-    /// It was up and better than the record of another source, and took its place, at age 0.
+    /// It was up and better than the record of another source, whose port was its own, or its port was below its share; it
+    /// took the record's place, at age 0.
     Replaced,
     /// It was up, and no better than the record of another source. Nothing changed, nor did the age.
     Worse,
-    /// It was up, there was no record of its key, and there was room: it is held, at age 0.
+    /// It was up, there was no record of its key, and there was room in the table and in its port's share: it is in the
+    /// table, at age 0.
     Admitted,
-    /// It was up, and there was neither a record of its key nor room. Nothing changed.
+    /// It was up, and there was no room for it: the table is full, or its port has as many records as its share. A record of
+    /// its key that came by another port stays, with its age. Nothing changed.
     Full,
 }

@@ -1,42 +1,74 @@
 //! What one offer does to the records.
-ghost use Rattle.std.specs.Prelude.{◌≡◌, ◌<◌, ◌≤◌, nat_lt, true, false, length, None, Some, slice_get};
-ghost use Rattle.std.specs.List.{list_any};
-ghost use Rattle.ipx_table.specs.Reading.{rules_of, same_key};
-ghost use Rattle.ipx_table.specs.Stands.{IsDistinct, in_order};
-ghost use Rattle.ipx_table.specs.Taken.{taken_over, taken_beside};
+ghost use Rattle.std.specs.Prelude.{◌≡◌, ℕ, ◌<◌, if◌then◌else◌, length, false, true, None, Some, slice_get};
+ghost use Rattle.std.specs.List.{AllByRecursion, list_any, filter};
+ghost use Rattle.std.specs.Ordering.{is_lt};
+ghost use Rattle.ipx_table.specs.Accepted.{may_replace as allows_replacement};
 ghost use Rattle.ipx_table.specs.AfterOffer.{after_offer};
+ghost use Rattle.ipx_table.specs.Alive.{lifetime};
+ghost use Rattle.ipx_table.specs.Reading.{rules_of, same_key};
+ghost use Rattle.ipx_table.specs.Slots.{seen, seen_at, IsSorted};
+ghost use Rattle.ipx_table.specs.Stands.{in_order};
+ghost use Rattle.ipx_table.specs.Taken.{taken_over, taken_beside};
 
-use crate::held::Held;
+use crate::asking::Found;
 use crate::offer::Offer;
-use crate::place::{is_of_one_source, is_worse, place_of, write_at};
+use crate::ranking::{is_of_one_source, is_worse};
+use crate::sharing::has_share;
+use crate::slotted::Slotted;
+use crate::sought::place_in;
 use crate::taken::Taken;
-use arrayvec::ArrayVec;
 
-/// Takes an offer, and tells what became of it.
+/// Takes an offer at that slot of the clock, from ports with those shares. Returns what became of it.
 pub(crate) fn take_offer<O: Offer, const CAP: usize>(
-    records: &mut ArrayVec<Held<O>, CAP>,
+    records: &mut Slotted<O, CAP>,
+    shares: &[u16],
+    clock: u8,
     offer: O,
 ) -> Taken
-    requires distinct { IsDistinct (rules_of O.reading O.Key.cmp CAP).by_key records.old.items }
-    ensures records { let rules = rules_of O.reading O.Key.cmp CAP in
-        in_order rules.by_key records.new.items ≡ in_order rules.by_key (after_offer rules records.old.items offer) }
-    ensures answer { result ≡ taken_over (rules_of O.reading O.Key.cmp CAP) O.eq records.old.items offer }
+    requires sorted { IsSorted (rules_of O.reading O.Key.cmp CAP shares.now).by_key records.old clock }
+    ensures records { let rules = rules_of O.reading O.Key.cmp CAP shares.now in
+        seen clock records.new ≡ in_order rules.by_key (after_offer rules (seen clock records.old) offer) }
+    ensures slots { AllByRecursion (λ p. p.1 < lifetime) records.new }
+    ensures answer { result ≡ taken_over (rules_of O.reading O.Key.cmp CAP shares.now) O.eq (seen clock records.old) offer }
 {
-    match place_of(records, &offer.key()) {
-        Some(place) => {
-            let held = records[place];
-            take_known(records, place, held, offer)
-        }
-        None => take_new(records, offer),
+    let found = place_in(records.offers(), offer.key());
+    match record_found(records, found) {
+        Some(known) => take_known(records, shares, clock, found.below, known, offer),
+        None => take_new(records, shares, clock, found.below, offer),
     }
 }
 
-/// Takes an offer of a key that is not held.
-fn take_new<O: Offer, const CAP: usize>(records: &mut ArrayVec<Held<O>, CAP>, offer: O) -> Taken
-    requires none { let rules = rules_of O.reading O.Key.cmp CAP in
-        list_any (λ h. same_key rules.by_key h.offer offer) records.old.items ≡ false }
-    ensures records { records.new.items ≡ after_offer (rules_of O.reading O.Key.cmp CAP) records.old.items offer }
-    ensures answer { result ≡ taken_beside (rules_of O.reading O.Key.cmp CAP) O.eq offer (nat_lt (length records.old.items) CAP) None }
+/// The record that was found, if there is one.
+pub(crate) fn record_found<O: Offer, const CAP: usize>(
+    records: &Slotted<O, CAP>,
+    found: Found,
+) -> Option<(O, u8)>
+    ensures { result ≡ (if found.held then slice_get records.now found.below else None) }
+{
+    if found.held {
+        records.get(found.below)
+    } else {
+        None
+    }
+}
+
+/// Takes an offer of a key that no record has; `below` records have a smaller one.
+fn take_new<O: Offer, const CAP: usize>(
+    records: &mut Slotted<O, CAP>,
+    shares: &[u16],
+    clock: u8,
+    below: usize,
+    offer: O,
+) -> Taken
+    requires sorted { IsSorted (rules_of O.reading O.Key.cmp CAP shares.now).by_key records.old clock }
+    requires none { let rules = rules_of O.reading O.Key.cmp CAP shares.now in
+        list_any (λ h. same_key rules.by_key h.offer offer) (seen clock records.old) ≡ false }
+    requires below { let rules = rules_of O.reading O.Key.cmp CAP shares.now in
+        below ≡ length (filter (λ h. is_lt (rules.by_key h.offer offer)) (seen clock records.old)) }
+    ensures records { let rules = rules_of O.reading O.Key.cmp CAP shares.now in
+        seen clock records.new ≡ in_order rules.by_key (after_offer rules (seen clock records.old) offer) }
+    ensures slots { AllByRecursion (λ p. p.1 < lifetime) records.new }
+    ensures answer { result ≡ taken_beside (rules_of O.reading O.Key.cmp CAP shares.now) O.eq (seen clock records.old) offer None }
 {
     if offer.is_down() {
         return Taken::Nothing;
@@ -44,58 +76,89 @@ fn take_new<O: Offer, const CAP: usize>(records: &mut ArrayVec<Held<O>, CAP>, of
     if records.is_full() {
         return Taken::Full;
     }
-    records.push(Held { offer, age: 0 });
+    if !has_share(records.offers(), shares, CAP, offer.source().0) {
+        return Taken::Full;
+    }
+    records.insert(below, offer, clock);
     Taken::Admitted
 }
 
 /// Takes an offer of the key of the record at that place.
 fn take_known<O: Offer, const CAP: usize>(
-    records: &mut ArrayVec<Held<O>, CAP>,
+    records: &mut Slotted<O, CAP>,
+    shares: &[u16],
+    clock: u8,
     place: usize,
-    held: Held<O>,
+    known: (O, u8),
     offer: O,
 ) -> Taken
-    requires at { slice_get records.old.items place ≡ Some held }
-    requires key { same_key (rules_of O.reading O.Key.cmp CAP).by_key held.offer offer ≡ true }
-    requires distinct { IsDistinct (rules_of O.reading O.Key.cmp CAP).by_key records.old.items }
-    ensures records { let rules = rules_of O.reading O.Key.cmp CAP in
-        in_order rules.by_key records.new.items ≡ in_order rules.by_key (after_offer rules records.old.items offer) }
-    ensures answer { result ≡ taken_beside (rules_of O.reading O.Key.cmp CAP) O.eq offer (nat_lt (length records.old.items) CAP) (Some held) }
+    requires sorted { IsSorted (rules_of O.reading O.Key.cmp CAP shares.now).by_key records.old clock }
+    requires at { slice_get records.old place ≡ Some known }
+    requires key { same_key (rules_of O.reading O.Key.cmp CAP shares.now).by_key known.0 offer ≡ true }
+    ensures records { let rules = rules_of O.reading O.Key.cmp CAP shares.now in
+        seen clock records.new ≡ in_order rules.by_key (after_offer rules (seen clock records.old) offer) }
+    ensures slots { AllByRecursion (λ p. p.1 < lifetime) records.new }
+    ensures answer { result ≡ taken_beside (rules_of O.reading O.Key.cmp CAP shares.now) O.eq (seen clock records.old) offer (Some (seen_at clock known)) }
 {
-    if is_of_one_source(&held.offer, &offer) {
-        return take_own(records, place, held, offer);
+    if is_of_one_source(&known.0, &offer) {
+        return take_own(records, shares, clock, place, known, offer);
     }
     if offer.is_down() {
         return Taken::Nothing;
     }
-    if !is_worse(&held.offer, &offer) {
+    if !is_worse(&known.0, &offer) {
         return Taken::Worse;
     }
-    write_at(records, place, Held { offer, age: 0 });
+    if !may_replace(records, shares, place, known, &offer) {
+        return Taken::Full;
+    }
+    records.put(place, offer, clock);
     Taken::Replaced
 }
 
 /// Takes an offer of the key and the source of the record at that place.
 fn take_own<O: Offer, const CAP: usize>(
-    records: &mut ArrayVec<Held<O>, CAP>,
+    records: &mut Slotted<O, CAP>,
+    shares: &[u16],
+    clock: u8,
     place: usize,
-    held: Held<O>,
+    known: (O, u8),
     offer: O,
 ) -> Taken
-    requires at { slice_get records.old.items place ≡ Some held }
-    requires key { same_key (rules_of O.reading O.Key.cmp CAP).by_key held.offer offer ≡ true }
-    requires source { (rules_of O.reading O.Key.cmp CAP).same_source held.offer offer ≡ true }
-    requires distinct { IsDistinct (rules_of O.reading O.Key.cmp CAP).by_key records.old.items }
-    ensures records { let rules = rules_of O.reading O.Key.cmp CAP in
-        in_order rules.by_key records.new.items ≡ in_order rules.by_key (after_offer rules records.old.items offer) }
-    ensures answer { result ≡ taken_beside (rules_of O.reading O.Key.cmp CAP) O.eq offer (nat_lt (length records.old.items) CAP) (Some held) }
+    requires sorted { IsSorted (rules_of O.reading O.Key.cmp CAP shares.now).by_key records.old clock }
+    requires at { slice_get records.old place ≡ Some known }
+    requires key { same_key (rules_of O.reading O.Key.cmp CAP shares.now).by_key known.0 offer ≡ true }
+    requires source { (rules_of O.reading O.Key.cmp CAP shares.now).same_source known.0 offer ≡ true }
+    ensures records { let rules = rules_of O.reading O.Key.cmp CAP shares.now in
+        seen clock records.new ≡ in_order rules.by_key (after_offer rules (seen clock records.old) offer) }
+    ensures slots { AllByRecursion (λ p. p.1 < lifetime) records.new }
+    ensures answer { result ≡ taken_beside (rules_of O.reading O.Key.cmp CAP shares.now) O.eq (seen clock records.old) offer (Some (seen_at clock known)) }
 {
     if offer.is_down() {
         records.remove(place);
         return Taken::Withdrawn;
     }
-    write_at(records, place, Held { offer, age: 0 });
+    records.put(place, offer, clock);
     Taken::Refreshed {
-        changed: held.offer != offer,
+        changed: known.0 != offer,
     }
+}
+
+/// Whether an offer may take the place of that record, of another source: it came by the same port, or its own port is
+/// below its share.
+fn may_replace<O: Offer, const CAP: usize>(
+    records: &Slotted<O, CAP>,
+    shares: &[u16],
+    place: usize,
+    known: (O, u8),
+    offer: &O,
+) -> bool
+    requires at { slice_get records.now place ≡ Some known }
+    ensures { (clock : ℕ) → result ≡ allows_replacement (rules_of O.reading O.Key.cmp CAP shares.now) offer.now (seen clock records.now) (seen_at clock known) }
+{
+    let port = offer.source().0;
+    if known.0.source().0 == port {
+        return true;
+    }
+    has_share(records.offers(), shares, CAP, port)
 }

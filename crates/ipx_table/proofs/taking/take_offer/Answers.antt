@@ -1,42 +1,79 @@
-use Rattle.std.proofs.Common.{◌∙◌, sym, ap, ap₂, rules, length, nat_lt, position, get_or, is_eq}
-use Rattle.ipx_table.specs.Reading.{rules_of, same_key}
+use Rattle.std.proofs.Common.{rules, ◌∙◌, sym, ap, subst, List}
+use Rattle.std.proofs.lemmas.Cmp.{on_total}
+use Rattle.ipx_table.specs.Reading.{rules_of}
+use Rattle.ipx_table.specs.Slots.{seen}
+use Rattle.ipx_table.proofs.OneOffer as one
+use Rattle.ipx_table.specs.Sought.{answers_to}
+use Rattle.ipx_table.specs.Stands.{Ascends}
 use Rattle.ipx_table.specs.Taken.{taken_beside}
-use Rattle.ipx_table.proofs.Singles.{none_pass, none-find, found_at, unplaced-any}
+use Rattle.ipx_table.proofs.Searching.{ascends-offers, through_key}
 use Rattle.ipx_table.proofs.taking.take_offer.Goals as goal
+
+pub place_in-found-requires : goal.place_in-found-requires
+place_in-found-requires g c =
+    let r = rules_of g.O.Offer.reading g.O.Key.Ord.cmp g.row.CAP c.args.shares.now in
+    let total = on_total g.O.Offer.reading.key g.met.O.Key.Ord.total in
+    subst (λ (os : List g.row.O.Denot). Ascends r.by_key os) (one.offers-seen c.args.clock c.args.records.now ∙ sym c.offers.ensures.value)
+    (ascends-offers r.by_key total (seen c.args.clock c.args.records.now) c.requires.sorted.ascending)
 
 pub take_known-requires : goal.take_known-requires
 take_known-requires g c =
-    let r = rules_of g.O.Offer.reading g.O.Key.Ord.cmp g.row.CAP in
-    let place = ap₂ (λ k zs. position (λ h. is_eq (g.O.Key.Ord.cmp (g.O.Offer.reading.key h.offer) k)) zs) (sym c.key.ensures) (sym c.deref.ensures.0)
-    ∙ sym c.place_of.ensures ∙ c.in-Some.is in
-    let found = found_at (λ h. same_key r.by_key h.offer c.args.offer) c.args.records.now.items c.in-Some.place c.index-deref-place.result place
-    (c.index-deref-place.is ∙ ap (λ zs. get_or zs c.in-Some.place c.index-deref-place.result) c.deref-in-Some.ensures.0) in
-    search (rules, found.0, found.1)
+    let r = rules_of g.O.Offer.reading g.O.Key.Ord.cmp g.row.CAP c.args.shares.now in
+    let total = on_total g.O.Offer.reading.key g.met.O.Key.Ord.total in
+    let below = c.place_in-found.ensures.below
+    ∙ ap (λ k. (answers_to (λ o. g.O.Key.Ord.cmp (g.O.Offer.reading.key o) k) c.offers.result.now).below) c.key.ensures
+    ∙ ap (λ (os : List g.row.O.Denot). (answers_to (λ o. r.by_key o c.args.offer) os).below) c.offers.ensures.value in
+    let held = c.place_in-found.ensures.held
+    ∙ ap (λ k. (answers_to (λ o. g.O.Key.Ord.cmp (g.O.Offer.reading.key o) k) c.offers.result.now).held) c.key.ensures
+    ∙ ap (λ (os : List g.row.O.Denot). (answers_to (λ o. r.by_key o c.args.offer) os).held) c.offers.ensures.value in
+    let known = one.found_known r.by_key total c.args.clock c.args.records.now c.requires.sorted.ascending (λ o. r.by_key o c.args.offer)
+    (λ x y less e. through_key r.by_key total x y c.args.offer less e) c.place_in-found.result below held c.in-Some.known
+    (sym c.record_found.ensures ∙ c.in-Some.is) in
+    search (rules, known.0, known.1)
 
 pub returns-in-Some-clause-answer : goal.returns-in-Some-clause-answer
 returns-in-Some-clause-answer g c =
-    let r = rules_of g.O.Offer.reading g.O.Key.Ord.cmp g.row.CAP in
-    let place = ap₂ (λ k zs. position (λ h. is_eq (g.O.Key.Ord.cmp (g.O.Offer.reading.key h.offer) k)) zs) (sym c.key.ensures) (sym c.deref.ensures.0)
-    ∙ sym c.place_of.ensures ∙ c.in-Some.is in
-    let found = found_at (λ h. same_key r.by_key h.offer c.args.offer) c.args.records.now.items c.in-Some.place c.index-deref-place.result place
-    (c.index-deref-place.is ∙ ap (λ zs. get_or zs c.in-Some.place c.index-deref-place.result) c.deref-in-Some.ensures.0) in
-    c.take_known.ensures.answer
-    ∙ ap (taken_beside r g.O.PartialEq.eq c.args.offer (nat_lt (length c.args.records.now.items) g.row.CAP)) (sym found.2)
+    let r = rules_of g.O.Offer.reading g.O.Key.Ord.cmp g.row.CAP c.args.shares.now in
+    let total = on_total g.O.Offer.reading.key g.met.O.Key.Ord.total in
+    let below = c.place_in-found.ensures.below
+    ∙ ap (λ k. (answers_to (λ o. g.O.Key.Ord.cmp (g.O.Offer.reading.key o) k) c.offers.result.now).below) c.key.ensures
+    ∙ ap (λ (os : List g.row.O.Denot). (answers_to (λ o. r.by_key o c.args.offer) os).below) c.offers.ensures.value in
+    let held = c.place_in-found.ensures.held
+    ∙ ap (λ k. (answers_to (λ o. g.O.Key.Ord.cmp (g.O.Offer.reading.key o) k) c.offers.result.now).held) c.key.ensures
+    ∙ ap (λ (os : List g.row.O.Denot). (answers_to (λ o. r.by_key o c.args.offer) os).held) c.offers.ensures.value in
+    let known = one.found_known r.by_key total c.args.clock c.args.records.now c.requires.sorted.ascending (λ o. r.by_key o c.args.offer)
+    (λ x y less e. through_key r.by_key total x y c.args.offer less e) c.place_in-found.result below held c.in-Some.known
+    (sym c.record_found.ensures ∙ c.in-Some.is) in
+    c.take_known.ensures.answer ∙ ap (taken_beside r g.O.PartialEq.eq (seen c.args.clock c.args.records.now) c.args.offer) (sym known.2)
 
 pub take_new-requires : goal.take_new-requires
 take_new-requires g c =
-    let r = rules_of g.O.Offer.reading g.O.Key.Ord.cmp g.row.CAP in
-    let nowhere = ap₂ (λ k zs. position (λ h. is_eq (g.O.Key.Ord.cmp (g.O.Offer.reading.key h.offer) k)) zs) (sym c.key.ensures) (sym c.deref.ensures.0)
-    ∙ sym c.place_of.ensures ∙ c.in-None.is in
-    let none = unplaced-any (λ h. same_key r.by_key h.offer c.args.offer) c.args.records.now.items nowhere in
-    search (rules, none)
+    let r = rules_of g.O.Offer.reading g.O.Key.Ord.cmp g.row.CAP c.args.shares.now in
+    let total = on_total g.O.Offer.reading.key g.met.O.Key.Ord.total in
+    let below = c.place_in-found.ensures.below
+    ∙ ap (λ k. (answers_to (λ o. g.O.Key.Ord.cmp (g.O.Offer.reading.key o) k) c.offers.result.now).below) c.key.ensures
+    ∙ ap (λ (os : List g.row.O.Denot). (answers_to (λ o. r.by_key o c.args.offer) os).below) c.offers.ensures.value in
+    let held = c.place_in-found.ensures.held
+    ∙ ap (λ k. (answers_to (λ o. g.O.Key.Ord.cmp (g.O.Offer.reading.key o) k) c.offers.result.now).held) c.key.ensures
+    ∙ ap (λ (os : List g.row.O.Denot). (answers_to (λ o. r.by_key o c.args.offer) os).held) c.offers.ensures.value in
+    let none = one.found_new r.by_key total c.args.clock c.args.records.now c.requires.sorted.ascending (λ o. r.by_key o c.args.offer)
+    (λ x y less e. through_key r.by_key total x y c.args.offer less e) c.place_in-found.result below held
+    (sym c.record_found.ensures ∙ c.in-None.is) in
+    let place = one.below_told r.by_key total c.args.clock c.args.records.now c.requires.sorted.ascending (λ o. r.by_key o c.args.offer)
+    (λ x y less e. through_key r.by_key total x y c.args.offer less e) c.place_in-found.result below held in
+    search (rules, none.0, place)
 
 pub returns-in-None-clause-answer : goal.returns-in-None-clause-answer
 returns-in-None-clause-answer g c =
-    let r = rules_of g.O.Offer.reading g.O.Key.Ord.cmp g.row.CAP in
-    let nowhere = ap₂ (λ k zs. position (λ h. is_eq (g.O.Key.Ord.cmp (g.O.Offer.reading.key h.offer) k)) zs) (sym c.key.ensures) (sym c.deref.ensures.0)
-    ∙ sym c.place_of.ensures ∙ c.in-None.is in
-    let none = unplaced-any (λ h. same_key r.by_key h.offer c.args.offer) c.args.records.now.items nowhere in
-    c.take_new.ensures.answer
-    ∙ ap (taken_beside r g.O.PartialEq.eq c.args.offer (nat_lt (length c.args.records.now.items) g.row.CAP))
-    (sym (none-find (λ h. same_key r.by_key h.offer c.args.offer) c.args.records.now.items (none_pass (λ h. same_key r.by_key h.offer c.args.offer) c.args.records.now.items none)))
+    let r = rules_of g.O.Offer.reading g.O.Key.Ord.cmp g.row.CAP c.args.shares.now in
+    let total = on_total g.O.Offer.reading.key g.met.O.Key.Ord.total in
+    let below = c.place_in-found.ensures.below
+    ∙ ap (λ k. (answers_to (λ o. g.O.Key.Ord.cmp (g.O.Offer.reading.key o) k) c.offers.result.now).below) c.key.ensures
+    ∙ ap (λ (os : List g.row.O.Denot). (answers_to (λ o. r.by_key o c.args.offer) os).below) c.offers.ensures.value in
+    let held = c.place_in-found.ensures.held
+    ∙ ap (λ k. (answers_to (λ o. g.O.Key.Ord.cmp (g.O.Offer.reading.key o) k) c.offers.result.now).held) c.key.ensures
+    ∙ ap (λ (os : List g.row.O.Denot). (answers_to (λ o. r.by_key o c.args.offer) os).held) c.offers.ensures.value in
+    let none = one.found_new r.by_key total c.args.clock c.args.records.now c.requires.sorted.ascending (λ o. r.by_key o c.args.offer)
+    (λ x y less e. through_key r.by_key total x y c.args.offer less e) c.place_in-found.result below held
+    (sym c.record_found.ensures ∙ c.in-None.is) in
+    c.take_new.ensures.answer ∙ ap (taken_beside r g.O.PartialEq.eq (seen c.args.clock c.args.records.now) c.args.offer) (sym none.1)

@@ -1,0 +1,71 @@
+//! Search in what is sorted, by asking alone.
+ghost use Rattle.std.specs.Prelude.{◌≡◌, ℕ, ◌+◌, ◌^◌, ◌<◌, ◌≤◌};
+ghost use Rattle.ipx_table.specs.Answers.{Answers, places, answer_at, most_asks};
+
+use std::cmp::Ordering;
+
+/// Something sorted by keys of which no two are equal. It tells how the key at a place compares with one that is
+/// sought, and counts how often it was asked.
+///
+/// Its answers, place by place, are any number of `Less`, at most one `Equal`, then `Greater`. They never change.
+pub trait Asked {
+    ghost answers: { Self → Answers };
+
+    ghost asks: { Self → ℕ };
+
+    /// How many places there are.
+    fn len(&self) -> usize
+        ensures { result ≡ places (answers self.now) };
+
+    /// How the key at that place compares with the sought one.
+    fn ask(&mut self, place: usize) -> Ordering
+        requires within { place < places (answers self.old) }
+        requires few { asks self.old < most_asks }
+        ensures answer { result ≡ answer_at (answers self.old) place }
+        ensures same { answers self.new ≡ answers self.old }
+        ensures counted { asks self.new ≡ asks self.old + 1 };
+
+    /// How often it was asked.
+    fn asks(&self) -> u64
+        ensures { result ≡ asks self.now };
+}
+
+/// Where the sought key stands, or would stand.
+#[derive(Clone, Copy, Debug, PartialEq, Eq, Hash)]
+pub struct Found {
+    /// How many keys are smaller.
+    pub below: usize,
+    /// Whether the next key is the sought one.
+    pub held: bool,
+}
+
+/// Finds the sought key. It asks at most as many times as the number of places has binary digits, and not at all where
+/// there is no place.
+pub fn find<A: Asked>(asked: &mut A) -> Found
+    requires unasked { A.asks asked.old ≡ 0 }
+    ensures below { result.below ≡ (A.answers asked.old).below }
+    ensures held { result.held ≡ (A.answers asked.old).held }
+    ensures same { A.answers asked.new ≡ A.answers asked.old }
+    // Where the number of places can be written with so many binary digits, it asks at most that often.
+    ensures few { (digits : ℕ) → places (A.answers asked.old) < 2 ^ digits → A.asks asked.new ≤ digits }
+{
+    let mut low = 0;
+    let mut high = asked.len();
+    while low < high {
+        let middle = low + (high - low) / 2;
+        match asked.ask(middle) {
+            Ordering::Less => low = middle + 1,
+            Ordering::Equal => {
+                return Found {
+                    below: middle,
+                    held: true,
+                };
+            }
+            Ordering::Greater => high = middle,
+        }
+    }
+    Found {
+        below: low,
+        held: false,
+    }
+}
