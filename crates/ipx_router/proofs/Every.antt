@@ -2,6 +2,7 @@
 use Rattle.std.proofs.Common.{◌≡◌, refl, ℕ, suc, Bool, true, List, [], ◌∷◌, ◌++◌, map, filter, Some, IfSome, inl, inr}
 use Rattle.std.specs.List.{AllByRecursion, flat_map, find, slice_get}
 use Rattle.std.proofs.lemmas.Bool.{cases_Bool}
+use Rattle.ipx_router.specs.Sorted.{put, put_all, sorted}
 use Rattle.ipx_router.proofs.Tables.{all-append}
 
 module _ {X : Type 0} where
@@ -45,6 +46,22 @@ module _ {X : Type 0} where
         | inl e ↦ rw e all.0
         | inr e ↦ rw e (all-find P p xs all.1)
       ]
+
+  -- what is put in its place joins the others
+  pub all_placed : (P : X → Type 0) (before : X → X → Bool) (x : X) (xs : List X) → P x → AllByRecursion P xs → AllByRecursion P (put before x xs)
+  all_placed P before x [] one all = (one, tt)
+  all_placed P before x (y ∷ xs) one all = elim (cases_Bool (before x y)) [
+    | inl e ↦ rw e (one, all)
+    | inr e ↦ rw e (all.0, all_placed P before x xs one all.1)
+  ]
+
+  all_placed_all : (P : X → Type 0) (before : X → X → Bool) (placed xs : List X) → AllByRecursion P placed → AllByRecursion P xs
+      → AllByRecursion P (put_all before placed xs)
+  all_placed_all P before placed [] some all = some
+  all_placed_all P before placed (x ∷ xs) some all = all_placed_all P before (put before x placed) xs (all_placed P before x placed all.0 some) all.1
+
+  pub all_sorted : (P : X → Type 0) (before : X → X → Bool) (xs : List X) → AllByRecursion P xs → AllByRecursion P (sorted before xs)
+  all_sorted P before xs all = all_placed_all P before [] xs tt all
 
   -- what holds at every place holds of each
   pub all_listed : (P : X → Type 0) (xs : List X) → ((k : ℕ) (x : X) → slice_get xs k ≡ Some x → P x) → AllByRecursion P xs

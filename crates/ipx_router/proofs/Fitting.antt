@@ -1,5 +1,5 @@
 -- What is held fits into the fields of a packet.
-use Rattle.std.proofs.Common.{◌≡◌, refl, ℕ, Bool, true, false, List, [], ◌∷◌, Option, None, Some, IfSome, inl, inr}
+use Rattle.std.proofs.Common.{◌≡◌, refl, ℕ, List, [], ◌∷◌, Option, None, Some, IfSome, inl, inr}
 use Rattle.std.specs.List.{AllByRecursion}
 use Rattle.std.proofs.lemmas.Bool.{cases_Bool}
 use Rattle.ipx_table.specs.Facts.{Offered}
@@ -12,16 +12,16 @@ use Rattle.ipx_wire.specs.declared.rip.Operation.TheVariants.{Request, Response}
 use Rattle.ipx_wire.specs.declared.rip.RipEntry.{RipEntry}
 use Rattle.ipx_wire.specs.declared.sap.Sap.TheVariants.{Query, Response as SapResponse}
 use Rattle.ipx_wire.specs.declared.sap_entries.SapEntry.{SapEntry}
-use Rattle.ipx_router.specs.Heard.{Heard, HeardRip, HeardSap, heard}
-use Rattle.ipx_router.specs.History.{Event, History, Start, Stop, Second, Packet, IsOfBytes, runs_after, is_skipped, routes_offered, routes_heard, routes_held, services_offered, services_heard, service_facts_of, service_facts_from, service_facts, services_held, offers}
-use Rattle.ipx_router.specs.Port.{Port}
-use Rattle.ipx_router.specs.Services.{service_rules}
+use Rattle.ipx_router.specs.Facts.{heard_after, routes_offered, routes_heard, routes_held, services_offered, services_heard, services_held, offers}
+use Rattle.ipx_router.specs.Heard.{Heard, HeardRip, HeardSap}
+use Rattle.ipx_router.specs.History.{History, IsOfBytes, running, ports_up}
+use Rattle.ipx_router.specs.Port.{is_skipped, Port}
 use Rattle.ipx_router.specs.Told.{entry_of}
 use Rattle.ipx_router.specs.declared.route_offer.RouteOffer.{RouteOffer}
 use Rattle.ipx_router.specs.declared.service_offer.ServiceOffer.{ServiceOffer}
 use Rattle.ipx_router.proofs.ByteFields.{IsTellable}
 use Rattle.ipx_router.proofs.Hearing.{IsAdvertised, IsHeard, heard_is}
-use Rattle.ipx_router.proofs.Tables.{all-append, OfferIs, all_held, routes_all}
+use Rattle.ipx_router.proofs.Tables.{all-append, OfferIs, routes_all, services_all}
 use Rattle.ipx_router.proofs.Wire.{Readings}
 
 -- a route's network, hops and ticks are such as an entry has
@@ -92,23 +92,16 @@ module _ (readings : Readings) (ports : List Port) where
       → AllByRecursion RouteFits (offers (routes_held ports capacity history))
   held_routes_fit capacity history are =
       routes_all RouteFits IsOfBytes ports
-      (λ runs number bytes are. heard_routes ports number (heard ports runs number bytes) (heard_is readings ports number bytes are runs)) capacity history are
-
-  service_facts_fit : (runs : Bool) (event : Event) → IsOfBytes event → AllByRecursion (OfferIs ServiceFits) (service_facts_of ports runs event)
-  service_facts_fit runs Start are = tt
-  service_facts_fit true Stop are = (tt, tt)
-  service_facts_fit false Stop are = tt
-  service_facts_fit true Second are = (tt, tt)
-  service_facts_fit false Second are = tt
-  service_facts_fit runs (Packet number bytes) are = heard_services number (heard ports runs number bytes) (heard_is readings ports number bytes are runs)
-
-  services_from : (runs : Bool) (history : History) → AllByRecursion IsOfBytes history
-      → AllByRecursion (OfferIs ServiceFits) (service_facts_from ports runs history)
-  services_from runs [] are = tt
-  services_from runs (event ∷ events) are =
-      all-append (OfferIs ServiceFits) (service_facts_of ports runs event) (service_facts_from ports (runs_after runs event) events)
-      (service_facts_fit runs event are.0) (services_from (runs_after runs event) events are.1)
+      (λ before number bytes are.
+      heard_routes ports number (heard_after ports before number bytes)
+      (heard_is readings ports (ports_up ports before) number bytes are (running before)))
+      capacity history are
 
   pub held_services_fit : (capacity : ℕ) (history : History) → AllByRecursion IsOfBytes history
       → AllByRecursion ServiceFits (offers (services_held ports capacity history))
-  held_services_fit capacity history are = all_held ServiceFits (service_rules capacity) (service_facts ports history) (services_from false history are)
+  held_services_fit capacity history are =
+      services_all ServiceFits IsOfBytes ports
+      (λ before number bytes are.
+      heard_services number (heard_after ports before number bytes)
+      (heard_is readings ports (ports_up ports before) number bytes are (running before)))
+      capacity history are

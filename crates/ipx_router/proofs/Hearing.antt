@@ -107,10 +107,10 @@ module _ (readings : Readings) where
         ]
   ]
 
-  pub heard_is : (ports : List Port) (number : ℕ) (bytes : List ℕ) → IsBytes bytes → (runs : Bool) (m : Heard)
-      → heard ports runs number bytes ≡ Some m → IsHeard m
-  heard_is ports number bytes are runs m e =
-      let came = came_in ports number runs bytes m e in
+  pub heard_is : (ports : List Port) (up : List ℕ) (number : ℕ) (bytes : List ℕ) → IsBytes bytes → (runs : Bool) (m : Heard)
+      → heard ports up runs number bytes ≡ Some m → IsHeard m
+  heard_is ports up number bytes are runs m e =
+      let came = came_in ports up number runs bytes m e in
       let is = (readings.packet_read bytes came.packet are).0 came.read in
       let parts = parts_bytes bytes came.packet are is in
       near_heard (port_at ports number) came.packet m parts.payload (record { ranges = is.header.source; node = parts.source }) came.near

@@ -5,7 +5,8 @@ use Rattle.std.specs.Ordering.{ordering_reverse}
 use Rattle.std.specs.Cmp.{IsTotalOrder}
 use Rattle.std.proofs.lemmas.Bool.{cases_Bool}
 use Rattle.ipx_router.specs.Changes.{offer_of, same_or_none, put_key, put_keys, change_at, differs, changes}
-use Rattle.ipx_router.proofs.Every.{all_then}
+use Rattle.ipx_router.specs.Sorted.{put}
+use Rattle.ipx_router.proofs.Every.{all_then, all_placed}
 
 -- ---- how many pass a test
 
@@ -63,38 +64,39 @@ other_way r Greater e q l = absurd (true≢false (sym (ap is_lt e) ∙ l))
 
 -- ---- keys in their places
 
+-- neither of two
+pub neither : (a b : Bool) → (a || b) ≡ false → (a ≡ false) × (b ≡ false)
+neither true b e = absurd (true≢false e)
+neither false b e = (refl, e)
+
 module _ {O K : Type 0} (key_of : O → K) (order : K → K → Ordering) (same : O → O → Bool) (total : IsTotalOrder order) where
   -- each key is smaller than those behind it
   abbrev pub Rises : List K → Type 0
   Rises [] = Unit
   Rises (key ∷ keys) = AllByRecursion (λ other. is_lt (order key other) ≡ true) keys × Rises keys
 
-  all_put : (P : K → Type 0) (key : K) (keys : List K) → P key → AllByRecursion P keys → AllByRecursion P (put_key key_of order same key keys)
-  all_put P key [] one all = (one, tt)
-  all_put P key (other ∷ keys) one all = elim (cases_Bool (is_lt (order key other))) [
-    | inl less ↦ rw less (one, all)
-    | inr more ↦ elim (cases_Bool (is_eq (order key other))) [
-      | inl equal ↦ rw (more, equal) all
-      | inr apart ↦ rw (more, apart) (all.0, all_put P key keys one all.1)
-    ]
-  ]
-
   less_through : (a b c : K) → is_lt (order a b) ≡ true → is_lt (order b c) ≡ true → is_lt (order a c) ≡ true
   less_through a b c p q = ap is_lt (total.trans a b c (is_less (order a b) p) (is_less (order b c) q))
 
+  rises_placed : (key : K) (keys : List K) → list_any (λ other. is_eq (order key other)) keys ≡ false → Rises keys
+      → Rises (put (λ a b. is_lt (order a b)) key keys)
+  rises_placed key [] new up = (tt, tt)
+  rises_placed key (other ∷ keys) new up =
+      let apart = neither (is_eq (order key other)) (list_any (λ other. is_eq (order key other)) keys) new in
+      elim (cases_Bool (is_lt (order key other))) [
+        | inl less ↦ rw less (
+          (less, all_then (λ x. is_lt (order other x) ≡ true) (λ x. is_lt (order key x) ≡ true) (λ x l. less_through key other x less l) keys up.0),
+          up,
+        )
+        | inr more ↦
+            let below = other_way (order key other) (order other key) (total.antisymm key other) apart.0 more in
+            rw more (all_placed (λ x. is_lt (order other x) ≡ true) (λ a b. is_lt (order a b)) key keys below up.0, rises_placed key keys apart.1 up.1)
+      ]
+
   rises-put : (key : K) (keys : List K) → Rises keys → Rises (put_key key_of order same key keys)
-  rises-put key [] up = (tt, tt)
-  rises-put key (other ∷ keys) up = elim (cases_Bool (is_lt (order key other))) [
-    | inl less ↦ rw less (
-      (less, all_then (λ x. is_lt (order other x) ≡ true) (λ x. is_lt (order key x) ≡ true) (λ x l. less_through key other x less l) keys up.0),
-      up,
-    )
-    | inr more ↦ elim (cases_Bool (is_eq (order key other))) [
-      | inl equal ↦ rw (more, equal) up
-      | inr apart ↦
-          let below = other_way (order key other) (order other key) (total.antisymm key other) apart more in
-          rw (more, apart) (all_put (λ x. is_lt (order other x) ≡ true) key keys below up.0, rises-put key keys up.1)
-    ]
+  rises-put key keys up = elim (cases_Bool (list_any (λ other. is_eq (order key other)) keys)) [
+    | inl known ↦ rw known up
+    | inr new ↦ rw new (rises_placed key keys new up)
   ]
 
   rises-puts : (offers : List O) (keys : List K) → Rises keys → Rises (put_keys key_of order same offers keys)

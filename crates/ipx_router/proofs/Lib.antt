@@ -4,12 +4,15 @@ pub mod ByteFields
 pub mod ByteLists
 pub mod Counting
 pub mod Differences
+pub mod DownPorts
 pub mod Every
 pub mod Fitting
+pub mod HeardCounts
 pub mod Hearing
+pub mod Histories
 pub mod Keys
+pub mod Lasting
 pub mod Lengths
-pub mod MessageCounts
 pub mod NewsFits
 pub mod Offering
 pub mod Outlets
@@ -29,5 +32,6 @@ pub mod SentLengths
 pub mod Tables
 pub mod Telling
 pub mod ToldFits
+pub mod Upheld
 pub mod Wire
 pub mod examples

@@ -3,7 +3,7 @@ use Rattle.std.proofs.Common.{ℕ, ◌==◌, Bool, if◌then◌else◌, List, []
 use Rattle.std.specs.List.{AllByRecursion}
 use Rattle.std.specs.Ordering.{is_eq}
 use Rattle.std.specs.declared.cmp.Ordering.{Ordering}
-use Rattle.std.proofs.lemmas.Bool.{cases_Bool, ltb-true}
+use Rattle.std.proofs.lemmas.Bool.{cases_Bool}
 use Rattle.ipx_wire.specs.Rip.{IsEntry}
 use Rattle.ipx_router.specs.Changes.{Change, change_at, changes, differs, put_keys}
 use Rattle.ipx_router.specs.News.{same_route, same_service, route_now, route_told, news, service_now, service_told, news_services}
@@ -16,10 +16,10 @@ use Rattle.ipx_router.specs.declared.service_offer.ServiceOffer.{ServiceOffer}
 use Rattle.ipx_router.proofs.ByteFields.{IsTellable}
 use Rattle.ipx_router.proofs.Every.{all-filter, all-find, all-map, all-flat_map}
 use Rattle.ipx_router.proofs.Fitting.{RouteFits, ServiceFits}
-use Rattle.ipx_router.proofs.ToldFits.{told_at_fits, dead_fits, farther_fits, down_fits}
+use Rattle.ipx_router.proofs.ToldFits.{reached, told_at_fits, dead_fits, farther_fits, down_fits}
 
 -- both offers of a change are such ones
-abbrev ChangeOf : {O : Type 0} → (O → Type 0) → Change O → Type 0
+abbrev pub ChangeOf : {O : Type 0} → (O → Type 0) → Change O → Type 0
 ChangeOf P change = IfSome change.before P × IfSome change.after P
 
 anything : {X : Type 0} (xs : List X) → AllByRecursion (λ x. Unit {0}) xs
@@ -27,7 +27,7 @@ anything [] = tt
 anything (x ∷ xs) = (tt, anything xs)
 
 module _ {O K : Type 0} (P : O → Type 0) (key_of : O → K) (order : K → K → Ordering) (same : O → O → Bool) where
-  changes_fit : (before after : List O) → AllByRecursion P before → AllByRecursion P after
+  pub changes_fit : (before after : List O) → AllByRecursion P before → AllByRecursion P after
       → AllByRecursion (ChangeOf P) (changes key_of order same before after)
   changes_fit before after old new =
       let keys = put_keys key_of order same before (put_keys key_of order same after []) in
@@ -37,7 +37,7 @@ module _ {O K : Type 0} (P : O → Type 0) (key_of : O → K) (order : K → K �
       keys (anything keys))
 
 -- nothing, or one item
-one_or_none : {X : Type 0} (P : X → Type 0) (c : Bool) (x : X) → P x → AllByRecursion P (if c then [] else x ∷ [])
+pub one_or_none : {X : Type 0} (P : X → Type 0) (c : Bool) (x : X) → P x → AllByRecursion P (if c then [] else x ∷ [])
 one_or_none P c x is = elim (cases_Bool c) [
   | inl e ↦ rw e tt
   | inr e ↦ rw e (is, tt)
@@ -47,7 +47,7 @@ one_or_none P c x is = elim (cases_Bool c) [
 
 route_now_fits : (port : Port) (route : RouteOffer) → RouteFits route → IsEntry (route_now port route)
 route_now_fits port route is = elim (cases_Bool (is_reached_on route.hops)) [
-  | inl e ↦ rw e (told_at_fits port.cost (entry_of route) (is, ltb-true route.hops 15 e))
+  | inl e ↦ rw e (told_at_fits port.cost (entry_of route) (is, reached route.hops e))
   | inr e ↦ rw e (dead_fits (entry_of route) is)
 ]
 
@@ -69,7 +69,7 @@ news_fit ports before after number old new =
 
 service_now_fits : (offer : ServiceOffer) → ServiceFits offer → IsTellable (service_now offer)
 service_now_fits offer is = elim (cases_Bool (is_reached_on offer.service.hops)) [
-  | inl e ↦ rw e (farther_fits offer.service is (ltb-true offer.service.hops 15 e))
+  | inl e ↦ rw e (farther_fits offer.service is (reached offer.service.hops e))
   | inr e ↦ rw e (down_fits offer.service is)
 ]
 

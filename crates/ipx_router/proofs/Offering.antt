@@ -1,12 +1,13 @@
 -- What a message offers, no more than it has entries, and what one event more says.
-use Rattle.std.proofs.Common.{◌≡◌, refl, ap, ◌∙◌, ℕ, suc, ◌≤◌, Bool, List, [], ◌∷◌, ◌++◌, map, length, Option, None, Some, inl, inr, arith, sym, append_assoc, append-nil}
+use Rattle.std.proofs.Common.{◌≡◌, refl, ap, ◌∙◌, ℕ, suc, ◌≤◌, List, [], ◌∷◌, ◌++◌, map, length, Option, None, Some, inl, inr, arith, sym, append_assoc, append-nil}
 use Rattle.std.proofs.lemmas.Bool.{cases_Bool}
 use Rattle.ipx_table.specs.Facts.{Fact, Offered}
 use Rattle.ipx_wire.specs.declared.node.Node.{Node}
 use Rattle.ipx_wire.specs.declared.rip.RipEntry.{RipEntry}
 use Rattle.ipx_wire.specs.declared.sap_entries.SapEntry.{SapEntry}
-use Rattle.ipx_router.specs.History.{Event, History, is_skipped, route_offer, routes_offered, services_offered, runs_after, runs_through, route_facts_of, route_facts_from, service_facts_of, service_facts_from}
-use Rattle.ipx_router.specs.Port.{Port}
+use Rattle.ipx_router.specs.Facts.{route_offer, routes_offered, services_offered, facts_from}
+use Rattle.ipx_router.specs.History.{Event, History}
+use Rattle.ipx_router.specs.Port.{is_skipped, Port}
 use Rattle.ipx_router.specs.declared.service_offer.ServiceOffer.{ServiceOffer}
 
 -- ---- what a message offers
@@ -60,20 +61,11 @@ few_services number node (entry ∷ entries) =
 
 -- ---- one event more
 
-pub route_facts-more : (ports : List Port) (runs : Bool) (history : History) (event : Event)
-    → route_facts_from ports runs (history ++ event ∷ []) ≡ route_facts_from ports runs history ++ route_facts_of ports (runs_through runs history) event
-route_facts-more ports runs [] event = append-nil (route_facts_of ports runs event)
-route_facts-more ports runs (first ∷ history) event =
-    let now = route_facts_of ports runs first in
-    let next = runs_after runs first in
-    ap (λ fs. now ++ fs) (route_facts-more ports next history event)
-    ∙ sym (append_assoc now (route_facts_from ports next history) (route_facts_of ports (runs_through next history) event))
-
-pub service_facts-more : (ports : List Port) (runs : Bool) (history : History) (event : Event)
-    → service_facts_from ports runs (history ++ event ∷ []) ≡ service_facts_from ports runs history ++ service_facts_of ports (runs_through runs history) event
-service_facts-more ports runs [] event = append-nil (service_facts_of ports runs event)
-service_facts-more ports runs (first ∷ history) event =
-    let now = service_facts_of ports runs first in
-    let next = runs_after runs first in
-    ap (λ fs. now ++ fs) (service_facts-more ports next history event)
-    ∙ sym (append_assoc now (service_facts_from ports next history) (service_facts_of ports (runs_through next history) event))
+pub facts_from-more : {O : Type 0} (says : History → Event → List (Fact O)) (before history : History) (event : Event)
+    → facts_from says before (history ++ event ∷ []) ≡ facts_from says before history ++ says (before ++ history) event
+facts_from-more says before [] event = append-nil (says before event) ∙ ap (λ h. says h event) (sym (append-nil before))
+facts_from-more says before (first ∷ history) event =
+    let now = says before first in
+    let next = before ++ first ∷ [] in
+    ap (λ fs. now ++ fs) (facts_from-more says next history event ∙ ap (λ h. facts_from says next history ++ says h event) (append_assoc before (first ∷ []) history))
+    ∙ sym (append_assoc now (facts_from says next history) (says (before ++ first ∷ history) event))

@@ -1,38 +1,44 @@
 -- The router's own packets are such as the layouts allow, short, and of bytes.
-use Rattle.std.proofs.Common.{refl, subst, ℕ, ◌<◌, ◌≤◌, inl, inr, Bool, false, length, List, [], ◌++◌, map, arith, lit<}
+use Rattle.std.proofs.Common.{◌≡◌, refl, ap, ◌∙◌, subst, ℕ, ◌+◌, ◌*◌, ◌<◌, ◌≤◌, inl, inr, Bool, true, false, length, List, [], ◌++◌, map, arith, lit<}
 use Rattle.std.specs.List.{AllByRecursion}
 use Rattle.std.proofs.lemmas.List.{append-nil}
-use Rattle.ipx_wire.specs.Packet.{IsPacket}
+use Rattle.ipx_wire.specs.Numbers.{rip_type, sap_type}
+use Rattle.ipx_wire.specs.Packet.{Parts, IsPacket}
 use Rattle.ipx_wire.specs.Piece.{IsBytes}
 use Rattle.ipx_wire.specs.Rip.{IsEntry, IsRip}
 use Rattle.ipx_wire.specs.Sap.{IsSap}
-use Rattle.ipx_wire.specs.Write.{packet_bytes, rip_packet_parts, rip_payload, query_packet_parts, query_payload}
+use Rattle.ipx_wire.specs.Write.{own_header, packet_bytes, rip_packet_parts, rip_payload, query_packet, query_packet_parts, query_payload}
 use Rattle.ipx_wire.specs.WriteServices.{IsService, entry_of, sap_packet_parts, sap_payload}
 use Rattle.ipx_wire.specs.declared.address.Address.{Address}
+use Rattle.ipx_wire.specs.declared.header.Header.{Header}
 use Rattle.ipx_wire.specs.declared.rip.Operation.{Operation}
 use Rattle.ipx_wire.specs.declared.rip.Operation.TheVariants.{Response as RipResponse}
 use Rattle.ipx_wire.specs.declared.rip.RipEntry.{RipEntry}
 use Rattle.ipx_wire.specs.declared.sap.Sap.TheVariants.{Query, Response}
 use Rattle.ipx_wire.specs.declared.service.Service.{Service}
-use Rattle.ipx_router.specs.Bounds.{most_own_length}
-use Rattle.ipx_router.specs.Packets.{IsOwn}
+use Rattle.ipx_router.specs.Numbers.{every_service, entries_a_page, services_a_page, most_own_length}
+use Rattle.ipx_router.specs.Packets.{IsRouting, IsAdvertising, IsBroadcast}
 use Rattle.ipx_router.specs.Pages.{pages}
-use Rattle.ipx_router.specs.Port.{Port, IsPort, own_address, everyone, own_services, every_server, port_at}
+use Rattle.ipx_router.specs.Port.{Port, IsPort, broadcast, port_at, is_up, own_address, everyone, own_services, every_server, reply_to}
 use Rattle.ipx_router.specs.Relays.{Sent}
-use Rattle.ipx_router.specs.Sends.{entries_sent, rip_sends, rip_broadcast, services_sent, sap_sends, sap_broadcast, broadcasts, services_query, reply_to}
+use Rattle.ipx_router.specs.Sends.{entries_sent, rip_sends, rip_broadcast, services_sent, sap_sends, sap_broadcast, broadcasts, services_query}
 use Rattle.ipx_router.proofs.ByteFields.{IsPlace, IsTellable, rip_are_bytes, query_are_bytes, sap_are_bytes}
 use Rattle.ipx_router.proofs.ByteLists.{bytes_same}
 use Rattle.ipx_router.proofs.Every.{all_then, all-map}
 use Rattle.ipx_router.proofs.PageItems.{IsPage, all_pages}
-use Rattle.ipx_router.proofs.PortPlaces.{port-all, within-is_up}
+use Rattle.ipx_router.proofs.PortPlaces.{port-all, one_up}
 use Rattle.ipx_router.proofs.Tables.{all-append}
 use Rattle.ipx_router.proofs.Wire.{Readings, Rereadings, whole, alone}
 
--- a packet of the router's own, of bytes, and of no more than such a packet has
-pub record IsOwned (ports : List Port) (s : Sent) : Type 0 where
-  pub own : IsOwn ports s
+-- such a packet of the router's own, of bytes, and of no more than such a packet has
+pub record IsOwned (Own : Sent → Type 0) (s : Sent) : Type 0 where
+  pub own : Own s
   pub short : length s.bytes ≤ most_own_length
   pub bytes : IsBytes s.bytes
+
+-- also by what follows of it
+pub owned_as : (P Q : Sent → Type 0) → ((s : Sent) → P s → Q s) → (s : Sent) → IsOwned P s → IsOwned Q s
+owned_as P Q step s is = record { own = step s is.own; short = is.short; bytes = is.bytes }
 
 -- ---- the ports' addresses
 
@@ -66,14 +72,23 @@ reply_is port source is from = record {
   node = from.node;
 }
 
+-- the header of such a packet counts its data
+header_of : (kind : ℕ) (from to : Address) (size : ℕ) (p : Parts) {bytes : List ℕ} → IsPacket bytes p → p.header ≡ own_header kind from to size
+    → p.header ≡ own_header kind from to (length p.payload)
+header_of kind from to size p is e =
+    let counted = is.counted in
+    let same : size ≡ length p.payload = omega (arith, counted, ap (λ (h : Header). h.length) e) in
+    e ∙ ap (own_header kind from to) same
+
 -- ---- one packet
 
-module _ (readings : Readings) (again : Rereadings) (ports : List Port) (are : AllByRecursion IsPort ports) (number : ℕ) (within : number < length ports) where
-  is_port : IsPort (port_at ports number)
-  is_port = port-all IsPort ports number are within
+module _ (readings : Readings) (again : Rereadings) (ports : List Port) (are : AllByRecursion IsPort ports) (up : List ℕ)
+    (within : AllByRecursion (λ j. j < length ports) up) (number : ℕ) (there : is_up up number ≡ true) where
+  pub is_port : IsPort (port_at ports number)
+  is_port = port-all IsPort ports number are (one_up (λ j. j < length ports) up number within there)
 
-  entries_owned : (to : Address) (operation : Operation) (page : List RipEntry) → IsPlace to → IsPage 50 IsEntry page
-      → IsOwned ports (entries_sent ports number to operation page)
+  entries_owned : (to : Address) (operation : Operation) (page : List RipEntry) → IsPlace to → IsPage entries_a_page IsEntry page
+      → IsOwned (IsRouting ports up to) (entries_sent ports number to operation page)
   entries_owned to operation page to_is is =
       let from = own_address (port_at ports number) in
       let parts = rip_packet_parts from to operation page in
@@ -82,23 +97,26 @@ module _ (readings : Readings) (again : Rereadings) (ports : List Port) (are : A
       let size = whole readings parts read in
       let few = is.most in
       record {
-        own = inl (record {
-          up = within-is_up ports number within;
+        own = record {
           packet = parts;
-          is = alone parts read;
-          whole = size;
-          source = refl;
+          own = record {
+            on = there;
+            link = refl;
+            is = alone parts read;
+            whole = size;
+            header = header_of rip_type from to (2 + 8 * length page) parts (alone parts read) refl;
+          };
           said = record { operation = operation; entries = page };
           says =
               subst (λ payload. IsRip payload (record { operation = operation; entries = page })) (append-nil (rip_payload operation page))
               (again.rip_again operation page [] is.each is.some is.most (omega arith));
-        });
+        };
         short = omega (arith, size, few);
         bytes = rip_are_bytes from to operation page is_port.bytes to_is.node is.each;
       }
 
-  services_owned : (to : Address) (nearest : Bool) (page : List Service) → IsPlace to → IsPage 7 IsTellable page
-      → IsOwned ports (services_sent ports number to nearest page)
+  services_owned : (to : Address) (nearest : Bool) (page : List Service) → IsPlace to → IsPage services_a_page IsTellable page
+      → IsOwned (IsAdvertising ports up to) (services_sent ports number to nearest page)
   services_owned to nearest page to_is is =
       let from = own_services (port_at ports number) in
       let ranges = all_then IsTellable IsService (λ s is. is.ranges) page is.each in
@@ -108,66 +126,92 @@ module _ (readings : Readings) (again : Rereadings) (ports : List Port) (are : A
       let size = whole readings parts read in
       let few = is.most in
       record {
-        own = inr (record {
-          up = within-is_up ports number within;
+        own = record {
           packet = parts;
-          is = alone parts read;
-          whole = size;
-          source = refl;
+          own = record {
+            on = there;
+            link = refl;
+            is = alone parts read;
+            whole = size;
+            header = header_of sap_type from to (2 + 64 * length page) parts (alone parts read) refl;
+          };
           said = Response nearest (map entry_of page);
           says =
               subst (λ payload. IsSap payload (Response nearest (map entry_of page))) (append-nil (sap_payload nearest page))
               (again.sap_again nearest page [] is.some is.most ranges (omega arith));
-        });
+        };
         short = omega (arith, size, few);
         bytes = sap_are_bytes from to nearest page is_port.bytes to_is.node is.each;
       }
 
-  pub query_owned : IsOwned ports (services_query ports number)
+  query : Sent
+  query = record {
+    port = number;
+    link = broadcast;
+    bytes = query_packet (own_services (port_at ports number)) (every_server (port_at ports number)) false every_service;
+  }
+
+  pub query_owned : AllByRecursion (IsOwned (IsBroadcast ports up)) (services_query ports number)
   query_owned =
       let from = own_services (port_at ports number) in
       let to = every_server (port_at ports number) in
-      let parts = query_packet_parts from to false 65535 in
+      let parts = query_packet_parts from to false every_service in
       let read : (further : List ℕ) → IsPacket (packet_bytes parts ++ further) parts =
-      λ further. again.query_packet_again from to false 65535 further
+      λ further. again.query_packet_again from to false every_service further
       (services_is (port_at ports number) is_port).ranges (every_server_is (port_at ports number) is_port).ranges in
-      let size = whole readings parts read in
-      record {
-        own = inr (record {
-          up = within-is_up ports number within;
-          packet = parts;
-          is = alone parts read;
-          whole = size;
-          source = refl;
-          said = Query false 65535;
-          says =
-              subst (λ payload. IsSap payload (Query false 65535)) (append-nil (query_payload false 65535))
-              (again.query_again false 65535 [] (lit< tt));
-        });
-        short = omega (arith, size);
-        bytes = query_are_bytes from to false 65535 is_port.bytes (every_server_is (port_at ports number) is_port).node;
-      }
+      let size = whole readings parts read in (
+        record {
+          own = inr (record {
+            packet = parts;
+            own = record {
+              on = there;
+              link = refl;
+              is = alone parts read;
+              whole = size;
+              header = header_of sap_type from to 4 parts (alone parts read) refl;
+            };
+            said = Query false every_service;
+            says =
+                subst (λ payload. IsSap payload (Query false every_service)) (append-nil (query_payload false every_service))
+                (again.query_again false every_service [] (lit< tt));
+          });
+          short = omega (arith, size);
+          bytes = query_are_bytes from to false every_service is_port.bytes (every_server_is (port_at ports number) is_port).node;
+        },
+        tt,
+      )
 
   -- ---- pages of them
 
-  pub rip_owned : (to : Address) (operation : Operation) (entries : List RipEntry) → IsPlace to → AllByRecursion IsEntry entries
-      → AllByRecursion (IsOwned ports) (rip_sends ports number to operation entries)
-  rip_owned to operation entries to_is fit =
-      all-map (IsPage 50 IsEntry) (IsOwned ports) (entries_sent ports number to operation) (λ page is. entries_owned to operation page to_is is)
-      (pages 50 entries) (all_pages IsEntry 50 (omega arith) entries fit)
+  pub rip_owned : (Own : Sent → Type 0) (to : Address) (operation : Operation) (entries : List RipEntry)
+      → ((page : List RipEntry) → IsRouting ports up to (entries_sent ports number to operation page) → Own (entries_sent ports number to operation page))
+      → IsPlace to → AllByRecursion IsEntry entries → AllByRecursion (IsOwned Own) (rip_sends ports number to operation entries)
+  rip_owned Own to operation entries own to_is fit =
+      all-map (IsPage entries_a_page IsEntry) (IsOwned Own) (entries_sent ports number to operation)
+      (λ page is. let one = entries_owned to operation page to_is is in record { own = own page one.own; short = one.short; bytes = one.bytes })
+      (pages entries_a_page entries) (all_pages IsEntry entries_a_page (omega arith) entries fit)
 
-  pub sap_owned : (to : Address) (nearest : Bool) (services : List Service) → IsPlace to → AllByRecursion IsTellable services
-      → AllByRecursion (IsOwned ports) (sap_sends ports number to nearest services)
-  sap_owned to nearest services to_is fit =
-      all-map (IsPage 7 IsTellable) (IsOwned ports) (services_sent ports number to nearest) (λ page is. services_owned to nearest page to_is is)
-      (pages 7 services) (all_pages IsTellable 7 (omega arith) services fit)
+  pub sap_owned : (Own : Sent → Type 0) (to : Address) (nearest : Bool) (services : List Service)
+      → ((page : List Service) → IsAdvertising ports up to (services_sent ports number to nearest page) → Own (services_sent ports number to nearest page))
+      → IsPlace to → AllByRecursion IsTellable services → AllByRecursion (IsOwned Own) (sap_sends ports number to nearest services)
+  sap_owned Own to nearest services own to_is fit =
+      all-map (IsPage services_a_page IsTellable) (IsOwned Own) (services_sent ports number to nearest)
+      (λ page is. let one = services_owned to nearest page to_is is in record { own = own page one.own; short = one.short; bytes = one.bytes })
+      (pages services_a_page services) (all_pages IsTellable services_a_page (omega arith) services fit)
 
   pub everyone_owned : (operation : Operation) (entries : List RipEntry) → AllByRecursion IsEntry entries
-      → AllByRecursion (IsOwned ports) (rip_sends ports number (everyone (port_at ports number)) operation entries)
-  everyone_owned operation entries fit = rip_owned (everyone (port_at ports number)) operation entries (everyone_is (port_at ports number) is_port) fit
+      → AllByRecursion (IsOwned (IsBroadcast ports up)) (rip_sends ports number (everyone (port_at ports number)) operation entries)
+  everyone_owned operation entries fit =
+      rip_owned (IsBroadcast ports up) (everyone (port_at ports number)) operation entries (λ page is. inl is) (everyone_is (port_at ports number) is_port) fit
+
+  pub servers_owned : (services : List Service) → AllByRecursion IsTellable services
+      → AllByRecursion (IsOwned (IsBroadcast ports up)) (sap_broadcast ports number services)
+  servers_owned services fit =
+      sap_owned (IsBroadcast ports up) (every_server (port_at ports number)) false services (λ page is. inr is)
+      (every_server_is (port_at ports number) is_port) fit
 
   pub broadcasts_owned : (entries : List RipEntry) (services : List Service) → AllByRecursion IsEntry entries → AllByRecursion IsTellable services
-      → AllByRecursion (IsOwned ports) (broadcasts ports number entries services)
+      → AllByRecursion (IsOwned (IsBroadcast ports up)) (broadcasts ports number entries services)
   broadcasts_owned entries services fit fits =
-      all-append (IsOwned ports) (rip_broadcast ports number entries) (sap_broadcast ports number services) (everyone_owned RipResponse entries fit)
-      (sap_owned (every_server (port_at ports number)) false services (every_server_is (port_at ports number) is_port) fits)
+      all-append (IsOwned (IsBroadcast ports up)) (rip_broadcast ports number entries) (sap_broadcast ports number services)
+      (everyone_owned RipResponse entries fit) (servers_owned services fits)

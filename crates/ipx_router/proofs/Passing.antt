@@ -1,16 +1,18 @@
 -- Which checks a packet passes that is sent on, and that it passes them all.
-use Rattle.std.proofs.Common.{◌≡◌, refl, sym, ap, ◌<◌, ◌≤◌, ◌&&◌, not, Bool, true, false, List, [], ◌∷◌, length, Option, Result, Ok, Err, None, Some, is_some, true≢false, arith}
+use Rattle.std.proofs.Common.{◌≡◌, refl, sym, ap, ℕ, ◌<◌, ◌≤◌, ◌&&◌, not, Bool, true, false, List, [], ◌∷◌, ◌++◌, length, Option, Result, Ok, Err, None, Some, is_some, true≢false}
 use Rattle.std.specs.List.{AllByRecursion}
 use Rattle.std.proofs.lemmas.Bool.{and_parts, not-true, lt-leb, le-ltb}
 use Rattle.ipx_wire.specs.Crossed.{networks_at, is_among}
+use Rattle.ipx_wire.specs.Numbers.{crossed_places, crossed_bytes}
 use Rattle.ipx_wire.specs.Packet.{Parts}
 use Rattle.ipx_wire.specs.declared.packet.PacketFault.{PacketFault}
+use Rattle.ipx_router.specs.Numbers.{most_routers}
 use Rattle.ipx_router.specs.Outgoing.{Way, way_to, is_own_port}
-use Rattle.ipx_router.specs.Port.{Port, port_at, is_local}
-use Rattle.ipx_router.specs.Why.{checks, first_of, when, is_propagated, is_far, is_own_echo, is_bad_source, is_crossed_short, is_crossed_full, is_crossed_seen, is_through_too_many, is_far_side, is_too_long}
+use Rattle.ipx_router.specs.Port.{Port, port_at, is_up, is_local}
+use Rattle.ipx_router.specs.Why.{checks, first_of, when, is_propagated, is_far, is_own_echo, is_bad_source, is_crossed_short, is_crossed_full, is_crossed_seen, is_through_too_many, is_far_side, is_too_long, is_down_port}
 use Rattle.ipx_router.specs.declared.route_offer.RouteOffer.{RouteOffer}
 use Rattle.ipx_router.specs.declared.why.Why.{Why}
-use Rattle.ipx_router.specs.declared.why.Why.TheVariants.{Malformed}
+use Rattle.ipx_router.specs.declared.why.Why.TheVariants.{Malformed, DownPort}
 
 -- ---- a list of checks
 
@@ -27,10 +29,16 @@ unmet : (c : Bool) (reason : Why) → when c reason ≡ None → c ≡ false
 unmet true reason e = absurd (true≢false (ap is_some e))
 unmet false reason e = refl
 
+-- the checks of a packet, and the last of all, of the port on which it came
+abbrev pub all_checks : List Port → List ℕ → List RouteOffer → Port → ℕ → Parts → List (Option Why)
+all_checks ports up routes port number p = checks ports up routes port p ++ when (is_down_port up number) DownPort ∷ []
+
 -- what is found of what was read from bytes, while the router runs
-abbrev pub judged : List Port → List RouteOffer → Port → Result Parts PacketFault → Option Why
-judged ports routes port r =
-    first_of (elim r [ Ok p ↦ None | Err fault ↦ Some (Malformed fault) ] ∷ elim r [ Ok p ↦ checks ports routes port p | Err fault ↦ [] ])
+abbrev pub judged : List Port → List ℕ → List RouteOffer → Port → ℕ → Result Parts PacketFault → Option Why
+judged ports up routes port number r =
+    first_of
+    (elim r [ Ok p ↦ None | Err fault ↦ Some (Malformed fault) ]
+    ∷ (elim r [ Ok p ↦ checks ports up routes port p | Err fault ↦ [] ] ++ when (is_down_port up number) DownPort ∷ []))
 
 -- a part of a test that fails, if the part before it holds
 pub asked : (a b : Bool) → a ≡ true → (a && b) ≡ false → b ≡ false
@@ -39,7 +47,7 @@ asked false b holds e = absurd (true≢false (sym holds))
 
 -- ---- what a packet passed that no check drops
 
-pub record Passes (ports : List Port) (routes : List RouteOffer) (port : Port) (p : Parts) : Type 0 where
+pub record Passes (ports : List Port) (up : List ℕ) (routes : List RouteOffer) (port : Port) (number : ℕ) (p : Parts) : Type 0 where
   pub no_echo : is_own_echo port p.header ≡ false
   pub source : is_bad_source p.header ≡ false
   pub roomy : is_crossed_short p ≡ false
@@ -47,11 +55,17 @@ pub record Passes (ports : List Port) (routes : List RouteOffer) (port : Port) (
   pub unseen : is_crossed_seen port p ≡ false
   pub few : is_through_too_many port p.header ≡ false
   pub elsewhere : is_far_side ports port p.header ≡ false
-  pub short : is_too_long ports routes port p.header ≡ false
+  pub short : is_too_long ports up routes port p.header ≡ false
+  pub comes_up : is_up up number ≡ true
 
-pub passes : (ports : List Port) (routes : List RouteOffer) (port : Port) (p : Parts) → first_of (checks ports routes port p) ≡ None → Passes ports routes port p
-passes ports routes port p e =
-    let all = all_none (checks ports routes port p) e in
+holds : (b : Bool) → not b ≡ false → b ≡ true
+holds true e = refl
+holds false e = absurd (true≢false e)
+
+pub passes : (ports : List Port) (up : List ℕ) (routes : List RouteOffer) (port : Port) (number : ℕ) (p : Parts)
+    → first_of (all_checks ports up routes port number p) ≡ None → Passes ports up routes port number p
+passes ports up routes port number p e =
+    let all = all_none (all_checks ports up routes port number p) e in
     record {
       no_echo = unmet _ _ all.0;
       source = unmet _ _ all.1.0;
@@ -61,26 +75,27 @@ passes ports routes port p e =
       few = unmet _ _ all.1.1.1.1.1.1.1.1.1.1.1.0;
       elsewhere = unmet _ _ all.1.1.1.1.1.1.1.1.1.1.1.1.0;
       short = unmet _ _ all.1.1.1.1.1.1.1.1.1.1.1.1.1.1.0;
+      comes_up = holds (is_up up number) (unmet _ _ all.1.1.1.1.1.1.1.1.1.1.1.1.1.1.1.0);
     }
 
 -- ---- what is sent on passes all checks
 
-module _ (ports : List Port) (routes : List RouteOffer) (port : Port) (p : Parts) where
+module _ (ports : List Port) (up : List ℕ) (routes : List RouteOffer) (port : Port) (number : ℕ) (p : Parts) (comes_up : is_up up number ≡ true) where
   -- a far one
   pub far_passes : (way : Way) → is_own_echo port p.header ≡ false → is_bad_source p.header ≡ false → is_far port p.header ≡ true
-      → p.header.control ≤ 15 → is_own_port ports p.header.destination ≡ false → way_to ports routes p.header.destination ≡ Some way
-      → p.header.length ≤ (port_at ports way.port).longest → first_of (checks ports routes port p) ≡ None
+      → p.header.control < most_routers → is_own_port ports p.header.destination ≡ false → way_to ports up routes p.header.destination ≡ Some way
+      → p.header.length ≤ (port_at ports way.port).longest → first_of (all_checks ports up routes port number p) ≡ None
   far_passes way no_echo source far few elsewhere routed short =
       let parts = and_parts (not (is_propagated p.header)) (not (is_local port p.header.destination.network)) far in
       let one = not-true (is_propagated p.header) parts.0 in
       let beyond = not-true (is_local port p.header.destination.network) parts.1 in
-      let control = lt-leb 16 p.header.control (omega (arith, few)) in
+      let control = lt-leb most_routers p.header.control few in
       let fits = le-ltb (port_at ports way.port).longest p.header.length short in
-      rw (no_echo, source, one, beyond, control, elsewhere, routed, fits) refl
+      rw (no_echo, source, one, beyond, control, elsewhere, routed, fits, comes_up) refl
 
   -- a propagated one
   pub propagated_passes : is_own_echo port p.header ≡ false → is_bad_source p.header ≡ false → is_propagated p.header ≡ true
-      → 32 ≤ length p.payload → p.header.control < 8 → is_among port.network (networks_at p.header.control p.payload) ≡ false
-      → first_of (checks ports routes port p) ≡ None
+      → crossed_bytes ≤ length p.payload → p.header.control < crossed_places → is_among port.network (networks_at p.header.control p.payload) ≡ false
+      → first_of (all_checks ports up routes port number p) ≡ None
   propagated_passes no_echo source all roomy free unseen =
-      rw (no_echo, source, all, le-ltb (length p.payload) 32 roomy, lt-leb 8 p.header.control free, unseen) refl
+      rw (no_echo, source, all, le-ltb (length p.payload) crossed_bytes roomy, lt-leb crossed_places p.header.control free, unseen, comes_up) refl

@@ -4,6 +4,7 @@ use Rattle.std.specs.Cmp.Lexicographic.{same_text, other_text}
 use Rattle.std.proofs.lemmas.Bool.{cases_Bool, cases_eq, cases_lt}
 use Rattle.ipx_wire.specs.Piece.{IsBytes}
 use Rattle.ipx_wire.specs.declared.node.Node.{Node}
+use Rattle.ipx_router.specs.Numbers.{default_route, least_longest}
 use Rattle.ipx_router.specs.Port.{Port, IsPort, IsNoPort, broadcast, same_node}
 use Rattle.ipx_router.specs.declared.port.PortFault.{PortFault}
 use Rattle.ipx_router.specs.declared.port.PortFault.TheVariants.{Longest, Cost, Network as BadNetwork, Node as BadNode}
@@ -16,7 +17,7 @@ broadcast_or_other node = elim (cases_Bool (same_node node broadcast)) [
 ]
 
 pub either : (p : Port) → p.cost < 2 ^ 16 → length p.node.0 ≡ 6 → IsBytes p.node.0 → IsPort p ⊎ ((fault : PortFault) × IsNoPort p.network p.node p.cost p.longest fault)
-either p ticks six bytes = elim (cases_lt p.longest 576) [
+either p ticks six bytes = elim (cases_lt p.longest least_longest) [
   | inl short ↦ inr (Longest, short)
   | inr long ↦ elim (cases_eq p.cost 0) [
     | inl free ↦ inr (Cost, (long, free))
@@ -24,7 +25,7 @@ either p ticks six bytes = elim (cases_lt p.longest 576) [
         let cost : 0 < p.cost = omega (arith, some) in
         elim (cases_eq p.network.0 0) [
           | inl none ↦ inr (BadNetwork, (long, cost, inl none))
-          | inr named ↦ elim (cases_lt p.network.0 4294967294) [
+          | inr named ↦ elim (cases_lt p.network.0 default_route) [
             | inr beyond ↦ inr (BadNetwork, (long, cost, inr beyond))
             | inl ordinary ↦
                 let network : 0 < p.network.0 = omega (arith, named) in

@@ -1,10 +1,10 @@
 -- The numbers of the ports, and the port of each.
-use Rattle.std.proofs.Common.{◌≡◌, ℕ, zero, suc, ◌<◌, ◌==◌, ◌||◌, true, false, length, List, [], ◌∷◌, arith, inl, inr, ◌∙◌, sym}
-use Rattle.std.specs.List.{AllByRecursion, list_any}
-use Rattle.std.proofs.lemmas.Bool.{cases_eq, eq-eqb, or_left, or_right}
-use Rattle.std.proofs.lemmas.List.Folds.{list_any-append}
-use Rattle.ipx_router.specs.Outgoing.{numbers, ports_up, is_up}
-use Rattle.ipx_router.specs.Port.{Port, port_at}
+use Rattle.std.proofs.Common.{◌≡◌, refl, ℕ, zero, suc, ◌<◌, ◌==◌, true, length, List, [], ◌∷◌, arith, inl, inr, true≢false, sym}
+use Rattle.std.specs.List.{AllByRecursion}
+use Rattle.std.proofs.lemmas.Bool.{cases_Bool, eq-eqb, eqb-true, or_left, or_right}
+use Rattle.ipx_router.specs.History.{History, ports_up}
+use Rattle.ipx_router.specs.Port.{Port, port_at, numbers, is_up}
+use Rattle.ipx_router.proofs.Every.{all_then, all-filter}
 use Rattle.ipx_router.proofs.Tables.{all-append}
 
 -- what holds of all ports holds of the one at a number
@@ -23,24 +23,19 @@ pub numbers_below : (n : ℕ) → AllByRecursion (λ j. j < n) (numbers n)
 numbers_below n = numbers_pass (λ j. j < n) n (λ j below. below)
 
 -- each number of a port that is up is a port's
-pub ports_up-within : (ports : List Port) → AllByRecursion (λ j. j < length ports) (ports_up ports)
-ports_up-within ports = numbers_below (length ports)
+pub ports_up-within : (ports : List Port) (history : History) → AllByRecursion (λ j. j < length ports) (ports_up ports history)
+ports_up-within ports history = all-filter (λ j. j < length ports) _ (numbers (length ports)) (numbers_below (length ports))
 
--- each number below n is among the numbers below n
-number_listed : (n number : ℕ) → number < n → list_any (λ j. j == number) (numbers n) ≡ true
-number_listed zero number below = absurd (omega (arith, below))
-number_listed (suc n) number below =
-    list_any-append (λ j. j == number) (numbers n) (n ∷ []) ∙ elim (cases_eq n number) [
-      | inl e ↦ or_right (list_any (λ j. j == number) (numbers n)) ((n == number) || false) (or_left (n == number) false (eq-eqb n number e))
-      | inr differ ↦
-          or_left (list_any (λ j. j == number) (numbers n)) ((n == number) || false)
-          (number_listed n number (omega (arith, below, λ (e : number ≡ n). differ (sym e))))
-    ]
+-- each number of a list is one of them
+pub members : (up : List ℕ) → AllByRecursion (λ j. is_up up j ≡ true) up
+members [] = tt
+members (x ∷ up) =
+    (or_left (x == x) (is_up up x) (eq-eqb x x refl), all_then (λ j. is_up up j ≡ true) (λ j. is_up (x ∷ up) j ≡ true) (λ j is. or_right (x == j) (is_up up j) is) up (members up))
 
--- each port is up
-pub within-is_up : (ports : List Port) (number : ℕ) → number < length ports → is_up ports number ≡ true
-within-is_up ports number within = number_listed (length ports) number within
-
--- all ports that are listed as up are up
-pub all_up : (ports : List Port) → AllByRecursion (λ j. is_up ports j ≡ true) (ports_up ports)
-all_up ports = numbers_pass (λ j. is_up ports j ≡ true) (length ports) (within-is_up ports)
+-- what holds of all numbers holds of one of them
+pub one_up : (P : ℕ → Type 0) (up : List ℕ) (number : ℕ) → AllByRecursion P up → is_up up number ≡ true → P number
+one_up P [] number all is = absurd (true≢false (sym is))
+one_up P (x ∷ up) number all is = elim (cases_Bool (x == number)) [
+  | inl same ↦ rw (sym (eqb-true x number same)) all.0
+  | inr other ↦ one_up P up number all.1 (rw other at is)
+]

@@ -6,9 +6,10 @@ use Rattle.ipx_wire.specs.Forward.{forwarded, propagated}
 use Rattle.ipx_wire.specs.Packet.{Parts, IsPacket, packet_of}
 use Rattle.ipx_wire.specs.Piece.{IsBytes}
 use Rattle.ipx_wire.specs.declared.packet.PacketFault.{PacketFault}
-use Rattle.ipx_router.specs.Bounds.{most_own_length, most_length}
-use Rattle.ipx_router.specs.History.{Event, Start, Stop, Second, Packet, IsOfBytes}
-use Rattle.ipx_router.specs.Packets.{IsRelayed}
+use Rattle.ipx_router.specs.Bounds.{most_length}
+use Rattle.ipx_router.specs.History.{Event, Start, Stop, Second, Packet, PortDown, PortUp, IsOfBytes}
+use Rattle.ipx_router.specs.Numbers.{most_own_length}
+use Rattle.ipx_router.specs.Packets.{IsBroadcast, IsRelayed}
 use Rattle.ipx_router.specs.Port.{Port, IsPort, port_at}
 use Rattle.ipx_router.specs.Relays.{Sent}
 use Rattle.ipx_router.specs.declared.route_offer.RouteOffer.{RouteOffer}
@@ -29,7 +30,7 @@ own_length : (r : Result Parts PacketFault) → most_own_length ≤ elim r [ Ok 
 own_length (Ok p) = omega arith
 own_length (Err fault) = omega arith
 
-module _ (readings : Readings) (again : Rereadings) (ports : List Port) (are : AllByRecursion IsPort ports) (routes : List RouteOffer) where
+module _ (readings : Readings) (again : Rereadings) (ports : List Port) (are : AllByRecursion IsPort ports) (up : List ℕ) (routes : List RouteOffer) where
   module _ (number : ℕ) (bytes : List ℕ) (are_bytes : IsBytes bytes) where
     -- a packet of as many bytes as the one that came counts
     as_long : (p : Parts) (n : ℕ) → IsPacket bytes p → n ≡ p.header.length → n ≤ most_length (Packet number bytes)
@@ -37,7 +38,7 @@ module _ (readings : Readings) (again : Rereadings) (ports : List Port) (are : A
         let read : packet_of bytes ≡ Ok p = (readings.packet_read bytes p are_bytes).1 is in
         rw (read, most_length) (omega (arith, e))
 
-    relayed_length : (s : Sent) → IsRelayed ports routes number bytes s → length s.bytes ≤ most_length (Packet number bytes)
+    relayed_length : (s : Sent) → IsRelayed ports up routes number bytes s → length s.bytes ≤ most_length (Packet number bytes)
     relayed_length s (inl is) =
         let p = is.packet in
         let few = is.few in
@@ -54,15 +55,17 @@ module _ (readings : Readings) (again : Rereadings) (ports : List Port) (are : A
         (λ further. again.propagated_again bytes p arrived outgoing further is.is is.crossed.free is.crossed.eight (network_fits ports s.port are)) in
         as_long p (length s.bytes) is.is size
 
-  pub short : (event : Event) (sent : List Sent) → IsOfBytes event → AllByRecursion (IsSending ports routes event) sent
+  pub short : (event : Event) (sent : List Sent) → IsOfBytes event → AllByRecursion (IsSending ports up routes event) sent
       → AllByRecursion (λ s. length s.bytes ≤ most_length event) sent
-  short Start sent bytes all = all_then (IsOwned ports) (λ s. length s.bytes ≤ most_own_length) (λ s is. is.short) sent all
-  short Stop sent bytes all = all_then (IsOwned ports) (λ s. length s.bytes ≤ most_own_length) (λ s is. is.short) sent all
-  short Second sent bytes all = all_then (IsOwned ports) (λ s. length s.bytes ≤ most_own_length) (λ s is. is.short) sent all
+  short Start sent bytes all = all_then (IsOwned (IsBroadcast ports up)) (λ s. length s.bytes ≤ most_own_length) (λ s is. is.short) sent all
+  short Stop sent bytes all = all_then (IsOwned (IsBroadcast ports up)) (λ s. length s.bytes ≤ most_own_length) (λ s is. is.short) sent all
+  short Second sent bytes all = all_then (IsOwned (IsBroadcast ports up)) (λ s. length s.bytes ≤ most_own_length) (λ s is. is.short) sent all
+  short (PortDown number) sent bytes all = all_then (IsOwned (IsBroadcast ports up)) (λ s. length s.bytes ≤ most_own_length) (λ s is. is.short) sent all
+  short (PortUp number) sent bytes all = all_then (IsOwned (IsBroadcast ports up)) (λ s. length s.bytes ≤ most_own_length) (λ s is. is.short) sent all
   short (Packet number bytes) sent are_bytes all =
-      all_then (IsSending ports routes (Packet number bytes)) (λ s. length s.bytes ≤ most_length (Packet number bytes)) one sent all
+      all_then (IsSending ports up routes (Packet number bytes)) (λ s. length s.bytes ≤ most_length (Packet number bytes)) one sent all
     where
-      one : (s : Sent) → IsSending ports routes (Packet number bytes) s → length s.bytes ≤ most_length (Packet number bytes)
+      one : (s : Sent) → IsSending ports up routes (Packet number bytes) s → length s.bytes ≤ most_length (Packet number bytes)
       one s (inl is) =
           let few = is.short in
           let room = own_length (packet_of bytes) in

@@ -1,5 +1,5 @@
 -- Laws of what is told and sent.
-use Rattle.std.proofs.Common.{◌≡◌, refl, ap, ℕ, ◌==◌, Bool, true, not, ◌&&◌, nat_lt, nat_eq, List, [], ◌∷◌, ◌++◌, map, filter, Option, None, Some, inl, inr}
+use Rattle.std.proofs.Common.{◌≡◌, refl, ap, ℕ, ◌==◌, Bool, true, not, ◌&&◌, nat_eq, List, [], ◌∷◌, ◌++◌, map, filter, Option, None, Some, inl, inr}
 use Rattle.std.specs.List.{flat_map}
 use Rattle.std.specs.Cmp.Lexicographic.{pointwise}
 use Rattle.std.proofs.lemmas.Bool.{cases_Bool, eq-eqb, and_from}
@@ -9,7 +9,7 @@ use Rattle.ipx_router.specs.News.{news, news_services, same_route, same_service,
 use Rattle.ipx_router.specs.Port.{Port, port_at}
 use Rattle.ipx_router.specs.Routes.{network_order}
 use Rattle.ipx_router.specs.Services.{service_order}
-use Rattle.ipx_router.specs.Told.{told, told_services, told_at, direct, by_network, by_name, entry_of, farther}
+use Rattle.ipx_router.specs.Told.{told, told_services, is_reached_on, told_at, direct, by_network, by_name, entry_of, farther}
 use Rattle.ipx_router.specs.declared.route_offer.RouteOffer.{RouteOffer}
 use Rattle.ipx_router.specs.declared.service_offer.ServiceOffer.{ServiceOffer}
 
@@ -26,16 +26,16 @@ filter-twice p q (x ∷ xs) = elim (cases_Bool (p x)) [
   | inr e ↦ simp (e, filter-twice p q xs) refl
 ]
 
-pub told-elsewhere : (ports : List Port) (routes : List RouteOffer) (number : ℕ)
-    → told ports (filter (λ r. not (r.port == number)) routes) number ≡ told ports routes number
-told-elsewhere ports routes number =
-    ap (λ rs. by_network (map (told_at (port_at ports number).cost) (direct ports number ++ map entry_of rs)))
-    (filter-twice (λ r. not (r.port == number)) (λ r. nat_lt r.hops 15) routes)
+pub told-elsewhere : (ports : List Port) (up : List ℕ) (routes : List RouteOffer) (number : ℕ)
+    → told ports up (filter (λ r. not (r.port == number)) routes) number ≡ told ports up routes number
+told-elsewhere ports up routes number =
+    ap (λ rs. by_network (map (told_at (port_at ports number).cost) (direct ports up number ++ map entry_of rs)))
+    (filter-twice (λ r. not (r.port == number)) (λ r. is_reached_on r.hops) routes)
 
 pub services_told-elsewhere : (services : List ServiceOffer) (number : ℕ)
     → told_services (filter (λ s. not (s.port == number)) services) number ≡ told_services services number
 services_told-elsewhere services number =
-    ap (λ ss. by_name (map (λ s. farther s.service) ss)) (filter-twice (λ s. not (s.port == number)) (λ s. nat_lt s.service.hops 15) services)
+    ap (λ ss. by_name (map (λ s. farther s.service) ss)) (filter-twice (λ s. not (s.port == number)) (λ s. is_reached_on s.service.hops) services)
 
 -- ---- no news
 

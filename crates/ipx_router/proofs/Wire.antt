@@ -5,6 +5,7 @@ use Rattle.std.proofs.lemmas.List.{append-nil, length-append, length-take, lengt
 use Rattle.ipx_wire.specs.Address.{IsAddress}
 use Rattle.ipx_wire.specs.Crossed.{IsNetwork}
 use Rattle.ipx_wire.specs.Forward.{forwarded, propagated}
+use Rattle.ipx_wire.specs.Numbers.{most_entries, most_services, crossed_places, crossed_bytes}
 use Rattle.ipx_wire.specs.Packet.{Parts, IsPacket, packet_of}
 use Rattle.ipx_wire.specs.Piece.{IsBytes}
 use Rattle.ipx_wire.specs.Rip.{RipParts, IsEntry, IsRip, rip_of}
@@ -29,22 +30,22 @@ pub record Readings : Type 0 where
 -- what was written is read again
 pub record Rereadings : Type 0 where
   pub rip_packet_again : (from to : Address) (operation : Operation) (entries : List RipEntry) (further : List ℕ) → IsAddress from → IsAddress to
-      → length entries ≤ 50 → IsPacket (rip_packet from to operation entries ++ further) (rip_packet_parts from to operation entries)
+      → length entries ≤ most_entries → IsPacket (rip_packet from to operation entries ++ further) (rip_packet_parts from to operation entries)
   pub rip_again : (operation : Operation) (entries : List RipEntry) (further : List ℕ) → AllByRecursion IsEntry entries
-      → 1 ≤ length entries → length entries ≤ 50
+      → 1 ≤ length entries → length entries ≤ most_entries
       → length further < 8 → IsRip (rip_payload operation entries ++ further) (record { operation = operation; entries = entries })
   pub query_packet_again : (from to : Address) (nearest : Bool) (kind : ℕ) (further : List ℕ) → IsAddress from → IsAddress to
       → IsPacket (query_packet from to nearest kind ++ further) (query_packet_parts from to nearest kind)
   pub query_again : (nearest : Bool) (kind : ℕ) (further : List ℕ) → kind < 2 ^ 16 → IsSap (query_payload nearest kind ++ further) (Query nearest kind)
   pub sap_packet_again : (from to : Address) (nearest : Bool) (services : List Service) (further : List ℕ) → IsAddress from → IsAddress to
-      → length services ≤ 7 → AllByRecursion IsService services
+      → length services ≤ most_services → AllByRecursion IsService services
       → IsPacket (sap_packet from to nearest services ++ further) (sap_packet_parts from to nearest services)
-  pub sap_again : (nearest : Bool) (services : List Service) (further : List ℕ) → 1 ≤ length services → length services ≤ 7 → AllByRecursion IsService services
+  pub sap_again : (nearest : Bool) (services : List Service) (further : List ℕ) → 1 ≤ length services → length services ≤ most_services → AllByRecursion IsService services
       → length further < 64 → IsSap (sap_payload nearest services ++ further) (Response nearest (map entry_of services))
   pub forwarded_again : (bytes : List ℕ) (p : Parts) (further : List ℕ) → IsPacket bytes p → p.header.control < 255
       → IsPacket (packet_bytes (forwarded p) ++ further) (forwarded p)
-  pub propagated_again : (bytes : List ℕ) (p : Parts) (arrived outgoing : Network) (further : List ℕ) → IsPacket bytes p → p.header.control < 8
-      → 32 ≤ length p.payload → IsNetwork outgoing → IsPacket (packet_bytes (propagated arrived outgoing p) ++ further) (propagated arrived outgoing p)
+  pub propagated_again : (bytes : List ℕ) (p : Parts) (arrived outgoing : Network) (further : List ℕ) → IsPacket bytes p → p.header.control < crossed_places
+      → crossed_bytes ≤ length p.payload → IsNetwork outgoing → IsPacket (packet_bytes (propagated arrived outgoing p) ++ further) (propagated arrived outgoing p)
 
 -- what is a packet whatever bytes follow has as many bytes as its length says
 pub whole : (readings : Readings) (p : Parts) → ((further : List ℕ) → IsPacket (packet_bytes p ++ further) p) → length (packet_bytes p) ≡ p.header.length

@@ -1,23 +1,29 @@
 -- How many packets an event can send, and how long they are.
 use Rattle.std.specs.Prelude.{ℕ, ◌+◌, ◌-◌, ◌*◌, max, Ok, Err}
 use Rattle.ipx_wire.specs.Packet.{packet_of}
-use Rattle.ipx_router.specs.History.{Event, Start, Stop, Second, Packet}
+use Rattle.ipx_router.specs.History.{Event, Start, Stop, Second, Packet, PortDown, PortUp}
+use Rattle.ipx_router.specs.Numbers.{entries_a_page, services_a_page, most_own_length}
 use Rattle.ipx_router.specs.Pages.{sheets}
+
+-- the most packets that tell all routes on a port, of a router with so many ports and routes: the networks of the other
+-- ports are told too
+abbrev pub route_sheets : ℕ → ℕ → ℕ
+route_sheets ports routes = sheets entries_a_page (routes + ports - 1)
+
+-- the most packets that tell all services on a port
+abbrev pub service_sheets : ℕ → ℕ
+service_sheets services = sheets services_a_page services
 
 -- the most packets that an event sends, of a router with so many ports, routes and services
 abbrev pub most_packets : ℕ → ℕ → ℕ → Event → ℕ
 most_packets ports routes services Start = 3 * ports
-most_packets ports routes services Stop = ports * (sheets 50 (routes + ports - 1) + sheets 7 services)
-most_packets ports routes services Second = ports * (sheets 50 (routes + ports - 1) + sheets 7 services)
-most_packets ports routes services (Packet number bytes) = max ports (max (sheets 50 (routes + ports - 1)) (sheets 7 services))
-
--- the most bytes of a packet of the router's own
-abbrev pub most_own_length : ℕ
-most_own_length = 480
+most_packets ports routes services Stop = ports * (route_sheets ports routes + service_sheets services)
+most_packets ports routes services Second = ports * (route_sheets ports routes + service_sheets services)
+most_packets ports routes services (Packet number bytes) = max ports (max (route_sheets ports routes) (service_sheets services))
+most_packets ports routes services (PortDown number) = (ports - 1) * (route_sheets ports routes + service_sheets services)
+most_packets ports routes services (PortUp number) = ports + 1 + route_sheets ports routes + service_sheets services
 
 -- the most bytes of a packet that an event sends: those of its own, or of the packet that came
 abbrev pub most_length : Event → ℕ
-most_length Start = most_own_length
-most_length Stop = most_own_length
-most_length Second = most_own_length
 most_length (Packet number bytes) = elim (packet_of bytes) [ Ok p ↦ max most_own_length p.header.length | Err fault ↦ most_own_length ]
+most_length event = most_own_length

@@ -1,9 +1,10 @@
 -- What changed in an event (IPX Router Specification, immediate broadcasts): the keys whose offers differ before and
 -- after it, by key. That a key has no offer counts as a value.
 use Rattle.std.specs.Prelude.{Bool, true, false, not, if◌then◌else◌, List, [], ◌∷◌, map, filter, Option, None, Some}
-use Rattle.std.specs.List.{find}
+use Rattle.std.specs.List.{find, list_any}
 use Rattle.std.specs.Ordering.{is_eq, is_lt}
 use Rattle.std.specs.declared.cmp.Ordering.{Ordering}
+use Rattle.ipx_router.specs.Sorted.{put}
 
 -- the offer of a key before an event and after it, where there is one
 pub record Change (O : Type 0) : Type 0 where
@@ -24,11 +25,7 @@ module _ {O K : Type 0} (key_of : O → K) (order : K → K → Ordering) (same 
 
   -- the key in its place, once
   abbrev pub put_key : K → List K → List K
-  put_key key [] = key ∷ []
-  put_key key (other ∷ keys) =
-      if is_lt (order key other) then key ∷ other ∷ keys
-      else if is_eq (order key other) then other ∷ keys
-      else other ∷ put_key key keys
+  put_key key keys = if list_any (λ other. is_eq (order key other)) keys then keys else put (λ a b. is_lt (order a b)) key keys
 
   -- the keys of the offers too, each once
   abbrev pub put_keys : List O → List K → List K

@@ -24,9 +24,9 @@ abbrev pub heard_near : Port → Parts → Option Heard
 heard_near port p = if is_near port p.header then heard_in p else None
 
 -- what is heard on a port; of a near packet no check asks for routes, so it is judged as with none
-abbrev pub heard : List Port → Bool → ℕ → List ℕ → Option Heard
-heard ports running number bytes =
-    elim (why ports [] running number bytes) [
+abbrev pub heard : List Port → List ℕ → Bool → ℕ → List ℕ → Option Heard
+heard ports up running number bytes =
+    elim (why ports up [] running number bytes) [
       | Some reason ↦ None
       | None ↦ elim (packet_of bytes) [ Ok p ↦ heard_near (port_at ports number) p | Err fault ↦ None ]
     ]

@@ -1,22 +1,8 @@
--- What happened to a router, the oldest first, and what it heard of routes and services.
-use Rattle.std.specs.Prelude.{ℕ, ◌<◌, length, ◌+◌, ◌==◌, ◌||◌, Bool, true, false, if◌then◌else◌, List, [], ◌∷◌, ◌++◌, map, Option, None, Some}
-use Rattle.std.specs.List.{list_any}
-use Rattle.ipx_table.specs.Facts.{Fact, Offered, Second as SecondPassed, End}
-use Rattle.ipx_table.specs.Stands.{held}
+-- What happened to a router, the oldest first: whether it runs, for how long, and which of its ports are up.
+use Rattle.std.specs.Prelude.{ℕ, ◌<◌, length, ◌==◌, ◌&&◌, ◌||◌, Bool, true, false, not, if◌then◌else◌, List, [], ◌∷◌}
+use Rattle.std.specs.List.{filter, list_any}
 use Rattle.ipx_wire.specs.Piece.{IsBytes}
-use Rattle.ipx_wire.specs.declared.network.Network.{Network}
-use Rattle.ipx_wire.specs.declared.node.Node.{Node}
-use Rattle.ipx_wire.specs.declared.rip.Operation.TheVariants.{Request, Response as RipResponse}
-use Rattle.ipx_wire.specs.declared.rip.RipEntry.{RipEntry}
-use Rattle.ipx_wire.specs.declared.sap.Sap.TheVariants.{Query, Response as SapResponse}
-use Rattle.ipx_wire.specs.declared.sap_entries.SapEntry.{SapEntry}
-use Rattle.ipx_router.specs.Heard.{Heard, HeardRip, HeardSap, heard}
-use Rattle.ipx_router.specs.Port.{Port}
-use Rattle.ipx_router.specs.Routes.{route_rules}
-use Rattle.ipx_router.specs.Services.{service_rules}
-use Rattle.ipx_table.specs.declared.held.Held.{Held}
-use Rattle.ipx_router.specs.declared.route_offer.RouteOffer.{RouteOffer}
-use Rattle.ipx_router.specs.declared.service_offer.ServiceOffer.{ServiceOffer}
+use Rattle.ipx_router.specs.Port.{Port, numbers}
 
 -- one thing that happens to a router
 pub data Event : Type 0 where
@@ -24,144 +10,84 @@ pub data Event : Type 0 where
   Stop : Event
   Second : Event
   Packet : (port : ℕ) (bytes : List ℕ) → Event
+  PortDown : (port : ℕ) → Event
+  PortUp : (port : ℕ) → Event
 
--- the event comes by a port that there is
+-- the event is of a port that there is
 abbrev pub IsOnPort : List Port → Event → Type 0
-IsOnPort ports Start = Unit
-IsOnPort ports Stop = Unit
-IsOnPort ports Second = Unit
 IsOnPort ports (Packet number bytes) = number < length ports
+IsOnPort ports (PortDown number) = number < length ports
+IsOnPort ports (PortUp number) = number < length ports
+IsOnPort ports event = Unit
 
 -- what comes are bytes
 abbrev pub IsOfBytes : Event → Type 0
-IsOfBytes Start = Unit
-IsOfBytes Stop = Unit
-IsOfBytes Second = Unit
 IsOfBytes (Packet number bytes) = IsBytes bytes
+IsOfBytes event = Unit
 
 -- all events so far, the oldest first
 abbrev pub History : Type 0
 History = List Event
 
+-- ---- which event it is
+
+abbrev pub is_start : Event → Bool
+is_start Start = true
+is_start event = false
+
+abbrev pub is_stop : Event → Bool
+is_stop Stop = true
+is_stop event = false
+
+abbrev pub is_second : Event → Bool
+is_second Second = true
+is_second event = false
+
+-- that port goes down
+abbrev pub takes_down : ℕ → Event → Bool
+takes_down port (PortDown number) = number == port
+takes_down port event = false
+
+-- that port comes up
+abbrev pub brings_up : ℕ → Event → Bool
+brings_up port (PortUp number) = number == port
+brings_up port event = false
+
 -- ---- running
 
--- whether a router runs after an event, if it ran before
-abbrev pub runs_after : Bool → Event → Bool
-runs_after was Start = true
-runs_after was Stop = false
-runs_after was Second = was
-runs_after was (Packet number bytes) = was
+-- the events after the last stop; all, where there was none
+abbrev pub since_stop : History → List Event
+since_stop [] = []
+since_stop (event ∷ events) = if list_any is_stop (event ∷ events) then since_stop events else event ∷ events
 
--- whether it runs after events, one after the other
-abbrev pub runs_through : Bool → History → Bool
-runs_through was [] = was
-runs_through was (event ∷ events) = runs_through (runs_after was event) events
+-- the events behind the first start
+abbrev pub behind_start : List Event → List Event
+behind_start [] = []
+behind_start (event ∷ events) = if is_start event then events else behind_start events
 
 -- the last start or stop is a start
 abbrev pub running : History → Bool
-running history = runs_through false history
+running history = list_any is_start (since_stop history)
 
--- ---- facts of routes
+-- what has come while the router runs, since the start that found it stopped; nothing, where it is stopped
+abbrev pub present_run : History → List Event
+present_run history = behind_start (since_stop history)
 
--- networks that no route is taken for: the local one, that of all routes, and the ports' own
-abbrev pub is_skipped : List Port → Network → Bool
-is_skipped ports network =
-    (network.0 == 0) || (network.0 == 4294967295) || list_any (λ p. p.network.0 == network.0) ports
+-- how many seconds the router has run
+abbrev pub seconds_run : History → ℕ
+seconds_run history = length (filter is_second (present_run history))
 
--- an entry as an offer, with hops and ticks as they were heard
-abbrev pub route_offer : ℕ → Node → RipEntry → RouteOffer
-route_offer number node entry = record { network = entry.network; hops = entry.hops; ticks = entry.ticks; port = number; node = node }
+-- ---- ports that are up
 
--- the entries as offers, in order
-abbrev pub routes_offered : List Port → ℕ → Node → List RipEntry → List (Fact RouteOffer)
-routes_offered ports number node [] = []
-routes_offered ports number node (entry ∷ entries) =
-    (if is_skipped ports entry.network then [] else Offered (route_offer number node entry) ∷ []) ++ routes_offered ports number node entries
+-- some event takes the port down, and none behind it brings it up
+abbrev pub ends_down : ℕ → List Event → Bool
+ends_down port [] = false
+ends_down port (event ∷ events) = (takes_down port event && not (list_any (brings_up port) events)) || ends_down port events
 
--- a response of routing information offers its entries
-abbrev pub routes_heard : List Port → ℕ → Option Heard → List (Fact RouteOffer)
-routes_heard ports number None = []
-routes_heard ports number (Some (HeardRip source rip)) =
-    elim rip.operation [ RipResponse ↦ routes_offered ports number source.node rip.entries | Request ↦ [] ]
-routes_heard ports number (Some (HeardSap source sap)) = []
+-- the port went down since the router was started, and hasn't come up again
+abbrev pub is_down : History → ℕ → Bool
+is_down history port = ends_down port (present_run history)
 
--- what an event says of routes; while the router is stopped, nothing
-abbrev pub route_facts_of : List Port → Bool → Event → List (Fact RouteOffer)
-route_facts_of ports runs Start = []
-route_facts_of ports runs Stop = if runs then End ∷ [] else []
-route_facts_of ports runs Second = if runs then SecondPassed ∷ [] else []
-route_facts_of ports runs (Packet number bytes) = routes_heard ports number (heard ports runs number bytes)
-
--- what events say of routes, one after the other
-abbrev pub route_facts_from : List Port → Bool → History → List (Fact RouteOffer)
-route_facts_from ports runs [] = []
-route_facts_from ports runs (event ∷ events) = route_facts_of ports runs event ++ route_facts_from ports (runs_after runs event) events
-
--- what a history says of routes
-abbrev pub route_facts : List Port → History → List (Fact RouteOffer)
-route_facts ports history = route_facts_from ports false history
-
--- ---- facts of services
-
--- the entries that have a name, as offers, in order; any address is taken, also without a route to it (own)
-abbrev pub services_offered : ℕ → Node → List SapEntry → List (Fact ServiceOffer)
-services_offered number node [] = []
-services_offered number node (entry ∷ entries) =
-    elim entry.name [
-      | None ↦ []
-      | Some name ↦ Offered (record {
-        service = record { kind = entry.kind; name = name; address = entry.address; hops = entry.hops };
-        port = number;
-        node = node;
-      }) ∷ []
-    ] ++ services_offered number node entries
-
--- a response of service advertising offers its entries
-abbrev pub services_heard : ℕ → Option Heard → List (Fact ServiceOffer)
-services_heard number None = []
-services_heard number (Some (HeardRip source rip)) = []
-services_heard number (Some (HeardSap source (Query nearest kind))) = []
-services_heard number (Some (HeardSap source (SapResponse nearest entries))) = services_offered number source.node entries
-
--- what an event says of services; while the router is stopped, nothing
-abbrev pub service_facts_of : List Port → Bool → Event → List (Fact ServiceOffer)
-service_facts_of ports runs Start = []
-service_facts_of ports runs Stop = if runs then End ∷ [] else []
-service_facts_of ports runs Second = if runs then SecondPassed ∷ [] else []
-service_facts_of ports runs (Packet number bytes) = services_heard number (heard ports runs number bytes)
-
--- what events say of services, one after the other
-abbrev pub service_facts_from : List Port → Bool → History → List (Fact ServiceOffer)
-service_facts_from ports runs [] = []
-service_facts_from ports runs (event ∷ events) = service_facts_of ports runs event ++ service_facts_from ports (runs_after runs event) events
-
--- what a history says of services
-abbrev pub service_facts : List Port → History → List (Fact ServiceOffer)
-service_facts ports history = service_facts_from ports false history
-
--- ---- what is held
-
--- the alive routes after a history, by network, in a router that holds so many
-abbrev pub routes_held : List Port → ℕ → History → List (Held RouteOffer)
-routes_held ports capacity history = held (route_rules capacity) (route_facts ports history)
-
--- the alive services after a history, by type and name
-abbrev pub services_held : List Port → ℕ → History → List (Held ServiceOffer)
-services_held ports capacity history = held (service_rules capacity) (service_facts ports history)
-
--- the offers of records
-abbrev pub offers : {O : Type 0} → List (Held O) → List O
-offers records = map (λ h. h.offer) records
-
--- ---- seconds
-
--- the seconds since the last end, on from n
-abbrev pub seconds_since : ℕ → List (Fact RouteOffer) → ℕ
-seconds_since n [] = n
-seconds_since n (Offered offer ∷ facts) = seconds_since n facts
-seconds_since n (SecondPassed ∷ facts) = seconds_since (n + 1) facts
-seconds_since n (End ∷ facts) = seconds_since 0 facts
-
--- how many seconds the router has run since it was started
-abbrev pub seconds_run : List Port → History → ℕ
-seconds_run ports history = seconds_since 0 (route_facts ports history)
+-- the numbers of the ports that are up, in order: of a running router all that aren't down, of a stopped one none
+abbrev pub ports_up : List Port → History → List ℕ
+ports_up ports history = filter (λ port. running history && not (is_down history port)) (numbers (length ports))

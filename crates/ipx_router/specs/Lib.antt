@@ -1,8 +1,10 @@
 pub mod Bounds
 pub mod Changes
+pub mod Facts
 pub mod Heard
 pub mod History
 pub mod News
+pub mod Numbers
 pub mod Outcomes
 pub mod Outgoing
 pub mod Packets
@@ -12,6 +14,7 @@ pub mod Relays
 pub mod Routes
 pub mod Sends
 pub mod Services
+pub mod Sorted
 pub mod Stands
 pub mod Told
 pub mod Why

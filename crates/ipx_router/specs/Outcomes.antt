@@ -4,11 +4,12 @@ use Rattle.ipx_wire.specs.Packet.{packet_of}
 use Rattle.ipx_wire.specs.declared.rip.Operation.TheVariants.{Request, Response as RipResponse}
 use Rattle.ipx_wire.specs.declared.sap.Sap.TheVariants.{Query, Response as SapResponse}
 use Rattle.ipx_router.specs.Heard.{Heard, HeardRip, HeardSap, heard}
-use Rattle.ipx_router.specs.History.{Event, History, Start, Stop, Second, Packet, running, routes_held, offers}
-use Rattle.ipx_router.specs.Port.{Port}
+use Rattle.ipx_router.specs.Facts.{routes_held, offers}
+use Rattle.ipx_router.specs.History.{Event, History, Start, Stop, Second, Packet, PortDown, PortUp, running, ports_up}
+use Rattle.ipx_router.specs.Port.{Port, is_up}
 use Rattle.ipx_router.specs.Why.{is_propagated, why}
 use Rattle.ipx_router.specs.declared.outcome.Outcome.{Outcome}
-use Rattle.ipx_router.specs.declared.outcome.Outcome.TheVariants.{Started, AlreadyRunning, Stopped, Ticked, Learned, Answered, Forwarded, Propagated, Dropped}
+use Rattle.ipx_router.specs.declared.outcome.Outcome.TheVariants.{Started, AlreadyRunning, Stopped, Ticked, Learned, Answered, Forwarded, Propagated, WentDown, CameUp, AlreadyDown, AlreadyUp, Dropped}
 use Rattle.ipx_router.specs.declared.route_offer.RouteOffer.{RouteOffer}
 use Rattle.ipx_router.specs.declared.why.Why.TheVariants.{NotRunning}
 
@@ -22,17 +23,20 @@ heard_outcome (HeardSap source (SapResponse nearest entries)) = Learned
 abbrev pub relayed_outcome : List ℕ → Outcome
 relayed_outcome bytes = elim (packet_of bytes) [ Ok p ↦ if is_propagated p.header then Propagated else Forwarded | Err fault ↦ Forwarded ]
 
--- what becomes of an event, over the routes that are held
-abbrev pub outcome_of : List Port → List RouteOffer → Bool → Event → Outcome
-outcome_of ports routes runs Start = if runs then AlreadyRunning else Started
-outcome_of ports routes runs Stop = if runs then Stopped else Dropped NotRunning
-outcome_of ports routes runs Second = if runs then Ticked else Dropped NotRunning
-outcome_of ports routes runs (Packet number bytes) =
-    elim (why ports routes runs number bytes) [
+-- what becomes of an event, over the ports that are up and the routes that are held
+abbrev pub outcome_of : List Port → List ℕ → List RouteOffer → Bool → Event → Outcome
+outcome_of ports up routes runs Start = if runs then AlreadyRunning else Started
+outcome_of ports up routes runs Stop = if runs then Stopped else Dropped NotRunning
+outcome_of ports up routes runs Second = if runs then Ticked else Dropped NotRunning
+outcome_of ports up routes runs (Packet number bytes) =
+    elim (why ports up routes runs number bytes) [
       | Some reason ↦ Dropped reason
-      | None ↦ elim (heard ports runs number bytes) [ Some message ↦ heard_outcome message | None ↦ relayed_outcome bytes ]
+      | None ↦ elim (heard ports up runs number bytes) [ Some message ↦ heard_outcome message | None ↦ relayed_outcome bytes ]
     ]
+outcome_of ports up routes runs (PortDown number) = if runs then if is_up up number then WentDown else AlreadyDown else Dropped NotRunning
+outcome_of ports up routes runs (PortUp number) = if runs then if is_up up number then AlreadyUp else CameUp else Dropped NotRunning
 
 -- what becomes of an event after a history
 abbrev pub outcome : List Port → ℕ → History → Event → Outcome
-outcome ports most_routes history event = outcome_of ports (offers (routes_held ports most_routes history)) (running history) event
+outcome ports most_routes history event =
+    outcome_of ports (ports_up ports history) (offers (routes_held ports most_routes history)) (running history) event

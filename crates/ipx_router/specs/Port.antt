@@ -1,63 +1,95 @@
 -- A port of a router (IPX Router Specification, networks, nodes and costs in ticks).
-use Rattle.std.specs.Prelude.{◌≡◌, ◌≢◌, ℕ, ◌^◌, ◌<◌, ◌≤◌, ◌⊎◌, ◌==◌, ◌||◌, nat_eq, Bool, List, length, replicate, slice_index_or}
+use Rattle.std.specs.Prelude.{◌≡◌, ◌≢◌, ℕ, zero, suc, ◌^◌, ◌<◌, ◌≤◌, ◌⊎◌, ◌==◌, ◌||◌, nat_eq, Bool, List, [], ◌∷◌, ◌++◌, length, replicate, slice_index_or}
 use Rattle.std.specs.Cmp.Lexicographic.{pointwise}
+use Rattle.std.specs.List.{list_any, AllByRecursion}
 use Rattle.ipx_wire.specs.Piece.{IsBytes}
 use Rattle.ipx_wire.specs.declared.address.Address.{Address}
 use Rattle.ipx_wire.specs.declared.network.Network.{Network}
 use Rattle.ipx_wire.specs.declared.node.Node.{Node}
+use Rattle.ipx_router.specs.Numbers.{rip_socket, sap_socket, local_network, default_route, all_routes, least_longest}
 use Rattle.ipx_router.specs.declared.port.PortFault.{PortFault}
 use Rattle.ipx_router.specs.declared.port.PortFault.TheVariants.{Longest, Cost, Network as BadNetwork, Node as BadNode}
 
--- network and node of the port, its cost in ticks, and its longest packet in bytes
+-- network and node of the port, its cost in ticks, its longest packet in bytes, and its shares: how many of the routes
+-- and of the services that are held may have come by it (own)
 pub record Port : Type 0 where
   pub network : Network
   pub node : Node
   pub cost : ℕ
   pub longest : ℕ
+  pub route_share : ℕ
+  pub service_share : ℕ
 
 -- the node that stands for all nodes of a network
 abbrev pub broadcast : Node
 broadcast = record { 0 = replicate 6 255 }
 
+-- ---- values that make a port
+
 -- no port may be on these networks: the local one, the default route's and that of all routes
 abbrev pub IsReserved : Network → Type 0
-IsReserved network = (network.0 ≡ 0) ⊎ (4294967294 ≤ network.0)
+IsReserved network = (network.0 ≡ local_network) ⊎ (default_route ≤ network.0)
 
--- what a port's values are
+-- what a port's values are; any shares will do
 pub record IsPort (p : Port) : Type 0 where
-  pub longest : 576 ≤ p.longest
+  pub longest : least_longest ≤ p.longest
   pub cost : 0 < p.cost
   pub ticks : p.cost < 2 ^ 16
-  pub some_network : 0 < p.network.0
-  pub ordinary_network : p.network.0 < 4294967294
+  pub some_network : local_network < p.network.0
+  pub ordinary_network : p.network.0 < default_route
   pub six_bytes : length p.node.0 ≡ 6
   pub bytes : IsBytes p.node.0
   pub node : p.node ≢ broadcast
 
 -- why values are no port's, the first that holds
 abbrev pub IsNoPort : Network → Node → ℕ → ℕ → PortFault → Type 0
-IsNoPort network node cost longest Longest = longest < 576
-IsNoPort network node cost longest Cost = (576 ≤ longest) × (cost ≡ 0)
-IsNoPort network node cost longest BadNetwork = (576 ≤ longest) × (0 < cost) × IsReserved network
-IsNoPort network node cost longest BadNode = (576 ≤ longest) × (0 < cost) × (0 < network.0) × (network.0 < 4294967294) × (node ≡ broadcast)
+IsNoPort network node cost longest Longest = longest < least_longest
+IsNoPort network node cost longest Cost = (least_longest ≤ longest) × (cost ≡ 0)
+IsNoPort network node cost longest BadNetwork = (least_longest ≤ longest) × (0 < cost) × IsReserved network
+IsNoPort network node cost longest BadNode =
+    (least_longest ≤ longest) × (0 < cost) × (local_network < network.0) × (network.0 < default_route) × (node ≡ broadcast)
+
+-- ports that a router may have: no two are on one network
+abbrev pub AreApart : List Port → Type 0
+AreApart [] = Unit
+AreApart (p ∷ ports) = AllByRecursion (λ q. q.network ≢ p.network) ports × AreApart ports
+
+-- ---- ports by their numbers
 
 -- the port with exactly so many others before it; past the last, one of network 0, which no port has
 abbrev pub port_at : List Port → ℕ → Port
-port_at ports number = slice_index_or ports number (record { network = record { 0 = 0 }; node = broadcast; cost = 0; longest = 0 })
+port_at ports number =
+    slice_index_or ports number
+    (record { network = record { 0 = local_network }; node = broadcast; cost = 0; longest = 0; route_share = 0; service_share = 0 })
+
+-- the numbers below n, in order
+abbrev pub numbers : ℕ → List ℕ
+numbers zero = []
+numbers (suc n) = numbers n ++ n ∷ []
+
+-- the port of a number is among those that are up
+abbrev pub is_up : List ℕ → ℕ → Bool
+is_up up number = list_any (λ j. j == number) up
+
+-- ---- addresses
 
 -- the address of a port's routing process, and that of all of them on its network
 abbrev pub own_address : Port → Address
-own_address port = record { network = port.network; node = port.node; socket = record { 0 = 1107 } }
+own_address port = record { network = port.network; node = port.node; socket = record { 0 = rip_socket } }
 
 abbrev pub everyone : Port → Address
-everyone port = record { network = port.network; node = broadcast; socket = record { 0 = 1107 } }
+everyone port = record { network = port.network; node = broadcast; socket = record { 0 = rip_socket } }
 
 -- the address of a port's service process, and that of all of them on its network
 abbrev pub own_services : Port → Address
-own_services port = record { network = port.network; node = port.node; socket = record { 0 = 1106 } }
+own_services port = record { network = port.network; node = port.node; socket = record { 0 = sap_socket } }
 
 abbrev pub every_server : Port → Address
-every_server port = record { network = port.network; node = broadcast; socket = record { 0 = 1106 } }
+every_server port = record { network = port.network; node = broadcast; socket = record { 0 = sap_socket } }
+
+-- where an asker is answered: its node and socket, on the port's own network
+abbrev pub reply_to : Port → Address → Address
+reply_to port source = record { network = port.network; node = source.node; socket = source.socket }
 
 -- the six bytes are the same
 abbrev pub same_node : Node → Node → Bool
@@ -65,4 +97,9 @@ same_node a b = pointwise nat_eq a.0 b.0
 
 -- a network number that means the port's own network: 0 or its number
 abbrev pub is_local : Port → Network → Bool
-is_local port network = (network.0 == 0) || (network.0 == port.network.0)
+is_local port network = (network.0 == local_network) || (network.0 == port.network.0)
+
+-- networks that no route leads to: the local one, that of all routes, and the ports' own, whether they are up or not
+abbrev pub is_skipped : List Port → Network → Bool
+is_skipped ports network =
+    (network.0 == local_network) || (network.0 == all_routes) || list_any (λ p. p.network.0 == network.0) ports

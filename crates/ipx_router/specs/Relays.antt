@@ -8,9 +8,9 @@ use Rattle.ipx_wire.specs.Packet.{Parts, IsPacket}
 use Rattle.ipx_wire.specs.Write.{packet_bytes}
 use Rattle.ipx_wire.specs.declared.network.Network.{Network}
 use Rattle.ipx_wire.specs.declared.node.Node.{Node}
-use Rattle.ipx_router.specs.Outgoing.{ports_up, is_up, way_to, is_own_port}
-use Rattle.ipx_router.specs.History.{is_skipped}
-use Rattle.ipx_router.specs.Port.{Port, broadcast, port_at, same_node}
+use Rattle.ipx_router.specs.Numbers.{most_routers}
+use Rattle.ipx_router.specs.Outgoing.{way_to, is_own_port}
+use Rattle.ipx_router.specs.Port.{Port, broadcast, port_at, is_up, same_node, is_skipped}
 use Rattle.ipx_router.specs.Why.{is_propagated, is_far, is_own_echo, is_bad_source}
 use Rattle.ipx_router.specs.declared.route_offer.RouteOffer.{RouteOffer}
 
@@ -20,36 +20,36 @@ pub record Sent : Type 0 where
   pub link : Node
   pub bytes : List ℕ
 
--- ---- as a relation, over any tables
+-- ---- as a relation, over any tables and any ports that are up
 
--- a route that a table may have: to another network than the ports' and the two that no network has, by a port that
--- there is, and by one neighbour
+-- a route that a table may have: to a network that routes lead to, by a port that there is, and by one neighbour
 pub record IsTableRoute (ports : List Port) (r : RouteOffer) : Type 0 where
   pub network : is_skipped ports r.network ≡ false
   pub port : r.port < length ports
   pub neighbour : same_node r.node broadcast ≡ false
 
--- a packet may be sent on: it is neither the port's own nor from a broadcast, and not longer than the outgoing port, which
--- is up, allows
-pub record MayLeave (ports : List Port) (number : ℕ) (p : Parts) (out : ℕ) : Type 0 where
+-- a packet may be sent on: both ports are up, it is neither the port's own nor from a broadcast, and it isn't longer than
+-- the outgoing port allows
+pub record MayLeave (ports : List Port) (up : List ℕ) (number : ℕ) (p : Parts) (out : ℕ) : Type 0 where
+  pub comes_up : is_up up number ≡ true
+  pub leaves_up : is_up up out ≡ true
   pub no_echo : is_own_echo (port_at ports number) p.header ≡ false
   pub source : is_bad_source p.header ≡ false
   pub short : p.header.length ≤ (port_at ports out).longest
-  pub up : is_up ports out ≡ true
 
 -- a packet for another network leaves by its way, with its transport control one higher
-pub record IsForwarded (ports : List Port) (routes : List RouteOffer) (number : ℕ) (bytes : List ℕ) (s : Sent) : Type 0 where
+pub record IsForwarded (ports : List Port) (up : List ℕ) (routes : List RouteOffer) (number : ℕ) (bytes : List ℕ) (s : Sent) : Type 0 where
   pub packet : Parts
   pub is : IsPacket bytes packet
   pub far : is_far (port_at ports number) packet.header ≡ true
-  pub few : packet.header.control ≤ 15
+  pub few : packet.header.control < most_routers
   pub elsewhere : is_own_port ports packet.header.destination ≡ false
-  pub way : way_to ports routes packet.header.destination ≡ Some (record { port = s.port; link = s.link })
-  pub leaves : MayLeave ports number packet s.port
+  pub way : way_to ports up routes packet.header.destination ≡ Some (record { port = s.port; link = s.link })
+  pub leaves : MayLeave ports up number packet s.port
   pub written : s.bytes ≡ packet_bytes (forwarded packet)
 
 -- a packet for all networks leaves on another port, if neither that port's network nor the arriving one was crossed
-pub record IsPropagated (ports : List Port) (number : ℕ) (bytes : List ℕ) (s : Sent) : Type 0 where
+pub record IsPropagated (ports : List Port) (up : List ℕ) (number : ℕ) (bytes : List ℕ) (s : Sent) : Type 0 where
   pub packet : Parts
   pub is : IsPacket bytes packet
   pub all : is_propagated packet.header ≡ true
@@ -59,15 +59,15 @@ pub record IsPropagated (ports : List Port) (number : ℕ) (bytes : List ℕ) (s
   pub new_here : is_among (port_at ports number).network networks ≡ false
   pub new_there : is_among (port_at ports s.port).network networks ≡ false
   pub link : s.link ≡ broadcast
-  pub leaves : MayLeave ports number packet s.port
+  pub leaves : MayLeave ports up number packet s.port
   pub written : s.bytes ≡ packet_bytes (propagated (port_at ports number).network (port_at ports s.port).network packet)
 
 -- ---- as the list of what leaves, for packets that no check drops
 
 -- a far packet, by its way
-abbrev pub forwarded_by : List Port → List RouteOffer → Parts → List Sent
-forwarded_by ports routes p =
-    elim (way_to ports routes p.header.destination) [
+abbrev pub forwarded_by : List Port → List ℕ → List RouteOffer → Parts → List Sent
+forwarded_by ports up routes p =
+    elim (way_to ports up routes p.header.destination) [
       | Some way ↦ record { port = way.port; link = way.link; bytes = packet_bytes (forwarded p) } ∷ []
       | None ↦ []
     ]
@@ -89,8 +89,8 @@ propagated_on ports number p out =
     else []
 
 -- what leaves of a packet that is to be sent on, ports in order
-abbrev pub relayed : List Port → List RouteOffer → ℕ → Parts → List Sent
-relayed ports routes number p =
-    if is_propagated p.header then flat_map (propagated_on ports number p) (ports_up ports)
-    else if is_far (port_at ports number) p.header then forwarded_by ports routes p
+abbrev pub relayed : List Port → List ℕ → List RouteOffer → ℕ → Parts → List Sent
+relayed ports up routes number p =
+    if is_propagated p.header then flat_map (propagated_on ports number p) up
+    else if is_far (port_at ports number) p.header then forwarded_by ports up routes p
     else []

@@ -1,24 +1,26 @@
 -- Why a packet is dropped (IPX Router Specification, packet checks): the first check that holds of it, in the order of
 -- the checks.
-use Rattle.std.specs.Prelude.{ℕ, Bool, true, false, not, ◌==◌, ◌&&◌, ◌||◌, nat_lt, nat_le, if◌then◌else◌, List, [], ◌∷◌, length, Option, None, Some, is_none, Ok, Err}
+use Rattle.std.specs.Prelude.{ℕ, Bool, true, false, not, ◌==◌, ◌&&◌, ◌||◌, nat_lt, nat_le, if◌then◌else◌, List, [], ◌∷◌, ◌++◌, length, Option, None, Some, is_none, Ok, Err}
 use Rattle.ipx_wire.specs.Crossed.{networks_at, is_among}
+use Rattle.ipx_wire.specs.Numbers.{crossed_places, crossed_bytes}
 use Rattle.ipx_wire.specs.Packet.{Parts, packet_of}
 use Rattle.ipx_wire.specs.Rip.{rip_of}
 use Rattle.ipx_wire.specs.Sap.{sap_of}
 use Rattle.ipx_wire.specs.declared.header.Header.{Header}
 use Rattle.ipx_wire.specs.declared.sap.Sap.{Sap}
 use Rattle.ipx_wire.specs.declared.sap.Sap.TheVariants.{Query, Response}
+use Rattle.ipx_router.specs.Numbers.{propagated_type, rip_socket, sap_socket, most_routers}
 use Rattle.ipx_router.specs.Outgoing.{way_to, is_own_port}
-use Rattle.ipx_router.specs.Port.{Port, broadcast, port_at, same_node, is_local}
+use Rattle.ipx_router.specs.Port.{Port, broadcast, port_at, is_up, same_node, is_local}
 use Rattle.ipx_router.specs.declared.route_offer.RouteOffer.{RouteOffer}
 use Rattle.ipx_router.specs.declared.why.Why.{Why}
-use Rattle.ipx_router.specs.declared.why.Why.TheVariants.{NotRunning, Malformed, OwnEcho, BadSource, CrossedShort, CrossedFull, CrossedSeen, Elsewhere, OtherSocket, NotNeighbour, BadRip, BadSap, NearestReply, TooManyRouters, FarSide, NoRoute, TooLong}
+use Rattle.ipx_router.specs.declared.why.Why.TheVariants.{NotRunning, Malformed, OwnEcho, BadSource, CrossedShort, CrossedFull, CrossedSeen, Elsewhere, OtherSocket, NotNeighbour, BadRip, BadSap, NearestReply, TooManyRouters, FarSide, NoRoute, TooLong, DownPort}
 
 -- ---- three kinds of packets
 
--- type 20 to all nodes, whatever the destination network (own)
+-- of the propagated type and to all nodes, whatever the destination network (own)
 abbrev pub is_propagated : Header → Bool
-is_propagated h = (h.kind == 20) && same_node h.destination.node broadcast
+is_propagated h = (h.kind == propagated_type) && same_node h.destination.node broadcast
 
 -- not to be propagated, and for the port's own network
 abbrev pub is_near : Port → Header → Bool
@@ -30,10 +32,10 @@ is_far port h = not (is_propagated h) && not (is_local port h.destination.networ
 
 -- for the routing process, and for the service process
 abbrev pub is_for_rip : Header → Bool
-is_for_rip h = h.destination.socket.0 == 1107
+is_for_rip h = h.destination.socket.0 == rip_socket
 
 abbrev pub is_for_sap : Header → Bool
-is_for_sap h = h.destination.socket.0 == 1106
+is_for_sap h = h.destination.socket.0 == sap_socket
 
 -- ---- the checks, in their order
 
@@ -47,11 +49,11 @@ is_bad_source h = same_node h.source.node broadcast
 
 -- propagated, and the data have no room for eight networks
 abbrev pub is_crossed_short : Parts → Bool
-is_crossed_short p = is_propagated p.header && nat_lt (length p.payload) 32
+is_crossed_short p = is_propagated p.header && nat_lt (length p.payload) crossed_bytes
 
 -- propagated, and eight networks were crossed, or more than there are places
 abbrev pub is_crossed_full : Parts → Bool
-is_crossed_full p = is_propagated p.header && nat_le 8 p.header.control
+is_crossed_full p = is_propagated p.header && nat_le crossed_places p.header.control
 
 -- propagated, and the port's network is among those crossed
 abbrev pub is_crossed_seen : Port → Parts → Bool
@@ -61,9 +63,9 @@ is_crossed_seen port p = is_propagated p.header && is_among port.network (networ
 abbrev pub is_elsewhere : Port → Header → Bool
 is_elsewhere port h = is_near port h && not (same_node h.destination.node port.node || same_node h.destination.node broadcast)
 
--- near, and of type 20 or for a socket without a process
+-- near, and of the propagated type or for a socket without a process
 abbrev pub is_other_socket : Port → Header → Bool
-is_other_socket port h = is_near port h && ((h.kind == 20) || not (is_for_rip h || is_for_sap h))
+is_other_socket port h = is_near port h && ((h.kind == propagated_type) || not (is_for_rip h || is_for_sap h))
 
 -- near, and from another network
 abbrev pub is_not_neighbour : Port → Header → Bool
@@ -93,20 +95,24 @@ is_nearest_reply port p =
 
 -- far, and through sixteen routers or more (own: what comes with 15 leaves with 16)
 abbrev pub is_through_too_many : Port → Header → Bool
-is_through_too_many port h = is_far port h && nat_le 16 h.control
+is_through_too_many port h = is_far port h && nat_le most_routers h.control
 
--- far, and for a port of this router
+-- far, and for a port of this router, up or not
 abbrev pub is_far_side : List Port → Port → Header → Bool
 is_far_side ports port h = is_far port h && is_own_port ports h.destination
 
 -- far, and there is no way
-abbrev pub is_no_route : List Port → List RouteOffer → Port → Header → Bool
-is_no_route ports routes port h = is_far port h && is_none (way_to ports routes h.destination)
+abbrev pub is_no_route : List Port → List ℕ → List RouteOffer → Port → Header → Bool
+is_no_route ports up routes port h = is_far port h && is_none (way_to ports up routes h.destination)
 
 -- far, and longer than the outgoing port allows
-abbrev pub is_too_long : List Port → List RouteOffer → Port → Header → Bool
-is_too_long ports routes port h =
-    is_far port h && elim (way_to ports routes h.destination) [ Some way ↦ nat_lt (port_at ports way.port).longest h.length | None ↦ false ]
+abbrev pub is_too_long : List Port → List ℕ → List RouteOffer → Port → Header → Bool
+is_too_long ports up routes port h =
+    is_far port h && elim (way_to ports up routes h.destination) [ Some way ↦ nat_lt (port_at ports way.port).longest h.length | None ↦ false ]
+
+-- the port on which it came is down
+abbrev pub is_down_port : List ℕ → ℕ → Bool
+is_down_port up number = not (is_up up number)
 
 -- ---- judging
 
@@ -121,9 +127,9 @@ first_of [] = None
 first_of (Some why ∷ checks) = Some why
 first_of (None ∷ checks) = first_of checks
 
--- the fifteen checks of a packet that comes on a port, over the routes that are held
-abbrev pub checks : List Port → List RouteOffer → Port → Parts → List (Option Why)
-checks ports routes port p =
+-- the fifteen checks of a packet that comes on a port, over the ports that are up and the routes that are held
+abbrev pub checks : List Port → List ℕ → List RouteOffer → Port → Parts → List (Option Why)
+checks ports up routes port p =
     when (is_own_echo port p.header) OwnEcho
     ∷ when (is_bad_source p.header) BadSource
     ∷ when (is_crossed_short p) CrossedShort
@@ -137,8 +143,8 @@ checks ports routes port p =
     ∷ when (is_nearest_reply port p) NearestReply
     ∷ when (is_through_too_many port p.header) TooManyRouters
     ∷ when (is_far_side ports port p.header) FarSide
-    ∷ when (is_no_route ports routes port p.header) NoRoute
-    ∷ when (is_too_long ports routes port p.header) TooLong
+    ∷ when (is_no_route ports up routes port p.header) NoRoute
+    ∷ when (is_too_long ports up routes port p.header) TooLong
     ∷ []
 
 -- the router is stopped
@@ -150,10 +156,12 @@ abbrev pub malformed : List ℕ → Option Why
 malformed bytes = elim (packet_of bytes) [ Ok p ↦ None | Err fault ↦ Some (Malformed fault) ]
 
 -- the checks of the packet in the bytes, if they are one
-abbrev pub packet_checks : List Port → List RouteOffer → Port → List ℕ → List (Option Why)
-packet_checks ports routes port bytes = elim (packet_of bytes) [ Ok p ↦ checks ports routes port p | Err fault ↦ [] ]
+abbrev pub packet_checks : List Port → List ℕ → List RouteOffer → Port → List ℕ → List (Option Why)
+packet_checks ports up routes port bytes = elim (packet_of bytes) [ Ok p ↦ checks ports up routes port p | Err fault ↦ [] ]
 
--- why bytes that come on a port are dropped, if they are: the first of all seventeen checks
-abbrev pub why : List Port → List RouteOffer → Bool → ℕ → List ℕ → Option Why
-why ports routes running number bytes =
-    first_of (when (is_stopped running) NotRunning ∷ malformed bytes ∷ packet_checks ports routes (port_at ports number) bytes)
+-- why bytes that come on a port are dropped, if they are: the first of all eighteen checks
+abbrev pub why : List Port → List ℕ → List RouteOffer → Bool → ℕ → List ℕ → Option Why
+why ports up routes running number bytes =
+    first_of
+    (when (is_stopped running) NotRunning ∷ malformed bytes
+    ∷ (packet_checks ports up routes (port_at ports number) bytes ++ when (is_down_port up number) DownPort ∷ []))

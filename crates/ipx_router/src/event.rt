@@ -16,4 +16,14 @@ pub enum Event<'a> {
         /// What came in, any bytes at all.
         bytes: &'a [u8],
     },
+    /// A port goes down: nothing leaves on it, what came by it is forgotten, and what comes on it is dropped.
+    PortDown {
+        /// The number of the port, from 0; there is such a port.
+        port: u8,
+    },
+    /// A port that went down comes up again.
+    PortUp {
+        /// The number of the port, from 0; there is such a port.
+        port: u8,
+    },
 }

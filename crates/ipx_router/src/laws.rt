@@ -1,5 +1,5 @@
 //! What holds of the definitions, for all ports, routes, services and histories.
-ghost use Rattle.std.specs.Prelude.{◌≡◌, ◌↔◌, ◌⊎◌, ℕ, ◌^◌, ◌<◌, ◌≤◌, ◌==◌, Bool, true, false, not, List, [], ◌∷◌, ◌++◌, length, filter, map, slice_get, Some, None, Ok};
+ghost use Rattle.std.specs.Prelude.{◌≡◌, ◌≢◌, ◌↔◌, ◌⊎◌, ℕ, ◌^◌, ◌<◌, ◌≤◌, ◌==◌, Bool, true, false, not, List, [], ◌∷◌, ◌++◌, length, filter, map, slice_get, Some, None, Ok};
 ghost use Rattle.std.specs.List.{AllByRecursion};
 ghost use Rattle.std.specs.List.Sorted.{IsStrictlyIncreasing};
 ghost use Rattle.ipx_wire.specs.Packet.{Parts, packet_of};
@@ -8,13 +8,14 @@ ghost use Rattle.ipx_wire.specs.declared.address.Address.{Address};
 ghost use Rattle.ipx_wire.specs.declared.network.Network.{Network};
 ghost use Rattle.ipx_wire.specs.declared.node.Node.{Node};
 ghost use Rattle.ipx_router.specs.Bounds.{most_packets, most_length};
-ghost use Rattle.ipx_router.specs.History.{Event, History, Start, Stop, Second, Packet, IsOnPort, IsOfBytes, running, routes_held, services_held, offers};
+ghost use Rattle.ipx_router.specs.Facts.{routes_held, services_held, offers};
+ghost use Rattle.ipx_router.specs.History.{Event, History, Start, Stop, Second, Packet, PortDown, PortUp, IsOnPort, IsOfBytes, running, ports_up};
 ghost use Rattle.ipx_router.specs.News.{news, news_services, same_address, same_route, same_service};
 ghost use Rattle.ipx_router.specs.Packets.{IsSentFor, IsRelayed};
-ghost use Rattle.ipx_router.specs.Port.{Port, IsPort, IsNoPort, same_node};
+ghost use Rattle.ipx_router.specs.Port.{Port, IsPort, IsNoPort, AreApart, port_at, is_up, same_node};
 ghost use Rattle.ipx_router.specs.Relays.{Sent, IsTableRoute, relayed};
 ghost use Rattle.ipx_router.specs.Why.{why};
-ghost use Rattle.ipx_router.specs.Sends.{sends};
+ghost use Rattle.ipx_router.specs.Sends.{sends, ports_sending};
 ghost use Rattle.ipx_router.specs.Told.{told, told_services};
 ghost use Rattle.ipx_router.specs.declared.port.PortFault.{PortFault};
 
@@ -23,8 +24,8 @@ use crate::service_offer::ServiceOffer;
 
 /// What was learned on a port changes nothing of what is told there.
 pub fn split_horizon()
-    ensures routes { (ports : List Port) (routes : List RouteOffer) (number : ℕ)
-        → told ports (filter (λ r. not (r.port == number)) routes) number ≡ told ports routes number }
+    ensures routes { (ports : List Port) (up : List ℕ) (routes : List RouteOffer) (number : ℕ)
+        → told ports up (filter (λ r. not (r.port == number)) routes) number ≡ told ports up routes number }
     ensures services { (services : List ServiceOffer) (number : ℕ)
         → told_services (filter (λ s. not (s.port == number)) services) number ≡ told_services services number }
 {}
@@ -37,6 +38,11 @@ pub fn stopped()
         → sends ports most_routes most_services history Second ≡ [] }
     ensures packet { (ports : List Port) (most_routes most_services : ℕ) (history : History) (number : ℕ) (bytes : List ℕ) → running history ≡ false
         → sends ports most_routes most_services history (Packet number bytes) ≡ [] }
+    ensures port_down { (ports : List Port) (most_routes most_services : ℕ) (history : History) (number : ℕ) → running history ≡ false
+        → sends ports most_routes most_services history (PortDown number) ≡ [] }
+    ensures port_up { (ports : List Port) (most_routes most_services : ℕ) (history : History) (number : ℕ) → running history ≡ false
+        → sends ports most_routes most_services history (PortUp number) ≡ [] }
+    ensures none_up { (ports : List Port) (history : History) → running history ≡ false → ports_up ports history ≡ [] }
 {}
 
 /// Where the same is held before an event and after it, there is no news.
@@ -62,35 +68,44 @@ pub fn port_values()
 {}
 
 /// The routes that are held after any history are such as a table may have: none is to network 0, FFFFFFFFh or a
-/// port's own; each is by a port that there is, and by one neighbour, not the broadcast.
+/// port's own; each is by a port that there is, and by one neighbour, not the broadcast. What is held came by a port that is
+/// up.
 pub fn tables()
-    ensures { (ports : List Port) (capacity : ℕ) (history : History) → AllByRecursion (IsOnPort ports) history
+    ensures of_a_table { (ports : List Port) (capacity : ℕ) (history : History) → AllByRecursion (IsOnPort ports) history
         → AllByRecursion (IsTableRoute ports) (offers (routes_held ports capacity history)) }
+    ensures routes_up { (ports : List Port) (capacity : ℕ) (history : History)
+        → AllByRecursion (λ r. is_up (ports_up ports history) r.port ≡ true) (offers (routes_held ports capacity history)) }
+    ensures services_up { (ports : List Port) (capacity : ℕ) (history : History)
+        → AllByRecursion (λ s. is_up (ports_up ports history) s.port ≡ true) (offers (services_held ports capacity history)) }
 {}
 
-/// What is listed as sent on of a packet that no check drops is sent on by the relations, over any routes that a table may
-/// have; and what the relations say is sent on comes of a packet that no check drops, and is listed.
-/// What is listed leaves on rising port numbers, so on each port at most once.
+/// What is listed as sent on of a packet that no check drops is sent on by the relations, over any ports that are up and any
+/// routes by them that a table may have; and what the relations say is sent on comes of a packet that no check drops, and is
+/// listed. What is listed leaves on rising port numbers, so on each port at most once.
 pub fn relays()
-    ensures listed { (ports : List Port) (routes : List RouteOffer) (number : ℕ) (bytes : List ℕ) (p : Parts) (k : ℕ) (s : Sent)
-        → IsBytes bytes → AllByRecursion (IsTableRoute ports) routes
-        → why ports routes true number bytes ≡ None → packet_of bytes ≡ Ok p
-        → slice_get (relayed ports routes number p) k ≡ Some s → IsRelayed ports routes number bytes s }
-    ensures all { (ports : List Port) (routes : List RouteOffer) (number : ℕ) (bytes : List ℕ) (s : Sent)
-        → IsBytes bytes → IsRelayed ports routes number bytes s
-        → (why ports routes true number bytes ≡ None)
-        × ((p : Parts) × (k : ℕ) × (packet_of bytes ≡ Ok p) × (slice_get (relayed ports routes number p) k ≡ Some s)) }
-    ensures in_order { (ports : List Port) (routes : List RouteOffer) (number : ℕ) (p : Parts) → IsStrictlyIncreasing (map (λ s. s.port) (relayed ports routes number p)) }
+    ensures listed { (ports : List Port) (up : List ℕ) (routes : List RouteOffer) (number : ℕ) (bytes : List ℕ) (p : Parts) (k : ℕ) (s : Sent)
+        → IsBytes bytes → AllByRecursion (λ r. is_up up r.port ≡ true) routes
+        → why ports up routes true number bytes ≡ None → packet_of bytes ≡ Ok p
+        → slice_get (relayed ports up routes number p) k ≡ Some s → IsRelayed ports up routes number bytes s }
+    ensures all { (ports : List Port) (up : List ℕ) (routes : List RouteOffer) (number : ℕ) (bytes : List ℕ) (s : Sent)
+        → IsBytes bytes → IsRelayed ports up routes number bytes s
+        → (why ports up routes true number bytes ≡ None)
+        × ((p : Parts) × (k : ℕ) × (packet_of bytes ≡ Ok p) × (slice_get (relayed ports up routes number p) k ≡ Some s)) }
+    ensures in_order { (ports : List Port) (up : List ℕ) (routes : List RouteOffer) (number : ℕ) (p : Parts)
+        → IsStrictlyIncreasing up → IsStrictlyIncreasing (map (λ s. s.port) (relayed ports up routes number p)) }
+    ensures ups { (ports : List Port) (history : History) → IsStrictlyIncreasing (ports_up ports history) × AllByRecursion (λ j. j < length ports) (ports_up ports history) }
 {
     ipx_wire::laws::readings();
 }
 
-/// Each packet that an event sends is one by the layouts: routing information or service advertising from the port's own
-/// process, or the packet that came, sent on. What is sent are bytes.
+/// Each packet that an event sends is one by the layouts, on a port that is up: routing information or service advertising
+/// with the header of an own packet, from the port's own process to all on its network or to the one that asked; or the packet
+/// that came, sent on. What is sent are bytes.
 pub fn packets()
     ensures layouts { (ports : List Port) (most_routes most_services : ℕ) (history : History) (event : Event)
         → AllByRecursion IsPort ports → AllByRecursion (IsOnPort ports) (history ++ event ∷ []) → AllByRecursion IsOfBytes (history ++ event ∷ [])
-        → AllByRecursion (IsSentFor ports (offers (routes_held ports most_routes history)) event) (sends ports most_routes most_services history event) }
+        → AllByRecursion (IsSentFor ports (ports_sending ports history event) (offers (routes_held ports most_routes history)) event)
+        (sends ports most_routes most_services history event) }
     ensures bytes { (ports : List Port) (most_routes most_services : ℕ) (history : History) (event : Event)
         → AllByRecursion IsPort ports → AllByRecursion (IsOnPort ports) (history ++ event ∷ []) → AllByRecursion IsOfBytes (history ++ event ∷ [])
         → AllByRecursion (λ s. IsBytes s.bytes) (sends ports most_routes most_services history event) }
@@ -99,6 +114,23 @@ pub fn packets()
     ipx_wire::laws::service_readings();
     ipx_wire::laws::reread();
     relays();
+}
+
+/// Nothing is sent on a port that is down, and its network is told as reached nowhere: not among all that is told on a
+/// port, and not among the changes.
+pub fn down_ports()
+    ensures silent { (ports : List Port) (most_routes most_services : ℕ) (history : History) (event : Event)
+        → AllByRecursion IsPort ports → AllByRecursion (IsOnPort ports) (history ++ event ∷ []) → AllByRecursion IsOfBytes (history ++ event ∷ [])
+        → AllByRecursion (λ s. is_up (ports_sending ports history event) s.port ≡ true) (sends ports most_routes most_services history event) }
+    ensures told { (ports : List Port) (most_routes : ℕ) (history : History) (number down : ℕ)
+        → AreApart ports → AllByRecursion (IsOnPort ports) history → down < length ports → is_up (ports_up ports history) down ≡ false
+        → AllByRecursion (λ e. e.network ≢ (port_at ports down).network) (told ports (ports_up ports history) (offers (routes_held ports most_routes history)) number) }
+    ensures news { (ports : List Port) (most_routes : ℕ) (before after : History) (number other : ℕ)
+        → AllByRecursion (IsOnPort ports) before → AllByRecursion (IsOnPort ports) after → other < length ports
+        → AllByRecursion (λ e. e.network ≢ (port_at ports other).network)
+        (news ports (offers (routes_held ports most_routes before)) (offers (routes_held ports most_routes after)) number) }
+{
+    packets();
 }
 
 /// An event sends no more packets than stated, where the router has at most 32 ports, and none longer than stated.

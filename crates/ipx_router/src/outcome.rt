@@ -20,6 +20,14 @@ pub enum Outcome {
     Forwarded,
     /// The packet was sent on to the other networks; also where there was none.
     Propagated,
+    /// The port is down from now on.
+    WentDown,
+    /// The port is up from now on.
+    CameUp,
+    /// The port was down already; nothing was done.
+    AlreadyDown,
+    /// The port was up already; nothing was done.
+    AlreadyUp,
     /// The packet is for the port's own network, and only relaying was asked for.
     Local,
     /// Nothing was done, for that reason.

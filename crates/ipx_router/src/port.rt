@@ -29,6 +29,8 @@ pub struct Port {
     node: Node,
     cost: u16,
     longest: u16,
+    route_share: u16,
+    service_share: u16,
 }
 
 impl Model for Port {
@@ -36,11 +38,11 @@ impl Model for Port {
 
     ghost Value = { Port };
 
-    ghost view = { λ p. record { network = p.network; node = p.node; cost = p.cost; longest = p.longest } };
+    ghost view = { λ p. record { network = p.network; node = p.node; cost = p.cost; longest = p.longest; route_share = p.route_share; service_share = p.service_share } };
 
-    ghost invariant = { λ p. IsPort (record { network = p.network; node = p.node; cost = p.cost; longest = p.longest }) };
+    ghost invariant = { λ p. IsPort (record { network = p.network; node = p.node; cost = p.cost; longest = p.longest; route_share = p.route_share; service_share = p.service_share }) };
 
-    ghost inverse = { λ p. record { network = p.network; node = p.node; cost = p.cost; longest = p.longest } };
+    ghost inverse = { λ p. record { network = p.network; node = p.node; cost = p.cost; longest = p.longest; route_share = p.route_share; service_share = p.service_share } };
 }
 
 /// Some port, for places that are not in use: node 0 of network 1.
@@ -50,28 +52,34 @@ impl Default for Port {
             network: Network(1),
             node: Node([0; 6]),
             cost: 1,
-            longest: 576,
+            longest: Port::LEAST_LONGEST,
+            route_share: u16::MAX,
+            service_share: u16::MAX,
         }
     }
 }
 
 impl Port {
+    ghost use Rattle.ipx_router.specs.Numbers.{whole_share};
     ghost use Rattle.ipx_router.specs.Port.{IsNoPort, IsPort};
 
+    /// Every port lets packets of so many bytes leave.
+    pub const LEAST_LONGEST: u16 = 576;
+
     /// A port of a network with a node number there, its cost in ticks, and the bytes of the
-    /// longest packet that may leave on it.
+    /// longest packet that may leave on it. Its shares limit nothing.
     pub fn new(network: Network, node: Node, cost: u16, longest: u16) -> Result<Port, PortFault>
-        ensures value { IfOk result (λ p. p ≡ record { network = network; node = node; cost = cost; longest = longest }) }
+        ensures value { IfOk result (λ p. p ≡ record { network = network; node = node; cost = cost; longest = longest; route_share = whole_share; service_share = whole_share }) }
         ensures fit { IfOk result IsPort }
         ensures refused { IfErr result (IsNoPort network node cost longest) }
     {
-        if longest < 576 {
+        if longest < Port::LEAST_LONGEST {
             return Err(PortFault::Longest);
         }
         if cost == 0 {
             return Err(PortFault::Cost);
         }
-        if network.0 == 0 || network.0 >= 0xFFFF_FFFE {
+        if network.0 == 0 || network.0 >= Network::DEFAULT_ROUTE.0 {
             return Err(PortFault::Network);
         }
         if node == Node::BROADCAST {
@@ -83,7 +91,21 @@ impl Port {
             node,
             cost,
             longest,
+            route_share: u16::MAX,
+            service_share: u16::MAX,
         })
+    }
+
+    /// The same port with shares of the tables: how many of the routes and of the services that are held may have come
+    /// by it.
+    pub fn with_shares(self, routes: u16, services: u16) -> Port
+        ensures { result ≡ record self { route_share = routes; service_share = services } }
+    {
+        Port {
+            route_share: routes,
+            service_share: services,
+            ..self
+        }
     }
 
     pub fn network(&self) -> Network
@@ -110,6 +132,20 @@ impl Port {
         ensures { result ≡ self.now.longest }
     {
         self.longest
+    }
+
+    /// How many of the routes that are held may have come by it.
+    pub fn route_share(&self) -> u16
+        ensures { result ≡ self.now.route_share }
+    {
+        self.route_share
+    }
+
+    /// How many of the services that are held may have come by it.
+    pub fn service_share(&self) -> u16
+        ensures { result ≡ self.now.service_share }
+    {
+        self.service_share
     }
 }
 

@@ -3,7 +3,7 @@ ghost use Rattle.std.proofs.Common.{rules};
 ghost use Rattle.ipx_router.specs.Routes.{route_reading};
 
 use ipx_table::Offer;
-use ipx_wire::{Network, Node};
+use ipx_wire::{Network, Node, RipEntry};
 
 /// A route as a neighbour told it: fewer ticks are better, then fewer hops.
 #[derive(Clone, Copy, Debug, Default, PartialEq, Eq, Hash)]
@@ -38,7 +38,7 @@ impl Offer for RouteOffer {
     }
 
     fn is_down(&self) -> bool {
-        16 <= self.hops
+        RipEntry::UNREACHABLE <= self.hops
     }
 
     ghost alike = { Prim.search rules };

@@ -3,7 +3,7 @@ ghost use Rattle.std.proofs.Common.{rules};
 ghost use Rattle.ipx_router.specs.Services.{service_reading};
 
 use ipx_table::Offer;
-use ipx_wire::{Node, Service, ServiceName};
+use ipx_wire::{Node, RipEntry, Service, ServiceName};
 
 /// A service as a neighbour told it: fewer hops are better. It is known by its type and its name.
 #[derive(Clone, Copy, Debug, Default, PartialEq, Eq, Hash)]
@@ -34,7 +34,7 @@ impl Offer for ServiceOffer {
     }
 
     fn is_down(&self) -> bool {
-        16 <= self.service.hops
+        RipEntry::UNREACHABLE <= self.service.hops
     }
 
     ghost alike = { Prim.search rules };

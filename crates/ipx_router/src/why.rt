@@ -33,10 +33,12 @@ pub enum Why {
     NearestReply,
     /// Far, and it came through sixteen routers or more.
     TooManyRouters,
-    /// Far, for the node of another port of this router.
+    /// Far, for the node of another port of this router, up or not.
     FarSide,
-    /// Far, for a network that is neither another port's nor known.
+    /// Far, for a network that is neither that of another port that is up nor known, and that no default route serves.
     NoRoute,
     /// Far, and longer than the port on which it would leave allows.
     TooLong,
+    /// The port on which it came is down.
+    DownPort,
 }

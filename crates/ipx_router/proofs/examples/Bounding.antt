@@ -4,7 +4,7 @@ use Rattle.ipx_wire.specs.Address.{address_at}
 use Rattle.ipx_wire.specs.Header.{header_at}
 use Rattle.ipx_wire.specs.Packet.{packet_of}
 use Rattle.ipx_router.specs.Bounds.{most_packets, most_length}
-use Rattle.ipx_router.specs.History.{Start, Stop, Second, Packet}
+use Rattle.ipx_router.specs.History.{Start, Stop, Second, Packet, PortDown, PortUp}
 use Rattle.ipx_router.specs.Pages.{pages}
 
 -- pages of fifty, the last one shorter, and none of nothing
@@ -84,3 +84,36 @@ most_of_a_query = refl
 -- a start of three ports: three packets on each
 pub most_of_a_start_of_three : most_packets 3 100 100 Start ≡ 9
 most_of_a_start_of_three = refl
+
+-- a port that goes down: on each other port what a second may tell
+pub most_of_a_port_down : most_packets 3 61 7 (PortDown 0) ≡ 6
+most_of_a_port_down = refl
+
+-- its own network is among 50 entries with 49 routes, and makes a second packet with 50
+pub most_of_a_port_down_with_49_routes : most_packets 2 49 0 (PortDown 0) ≡ 1
+most_of_a_port_down_with_49_routes = refl
+
+pub most_of_a_port_down_with_50_routes : most_packets 2 50 0 (PortDown 0) ≡ 2
+most_of_a_port_down_with_50_routes = refl
+
+-- a single port goes down unheard
+pub none_of_the_only_port_down : most_packets 1 61 7 (PortDown 0) ≡ 0
+none_of_the_only_port_down = refl
+
+-- a port that comes up: one packet on each other port, and on its own the request, the query, and all that is told
+pub most_of_a_port_up : most_packets 2 0 0 (PortUp 1) ≡ 4
+most_of_a_port_up = refl
+
+pub most_of_a_port_up_of_three : most_packets 3 61 8 (PortUp 1) ≡ 8
+most_of_a_port_up_of_three = refl
+
+-- a single port asks twice
+pub two_of_the_only_port_up : most_packets 1 0 0 (PortUp 0) ≡ 2
+two_of_the_only_port_up = refl
+
+-- none of these packets is longer than seven services
+pub longest_of_a_port_down : most_length (PortDown 0) ≡ 480
+longest_of_a_port_down = refl
+
+pub longest_of_a_port_up : most_length (PortUp 0) ≡ 480
+longest_of_a_port_up = refl

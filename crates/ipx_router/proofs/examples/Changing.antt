@@ -2,17 +2,17 @@
 use Rattle.std.proofs.Common.{◌≡◌, ℕ, List, [], ◌∷◌, ◌++◌, refl, codes}
 use Rattle.hex.specs.Hex.{decode_pairs}
 use Rattle.ipx_wire.specs.Address.{address_bytes, address_at}
-use Rattle.ipx_wire.specs.Crossed.{network_bytes, networks_at, network_at}
+use Rattle.ipx_wire.specs.Crossed.{network_bytes, network_at}
 use Rattle.ipx_wire.specs.Header.{header_bytes, header_at}
 use Rattle.ipx_wire.specs.Items.{items}
 use Rattle.ipx_wire.specs.Name.{name_of, name_field}
 use Rattle.ipx_wire.specs.Packet.{packet_of}
-use Rattle.ipx_wire.specs.Rip.{rip_of, entry_at, entries_at, entry_bytes}
+use Rattle.ipx_wire.specs.Rip.{rip_of, entry_at, entry_bytes}
 use Rattle.ipx_wire.specs.Sap.{sap_of}
 use Rattle.ipx_wire.specs.SapEntries.{sap_entry_at}
 use Rattle.ipx_wire.specs.WriteServices.{service_bytes}
 use Rattle.ipx_router.specs.History.{Start, Packet}
-use Rattle.ipx_router.proofs.examples.Words.{hex, node, sent_by, out, all_nodes, general_request, response, heard_of_30}
+use Rattle.ipx_router.proofs.examples.Words.{hex, sent_by, out, all_nodes, response, heard_of_30}
 
 -- node BBh on network 20h reaches network 30h no longer
 abbrev withdrawal : List ℕ
@@ -30,10 +30,6 @@ by_the_other_port = (hex (codes "FFFF0038000100000010FFFFFFFFFFFF045300000010000
 abbrev better : List ℕ
 better = (hex (codes "FFFF0028000100000010FFFFFFFFFFFF0453000000100000000000AA" ++ codes "045300020000003000010001"))
 
--- network 30h is fifteen hops away
-abbrev far : List ℕ
-far = (hex (codes "FFFF0028000100000020FFFFFFFFFFFF0453000000200000000000BB" ++ codes "0453000200000030000F0002"))
-
 -- an entry each for the networks that no route is taken for, and one more
 abbrev skipped : List ℕ
 skipped = (hex (codes "FFFF0048000100000020FFFFFFFFFFFF0453000000200000000000BB" ++ codes "045300020000000000010002FFFFFFFF000100020000001000010002" ++ codes "00000020000100020000003000010002"))
@@ -41,20 +37,20 @@ skipped = (hex (codes "FFFF0048000100000020FFFFFFFFFFFF0453000000200000000000BB"
 -- what is heard again as it was isn't told
 pub a_refresh_is_no_news : sent_by heard_of_30 (Packet 1 response)
     ≡ []
-unfolding decode_pairs header_bytes address_bytes entry_bytes network_bytes service_bytes name_field packet_of header_at address_at rip_of entries_at entry_at sap_of items sap_entry_at name_of networks_at network_at
+unfolding decode_pairs header_bytes address_bytes entry_bytes network_bytes service_bytes name_field packet_of header_at address_at rip_of entry_at sap_of items sap_entry_at name_of network_at
 a_refresh_is_no_news = refl
 
 -- what its neighbour withdraws is told as dead
 pub a_withdrawal_is_told : sent_by heard_of_30 (Packet 1 withdrawal)
     ≡ out 0 all_nodes (hex (codes "FFFF0028000100000010FFFFFFFFFFFF045300000010000000000001" ++ codes "04530002000000300010FFFF"))
     ∷ []
-unfolding decode_pairs header_bytes address_bytes entry_bytes network_bytes service_bytes name_field packet_of header_at address_at rip_of entries_at entry_at sap_of items sap_entry_at name_of networks_at network_at
+unfolding decode_pairs header_bytes address_bytes entry_bytes network_bytes service_bytes name_field packet_of header_at address_at rip_of entry_at sap_of items sap_entry_at name_of network_at
 a_withdrawal_is_told = refl
 
 -- what ends and comes back as it was within one packet isn't told
 pub withdrawn_and_offered_is_no_news : sent_by heard_of_30 (Packet 1 withdrawn_and_offered)
     ≡ []
-unfolding decode_pairs header_bytes address_bytes entry_bytes network_bytes service_bytes name_field packet_of header_at address_at rip_of entries_at entry_at sap_of items sap_entry_at name_of networks_at network_at
+unfolding decode_pairs header_bytes address_bytes entry_bytes network_bytes service_bytes name_field packet_of header_at address_at rip_of entry_at sap_of items sap_entry_at name_of network_at
 withdrawn_and_offered_is_no_news = refl
 
 -- a route that was replaced and then withdrawn was last known on the other port, and is told there as before the packet
@@ -62,51 +58,19 @@ pub replaced_and_withdrawn : sent_by heard_of_30 (Packet 0 by_the_other_port)
     ≡ out 0 all_nodes (hex (codes "FFFF0028000100000010FFFFFFFFFFFF045300000010000000000001" ++ codes "04530002000000300010FFFF"))
     ∷ out 1 all_nodes (hex (codes "FFFF0028000100000020FFFFFFFFFFFF045300000020000000000002" ++ codes "045300020000007700020003"))
     ∷ []
-unfolding decode_pairs header_bytes address_bytes entry_bytes network_bytes service_bytes name_field packet_of header_at address_at rip_of entries_at entry_at sap_of items sap_entry_at name_of networks_at network_at
+unfolding decode_pairs header_bytes address_bytes entry_bytes network_bytes service_bytes name_field packet_of header_at address_at rip_of entry_at sap_of items sap_entry_at name_of network_at
 replaced_and_withdrawn = refl
 
 -- a better way by the other port is told where the old one was learned
 pub replaced : sent_by heard_of_30 (Packet 0 better)
     ≡ out 1 all_nodes (hex (codes "FFFF0028000100000020FFFFFFFFFFFF045300000020000000000002" ++ codes "045300020000003000020002"))
     ∷ []
-unfolding decode_pairs header_bytes address_bytes entry_bytes network_bytes service_bytes name_field packet_of header_at address_at rip_of entries_at entry_at sap_of items sap_entry_at name_of networks_at network_at
+unfolding decode_pairs header_bytes address_bytes entry_bytes network_bytes service_bytes name_field packet_of header_at address_at rip_of entry_at sap_of items sap_entry_at name_of network_at
 replaced = refl
-
--- fifteen hops are told as dead, since the next hop isn't reached
-pub as_far_as_can_be : sent_by (Start ∷ []) (Packet 1 far)
-    ≡ out 0 all_nodes (hex (codes "FFFF0028000100000010FFFFFFFFFFFF045300000010000000000001" ++ codes "04530002000000300010FFFF"))
-    ∷ []
-unfolding decode_pairs header_bytes address_bytes entry_bytes network_bytes service_bytes name_field packet_of header_at address_at rip_of entries_at entry_at sap_of items sap_entry_at name_of networks_at network_at
-as_far_as_can_be = refl
-
--- and not at all to an asker
-pub as_far_as_can_be_asked : sent_by (Start ∷ Packet 1 far ∷ []) (Packet 0 general_request)
-    ≡ out 0 (node 0xAA) (hex (codes "FFFF00280001000000100000000000AA045300000010000000000001" ++ codes "045300020000002000010002"))
-    ∷ []
-unfolding decode_pairs header_bytes address_bytes entry_bytes network_bytes service_bytes name_field packet_of header_at address_at rip_of entries_at entry_at sap_of items sap_entry_at name_of networks_at network_at
-as_far_as_can_be_asked = refl
 
 -- networks 0, FFFFFFFFh and those of the ports are skipped
 pub networks_of_no_route : sent_by (Start ∷ []) (Packet 1 skipped)
     ≡ out 0 all_nodes (hex (codes "FFFF0028000100000010FFFFFFFFFFFF045300000010000000000001" ++ codes "045300020000003000020003"))
     ∷ []
-unfolding decode_pairs header_bytes address_bytes entry_bytes network_bytes service_bytes name_field packet_of header_at address_at rip_of entries_at entry_at sap_of items sap_entry_at name_of networks_at network_at
+unfolding decode_pairs header_bytes address_bytes entry_bytes network_bytes service_bytes name_field packet_of header_at address_at rip_of entry_at sap_of items sap_entry_at name_of network_at
 networks_of_no_route = refl
-
--- node BBh knows network FFFFFFFEh
-abbrev of_the_default : List ℕ
-of_the_default = hex (codes "FFFF0028000100000020FFFFFFFFFFFF0453000000200000000000BB" ++ codes "04530002FFFFFFFE00010002")
-
--- network FFFFFFFEh is one as any other: it is told at once
-pub the_default_is_learned : sent_by (Start ∷ []) (Packet 1 of_the_default)
-    ≡ out 0 all_nodes (hex (codes "FFFF0028000100000010FFFFFFFFFFFF045300000010000000000001" ++ codes "04530002FFFFFFFE00020003"))
-    ∷ []
-unfolding decode_pairs header_bytes address_bytes entry_bytes network_bytes service_bytes name_field packet_of header_at address_at rip_of entries_at entry_at sap_of items sap_entry_at name_of networks_at network_at
-the_default_is_learned = refl
-
--- and to whoever asks
-pub the_default_is_told : sent_by (Start ∷ Packet 1 of_the_default ∷ []) (Packet 0 general_request)
-    ≡ out 0 (node 0xAA) (hex (codes "FFFF00300001000000100000000000AA045300000010000000000001" ++ codes "045300020000002000010002FFFFFFFE00020003"))
-    ∷ []
-unfolding decode_pairs header_bytes address_bytes entry_bytes network_bytes service_bytes name_field packet_of header_at address_at rip_of entries_at entry_at sap_of items sap_entry_at name_of networks_at network_at
-the_default_is_told = refl

@@ -2,12 +2,12 @@
 use Rattle.std.proofs.Common.{◌≡◌, List, [], ◌∷◌, ◌++◌, refl, codes}
 use Rattle.hex.specs.Hex.{decode_pairs}
 use Rattle.ipx_wire.specs.Address.{address_bytes, address_at}
-use Rattle.ipx_wire.specs.Crossed.{network_bytes, networks_at, network_at}
+use Rattle.ipx_wire.specs.Crossed.{network_bytes, network_at}
 use Rattle.ipx_wire.specs.Header.{header_bytes, header_at}
 use Rattle.ipx_wire.specs.Items.{items}
 use Rattle.ipx_wire.specs.Name.{name_of, name_field}
 use Rattle.ipx_wire.specs.Packet.{packet_of}
-use Rattle.ipx_wire.specs.Rip.{rip_of, entry_at, entries_at, entry_bytes}
+use Rattle.ipx_wire.specs.Rip.{rip_of, entry_at, entry_bytes}
 use Rattle.ipx_wire.specs.Sap.{sap_of}
 use Rattle.ipx_wire.specs.SapEntries.{sap_entry_at}
 use Rattle.ipx_wire.specs.WriteServices.{service_bytes}
@@ -23,5 +23,5 @@ dear_ports = port_on 0x10 1 ∷ record (port_on 0x20 2) { cost = 65535 } ∷ []
 pub at_most_65535 : sends dear_ports 256 128 (Start ∷ []) (Packet 0 general_request)
     ≡ out 0 (node 0xAA) (hex (codes "FFFF00280001000000100000000000AA045300000010000000000001" ++ codes "04530002000000200001FFFF"))
     ∷ []
-unfolding decode_pairs header_bytes address_bytes entry_bytes network_bytes service_bytes name_field packet_of header_at address_at rip_of entries_at entry_at sap_of items sap_entry_at name_of networks_at network_at
+unfolding decode_pairs header_bytes address_bytes entry_bytes network_bytes service_bytes name_field packet_of header_at address_at rip_of entry_at sap_of items sap_entry_at name_of network_at
 at_most_65535 = refl

@@ -2,12 +2,12 @@
 use Rattle.std.proofs.Common.{◌≡◌, ℕ, List, [], ◌∷◌, ◌++◌, refl, codes, replicate}
 use Rattle.hex.specs.Hex.{decode_pairs}
 use Rattle.ipx_wire.specs.Address.{address_bytes, address_at}
-use Rattle.ipx_wire.specs.Crossed.{network_bytes, networks_at, network_at}
+use Rattle.ipx_wire.specs.Crossed.{network_bytes, network_at}
 use Rattle.ipx_wire.specs.Header.{header_bytes, header_at}
 use Rattle.ipx_wire.specs.Items.{items}
 use Rattle.ipx_wire.specs.Name.{name_of, name_field}
 use Rattle.ipx_wire.specs.Packet.{packet_of}
-use Rattle.ipx_wire.specs.Rip.{rip_of, entry_at, entries_at, entry_bytes}
+use Rattle.ipx_wire.specs.Rip.{rip_of, entry_at, entry_bytes}
 use Rattle.ipx_wire.specs.Sap.{sap_of}
 use Rattle.ipx_wire.specs.SapEntries.{sap_entry_at}
 use Rattle.ipx_wire.specs.WriteServices.{service_bytes}
@@ -34,20 +34,20 @@ nearest = hex (codes "FFFF0022000400000010FFFFFFFFFFFF0452000000100000000000AA" 
 pub far_as_news : sent_by (Start ∷ []) (Packet 1 far)
     ≡ out 0 all_nodes (hex (codes "FFFF00A0000400000010FFFFFFFFFFFF045200000010000000000001" ++ codes "04520002000441") ++ replicate 50 0 ++ hex (codes "3000000000000104510010000442") ++ replicate 50 0 ++ hex (codes "300000000000010451000F"))
     ∷ []
-unfolding decode_pairs header_bytes address_bytes entry_bytes network_bytes service_bytes name_field packet_of header_at address_at rip_of entries_at entry_at sap_of items sap_entry_at name_of networks_at network_at
+unfolding decode_pairs header_bytes address_bytes entry_bytes network_bytes service_bytes name_field packet_of header_at address_at rip_of entry_at sap_of items sap_entry_at name_of network_at
 far_as_news = refl
 
 -- an asker doesn't hear of it
 pub far_and_asked_for : sent_by (Start ∷ Packet 1 far ∷ []) (Packet 0 query)
     ≡ out 0 (node 0xAA) (hex (codes "FFFF00600004000000100000000000AA400300000010000000000001" ++ codes "04520002000442") ++ replicate 50 0 ++ hex (codes "300000000000010451000F"))
     ∷ []
-unfolding decode_pairs header_bytes address_bytes entry_bytes network_bytes service_bytes name_field packet_of header_at address_at rip_of entries_at entry_at sap_of items sap_entry_at name_of networks_at network_at
+unfolding decode_pairs header_bytes address_bytes entry_bytes network_bytes service_bytes name_field packet_of header_at address_at rip_of entry_at sap_of items sap_entry_at name_of network_at
 far_and_asked_for = refl
 
 -- nor is it the nearest
 pub far_is_no_nearest : sent_by (Start ∷ Packet 1 far_alone ∷ []) (Packet 0 nearest)
     ≡ []
-unfolding decode_pairs header_bytes address_bytes entry_bytes network_bytes service_bytes name_field packet_of header_at address_at rip_of entries_at entry_at sap_of items sap_entry_at name_of networks_at network_at
+unfolding decode_pairs header_bytes address_bytes entry_bytes network_bytes service_bytes name_field packet_of header_at address_at rip_of entry_at sap_of items sap_entry_at name_of network_at
 far_is_no_nearest = refl
 
 -- at a period it isn't told
@@ -56,7 +56,7 @@ pub far_at_a_period : sent_by (Start ∷ Packet 1 far ∷ replicate 59 Second) S
     ∷ out 0 all_nodes (hex (codes "FFFF0060000400000010FFFFFFFFFFFF045200000010000000000001" ++ codes "04520002000442") ++ replicate 50 0 ++ hex (codes "300000000000010451000F"))
     ∷ out 1 all_nodes (hex (codes "FFFF0028000100000020FFFFFFFFFFFF045300000020000000000002" ++ codes "045300020000001000010002"))
     ∷ []
-unfolding decode_pairs header_bytes address_bytes entry_bytes network_bytes service_bytes name_field packet_of header_at address_at rip_of entries_at entry_at sap_of items sap_entry_at name_of networks_at network_at
+unfolding decode_pairs header_bytes address_bytes entry_bytes network_bytes service_bytes name_field packet_of header_at address_at rip_of entry_at sap_of items sap_entry_at name_of network_at
 far_at_a_period = refl
 
 -- nor at a stop
@@ -65,5 +65,5 @@ pub far_at_a_stop : sent_by (Start ∷ Packet 1 far ∷ []) Stop
     ∷ out 0 all_nodes (hex (codes "FFFF0060000400000010FFFFFFFFFFFF045200000010000000000001" ++ codes "04520002000442") ++ replicate 50 0 ++ hex (codes "3000000000000104510010"))
     ∷ out 1 all_nodes (hex (codes "FFFF0028000100000020FFFFFFFFFFFF045300000020000000000002" ++ codes "04530002000000100010FFFF"))
     ∷ []
-unfolding decode_pairs header_bytes address_bytes entry_bytes network_bytes service_bytes name_field packet_of header_at address_at rip_of entries_at entry_at sap_of items sap_entry_at name_of networks_at network_at
+unfolding decode_pairs header_bytes address_bytes entry_bytes network_bytes service_bytes name_field packet_of header_at address_at rip_of entry_at sap_of items sap_entry_at name_of network_at
 far_at_a_stop = refl

@@ -2,12 +2,12 @@
 use Rattle.std.proofs.Common.{◌≡◌, ℕ, List, [], ◌∷◌, ◌++◌, refl, codes, replicate}
 use Rattle.hex.specs.Hex.{decode_pairs}
 use Rattle.ipx_wire.specs.Address.{address_bytes, address_at}
-use Rattle.ipx_wire.specs.Crossed.{network_bytes, networks_at, network_at}
+use Rattle.ipx_wire.specs.Crossed.{network_bytes, network_at}
 use Rattle.ipx_wire.specs.Header.{header_bytes, header_at}
 use Rattle.ipx_wire.specs.Items.{items}
 use Rattle.ipx_wire.specs.Name.{name_of, name_field}
 use Rattle.ipx_wire.specs.Packet.{packet_of}
-use Rattle.ipx_wire.specs.Rip.{rip_of, entry_at, entries_at, entry_bytes}
+use Rattle.ipx_wire.specs.Rip.{rip_of, entry_at, entry_bytes}
 use Rattle.ipx_wire.specs.Sap.{sap_of}
 use Rattle.ipx_wire.specs.SapEntries.{sap_entry_at}
 use Rattle.ipx_wire.specs.WriteServices.{service_bytes}
@@ -42,42 +42,42 @@ longest = (hex (codes "FFFF02400000000000200000000000CC4003000000100000000000AA"
 pub to_a_direct_network : sent_by (Start ∷ []) (Packet 0 to_c)
     ≡ out 1 (node 0xCC) (hex (codes "FFFF001E0100000000200000000000CC4003000000100000000000AA" ++ codes "4003"))
     ∷ []
-unfolding decode_pairs header_bytes address_bytes entry_bytes network_bytes service_bytes name_field packet_of header_at address_at rip_of entries_at entry_at sap_of items sap_entry_at name_of networks_at network_at
+unfolding decode_pairs header_bytes address_bytes entry_bytes network_bytes service_bytes name_field packet_of header_at address_at rip_of entry_at sap_of items sap_entry_at name_of network_at
 to_a_direct_network = refl
 
 -- padding isn't sent on
 pub padding_stays_behind : sent_by (Start ∷ []) (Packet 0 padded)
     ≡ out 1 (node 0xCC) (hex (codes "FFFF001E0100000000200000000000CC4003000000100000000000AA" ++ codes "4003"))
     ∷ []
-unfolding decode_pairs header_bytes address_bytes entry_bytes network_bytes service_bytes name_field packet_of header_at address_at rip_of entries_at entry_at sap_of items sap_entry_at name_of networks_at network_at
+unfolding decode_pairs header_bytes address_bytes entry_bytes network_bytes service_bytes name_field packet_of header_at address_at rip_of entry_at sap_of items sap_entry_at name_of network_at
 padding_stays_behind = refl
 
 -- what came through fifteen routers leaves with sixteen
 pub through_fifteen : sent_by (Start ∷ []) (Packet 0 far_to_c)
     ≡ out 1 (node 0xCC) (hex (codes "FFFF001E1000000000200000000000CC4003000000100000000000AA" ++ codes "4003"))
     ∷ []
-unfolding decode_pairs header_bytes address_bytes entry_bytes network_bytes service_bytes name_field packet_of header_at address_at rip_of entries_at entry_at sap_of items sap_entry_at name_of networks_at network_at
+unfolding decode_pairs header_bytes address_bytes entry_bytes network_bytes service_bytes name_field packet_of header_at address_at rip_of entry_at sap_of items sap_entry_at name_of network_at
 through_fifteen = refl
 
 -- to any other network the neighbour that told the route is the link
 pub by_a_route : sent_by heard_of_30 (Packet 0 beyond)
     ≡ out 1 (node 0xBB) (hex (codes "FFFF001E0100000000300000000000CC4003000000100000000000AA" ++ codes "4003"))
     ∷ []
-unfolding decode_pairs header_bytes address_bytes entry_bytes network_bytes service_bytes name_field packet_of header_at address_at rip_of entries_at entry_at sap_of items sap_entry_at name_of networks_at network_at
+unfolding decode_pairs header_bytes address_bytes entry_bytes network_bytes service_bytes name_field packet_of header_at address_at rip_of entry_at sap_of items sap_entry_at name_of network_at
 by_a_route = refl
 
 -- a checksum is carried as it came
 pub with_its_checksum : sent_by (Start ∷ []) (Packet 0 checked)
     ≡ out 1 (node 0xCC) (hex (codes "1234001E0100000000200000000000CC4003000000100000000000AA" ++ codes "4003"))
     ∷ []
-unfolding decode_pairs header_bytes address_bytes entry_bytes network_bytes service_bytes name_field packet_of header_at address_at rip_of entries_at entry_at sap_of items sap_entry_at name_of networks_at network_at
+unfolding decode_pairs header_bytes address_bytes entry_bytes network_bytes service_bytes name_field packet_of header_at address_at rip_of entry_at sap_of items sap_entry_at name_of network_at
 with_its_checksum = refl
 
 -- 576 bytes pass
 pub just_short_enough : sent_by (Start ∷ []) (Packet 0 longest)
     ≡ out 1 (node 0xCC) (hex (codes "FFFF02400100000000200000000000CC4003000000100000000000AA" ++ codes "4003") ++ replicate 546 0)
     ∷ []
-unfolding decode_pairs header_bytes address_bytes entry_bytes network_bytes service_bytes name_field packet_of header_at address_at rip_of entries_at entry_at sap_of items sap_entry_at name_of networks_at network_at
+unfolding decode_pairs header_bytes address_bytes entry_bytes network_bytes service_bytes name_field packet_of header_at address_at rip_of entry_at sap_of items sap_entry_at name_of network_at
 just_short_enough = refl
 
 -- network 30h is fifteen hops away
@@ -88,7 +88,7 @@ far_response = (hex (codes "FFFF0028000100000020FFFFFFFFFFFF04530000002000000000
 pub by_a_far_route : sent_by (Start ∷ Packet 1 far_response ∷ []) (Packet 0 beyond)
     ≡ out 1 (node 0xBB) (hex (codes "FFFF001E0100000000300000000000CC4003000000100000000000AA" ++ codes "4003"))
     ∷ []
-unfolding decode_pairs header_bytes address_bytes entry_bytes network_bytes service_bytes name_field packet_of header_at address_at rip_of entries_at entry_at sap_of items sap_entry_at name_of networks_at network_at
+unfolding decode_pairs header_bytes address_bytes entry_bytes network_bytes service_bytes name_field packet_of header_at address_at rip_of entry_at sap_of items sap_entry_at name_of network_at
 by_a_far_route = refl
 
 -- from node AAh on network 10h to all networks
@@ -111,27 +111,27 @@ not_counted = (hex (codes "FFFF003E001400000010FFFFFFFFFFFF045500000010000000000
 pub propagated : sent_by (Start ∷ []) (Packet 0 to_all)
     ≡ out 1 all_nodes (hex (codes "FFFF003E011400000020FFFFFFFFFFFF0455000000100000000000AA" ++ codes "045500000010") ++ replicate 27 0 ++ hex (codes "00"))
     ∷ []
-unfolding decode_pairs header_bytes address_bytes entry_bytes network_bytes service_bytes name_field packet_of header_at address_at rip_of entries_at entry_at sap_of items sap_entry_at name_of networks_at network_at
+unfolding decode_pairs header_bytes address_bytes entry_bytes network_bytes service_bytes name_field packet_of header_at address_at rip_of entry_at sap_of items sap_entry_at name_of network_at
 propagated = refl
 
 -- the eighth network takes the last place
 pub in_the_last_place : sent_by (Start ∷ []) (Packet 0 crossed_seven)
     ≡ out 1 all_nodes (hex (codes "FFFF003E081400000020FFFFFFFFFFFF0455000000100000000000AA" ++ codes "04550000009900000098000000970000009600000095000000940000" ++ codes "009300000010"))
     ∷ []
-unfolding decode_pairs header_bytes address_bytes entry_bytes network_bytes service_bytes name_field packet_of header_at address_at rip_of entries_at entry_at sap_of items sap_entry_at name_of networks_at network_at
+unfolding decode_pairs header_bytes address_bytes entry_bytes network_bytes service_bytes name_field packet_of header_at address_at rip_of entry_at sap_of items sap_entry_at name_of network_at
 in_the_last_place = refl
 
 -- it never leaves for a network that it has crossed
 pub never_back : sent_by (Start ∷ []) (Packet 0 crossed_the_other)
     ≡ []
-unfolding decode_pairs header_bytes address_bytes entry_bytes network_bytes service_bytes name_field packet_of header_at address_at rip_of entries_at entry_at sap_of items sap_entry_at name_of networks_at network_at
+unfolding decode_pairs header_bytes address_bytes entry_bytes network_bytes service_bytes name_field packet_of header_at address_at rip_of entry_at sap_of items sap_entry_at name_of network_at
 never_back = refl
 
 -- a place behind those that count says nothing
 pub only_those_counted : sent_by (Start ∷ []) (Packet 0 not_counted)
     ≡ out 1 all_nodes (hex (codes "FFFF003E011400000020FFFFFFFFFFFF0455000000100000000000AA" ++ codes "045500000010") ++ replicate 27 0 ++ hex (codes "00"))
     ∷ []
-unfolding decode_pairs header_bytes address_bytes entry_bytes network_bytes service_bytes name_field packet_of header_at address_at rip_of entries_at entry_at sap_of items sap_entry_at name_of networks_at network_at
+unfolding decode_pairs header_bytes address_bytes entry_bytes network_bytes service_bytes name_field packet_of header_at address_at rip_of entry_at sap_of items sap_entry_at name_of network_at
 only_those_counted = refl
 
 -- to all networks, with network 0 as the destination
@@ -146,14 +146,14 @@ to_all_from_afar = hex (codes "FFFF003E001400000099FFFFFFFFFFFF04550000001000000
 pub propagated_from_network_0 : sent_by (Start ∷ []) (Packet 0 to_all_of_here)
     ≡ out 1 all_nodes (hex (codes "FFFF003E011400000020FFFFFFFFFFFF0455000000100000000000AA" ++ codes "045500000010") ++ replicate 28 0)
     ∷ []
-unfolding decode_pairs header_bytes address_bytes entry_bytes network_bytes service_bytes name_field packet_of header_at address_at rip_of entries_at entry_at sap_of items sap_entry_at name_of networks_at network_at
+unfolding decode_pairs header_bytes address_bytes entry_bytes network_bytes service_bytes name_field packet_of header_at address_at rip_of entry_at sap_of items sap_entry_at name_of network_at
 propagated_from_network_0 = refl
 
 -- or any other
 pub propagated_whatever_it_names : sent_by (Start ∷ []) (Packet 0 to_all_from_afar)
     ≡ out 1 all_nodes (hex (codes "FFFF003E011400000020FFFFFFFFFFFF0455000000100000000000AA" ++ codes "045500000010") ++ replicate 28 0)
     ∷ []
-unfolding decode_pairs header_bytes address_bytes entry_bytes network_bytes service_bytes name_field packet_of header_at address_at rip_of entries_at entry_at sap_of items sap_entry_at name_of networks_at network_at
+unfolding decode_pairs header_bytes address_bytes entry_bytes network_bytes service_bytes name_field packet_of header_at address_at rip_of entry_at sap_of items sap_entry_at name_of network_at
 propagated_whatever_it_names = refl
 
 -- to node 2 on network 30h; the router is node 2 on network 20h
@@ -168,14 +168,14 @@ to_1_over_there = hex (codes "FFFF001E000000000020000000000001400300000010000000
 pub a_namesake_beyond : sent_by heard_of_30 (Packet 0 to_2_beyond)
     ≡ out 1 (node 0xBB) (hex (codes "FFFF001E0100000000300000000000024003000000100000000000AA" ++ codes "4003"))
     ∷ []
-unfolding decode_pairs header_bytes address_bytes entry_bytes network_bytes service_bytes name_field packet_of header_at address_at rip_of entries_at entry_at sap_of items sap_entry_at name_of networks_at network_at
+unfolding decode_pairs header_bytes address_bytes entry_bytes network_bytes service_bytes name_field packet_of header_at address_at rip_of entry_at sap_of items sap_entry_at name_of network_at
 a_namesake_beyond = refl
 
 -- nor is one on the network of another port
 pub a_namesake_on_a_direct_network : sent_by (Start ∷ []) (Packet 0 to_1_over_there)
     ≡ out 1 (node 0x01) (hex (codes "FFFF001E0100000000200000000000014003000000100000000000AA" ++ codes "4003"))
     ∷ []
-unfolding decode_pairs header_bytes address_bytes entry_bytes network_bytes service_bytes name_field packet_of header_at address_at rip_of entries_at entry_at sap_of items sap_entry_at name_of networks_at network_at
+unfolding decode_pairs header_bytes address_bytes entry_bytes network_bytes service_bytes name_field packet_of header_at address_at rip_of entry_at sap_of items sap_entry_at name_of network_at
 a_namesake_on_a_direct_network = refl
 
 -- to all nodes of network 20h
@@ -190,12 +190,12 @@ to_all_of_30 = hex (codes "FFFF001E000000000030FFFFFFFFFFFF400300000010000000000
 pub a_broadcast_to_a_direct_network : sent_by (Start ∷ []) (Packet 0 to_all_of_20)
     ≡ out 1 all_nodes (hex (codes "FFFF001E010000000020FFFFFFFFFFFF4003000000100000000000AA" ++ codes "4003"))
     ∷ []
-unfolding decode_pairs header_bytes address_bytes entry_bytes network_bytes service_bytes name_field packet_of header_at address_at rip_of entries_at entry_at sap_of items sap_entry_at name_of networks_at network_at
+unfolding decode_pairs header_bytes address_bytes entry_bytes network_bytes service_bytes name_field packet_of header_at address_at rip_of entry_at sap_of items sap_entry_at name_of network_at
 a_broadcast_to_a_direct_network = refl
 
 -- beyond it to the neighbour alone
 pub a_broadcast_by_a_route : sent_by heard_of_30 (Packet 0 to_all_of_30)
     ≡ out 1 (node 0xBB) (hex (codes "FFFF001E010000000030FFFFFFFFFFFF4003000000100000000000AA" ++ codes "4003"))
     ∷ []
-unfolding decode_pairs header_bytes address_bytes entry_bytes network_bytes service_bytes name_field packet_of header_at address_at rip_of entries_at entry_at sap_of items sap_entry_at name_of networks_at network_at
+unfolding decode_pairs header_bytes address_bytes entry_bytes network_bytes service_bytes name_field packet_of header_at address_at rip_of entry_at sap_of items sap_entry_at name_of network_at
 a_broadcast_by_a_route = refl

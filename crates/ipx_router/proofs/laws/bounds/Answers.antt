@@ -1,6 +1,7 @@
-use Rattle.std.proofs.Common.{[], ◌∷◌}
-use Rattle.ipx_router.specs.History.{IsOfBytes, routes_held, offers}
-use Rattle.ipx_router.specs.Sends.{sends}
+use Rattle.std.proofs.Common.{[], ◌∷◌, map}
+use Rattle.ipx_router.specs.Facts.{routes_held, offers}
+use Rattle.ipx_router.specs.History.{IsOfBytes}
+use Rattle.ipx_router.specs.Sends.{ports_sending, sends}
 use Rattle.ipx_router.proofs.Counting.{few_packets}
 use Rattle.ipx_router.proofs.Every.{all_behind}
 use Rattle.ipx_router.proofs.SentFor.{sendings}
@@ -12,10 +13,12 @@ pub returns-clause-few : goal.returns-clause-few
 returns-clause-few c = λ ports most_routes most_services history event.
     few_packets ports most_routes most_services
     (record {
-      route_offered = c.next_facts.ensures.others most_routes;
-      route_second = c.next_facts.ensures.second most_routes;
-      service_offered = c.next_facts-2.ensures.others most_services;
-      service_second = c.next_facts-2.ensures.second most_services;
+      route_offered = c.next_facts.ensures.others most_routes (map (λ p. p.route_share) ports);
+      route_second = c.next_facts.ensures.second most_routes (map (λ p. p.route_share) ports);
+      route_port_end = c.next_facts.ensures.port_end most_routes (map (λ p. p.route_share) ports);
+      service_offered = c.next_facts-2.ensures.others most_services (map (λ p. p.service_share) ports);
+      service_second = c.next_facts-2.ensures.second most_services (map (λ p. p.service_share) ports);
+      service_port_end = c.next_facts-2.ensures.port_end most_services (map (λ p. p.service_share) ports);
     })
     history event
 
@@ -37,5 +40,5 @@ returns-clause-short c ports most_routes most_services history event are on byte
       forwarded_again = c.reread.ensures.forwarded;
       propagated_again = c.reread.ensures.propagated;
     } in
-    short readings again ports are (offers (routes_held ports most_routes history)) event (sends ports most_routes most_services history event)
+    short readings again ports are (ports_sending ports history event) (offers (routes_held ports most_routes history)) event (sends ports most_routes most_services history event)
     (all_behind IsOfBytes history (event ∷ []) bytes).0 (sendings readings again c.relays.ensures.listed ports are most_routes most_services history event on bytes)

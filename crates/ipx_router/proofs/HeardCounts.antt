@@ -2,8 +2,9 @@
 use Rattle.std.proofs.Common.{◌≡◌, refl, ap, ℕ, zero, suc, ◌-◌, ◌/◌, ◌≤◌, ◌==◌, nat_lt, Bool, List, [], drop, length, Option, None, Some, Result, Ok, Err, IfOk, IfSome, inl, inr, arith}
 use Rattle.std.proofs.lemmas.Bool.{cases_Bool, ltb-false}
 use Rattle.ipx_wire.specs.Items.{items}
+use Rattle.ipx_wire.specs.Numbers.{most_entries, most_services}
 use Rattle.ipx_wire.specs.Packet.{Parts, packet_of}
-use Rattle.ipx_wire.specs.Rip.{RipParts, entries_at, entries_of, operated, operation_field, operation_of, rip_of}
+use Rattle.ipx_wire.specs.Rip.{RipParts, entry_at, entries_at, entries_of, operated, operation_field, operation_of, rip_of}
 use Rattle.ipx_wire.specs.Sap.{query_of, response_of, numbered_of, sap_of}
 use Rattle.ipx_wire.specs.SapEntries.{sap_entry_at}
 use Rattle.ipx_wire.specs.declared.address.Address.{Address}
@@ -20,23 +21,21 @@ use Rattle.ipx_router.specs.declared.why.Why.{Why}
 
 -- ---- entries
 
-length-entries_at : (n : ℕ) (bytes : List ℕ) → length (entries_at n bytes) ≡ n
-unfolding entries_at
-length-entries_at zero bytes = refl
-length-entries_at (suc n) bytes = ap suc (length-entries_at n (drop 8 bytes))
-
 length-items : {E : Type 0} (read : List ℕ → E) (size n : ℕ) (bytes : List ℕ) → length (items read size n bytes) ≡ n
 unfolding items
 length-items read size zero bytes = refl
 length-items read size (suc n) bytes = ap suc (length-items read size n (drop size bytes))
 
--- routing information has at most fifty entries, a response of services at most seven
+length-entries_at : (n : ℕ) (bytes : List ℕ) → length (entries_at n bytes) ≡ n
+length-entries_at n bytes = length-items (λ b. entry_at b 0) 8 n bytes
+
+-- data have at most as many entries as a packet may have
 abbrev pub FitsRip : RipParts → Type 0
-FitsRip rip = length rip.entries ≤ 50
+FitsRip rip = length rip.entries ≤ most_entries
 
 abbrev pub FitsSap : Sap → Type 0
 FitsSap (Query nearest kind) = Unit
-FitsSap (SapResponse nearest entries) = length entries ≤ 7
+FitsSap (SapResponse nearest entries) = length entries ≤ most_services
 
 entries_fit : (operation : Operation) (payload : List ℕ) → IfOk (entries_of operation payload) FitsRip
 entries_fit operation payload = elim (cases_Bool (nat_lt (length payload) 10)) [
@@ -116,12 +115,12 @@ heard_in-fits p = elim (cases_Bool (is_for_rip p.header)) [
 heard_near-fits : (port : Port) (p : Parts) → IfSome (heard_near port p) Fits
 heard_near-fits port p = elim (cases_Bool (is_near port p.header)) [ inl near ↦ rw near (heard_in-fits p) | inr far ↦ rw far tt ]
 
--- what is heard is a message of few entries
-pub heard-fits : (ports : List Port) (runs : Bool) (number : ℕ) (bytes : List ℕ) → IfSome (heard ports runs number bytes) Fits
-heard-fits ports runs number bytes = judged (why ports [] runs number bytes) (packet_of bytes)
+-- what is heard has few entries
+pub heard-fits : (ports : List Port) (up : List ℕ) (runs : Bool) (number : ℕ) (bytes : List ℕ) → IfSome (heard ports up runs number bytes) Fits
+heard-fits ports up runs number bytes = judged (why ports up [] runs number bytes) (packet_of bytes)
   where
     judged : (reason : Option Why) (r : Result Parts PacketFault)
-        → IfSome (elim reason [ Some why ↦ None | None ↦ elim r [ Ok p ↦ heard_near (port_at ports number) p | Err fault ↦ None ] ]) Fits
-    judged (Some why) r = tt
+        → IfSome (elim reason [ Some dropped ↦ None | None ↦ elim r [ Ok p ↦ heard_near (port_at ports number) p | Err fault ↦ None ] ]) Fits
+    judged (Some dropped) r = tt
     judged None (Ok p) = heard_near-fits (port_at ports number) p
     judged None (Err fault) = tt
