@@ -1,62 +1,71 @@
-use Rattle.std.proofs.Common.{◌≡◌, ℕ, zero, suc, ◌+◌, ◌-◌, ◌*◌, ◌/◌, ◌<◌, ◌≤◌, nat_lt, ◌==◌, List, [], ◌∷◌, ◌++◌, length, map, refl, ap, ◌∙◌, arith, subst, length-append, append-nil, inl, inr}
+use Rattle.std.proofs.Common.{◌≡◌, ℕ, zero, suc, ◌+◌, ◌-◌, ◌*◌, ◌/◌, ◌<◌, ◌≤◌, nat_lt, ◌==◌, not, Bool, List, [], ◌∷◌, ◌++◌, length, map, filter, refl, ap, ◌∙◌, arith, length-append, append-nil, inl, inr}
 use Rattle.std.proofs.lemmas.Bool.{cases_Bool, cases_lt, eq-eqb}
 use Rattle.std.specs.List.{flat_map}
 use Rattle.ipx_wire.specs.declared.rip.RipEntry.{RipEntry}
 use Rattle.ipx_router.specs.Pages.{pages_from, pages, sheets}
-use Rattle.ipx_router.specs.Port.{Port, port_at}
-use Rattle.ipx_router.specs.Outgoing.{numbers}
-use Rattle.ipx_router.specs.Told.{put_entry, put_entries, by_network, told_at, direct_at, direct, is_route_told, learned, told}
+use Rattle.ipx_router.specs.Port.{Port, numbers, port_at}
+use Rattle.ipx_router.specs.Sorted.{put, put_all}
+use Rattle.ipx_router.specs.Told.{network_before, by_network, told_at, direct_entry, direct, is_route_told, learned, told, told_services}
 use Rattle.ipx_router.specs.declared.route_offer.RouteOffer.{RouteOffer}
 use Rattle.ipx_wire.specs.declared.address.Address.{Address}
-use Rattle.ipx_wire.specs.declared.rip.Operation.TheVariants.{Request, Response}
+use Rattle.ipx_wire.specs.declared.rip.Operation.TheVariants.{Response}
 use Rattle.ipx_router.specs.Port.{everyone}
-use Rattle.ipx_router.specs.Sends.{all_routes, entries_sent, rip_sends, services_query, start_on, start_sends}
-use Rattle.ipx_cmd.specs.Thin.{tells}
+use Rattle.ipx_router.specs.Sends.{entries_sent, routes_request, sap_broadcast, services_query}
+use Rattle.ipx_cmd.specs.Thin.{all_ports, start_on, start_sends, tells}
 use Rattle.std.proofs.lemmas.List.Concat.{flat_map-append}
 use Rattle.std.proofs.lemmas.List.{length-map}
+use Rattle.std.proofs.lemmas.List.Elements.{filter-append}
 use Rattle.ipx_cmd.proofs.Paging.{room_left, page_full}
 
 -- an entry more
-pub length-put_entry : (e : RipEntry) (xs : List RipEntry) → length (put_entry e xs) ≡ length xs + 1
-length-put_entry e [] = refl
-length-put_entry e (x ∷ xs) =
+pub length-put : (e : RipEntry) (xs : List RipEntry) → length (put network_before e xs) ≡ length xs + 1
+length-put e [] = refl
+length-put e (x ∷ xs) =
     elim (cases_Bool (nat_lt e.network.0 x.network.0)) [
       | inl less ↦ rw less (omega arith)
-      | inr more ↦ rw more (omega (arith, length-put_entry e xs))
+      | inr more ↦ rw more (omega (arith, length-put e xs))
     ]
 
-length-put_entries : (placed xs : List RipEntry) → length (put_entries placed xs) ≡ length placed + length xs
-length-put_entries placed [] = omega arith
-length-put_entries placed (x ∷ xs) = omega (arith, length-put_entries (put_entry x placed) xs, length-put_entry x placed)
+length-put_all : (placed xs : List RipEntry) → length (put_all network_before placed xs) ≡ length placed + length xs
+length-put_all placed [] = omega arith
+length-put_all placed (x ∷ xs) = omega (arith, length-put_all (put network_before x placed) xs, length-put x placed)
 
 pub length-by_network : (xs : List RipEntry) → length (by_network xs) ≡ length xs
-length-by_network xs = length-put_entries [] xs ∙ (omega arith)
+length-by_network xs = length-put_all [] xs ∙ (omega arith)
 
 -- of n ports one is left out
-length-direct_at : (ports : List Port) (number other : ℕ) → length (direct_at ports number other) ≤ 1
-length-direct_at ports number other =
-    elim (cases_Bool (other == number)) [ inl same ↦ rw same (omega arith) | inr differs ↦ rw differs (omega arith) ]
+length-filter : (p : ℕ → Bool) (xs : List ℕ) → length (filter p xs) ≤ length xs
+length-filter p [] = omega arith
+length-filter p (x ∷ xs) = elim (cases_Bool (p x)) [
+  | inl e ↦ rw e (omega (arith, length-filter p xs))
+  | inr e ↦ rw e (omega (arith, length-filter p xs))
+]
 
-all_direct : (ports : List Port) (number n : ℕ) → length (flat_map (direct_at ports number) (numbers n)) ≤ n
-all_direct ports number zero = omega arith
-all_direct ports number (suc n) =
-    rw (flat_map-append (direct_at ports number) (numbers n) (n ∷ []), append-nil (direct_at ports number n))
-    (omega (arith, length-append (flat_map (direct_at ports number) (numbers n)) (direct_at ports number n), all_direct ports number n, length-direct_at ports number n))
+length-numbers : (n : ℕ) → length (numbers n) ≡ n
+length-numbers zero = refl
+length-numbers (suc n) = omega (arith, length-append (numbers n) (n ∷ []), length-numbers n)
 
-own_left_out : (ports : List Port) (number : ℕ) → length (direct_at ports number number) ≡ 0
-own_left_out ports number = rw (eq-eqb number number refl) refl
-
-pub length-direct : (ports : List Port) (number n : ℕ) → number < n → length (flat_map (direct_at ports number) (numbers n)) + 1 ≤ n
-length-direct ports number zero below = absurd (omega arith)
-length-direct ports number (suc n) below =
-    rw (flat_map-append (direct_at ports number) (numbers n) (n ∷ []), append-nil (direct_at ports number n))
+length-others : (number n : ℕ) → number < n → length (filter (λ other. not (other == number)) (numbers n)) + 1 ≤ n
+length-others number zero below = absurd (omega arith)
+length-others number (suc n) below =
+    let other : ℕ → Bool = λ j. not (j == number) in
+    let parts = length-append (filter other (numbers n)) (filter other (n ∷ [])) in
+    rw (filter-append other (numbers n) (n ∷ []))
     (elim (cases_lt number n) [
-      | inl before ↦ omega (arith, length-append (flat_map (direct_at ports number) (numbers n)) (direct_at ports number n), length-direct ports number n before, length-direct_at ports number n)
+      | inl before ↦ omega (arith, parts, length-others number n before, length-filter other (n ∷ []))
       | inr here ↦
-          let same : number ≡ n = omega arith in
-          let none : length (direct_at ports number n) ≡ 0 = subst (λ (k : ℕ). length (direct_at ports number k) ≡ 0) same (own_left_out ports number) in
-          omega (arith, length-append (flat_map (direct_at ports number) (numbers n)) (direct_at ports number n), all_direct ports number n, none)
+          let same : n ≡ number = omega arith in
+          let none : length (filter other (n ∷ [])) ≡ 0 = rw (eq-eqb n number same) refl in
+          omega (arith, parts, none, length-filter other (numbers n), length-numbers n)
     ])
+
+pub length-direct : (ports : List Port) (number : ℕ) → number < length ports → length (direct ports (all_ports ports) number) + 1 ≤ length ports
+length-direct ports number below =
+    omega (
+      arith,
+      length-map (filter (λ other. not (other == number)) (numbers (length ports))) (direct_entry ports),
+      length-others number (length ports) below,
+    )
 
 pub length-learned : (routes : List RouteOffer) (number : ℕ) → length (learned routes number) ≤ length routes
 length-learned [] number = omega arith
@@ -68,16 +77,16 @@ length-learned (r ∷ routes) number =
 
 -- what is told: no more than all routes and the networks of the other ports
 pub length-told : (ports : List Port) (routes : List RouteOffer) (number : ℕ) → number < length ports
-    → length (told ports routes number) + 1 ≤ length routes + length ports
+    → length (told ports (all_ports ports) routes number) + 1 ≤ length routes + length ports
 length-told ports routes number below =
     let cost = (port_at ports number).cost in
-    let items = direct ports number ++ learned routes number in
+    let items = direct ports (all_ports ports) number ++ learned routes number in
     omega (
       arith,
       length-by_network (map (told_at cost) items),
       length-map items (told_at cost),
-      length-append (direct ports number) (learned routes number),
-      length-direct ports number (length ports) below,
+      length-append (direct ports (all_ports ports) number) (learned routes number),
+      length-direct ports number below,
       length-learned routes number,
     )
 
@@ -107,8 +116,8 @@ pub length-tells : (ports : List Port) (routes : List RouteOffer) (number : ℕ)
 length-tells ports routes number asker below =
     omega (
       arith,
-      length-map (pages 50 (told ports routes number)) (entries_sent ports number asker Response),
-      length-pages (told ports routes number),
+      length-map (pages 50 (told ports (all_ports ports) routes number)) (entries_sent ports number asker Response),
+      length-pages (told ports (all_ports ports) routes number),
       length-told ports routes number below,
     )
 
@@ -116,10 +125,22 @@ length-tells ports routes number asker below =
 length-start_on : (ports : List Port) (number : ℕ) → number < length ports → length ports ≤ 32 → length (start_on ports number) ≤ 3
 length-start_on ports number below few =
     let all = tells ports [] number (everyone (port_at ports number)) in
-    let asked = rip_sends ports number (everyone (port_at ports number)) Request (all_routes ∷ []) in
+    let asked = routes_request ports number in
+    let services = sap_broadcast ports number (told_services [] number) in
+    let query = services_query ports number in
     let one : length asked ≡ 1 = refl in
-    let query : length (services_query ports number ∷ []) ≡ 1 = refl in
-    omega (arith, length-append (all ++ asked) (services_query ports number ∷ []), length-append all asked, length-tells ports [] number (everyone (port_at ports number)) below, one, query)
+    let none : length services ≡ 0 = refl in
+    let last : length query ≡ 1 = refl in
+    omega (
+      arith,
+      length-append (all ++ asked ++ services) query,
+      length-append (all ++ asked) services,
+      length-append all asked,
+      length-tells ports [] number (everyone (port_at ports number)) below,
+      one,
+      none,
+      last,
+    )
 
 each_three : (ports : List Port) (n : ℕ) → n ≤ length ports → length ports ≤ 32 → length (flat_map (start_on ports) (numbers n)) ≤ 3 * n
 each_three ports zero within few = omega arith

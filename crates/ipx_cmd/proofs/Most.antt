@@ -2,9 +2,7 @@ use Rattle.std.proofs.Common.{◌≡◌, ℕ, ◌+◌, ◌-◌, ◌*◌, ◌<◌
 use Rattle.ipx_wire.specs.declared.address.Address.{Address}
 use Rattle.ipx_router.specs.Pages.{sheets}
 use Rattle.ipx_router.specs.Port.{Port}
-use Rattle.ipx_cmd.specs.Thin.{SendsAtMost}
-use Rattle.ipx_cmd.specs.Thin.{tells}
-use Rattle.ipx_router.specs.Sends.{start_sends}
+use Rattle.ipx_cmd.specs.Thin.{SendsAtMost, start_sends, tells}
 use Rattle.ipx_router.specs.Relays.{Sent}
 use Rattle.ipx_cmd.specs.Sent.{Sends}
 use Rattle.ipx_router.specs.declared.route_offer.RouteOffer.{RouteOffer}

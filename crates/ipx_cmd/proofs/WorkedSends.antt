@@ -5,7 +5,8 @@ use Rattle.hex.specs.Hex.{decode_of}
 use Rattle.ipx_wire.specs.Address.{address_bytes, address_at}
 use Rattle.ipx_wire.specs.Header.{header_bytes, header_at}
 use Rattle.ipx_wire.specs.Packet.{packet_of}
-use Rattle.ipx_wire.specs.Rip.{entry_bytes, entry_at, entries_at, rip_of}
+use Rattle.ipx_wire.specs.Rip.{entry_bytes, entry_at, rip_of}
+use Rattle.ipx_wire.specs.Items.{items}
 use Rattle.ipx_wire.specs.declared.node.Node.{Node}
 use Rattle.ipx_wire.specs.declared.packet.PacketFault.TheVariants.{Short}
 use Rattle.ipx_cmd.specs.Thin.{Packet, Start}
@@ -25,8 +26,8 @@ node last = record { 0 = 0 ∷ 0 ∷ 0 ∷ 0 ∷ 0 ∷ last ∷ [] }
 -- port 0 on network 10h as node 1, port 1 on network 20h as node 2, both of cost 1
 abbrev two_ports : List Port
 two_ports =
-    record { network = record { 0 = 16 }; node = node 1; cost = 1; longest = 576 }
-    ∷ record { network = record { 0 = 32 }; node = node 2; cost = 1; longest = 576 } ∷ []
+    record { network = record { 0 = 16 }; node = node 1; cost = 1; longest = 576; route_share = 65535; service_share = 65535 }
+    ∷ record { network = record { 0 = 32 }; node = node 2; cost = 1; longest = 576; route_share = 65535; service_share = 65535 } ∷ []
 
 abbrev stopped : State
 stopped = record { ports = two_ports; routes = []; running = false }
@@ -66,18 +67,18 @@ a_second_start = refl
 -- a general request is answered to the asker alone
 pub an_answer : sends running (Packet 0 general_request)
     ≡ sent 0 (node 170) (codes "FFFF00280001000000100000000000AA045300000010000000000001045300020000002000010002") ∷ []
-unfolding hex_on_literals header_bytes address_bytes entry_bytes header_at address_at entry_at entries_at packet_of rip_of
+unfolding hex_on_literals header_bytes address_bytes entry_bytes header_at address_at entry_at items packet_of rip_of
 an_answer = refl
 
 -- with a route from the other port: by network, a hop and a tick more
 pub an_answer_with_a_route : sends (with_route 1) (Packet 0 general_request)
     ≡ sent 0 (node 170) (codes "FFFF00300001000000100000000000AA0453000000100000000000010453000200000020000100020000003000020003") ∷ []
-unfolding hex_on_literals header_bytes address_bytes entry_bytes header_at address_at entry_at entries_at packet_of rip_of
+unfolding hex_on_literals header_bytes address_bytes entry_bytes header_at address_at entry_at items packet_of rip_of
 an_answer_with_a_route = refl
 
 -- a route at fifteen hops isn't told to an asker
 pub not_at_fifteen_hops : sends (with_route 15) (Packet 0 general_request) ≡ sends running (Packet 0 general_request)
-unfolding hex_on_literals header_bytes address_bytes entry_bytes header_at address_at entry_at entries_at packet_of rip_of
+unfolding hex_on_literals header_bytes address_bytes entry_bytes header_at address_at entry_at items packet_of rip_of
 not_at_fifteen_hops = refl
 
 -- the reasons of a drop, the first that holds

@@ -6,6 +6,7 @@ use Rattle.ipx_wire.specs.declared.address.Address.{Address}
 use Rattle.ipx_wire.specs.declared.header.Header.{Header}
 use Rattle.ipx_wire.specs.declared.packet.PacketFault.{PacketFault}
 use Rattle.ipx_wire.specs.declared.rip.RipFault.{RipFault}
+use Rattle.ipx_router.specs.Numbers.{propagated_type}
 use Rattle.ipx_router.specs.Port.{Port, port_at}
 use Rattle.ipx_router.specs.Why.{when, first_of, is_own_echo, is_bad_source, is_near, is_elsewhere, is_for_rip, is_not_neighbour}
 use Rattle.ipx_router.specs.declared.why.Why.{Why}
@@ -20,7 +21,7 @@ header_checks port h =
     ∷ when (is_bad_source h) BadSource
     ∷ when (not (is_near port h)) NoRoute
     ∷ when (is_elsewhere port h) Elsewhere
-    ∷ when ((h.kind == 20) || not (is_for_rip h)) OtherSocket
+    ∷ when ((h.kind == propagated_type) || not (is_for_rip h)) OtherSocket
     ∷ when (is_not_neighbour port h) NotNeighbour
     ∷ []
 

@@ -2,7 +2,7 @@
 use Rattle.std.specs.Prelude.{◌≡◌, ◌≤◌, List, ◌++◌, length}
 use Rattle.std.specs.List.{AllByRecursion}
 use Rattle.ipx_wire.specs.Packet.{Parts, IsPacket}
-use Rattle.ipx_router.specs.Bounds.{most_own_length}
+use Rattle.ipx_router.specs.Numbers.{most_own_length}
 use Rattle.ipx_router.specs.Relays.{Sent}
 
 -- it is a packet, and not longer than a router's own packets may be

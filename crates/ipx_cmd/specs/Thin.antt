@@ -1,13 +1,14 @@
 -- The thin router: its state, what happens to it, and what it makes of that.
 use Rattle.std.specs.Prelude.{◌≡◌, ℕ, ◌<◌, ◌≤◌, ◌==◌, Bool, true, if◌then◌else◌, List, [], length, take, Result, Ok, Err}
-use Rattle.std.specs.List.{list_any}
+use Rattle.std.specs.List.{flat_map, list_any}
 use Rattle.ipx_wire.specs.declared.rip.Operation.TheVariants.{Request, Response}
 use Rattle.ipx_wire.specs.declared.address.Address.{Address}
 use Rattle.ipx_wire.specs.declared.rip.RipEntry.{RipEntry}
 use Rattle.ipx_router.specs.History.{Event, Start as Starts, Packet as Comes}
-use Rattle.ipx_router.specs.Port.{Port, port_at}
+use Rattle.ipx_router.specs.Numbers.{all_routes}
+use Rattle.ipx_router.specs.Port.{Port, numbers, port_at, reply_to}
 use Rattle.ipx_router.specs.Relays.{Sent}
-use Rattle.ipx_router.specs.Sends.{rip_sends, reply_to, start_sends}
+use Rattle.ipx_router.specs.Sends.{rip_sends, introduction}
 use Rattle.ipx_router.specs.Told.{told}
 use Rattle.ipx_router.specs.declared.route_offer.RouteOffer.{RouteOffer}
 use Rattle.ipx_router.specs.declared.why.Why.{Why}
@@ -42,17 +43,33 @@ abbrev pub event_of : Happened → Event
 event_of Start = Starts
 event_of (Packet port bytes) = Comes port bytes
 
+-- whether it runs after an event, if it ran before
+abbrev pub runs_after : Bool → Happened → Bool
+runs_after was Start = true
+runs_after was (Packet port bytes) = was
+
 -- some port before the place has the network of the port there
 abbrev pub is_again : List Port → ℕ → Bool
 is_again ports place = list_any (λ p. p.network.0 == (port_at ports place).network.0) (take place ports)
 
 -- whether some entry asks for every route
 abbrev pub asks_all : List RipEntry → Bool
-asks_all entries = list_any (λ e. e.network.0 == 4294967295) entries
+asks_all entries = list_any (λ e. e.network.0 == all_routes) entries
+
+-- the ports that are up: all, as the thin router knows no event that takes one down
+abbrev pub all_ports : List Port → List ℕ
+all_ports ports = numbers (length ports)
 
 -- all that is told on a port, to an address
 abbrev pub tells : List Port → List RouteOffer → ℕ → Address → List Sent
-tells ports routes number to = rip_sends ports number to Response (told ports routes number)
+tells ports routes number to = rip_sends ports number to Response (told ports (all_ports ports) routes number)
+
+-- what a port sends at a start, and all of them
+abbrev pub start_on : List Port → ℕ → List Sent
+start_on ports number = introduction ports (all_ports ports) [] [] number
+
+abbrev pub start_sends : List Port → List Sent
+start_sends ports = flat_map (start_on ports) (all_ports ports)
 
 -- what is made of a message
 abbrev pub outcome_heard : Result Message Why → Outcome

@@ -7,7 +7,7 @@ use Rattle.ipx_wire.specs.declared.rip.RipFault.TheVariants.{Short as RipShort, 
 use Rattle.ipx_wire.specs.declared.sap.SapFault.{SapFault}
 use Rattle.ipx_wire.specs.declared.sap.SapFault.TheVariants.{Short as SapShort, Operation as SapOperation, NoEntry as NoService, TooMany as TooManyServices}
 use Rattle.ipx_router.specs.declared.why.Why.{Why}
-use Rattle.ipx_router.specs.declared.why.Why.TheVariants.{NotRunning, Malformed, OwnEcho, BadSource, CrossedShort, CrossedFull, CrossedSeen, Elsewhere, OtherSocket, NotNeighbour, BadRip, BadSap, NearestReply, TooManyRouters, FarSide, NoRoute, TooLong}
+use Rattle.ipx_router.specs.declared.why.Why.TheVariants.{NotRunning, Malformed, OwnEcho, BadSource, CrossedShort, CrossedFull, CrossedSeen, Elsewhere, OtherSocket, NotNeighbour, BadRip, BadSap, NearestReply, TooManyRouters, FarSide, NoRoute, TooLong, DownPort}
 
 -- the names of the faults of packets, of routing information and of service advertising
 abbrev pub packet_word : PacketFault → List ℕ
@@ -46,3 +46,4 @@ why_word TooManyRouters = codes "TooManyRouters"
 why_word FarSide = codes "FarSide"
 why_word NoRoute = codes "NoRoute"
 why_word TooLong = codes "TooLong"
+why_word DownPort = codes "DownPort"

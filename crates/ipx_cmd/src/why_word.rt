@@ -48,5 +48,6 @@ fn word(why: Why) -> &'static str
         Why::FarSide => "FarSide",
         Why::NoRoute => "NoRoute",
         Why::TooLong => "TooLong",
+        Why::DownPort => "DownPort",
     }
 }

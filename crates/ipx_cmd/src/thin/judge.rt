@@ -8,6 +8,7 @@ ghost use Rattle.std.specs.Prelude.{◌≡◌, ◌==◌, ◌<◌, ◌≤◌, ◌
 ghost use Rattle.ipx_router.specs.Port.{port_at, broadcast, same_node, is_local};
 ghost use Rattle.ipx_router.specs.Why.{is_near, first_of};
 ghost use Rattle.ipx_cmd.specs.Judged.{header_checks, judged, judged_packet};
+ghost use Rattle.ipx_wire.specs.Numbers.{most_entries};
 ghost use Rattle.ipx_wire.specs.Packet.{packet_of};
 
 use ipx_router::{Port, Why};
@@ -32,7 +33,7 @@ pub fn judge<'a>(
 ) -> Result<Message<'a>, Why>
     requires { number < length ports.now }
     ensures message { result ≡ judged ports.now running number bytes.entry.now }
-    ensures few { IfOk result (λ message. length message.rip.entries ≤ 50) }
+    ensures few { IfOk result (λ message. length message.rip.entries ≤ most_entries) }
 {
     if !running {
         return Err(Why::NotRunning);

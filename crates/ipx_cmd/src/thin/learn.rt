@@ -2,10 +2,12 @@
 //! has and that isn't held, while there is room.
 ghost use Rattle.std.specs.Prelude.{◌≡◌, ◌==◌, ◌&&◌, not, nat_lt, ◌+◌, ◌<◌, ◌≤◌, length, IfOk, OnOk, OnErr};
 ghost use Rattle.std.specs.List.{list_any};
-ghost use Rattle.ipx_router.specs.History.{is_skipped, route_offer};
+ghost use Rattle.ipx_wire.specs.Numbers.{most_entries};
+ghost use Rattle.ipx_router.specs.Facts.{route_offer};
+ghost use Rattle.ipx_router.specs.Numbers.{unreachable};
+ghost use Rattle.ipx_router.specs.Port.{is_skipped};
 
 use crate::thin::judge::Message;
-use crate::thin::told::UNREACHABLE;
 use ipx_router::{Port, RouteOffer};
 use ipx_wire::{Network, Node, OutOfMemory, RipEntry};
 use std::alloc::Global;
@@ -27,9 +29,9 @@ pub fn teach(
     message: &Message<'_>,
 ) -> Result<Taught, OutOfMemory>
     requires room { length routes.now ≤ capacity }
-    requires few { length message.now.rip.entries ≤ 50 }
+    requires few { length message.now.rip.entries ≤ most_entries }
     ensures capacity { IfOk result (λ t. length t.routes.items ≤ capacity) }
-    ensures few { IfOk result (λ t. length t.gained.items ≤ 50) }
+    ensures few { IfOk result (λ t. length t.gained.items ≤ most_entries) }
 {
     let mut taught = Taught {
         routes: Vec::from_slice(alloc, routes)?,
@@ -58,10 +60,12 @@ fn offer_of(number: u8, node: Node, entry: RipEntry) -> RouteOffer
 
 /// Whether the table takes the offer where it has room.
 fn is_taken(ports: &[Port], routes: &[RouteOffer], offer: &RouteOffer) -> bool
-    ensures { result ≡ (nat_lt offer.now.hops 16 && not (is_skipped ports.now offer.now.network)
+    ensures { result ≡ (nat_lt offer.now.hops unreachable && not (is_skipped ports.now offer.now.network)
         && not (list_any (λ r. r.network.0 == offer.now.network.0) routes.now)) }
 {
-    offer.hops < UNREACHABLE && !is_skipped(ports, offer.network) && !is_held(routes, offer.network)
+    offer.hops < RipEntry::UNREACHABLE
+        && !is_skipped(ports, offer.network)
+        && !is_held(routes, offer.network)
 }
 
 /// Whether no route is taken for that network.

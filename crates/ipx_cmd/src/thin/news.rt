@@ -2,12 +2,13 @@
 ghost use Rattle.std.specs.Prelude.{◌≡◌, ◌<◌, ◌≤◌, nat_lt, if◌then◌else◌, length, IfOk, OnOk, OnErr};
 ghost use Rattle.ipx_cmd.specs.Thin.{SendsAtMost};
 ghost use Rattle.ipx_cmd.specs.Sent.{Grows};
+ghost use Rattle.ipx_wire.specs.Numbers.{most_entries};
 ghost use Rattle.ipx_router.specs.News.{route_now};
 
 use crate::thin::judge::port_of;
 use crate::thin::outbox::Outbox;
 use crate::thin::send::{everyone, send_pages};
-use crate::thin::told::{UNREACHABLE, dead, entry_of, place, told_at};
+use crate::thin::told::{dead, entry_of, place, told_at};
 use ipx_router::{Port, RouteOffer};
 use ipx_wire::{Operation, OutOfMemory, RipEntry};
 use std::alloc::Global;
@@ -21,7 +22,7 @@ pub fn tell_gained(
     gained: &[RouteOffer],
 ) -> Result<(), OutOfMemory>
     requires ports { length ports.now ≤ 32 }
-    requires few { length gained.now ≤ 50 }
+    requires few { length gained.now ≤ most_entries }
     ensures ok { OnOk result (SendsAtMost (length ports.now) outbox.old outbox.new) }
     ensures err { OnErr result (Grows outbox.old outbox.new) }
 {
@@ -40,7 +41,7 @@ fn tell_gained_on(
     gained: &[RouteOffer],
 ) -> Result<(), OutOfMemory>
     requires port { other < length ports.now }
-    requires few { length gained.now ≤ 50 }
+    requires few { length gained.now ≤ most_entries }
     ensures ok { OnOk result (SendsAtMost 1 outbox.old outbox.new) }
     ensures err { OnErr result (Grows outbox.old outbox.new) }
 {
@@ -68,7 +69,7 @@ fn news(alloc: Global, port: &Port, gained: &[RouteOffer]) -> Result<Vec<RipEntr
 fn news_of(port: &Port, route: &RouteOffer) -> RipEntry
     ensures { result ≡ route_now port.now route.now }
 {
-    if route.hops < UNREACHABLE - 1 {
+    if route.hops < RipEntry::UNREACHABLE - 1 {
         told_at(port.cost(), entry_of(route))
     } else {
         dead(entry_of(route))

@@ -52,8 +52,9 @@ impl<const P: usize, const R: usize> Model for Router<P, R> {
 
 impl<const P: usize, const R: usize> Router<P, R> {
     ghost use Rattle.ipx_router.specs.Bounds.{most_packets};
-    ghost use Rattle.ipx_router.specs.History.{IsOnPort, runs_after};
-    ghost use Rattle.ipx_cmd.specs.Thin.{event_of, request_answers, happened, outcome, sends, IsNoRouter, IsResponse, SendsAtMost};
+    ghost use Rattle.ipx_router.specs.History.{IsOnPort};
+    ghost use Rattle.ipx_wire.specs.Numbers.{most_entries};
+    ghost use Rattle.ipx_cmd.specs.Thin.{event_of, request_answers, happened, outcome, runs_after, sends, IsNoRouter, IsResponse, SendsAtMost};
     ghost use Rattle.ipx_cmd.specs.Sent.{Grows, Sends};
 
     /// A router with these ports, numbered from 0, which is stopped and holds nothing.
@@ -117,7 +118,7 @@ impl<const P: usize, const R: usize> Router<P, R> {
         requires { IsOnPort self.old.ports (event_of (happened event)) }
         ensures capacity { length self.new.routes ≤ R }
         ensures ports { self.new.ports ≡ self.old.ports }
-        ensures running { OnOk result (self.new.running ≡ runs_after self.old.running (event_of (happened event.entry))) }
+        ensures running { OnOk result (self.new.running ≡ runs_after self.old.running (happened event.entry)) }
         ensures outcome { IfOk result (λ o. o ≡ outcome self.old (happened event.entry)) }
         ensures most { OnOk result (SendsAtMost (most_packets (length self.old.ports) (length self.old.routes) 0 (event_of (happened event.entry))) outbox.old outbox.new) }
 
@@ -212,7 +213,7 @@ impl<const P: usize, const R: usize> Router<P, R> {
         message: &Message<'_>,
         outbox: &mut Outbox,
     ) -> Result<Outcome, OutOfMemory>
-        requires { length message.now.rip.entries ≤ 50 }
+        requires { length message.now.rip.entries ≤ most_entries }
         ensures capacity { length self.new.routes ≤ R }
         ensures ports { self.new.ports ≡ self.old.ports }
         ensures running { self.new.running ≡ self.old.running }

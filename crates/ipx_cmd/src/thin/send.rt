@@ -1,9 +1,9 @@
 //! What a router sends of its own: entries in packets of fifty, and the packets of a start.
 ghost use Rattle.std.specs.Prelude.{◌≡◌, ◌<◌, ◌≤◌, [], ◌∷◌, length, OnOk, OnErr};
-ghost use Rattle.ipx_wire.specs.declared.rip.Operation.TheVariants.{Request, Response};
-ghost use Rattle.ipx_router.specs.Port.{port_at, own_address, own_services, everyone, every_server};
-ghost use Rattle.ipx_router.specs.Sends.{all_routes, entries_sent, reply_to, rip_broadcast, rip_sends, services_query, start_on, start_sends};
-ghost use Rattle.ipx_cmd.specs.Thin.{tells};
+ghost use Rattle.ipx_wire.specs.Numbers.{most_entries};
+ghost use Rattle.ipx_router.specs.Port.{own_address, own_services, everyone, every_server, reply_to};
+ghost use Rattle.ipx_router.specs.Sends.{entries_sent, rip_broadcast, rip_sends, routes_request, services_query};
+ghost use Rattle.ipx_cmd.specs.Thin.{all_ports, start_on, start_sends, tells};
 ghost use Rattle.ipx_cmd.specs.Sent.{Grows, Sends};
 ghost use Rattle.ipx_router.specs.Told.{told};
 
@@ -70,7 +70,7 @@ fn announce(
     number: u8,
 ) -> Result<(), OutOfMemory>
     requires { number < length ports.now }
-    ensures ok { OnOk result (Sends outbox.old outbox.new (rip_broadcast ports.now number (told ports.now [] number))) }
+    ensures ok { OnOk result (Sends outbox.old outbox.new (rip_broadcast ports.now number (told ports.now (all_ports ports.now) [] number))) }
     ensures err { OnErr result (Grows outbox.old outbox.new) }
 {
     let to = everyone(&port_of(ports, usize::from(number)));
@@ -79,7 +79,7 @@ fn announce(
 
 fn ask_routes(outbox: &mut Outbox, ports: &[Port], number: u8) -> Result<(), OutOfMemory>
     requires { number < length ports.now }
-    ensures ok { OnOk result (Sends outbox.old outbox.new (rip_sends ports.now number (everyone (port_at ports.now number)) Request (all_routes ∷ []))) }
+    ensures ok { OnOk result (Sends outbox.old outbox.new (routes_request ports.now number)) }
     ensures err { OnErr result (Grows outbox.old outbox.new) }
 {
     let all = RipEntry {
@@ -93,7 +93,7 @@ fn ask_routes(outbox: &mut Outbox, ports: &[Port], number: u8) -> Result<(), Out
 
 fn ask_services(outbox: &mut Outbox, ports: &[Port], number: u8) -> Result<(), OutOfMemory>
     requires { number < length ports.now }
-    ensures ok { OnOk result (Sends outbox.old outbox.new (services_query ports.now number ∷ [])) }
+    ensures ok { OnOk result (Sends outbox.old outbox.new (services_query ports.now number)) }
     ensures err { OnErr result (Grows outbox.old outbox.new) }
 {
     let port = port_of(ports, usize::from(number));
@@ -137,7 +137,7 @@ fn send_page(
 ) -> Result<(), OutOfMemory>
     requires port { number < length ports.now }
     requires some { 1 ≤ length page.now }
-    requires most { length page.now ≤ 50 }
+    requires most { length page.now ≤ most_entries }
     ensures ok { OnOk result (Sends outbox.old outbox.new (entries_sent ports.now number to operation page.now ∷ [])) }
     ensures err { OnErr result (Grows outbox.old outbox.new) }
 {

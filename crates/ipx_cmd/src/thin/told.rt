@@ -2,15 +2,15 @@
 //! learn there and whose next hop is still reached.
 ghost use Rattle.std.specs.Prelude.{◌≡◌, ◌<◌, ◌≤◌, ◌++◌, [], ◌∷◌, length, take, drop, map, IfOk, OnOk};
 ghost use Rattle.ipx_router.specs.Port.{port_at};
-ghost use Rattle.ipx_router.specs.Told.{by_network, dead, direct, direct_at, entry_of, is_route_told, learned, put_entry, put_entries, told, told_at};
+ghost use Rattle.ipx_router.specs.Numbers.{unreachable};
+ghost use Rattle.ipx_router.specs.Sorted.{put, put_all};
+ghost use Rattle.ipx_router.specs.Told.{by_network, dead, direct, entry_of, is_route_told, learned, network_before, told, told_at};
+ghost use Rattle.ipx_cmd.specs.Thin.{all_ports};
 
 use crate::thin::judge::port_of;
 use ipx_router::{Port, RouteOffer};
 use ipx_wire::{OutOfMemory, RipEntry};
 use std::alloc::Global;
-
-/// How far an unreachable network is.
-pub const UNREACHABLE: u16 = 16;
 
 /// All that is told on a port, by network.
 pub fn told(
@@ -20,7 +20,7 @@ pub fn told(
     number: usize,
 ) -> Result<Vec<RipEntry>, OutOfMemory>
     requires { number < length ports.now }
-    ensures { IfOk result (λ v. v.items ≡ told ports.now routes.now number) }
+    ensures { IfOk result (λ v. v.items ≡ told ports.now (all_ports ports.now) routes.now number) }
 {
     let mut entries = told_direct(alloc, ports, number)?;
     let cost = port_of(ports, number).cost();
@@ -31,7 +31,7 @@ pub fn told(
 /// The networks of the other ports, by network.
 fn told_direct(alloc: Global, ports: &[Port], number: usize) -> Result<Vec<RipEntry>, OutOfMemory>
     requires { number < length ports.now }
-    ensures { IfOk result (λ v. v.items ≡ by_network (map (told_at (port_at ports.now number).cost) (direct ports.now number))) }
+    ensures { IfOk result (λ v. v.items ≡ by_network (map (told_at (port_at ports.now number).cost) (direct ports.now (all_ports ports.now) number))) }
 {
     let cost = port_of(ports, number).cost();
     let mut entries = Vec::new(alloc);
@@ -50,7 +50,7 @@ fn place_direct(
     cost: u16,
 ) -> Result<(), OutOfMemory>
     requires { other < length ports.now }
-    ensures { OnOk result (entries.new.items ≡ put_entries entries.old.items (map (told_at cost) (direct_at ports.now number other))) }
+    ensures { OnOk result (entries.new.items ≡ put_all network_before entries.old.items (map (told_at cost) (direct ports.now (other ∷ []) number))) }
 {
     if other == number {
         return Ok(());
@@ -71,7 +71,7 @@ fn place_learned(
     number: usize,
     cost: u16,
 ) -> Result<(), OutOfMemory>
-    ensures { OnOk result (entries.new.items ≡ put_entries entries.old.items (map (told_at cost) (learned routes.now number))) }
+    ensures { OnOk result (entries.new.items ≡ put_all network_before entries.old.items (map (told_at cost) (learned routes.now number))) }
 {
     for route in routes {
         place_route(entries, route, number, cost)?;
@@ -85,7 +85,7 @@ fn place_route(
     number: usize,
     cost: u16,
 ) -> Result<(), OutOfMemory>
-    ensures { OnOk result (entries.new.items ≡ put_entries entries.old.items (map (told_at cost) (learned (route.now ∷ []) number))) }
+    ensures { OnOk result (entries.new.items ≡ put_all network_before entries.old.items (map (told_at cost) (learned (route.now ∷ []) number))) }
 {
     if !is_told(number, route) {
         return Ok(());
@@ -96,7 +96,7 @@ fn place_route(
 fn is_told(number: usize, route: &RouteOffer) -> bool
     ensures { result ≡ is_route_told number route.now }
 {
-    usize::from(route.port) != number && route.hops < UNREACHABLE - 1
+    usize::from(route.port) != number && route.hops < RipEntry::UNREACHABLE - 1
 }
 
 /// The route as an entry, with hops and ticks as they were heard.
@@ -112,7 +112,7 @@ pub fn entry_of(route: &RouteOffer) -> RipEntry
 
 /// The entry as a port of that cost tells it.
 pub fn told_at(cost: u16, entry: RipEntry) -> RipEntry
-    requires { entry.hops < 15 }
+    requires { entry.hops < unreachable }
     ensures { result ≡ told_at cost entry }
 {
     RipEntry {
@@ -128,14 +128,14 @@ pub fn dead(entry: RipEntry) -> RipEntry
 {
     RipEntry {
         network: entry.network,
-        hops: UNREACHABLE,
+        hops: RipEntry::UNREACHABLE,
         ticks: u16::MAX,
     }
 }
 
 /// Puts the entry in its place by network.
 pub fn place(entries: &mut Vec<RipEntry>, entry: RipEntry) -> Result<(), OutOfMemory>
-    ensures { OnOk result (entries.new.items ≡ put_entry entry entries.old.items) }
+    ensures { OnOk result (entries.new.items ≡ put network_before entry entries.old.items) }
 {
     let index = place_of(entries, entry);
     entries.insert(index, entry)?;
@@ -145,7 +145,7 @@ pub fn place(entries: &mut Vec<RipEntry>, entry: RipEntry) -> Result<(), OutOfMe
 /// Where the first entry of a greater network stands.
 fn place_of(entries: &[RipEntry], entry: RipEntry) -> usize
     ensures within { result ≤ length entries.now }
-    ensures place { put_entry entry entries.now ≡ take result entries.now ++ entry ∷ drop result entries.now }
+    ensures place { put network_before entry entries.now ≡ take result entries.now ++ entry ∷ drop result entries.now }
 {
     for (index, other) in entries.iter().enumerate() {
         if entry.network < other.network {

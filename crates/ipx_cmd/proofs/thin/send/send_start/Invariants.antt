@@ -1,7 +1,7 @@
 use Rattle.std.specs.List.{flat_map}
-use Rattle.ipx_router.specs.Sends.{start_on}
 use Rattle.ipx_cmd.specs.Sent.{Sends}
-use Rattle.ipx_router.specs.Outgoing.{numbers}
+use Rattle.ipx_router.specs.Port.{numbers}
+use Rattle.ipx_cmd.specs.Thin.{start_on}
 use Rattle.ipx_cmd.proofs.thin.send.send_start.Given as goal
 
 abbrev pub invariant-loop-number : goal.invariant-loop-number
