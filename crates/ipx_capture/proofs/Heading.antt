@@ -1,0 +1,69 @@
+-- What reading the header of a file comes to.
+use Rattle.std.proofs.Common.{◌≡◌, ℕ, ◌<◌, ◌≤◌, false, List, length, take, refl, sym, subst, ◌∙◌, arith, inl, inr, Option, Some, None, Result, Ok, Err, IfOk, IfErr, length-take-le}
+use Rattle.std.proofs.lemmas.Bool.{lt-ltb, le-ltb, cases_lt, cases_Bool}
+use Rattle.std.specs.Io.KnownBytes.{Consumes}
+use Rattle.ipx_wire.specs.Ends.{Input}
+use Rattle.ipx_wire.specs.Piece.{piece}
+use Rattle.ipx_capture.specs.Header.{header_of, order_of, checked, is_version, is_ethernet}
+use Rattle.ipx_capture.specs.Place.{Begun, Unopened}
+use Rattle.ipx_capture.specs.Reads.{FilledFront}
+use Rattle.ipx_capture.specs.declared.capture_fault.CaptureFault.{CaptureFault}
+use Rattle.ipx_capture.specs.declared.capture_fault.CaptureFault.TheVariants.{CutHeader, Magic, Version, Link, RecordLong, CutRecord, Read, Memory}
+use Rattle.ipx_capture.specs.declared.order.Order.{Order}
+
+-- what the fields of a header can tell
+abbrev IsChecked : Result Order CaptureFault → Type 0
+IsChecked (Ok order) = Unit {0}
+IsChecked (Err Magic) = Unit {0}
+IsChecked (Err Version) = Unit {0}
+IsChecked (Err Link) = Unit {0}
+IsChecked (Err CutHeader) = ⊥
+IsChecked (Err RecordLong) = ⊥
+IsChecked (Err CutRecord) = ⊥
+IsChecked (Err Read) = ⊥
+IsChecked (Err Memory) = ⊥
+
+are_checked : (o : Option Order) (major minor link : List ℕ) → IsChecked (checked o major minor link)
+are_checked None major minor link = tt
+are_checked (Some order) major minor link =
+    elim (cases_Bool (is_version order major minor)) [
+      | inl is ↦ elim (cases_Bool (is_ethernet order link)) [
+        | inl ethernet ↦ rw (is, ethernet) tt
+        | inr other ↦ rw (is, other) tt
+      ]
+      | inr other ↦ rw other tt
+    ]
+
+cut : (b : List ℕ) → length b < 24 → header_of b ≡ Err CutHeader
+unfolding header_of
+cut b few = rw (lt-ltb (length b) 24 few) refl
+
+enough : (b : List ℕ) → 24 ≤ length b → header_of b ≡ checked (order_of (piece b 0 4)) (piece b 4 2) (piece b 6 2) (piece b 20 4)
+unfolding header_of
+enough b h = rw (le-ltb (length b) 24 h) refl
+
+-- what was read and what its header says
+told_checked : (before after : Input) (b : List ℕ) (r : Result Order CaptureFault) → Consumes before.left after.left b → length b ≡ 24 → after.failed ≡ false → after.calls ≤ 16777216
+    → header_of b ≡ r → IsChecked r → IfOk r (Begun before after) × IfErr r (Unopened before after)
+told_checked before after b (Ok order) read size fine few is h = (record { header = b; read = read; size = size; order_is = is; fine = fine; bounded = few }, tt)
+told_checked before after b (Err Magic) read size fine few is h = (tt, record { bytes = b; read = read; told = (is, fine) })
+told_checked before after b (Err Version) read size fine few is h = (tt, record { bytes = b; read = read; told = (is, fine) })
+told_checked before after b (Err Link) read size fine few is h = (tt, record { bytes = b; read = read; told = (is, fine) })
+told_checked before after b (Err CutHeader) read size fine few is h = absurd h
+told_checked before after b (Err RecordLong) read size fine few is h = absurd h
+told_checked before after b (Err CutRecord) read size fine few is h = absurd h
+told_checked before after b (Err Read) read size fine few is h = absurd h
+told_checked before after b (Err Memory) read size fine few is h = absurd h
+
+pub header_told : (before after : Input) (buffer : List ℕ) (n : ℕ) (r : Result Order CaptureFault) → FilledFront buffer before after n → length buffer ≡ 24 → before.failed ≡ false
+    → r ≡ header_of (take n buffer) → IfOk r (Begun before after) × IfErr r (Unopened before after)
+header_told before after buffer n r f size fine is =
+    let b = take n buffer in
+    let long : length b ≡ n = length-take-le n buffer f.bound in
+    elim (cases_lt n 24) [
+      | inl few ↦
+          let told : header_of b ≡ Err CutHeader = cut b (omega arith) in
+          rw (is ∙ told) (tt, record { bytes = b; read = f.read; told = (told, f.ended (omega arith), f.fine ∙ fine) })
+      | inr all ↦ told_checked before after b r f.read (omega (arith, f.bound)) (f.fine ∙ fine) (f.bounded (omega arith)) (sym is)
+          (subst IsChecked (sym (is ∙ enough b (omega arith))) (are_checked (order_of (piece b 0 4)) (piece b 4 2) (piece b 6 2) (piece b 20 4)))
+    ]

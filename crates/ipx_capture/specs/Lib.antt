@@ -1,0 +1,11 @@
+pub mod Calls
+pub mod Frame
+pub mod Framed
+pub mod Header
+pub mod Numbered
+pub mod Order
+pub mod Records
+pub mod Place
+pub mod Reads
+pub mod Taking
+pub mod Window

@@ -1,0 +1,139 @@
+//! The records of a capture file, one by one.
+ghost use Rattle.std.specs.Prelude.{◌≡◌, ◌+◌, ◌*◌, ◌≤◌, false, length};
+ghost use Rattle.ipx_capture.specs.Reads.{most_calls};
+ghost use Rattle.ipx_capture.specs.Records.{record_header};
+ghost use Rattle.ipx_capture.specs.Window.{most_room};
+ghost use Rattle.ipx_capture.specs.declared.standing.Standing.TheVariants.{Open};
+
+use crate::capture_fault::CaptureFault;
+use crate::order::Order;
+use crate::standing::Standing;
+use crate::taking::{begin, is_ready, take_record};
+use crate::window::Window;
+use ipx_wire::Intake;
+use std::alloc::Global;
+use std::io::Read;
+
+/// A capture file that is being read: its header has been, and its records are given one by one.
+#[derive(Drop)]
+pub struct Capture<'a, R: Read> {
+    intake: &'a mut Intake<R>,
+    window: Window,
+    order: Order,
+    taken: u64,
+    standing: Standing,
+    ghost few: { standing ≡ Open → record_header * taken + length window.ahead ≤ most_room * intake.now.calls },
+    ghost bounded: { standing ≡ Open → intake.now.calls ≤ most_calls },
+    ghost fine: { standing ≡ Open → intake.now.failed ≡ false },
+}
+
+/// A record of a capture.
+#[derive(Clone, Copy, Debug, PartialEq, Eq)]
+pub struct Captured<'c> {
+    /// Its number in the file, from 1.
+    pub number: u64,
+    /// How many bytes were on the wire.
+    pub wire: u32,
+    /// The bytes that were kept of them.
+    pub bytes: &'c [u8],
+}
+
+impl<'a, R: Read> Capture<'a, R> {
+    ghost use Rattle.std.specs.Prelude.{◌≡◌, ◌≤◌, [], ⊤, false, IfOk, IfErr, OnErr, IfSome};
+    ghost use Rattle.std.specs.Borrow.{sem, RestsIfErr};
+    ghost use Rattle.std.specs.Io.BufRead.{Rests};
+    ghost use mir.Syntax.{named};
+    ghost use Rattle.ipx_wire.specs.contracts.intake.Intake.{the_row as intake_row};
+    ghost use Rattle.ipx_capture.specs.contracts.capture.Capture.{the_row};
+    ghost use Rattle.ipx_capture.specs.Place.{place, keeps, told, Nexts, Opened, Unopened};
+    ghost use Rattle.ipx_capture.specs.Numbered.{numbered};
+    ghost use Rattle.ipx_capture.specs.Records as spec;
+
+    /// Reads the header of a capture file.
+    pub fn from_reader(
+        intake: &'a mut Intake<R>,
+        alloc: Global,
+    ) -> Result<Capture<'a, R>, CaptureFault>
+        requires fine { intake.old.failed ≡ false }
+        ensures ok { IfOk result (λ c. Opened intake.old (place c)) }
+        ensures same_reference { IfOk result (λ c. keeps c ≡ intake.entry.ghost_name) }
+        ensures* err { sem 𝓛 (RestsIfErr (intake_row R.row R.Read) intake.entry keeps result (λ after. IfErr result (Unopened intake.old after))) }
+    {
+        let (order, window) = begin(intake, alloc)?;
+        Ok(Capture::begun(intake, order, window))
+    }
+
+    fn begun(intake: &'a mut Intake<R>, order: Order, window: Window) -> Capture<'a, R>
+        requires fresh { window.ahead ≡ [] }
+        requires bounded { intake.old.calls ≤ most_calls }
+        requires fine { intake.old.failed ≡ false }
+        ensures place { place result ≡ record { order = order; taken = 0; ahead = []; standing = Standing.Open; input = intake.old } }
+        ensures same_reference { keeps result ≡ intake.entry.ghost_name }
+    {
+        Capture {
+            intake,
+            window,
+            order,
+            taken: 0,
+            standing: Standing::Open,
+        }
+    }
+
+    /// Gives back the intake, which is as far as the capture has read.
+    pub fn into_inner(self) -> &'a mut Intake<R>
+        ensures same_reference { result.ghost_name ≡ keeps self.entry }
+        ensures input { result.now ≡ (place self.entry).input }
+    {
+        let Capture { intake, .. } = self;
+        intake
+    }
+
+    /// The next record; none at the end of the file.
+    ///
+    /// An end or a fault that was told is told again by each later call.
+    pub fn next(&mut self) -> Result<Option<Captured<'_>>, CaptureFault>
+        ensures* after { sem 𝓛 (Rests (the_row (record { mir = named 1; lft = [] }) R.row R.Read) self.entry (λ new. Nexts (place self.old) (place new) (told result) × (keeps new ≡ keeps self.old))) }
+    {
+        let Some(wire) = self.advance()? else {
+            return Ok(None);
+        };
+        Ok(Some(Captured {
+            number: self.taken,
+            wire,
+            bytes: self.window.taken(),
+        }))
+    }
+
+    /// Whether the next call of [`next`](Capture::next) has its answer in the buffer, and doesn't ask the reader.
+    pub fn is_ready(&self) -> bool
+        ensures { result ≡ spec.is_ready (place self.now).order (place self.now).ahead }
+    {
+        is_ready(self.order, self.window.ahead())
+    }
+
+    /// Takes the next record, and answers how many of its bytes were on the wire.
+    fn advance(&mut self) -> Result<Option<u32>, CaptureFault>
+        ensures after { Nexts (place self.old) (place self.new) (numbered self.new.taken self.new.window.taken result) }
+        ensures same_reference { keeps self.new ≡ keeps self.old }
+    {
+        match self.standing {
+            Standing::Open => {}
+            Standing::Ended => return Ok(None),
+            Standing::Broken(fault) => return Err(fault),
+        }
+        match take_record(self.intake, &mut self.window, self.order) {
+            Ok(Some(wire)) => {
+                self.taken += 1;
+                Ok(Some(wire))
+            }
+            Ok(None) => {
+                self.standing = Standing::Ended;
+                Ok(None)
+            }
+            Err(fault) => {
+                self.standing = Standing::Broken(fault);
+                Err(fault)
+            }
+        }
+    }
+}

@@ -1,0 +1,16 @@
+//! The kinds of Ethernet frames in which IPX packets were sent.
+
+/// The IPX bytes of a frame, by the kind of the frame.
+#[derive(Clone, Copy, Debug, PartialEq, Eq)]
+pub enum Frame<'a> {
+    /// The frame's type is 8137h.
+    EthernetII(&'a [u8]),
+    /// A length, and the packet right behind it: Novell's own format, which knows no checksum.
+    Raw(&'a [u8]),
+    /// A length, and an 802.2 header with the access points E0h.
+    Llc(&'a [u8]),
+    /// A length, and an 802.2 header that names the protocol 8137h.
+    Snap(&'a [u8]),
+    /// It carries no IPX packet.
+    Other,
+}

@@ -1,0 +1,12 @@
+use crate::capture_fault::CaptureFault;
+
+/// Whether a capture goes on.
+#[derive(Clone, Copy, Debug, PartialEq, Eq)]
+pub enum Standing {
+    /// Neither its end nor a fault was told.
+    Open,
+    /// Its end was told.
+    Ended,
+    /// A fault was told.
+    Broken(CaptureFault),
+}

@@ -1,0 +1,103 @@
+//! What a capture does with the bytes of its reader.
+ghost use Rattle.std.specs.Prelude.{◌≡◌, [], true, false, ℕ, List, IfOk, IfErr, OnErr};
+ghost use Rattle.std.specs.Io.KnownBytes.{Consumes};
+ghost use Rattle.ipx_capture.specs.Place.{Begun, Unopened};
+ghost use Rattle.ipx_capture.specs.Reads.{FilledFront};
+ghost use Rattle.ipx_capture.specs.Taking.{Took};
+ghost use Rattle.ipx_capture.specs.Records as spec;
+
+use crate::capture_fault::CaptureFault;
+use crate::file_header;
+use crate::order::Order;
+use crate::window::Window;
+use ipx_wire::{Failed, Intake};
+use std::alloc::Global;
+use std::io::Read;
+
+/// How many bytes the header of a record has.
+const HEADER: usize = 16;
+
+/// How many bytes a record keeps at most.
+const LONGEST: u32 = 262_144;
+
+/// Reads the header of the file, and makes the buffer.
+pub(crate) fn begin<R: Read>(
+    intake: &mut Intake<R>,
+    alloc: Global,
+) -> Result<(Order, Window), CaptureFault>
+    requires { intake.old.failed ≡ false }
+    ensures ok { IfOk result (λ made. Begun intake.old intake.new made.0 × (made.1.ahead ≡ [])) }
+    ensures err { IfErr result (Unopened intake.old intake.new) }
+{
+    let order = read_header(intake)?;
+    let window = Window::new(alloc)?;
+    Ok((order, window))
+}
+
+fn read_header<R: Read>(intake: &mut Intake<R>) -> Result<Order, CaptureFault>
+    requires { intake.old.failed ≡ false }
+    ensures ok { IfOk result (Begun intake.old intake.new) }
+    ensures err { IfErr result (λ fault. Unopened intake.old intake.new fault) }
+{
+    let mut header = [0; file_header::SIZE];
+    let Ok(count) = read_front(intake, &mut header) else {
+        return Err(CaptureFault::Read);
+    };
+    file_header::read(&header[..count])
+}
+
+/// Fills a buffer from its front on, as far as there are bytes.
+fn read_front<R: Read>(intake: &mut Intake<R>, bytes: &mut [u8]) -> Result<usize, Failed>
+    ensures ok { IfOk result (FilledFront bytes.new intake.old intake.new) }
+    ensures err { OnErr result (intake.new.failed ≡ true) }
+    ensures read { OnErr result ((front : List ℕ) × Consumes intake.old.left intake.new.left front) }
+{
+    let mut at = 0;
+    while at < bytes.len() {
+        let count = intake.read(&mut bytes[at..])?;
+        if count == 0 {
+            return Ok(at);
+        }
+        at += count;
+    }
+    Ok(at)
+}
+
+/// Takes the record at the front of the bytes ahead and those to come, and answers how many of its bytes were on the wire.
+pub(crate) fn take_record<R: Read>(
+    intake: &mut Intake<R>,
+    window: &mut Window,
+    order: Order,
+) -> Result<Option<u32>, CaptureFault>
+    requires { intake.old.failed ≡ false }
+    ensures took { Took order window.old.ahead window.new intake.old intake.new result }
+    ensures still { spec.is_ready order window.old.ahead ≡ true → intake.new ≡ intake.old }
+{
+    if !window.gather(intake, HEADER)? {
+        if window.ahead().is_empty() {
+            return Ok(None);
+        }
+        return Err(CaptureFault::CutRecord);
+    }
+    let kept = order.u32_at(window.ahead(), 8);
+    let wire = order.u32_at(window.ahead(), 12);
+    if kept > LONGEST {
+        return Err(CaptureFault::RecordLong);
+    }
+    if !window.gather(intake, HEADER + kept as usize)? {
+        return Err(CaptureFault::CutRecord);
+    }
+    window.take(HEADER, kept as usize);
+    Ok(Some(wire))
+}
+
+/// Whether bytes tell what stands at their front: a record that is there whole, or one that is too long.
+pub(crate) fn is_ready(order: Order, ahead: &[u8]) -> bool
+    ensures { result ≡ spec.is_ready order ahead.now }
+{
+    if ahead.len() < HEADER {
+        return false;
+    }
+    let kept = order.u32_at(ahead, 8);
+    kept > LONGEST || ahead.len() >= HEADER + kept as usize
+}

@@ -1,0 +1,177 @@
+//! The buffer of a capture: bytes that were read, and of these the record that is lent.
+ghost use Rattle.std.specs.Prelude.{◌≡◌, ◌+◌, ◌-◌, ◌<◌, ◌≤◌, [], true, false, IfOk, IfErr, OnOk, OnErr, length, take, drop, vec_len, max};
+ghost use Rattle.std.specs.Io.KnownBytes.{Consumes, IsAtEnd};
+ghost use Rattle.ipx_wire.specs.Ends.{Gave, LostInput};
+ghost use Rattle.ipx_wire.specs.Piece.{piece};
+ghost use Rattle.ipx_capture.specs.Reads.{most_calls};
+ghost use Rattle.ipx_capture.specs.Window.{most_room};
+
+use crate::capture_fault::CaptureFault;
+use ipx_wire::{Failed, Intake};
+use std::alloc::{AllocError, Global};
+use std::io::Read;
+use std::marker::Model;
+
+/// How many bytes are asked for at a time, and lie in the buffer as long as no record is longer.
+const SIZE: usize = 8192;
+
+/// The bytes read and not yet taken, and behind them room for more.
+#[derive(Drop)]
+pub(crate) struct Window {
+    bytes: Vec<u8>,
+    // `kept` bytes from `start` on are the record last taken.
+    start: usize,
+    kept: usize,
+    // `count` bytes from `from` on are ahead.
+    from: usize,
+    count: usize,
+}
+
+impl Model for Window {
+    ghost use Rattle.std.specs.Prelude.{◌≤◌, ◌+◌, length};
+    ghost use Rattle.ipx_wire.specs.Piece.{piece};
+    ghost use Rattle.ipx_capture.specs.Window.{Held, Fits};
+
+    ghost Value = { Held };
+
+    ghost view = { λ w. record { taken = piece w.bytes.items w.start w.kept; ahead = piece w.bytes.items w.from w.count } };
+
+    ghost invariant = { λ w. Fits (length w.bytes.items) w.start w.kept w.from w.count };
+}
+
+impl Window {
+    ghost use Rattle.ipx_capture.specs.Reads.{Filled, Gathered, Lost};
+
+    pub fn new(alloc: Global) -> Result<Window, AllocError>
+        ensures { IfOk result (λ w. w.ahead ≡ []) }
+    {
+        let mut bytes = Vec::new(alloc);
+        bytes.resize(SIZE, 0)?;
+        Ok(Window {
+            bytes,
+            start: 0,
+            kept: 0,
+            from: 0,
+            count: 0,
+        })
+    }
+
+    /// The bytes read and not yet taken.
+    pub fn ahead(&self) -> &[u8]
+        ensures { result.now ≡ self.now.ahead }
+    {
+        piece_of(&self.bytes, self.from, self.count)
+    }
+
+    /// The bytes of the record last taken.
+    pub fn taken(&self) -> &[u8]
+        ensures { result.now ≡ self.now.taken }
+    {
+        piece_of(&self.bytes, self.start, self.kept)
+    }
+
+    /// Takes a record whose header has `header` bytes.
+    pub fn take(&mut self, header: usize, kept: usize)
+        requires { header + kept ≤ length self.old.ahead }
+        ensures taken { self.new.taken ≡ piece self.old.ahead header kept }
+        ensures ahead { self.new.ahead ≡ drop (header + kept) self.old.ahead }
+    {
+        self.start = self.from + header;
+        self.kept = kept;
+        self.from += header + kept;
+        self.count -= header + kept;
+    }
+
+    /// Reads until `need` bytes are ahead, or the reader is at its end: whether they are.
+    pub fn gather<R: Read>(
+        &mut self,
+        intake: &mut Intake<R>,
+        need: usize,
+    ) -> Result<bool, CaptureFault>
+        requires fine { intake.old.failed ≡ false }
+        requires few { need ≤ most_room }
+        ensures ok { IfOk result (Gathered self.old.ahead self.new.ahead intake.old intake.new need) }
+        ensures err { IfErr result (Lost intake.old intake.new) }
+        ensures still { need ≤ length self.old.ahead → (intake.new ≡ intake.old) × (self.new.ahead ≡ self.old.ahead) }
+    {
+        while self.count < need {
+            if self.fill(intake, need)? == 0 {
+                return Ok(false);
+            }
+        }
+        Ok(true)
+    }
+
+    /// Reads once behind the bytes that are ahead.
+    fn fill<R: Read>(&mut self, intake: &mut Intake<R>, need: usize) -> Result<usize, CaptureFault>
+        requires fine { intake.old.failed ≡ false }
+        requires more { length self.old.ahead < need }
+        requires few { need ≤ most_room }
+        ensures ok { IfOk result (λ n. Filled self.old.ahead self.new.ahead intake.old intake.new n) }
+        ensures err { IfErr result (Lost intake.old intake.new) }
+    {
+        self.from = make_room(&mut self.bytes, self.from, self.count, need)?;
+        let end = self.from + self.count;
+        let Ok(got) = read_behind(intake, &mut self.bytes, end) else {
+            return Err(CaptureFault::Read);
+        };
+        self.count += got;
+        Ok(got)
+    }
+}
+
+/// Some bytes of a buffer.
+fn piece_of(bytes: &[u8], place: usize, count: usize) -> &[u8]
+    requires { place + count ≤ length bytes.now }
+    ensures { result.now ≡ piece bytes.now place count }
+{
+    let (_, rest) = bytes.split_at(place);
+    let (front, _) = rest.split_at(count);
+    front
+}
+
+/// Makes room for `need` bytes from those ahead on: moves these to the front, and grows the buffer only where it has fewer.
+///
+/// Answers where the bytes ahead are then.
+fn make_room(
+    bytes: &mut Vec<u8>,
+    from: usize,
+    count: usize,
+    need: usize,
+) -> Result<usize, AllocError>
+    requires held { from + count ≤ vec_len bytes.old }
+    requires more { count < need }
+    ensures room { IfOk result (λ at. at + need ≤ vec_len bytes.new) }
+    ensures kept { IfOk result (λ at. piece bytes.new.items at count ≡ piece bytes.old.items from count) }
+    ensures grows { vec_len bytes.old ≤ vec_len bytes.new }
+    ensures most { vec_len bytes.new ≤ max need (vec_len bytes.old) }
+{
+    if need <= bytes.len() - from {
+        return Ok(from);
+    }
+    bytes.copy_within(from..from + count, 0);
+    if bytes.len() < need {
+        bytes.resize(need, 0)?;
+    }
+    Ok(0)
+}
+
+/// Reads once into the room from `end` on.
+fn read_behind<R: Read>(
+    intake: &mut Intake<R>,
+    bytes: &mut Vec<u8>,
+    end: usize,
+) -> Result<usize, Failed>
+    requires { end < vec_len bytes.old }
+    ensures len { vec_len bytes.new ≡ vec_len bytes.old }
+    ensures front { take end bytes.new.items ≡ take end bytes.old.items }
+    ensures bound { IfOk result (λ n. end + n ≤ vec_len bytes.new) }
+    ensures read { IfOk result (λ n. Consumes intake.old.left intake.new.left (piece bytes.new.items end n)) }
+    ensures ends { IfOk result (λ n. n ≡ 0 → IsAtEnd intake.new.left) }
+    ensures fine { OnOk result (intake.new.failed ≡ intake.old.failed) }
+    ensures counted { OnOk result (intake.new.calls ≡ intake.old.calls + 1) }
+    ensures bounded { OnOk result (intake.new.calls ≤ most_calls) }
+    ensures err { OnErr result (LostInput intake.old intake.new) }
+{
+    intake.read(&mut bytes[end..])
+}
