@@ -1,0 +1,72 @@
+-- Where a packet for another network goes: to a port's network, or to one neighbour.
+use Rattle.std.proofs.Common.{◌≡◌, refl, sym, ap, ap₂, ◌∙◌, subst, ℕ, ◌==◌, ◌⊎◌, if◌then◌else◌, Bool, true, false, List, [], ◌∷◌, Option, None, Some, find, inl, inr, true≢false, is_some, option_map}
+use Rattle.std.specs.List.{AllByRecursion}
+use Rattle.std.proofs.lemmas.Bool.{cases_Bool, eqb-true}
+use Rattle.ipx_wire.specs.declared.address.Address.{Address}
+use Rattle.ipx_wire.specs.declared.network.Network.{Network}
+use Rattle.ipx_router.specs.Numbers.{default_route}
+use Rattle.ipx_router.specs.Outgoing.{Way, port_to, route_to, serving, way_to}
+use Rattle.ipx_router.specs.Port.{Port, broadcast, port_at, same_node, is_skipped}
+use Rattle.ipx_router.specs.Relays.{Sent, IsTableRoute}
+use Rattle.ipx_router.specs.declared.route_offer.RouteOffer.{RouteOffer}
+
+pub nothing : {X : Type 0} {x : X} {A : Type 0} → None ≡ Some x → A
+nothing e = absurd (true≢false (sym (ap is_some e)))
+
+-- what holds of one element holds of any that is the same
+pub it_is : {X : Type 0} (P : X → Type 0) (x y : X) → Some y ≡ Some x → P y → P x
+it_is {X} P x y e is = subst (λ (z : X). P z) (ap (λ (o : Option _). elim o [ None ↦ y | Some z ↦ z ]) e) is
+
+-- the first that passes a test is one of the list, and passes it
+pub found : {X : Type 0} (P : X → Type 0) (test : X → Bool) (xs : List X) (x : X) → AllByRecursion P xs → find test xs ≡ Some x → P x × (test x ≡ true)
+found P test [] x all e = nothing e
+found P test (y ∷ ys) x all e = elim (cases_Bool (test y)) [
+  | inl it ↦ it_is (λ z. P z × (test z ≡ true)) x y (rw it at e) (all.0, it)
+  | inr other ↦ found P test ys x all.1 (rw other at e)
+]
+
+-- all elements are elements
+any_of : {X : Type 0} (xs : List X) → AllByRecursion (λ x. Unit {0}) xs
+any_of [] = tt
+any_of (x ∷ xs) = (tt, any_of xs)
+
+-- the route that serves a network is one of the table
+served : (P : RouteOffer → Type 0) (ports : List Port) (routes : List RouteOffer) (network : Network) (route : RouteOffer) → AllByRecursion P routes
+    → serving ports routes network ≡ Some route → P route
+served P ports routes network route all e = by (route_to routes network.0) refl e
+  where
+    otherwise : (skipped : Bool) → (if skipped then None else route_to routes default_route) ≡ Some route → P route
+    otherwise true e = nothing e
+    otherwise false e = (found P (λ r. r.network.0 == default_route) routes route all e).0
+
+    by : (o : Option RouteOffer) → route_to routes network.0 ≡ o
+        → elim o [ Some r ↦ Some r | None ↦ if is_skipped ports network then None else route_to routes default_route ] ≡ Some route → P route
+    by (Some r) there e = it_is P route r e (found P (λ r. r.network.0 == network.0) routes r all there).0
+    by None there e = otherwise (is_skipped ports network) e
+
+-- the way is by a port of the destination's network, or to one node
+pub by_port_or_node : (ports : List Port) (up : List ℕ) (routes : List RouteOffer) (destination : Address) (way : Way) → AllByRecursion (IsTableRoute ports) routes
+    → way_to ports up routes destination ≡ Some way
+    → ((port_at ports way.port).network.0 ≡ destination.network.0) ⊎ (same_node way.link broadcast ≡ false)
+by_port_or_node ports up routes destination way table e = by (port_to ports up destination.network) (serving ports routes destination.network) refl refl e
+  where
+    by : (o : Option ℕ) (r : Option RouteOffer) → port_to ports up destination.network ≡ o → serving ports routes destination.network ≡ r
+        → elim o [ Some j ↦ Some (record { port = j; link = destination.node }) | None ↦ option_map (λ r. record { port = r.port; link = r.node }) r ] ≡ Some way
+        → ((port_at ports way.port).network.0 ≡ destination.network.0) ⊎ (same_node way.link broadcast ≡ false)
+    by (Some j) r direct routed e =
+        inl (it_is (λ (w : Way). (port_at ports w.port).network.0 ≡ destination.network.0) way (record { port = j; link = destination.node }) e
+        (eqb-true (port_at ports j).network.0 destination.network.0
+        (found (λ j. Unit {0}) (λ j. (port_at ports j).network.0 == destination.network.0) up j (any_of up) direct).1))
+    by None None direct routed e = nothing e
+    by None (Some r) direct routed e =
+        inr (it_is (λ (w : Way). same_node w.link broadcast ≡ false) way (record { port = r.port; link = r.node }) e
+        (served (IsTableRoute ports) ports routes destination.network r table routed).neighbour)
+
+-- what is sent by one way, with the same bytes, is the same
+pub one_sent : (way : Option Way) (bytes : List ℕ) (s t : Sent) → way ≡ Some (record { port = s.port; link = s.link })
+    → way ≡ Some (record { port = t.port; link = t.link }) → s.bytes ≡ bytes → t.bytes ≡ bytes → s ≡ t
+one_sent way bytes s t by_s by_t from_s from_t =
+    let sent : Way → List ℕ → Sent = λ w bytes. record { port = w.port; link = w.link; bytes = bytes } in
+    let way_s : Way = record { port = s.port; link = s.link } in
+    let way_t : Way = record { port = t.port; link = t.link } in
+    ap₂ sent (it_is (λ (w : Way). way_s ≡ w) way_t way_s (sym by_s ∙ by_t) refl) (from_s ∙ sym from_t)

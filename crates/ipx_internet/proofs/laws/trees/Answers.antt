@@ -1,0 +1,37 @@
+use Rattle.std.proofs.Common.{arith}
+use Rattle.ipx_internet.proofs.Bytes.{SentOn}
+use Rattle.ipx_internet.proofs.Ending as ending
+use Rattle.ipx_internet.proofs.Following as following
+use Rattle.ipx_internet.proofs.Spreading as spreading
+use Rattle.ipx_internet.proofs.Trees.{Relaying}
+use Rattle.ipx_internet.proofs.Wire.{Wire}
+use Rattle.ipx_internet.proofs.laws.trees.Goals as goal
+
+-- the laws of packets and routers
+wire : goal.After-relays → Wire
+wire c = record {
+  one_packet = c.readings.ensures.one_packet;
+  one_crossed = c.readings.ensures.one_crossed;
+  forwarded_again = c.reread.ensures.forwarded;
+  propagated_again = c.reread.ensures.propagated;
+  crossed_again = c.reread.ensures.crossed;
+  same_nodes = c.same_offers.ensures.nodes;
+}
+
+relaying : goal.After-relays → Relaying
+relaying c = record { packet_read = c.readings.ensures.packet_read; listed = c.relays.ensures.listed; in_order = c.relays.ensures.in_order }
+
+over : goal.After-relays → SentOn
+over c = record { forwarded_over = c.sent_on.ensures.forwarded; propagated_over = c.sent_on.ensures.propagated }
+
+pub returns-clause-all_networks : goal.returns-clause-all_networks
+returns-clause-all_networks c routers copy p n made right = spreading.all_networks (wire c) (relaying c) (over c) routers made right copy p n
+
+pub returns-clause-one_network : goal.returns-clause-one_network
+returns-clause-one_network c routers copy p n made differ right = following.one_network (wire c) (relaying c) (over c) routers made right differ copy p n
+
+pub returns-clause-nowhere : goal.returns-clause-nowhere
+returns-clause-nowhere c routers copy n made right = following.nowhere (wire c) (relaying c) (over c) routers made right copy n
+
+pub returns-clause-whole : goal.returns-clause-whole
+returns-clause-whole c routers copy n made right bytes deep = ending.whole (wire c) (relaying c) (over c) routers made right copy n bytes (omega (arith, deep))

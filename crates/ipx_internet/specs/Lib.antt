@@ -1,0 +1,9 @@
+pub mod Course
+pub mod Delivery
+pub mod Different
+pub mod Internet
+pub mod Log
+pub mod Most
+pub mod Queue
+pub mod Run
+pub mod Tree

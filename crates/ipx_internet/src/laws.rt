@@ -1,0 +1,110 @@
+//! What holds of every internet, whatever its routers' tables.
+ghost use Rattle.std.specs.Prelude.{◌≡◌, ℕ, ◌+◌, ◌-◌, ◌*◌, ◌<◌, ◌≤◌, true, false, List, [], ◌∷◌, ◌++◌, length, flat_map, Option};
+ghost use Rattle.std.specs.List.{AllByRecursion};
+ghost use Rattle.ipx_wire.specs.Crossed.{is_among};
+ghost use Rattle.ipx_wire.specs.Numbers.{crossed_places};
+ghost use Rattle.ipx_wire.specs.Packet.{Parts, IsPacket};
+ghost use Rattle.ipx_wire.specs.Piece.{IsBytes};
+ghost use Rattle.ipx_wire.specs.declared.network.Network.{Network};
+ghost use Rattle.ipx_wire.specs.declared.node.Node.{Node};
+ghost use Rattle.ipx_router.specs.Bounds.{most_packets};
+ghost use Rattle.ipx_router.specs.Facts.{routes_held, services_held};
+ghost use Rattle.ipx_router.specs.History.{Event, History, IsOnPort, IsOfBytes};
+ghost use Rattle.ipx_router.specs.Numbers.{most_routers};
+ghost use Rattle.ipx_router.specs.Sends.{sends};
+ghost use Rattle.ipx_router.specs.Why.{is_propagated};
+ghost use Rattle.ipx_internet.specs.Course.{IsInCourse, IsPath, visited};
+ghost use Rattle.ipx_internet.specs.Delivery.{delivered};
+ghost use Rattle.ipx_internet.specs.Different.{AreDifferent};
+ghost use Rattle.ipx_internet.specs.Internet.{Internet, Place, IsInternet, NodesDiffer, IsPlace, network_of, ports_of};
+ghost use Rattle.ipx_internet.specs.Log.{Sending, Reception, reception_at, IsForward, IsLog};
+ghost use Rattle.ipx_internet.specs.Most.{most, most_on_network};
+ghost use Rattle.ipx_internet.specs.Queue.{deliveries_of, queued, settled_one};
+ghost use Rattle.ipx_internet.specs.Run.{Step, Settles, IsStep, AreHistories, Run, begun, forgotten, happens, stepped, run_of};
+ghost use Rattle.ipx_internet.specs.Tree.{Router, IsRouter, Copy, net_of, tree_to, IsTree};
+
+/// How far a packet goes, in any internet and any log: with any tables and any ports up, also such as change on the way.
+///
+/// A packet for one network has at most 16 forwards in its whole course, fewer by its transport control. Every path of a
+/// propagated packet has at most eight, fewer by its transport control, also from a forged list of networks crossed; it
+/// visits no network twice, so that it has fewer forwards than there are networks. These hold of the course and the paths
+/// of any reception, not of those without origin alone.
+pub fn courses()
+    ensures one_network { (net : Internet) (log : List Reception) (start : ℕ) (p : Parts) (forwards : List Sending)
+        → IsInternet net → NodesDiffer net → IsLog net log → IsPacket (reception_at log start).bytes p → is_propagated p.header ≡ false
+        → AllByRecursion (λ s. IsForward net log s × IsInCourse log start s.place) forwards → AreDifferent forwards
+        → length forwards ≤ most_routers - p.header.control }
+    ensures all_networks { (net : Internet) (log : List Reception) (start : ℕ) (p : Parts) (path : List Sending)
+        → IsInternet net → IsLog net log → IsPacket (reception_at log start).bytes p → is_propagated p.header ≡ true → IsPath net log start path
+        → length path ≤ crossed_places - p.header.control }
+    ensures no_network_twice { (net : Internet) (log : List Reception) (start : ℕ) (p : Parts) (path : List Sending)
+        → IsInternet net → IsLog net log → IsPacket (reception_at log start).bytes p → is_propagated p.header ≡ true → IsPath net log start path
+        → AreDifferent (visited net log start path) }
+    ensures fewer_than_networks { (net : Internet) (log : List Reception) (start : ℕ) (p : Parts) (path : List Sending) (networks : List Network)
+        → IsInternet net → IsLog net log → IsPacket (reception_at log start).bytes p → is_propagated p.header ≡ true → IsPath net log start path
+        → ((place : Place) → IsPlace net place → is_among (network_of net place) networks ≡ true)
+        → length path ≤ length networks - 1 }
+{
+    ipx_wire::laws::readings();
+    ipx_wire::laws::reread();
+    ipx_router::laws::same_offers();
+}
+
+/// What is listed of a run is a log, so that all of the above holds of it, with every other traffic between: packets of
+/// any kind, seconds, starts and stops, ports that go down and come up. A run begins with any histories and nothing that
+/// waits; each of its steps is an event or the first delivery that waits, and does with the queue what `queued` says.
+pub fn runs()
+    ensures listed { (net : Internet) (most_routes most_services : ℕ) (histories : List History) (steps : List Step)
+        → IsInternet net → AreHistories net histories → AllByRecursion (IsStep net) steps
+        → IsLog net (run_of net most_routes most_services (begun histories) steps).log }
+    ensures events { (net : Internet) (most_routes most_services : ℕ) (run : Run) (router : ℕ) (event : Event) (origin : Option Sending)
+        → forgotten (happens net most_routes most_services run router event origin) ≡ queued net most_routes most_services (forgotten run) router event }
+    ensures deliveries { (net : Internet) (most_routes most_services : ℕ) (run : Run)
+        → forgotten (stepped net most_routes most_services run Settles) ≡ settled_one net most_routes most_services (forgotten run) }
+{
+    ipx_router::laws::relays();
+    ipx_router::laws::tables();
+    ipx_router::laws::packets();
+}
+
+/// The tree of a packet that comes to a port while nothing else happens has few receptions, and at most 17 levels.
+///
+/// For a propagated packet: itself, and from each on, eight times at most, at most one for each other port of a router and
+/// each other port of a network. For a packet for one network: at most 16 routers that send it on, and all ports of one
+/// network. For all other bytes: itself.
+pub fn trees()
+    ensures all_networks { (routers : List Router) (c : Copy) (p : Parts) (n : ℕ) → IsInternet (net_of routers) → AllByRecursion IsRouter routers
+        → IsBytes c.bytes → IsPacket c.bytes p → is_propagated p.header ≡ true
+        → length (tree_to routers n c) ≤ most (net_of routers) (crossed_places - p.header.control) }
+    ensures one_network { (routers : List Router) (c : Copy) (p : Parts) (n : ℕ) → IsInternet (net_of routers) → NodesDiffer (net_of routers) → AllByRecursion IsRouter routers
+        → IsBytes c.bytes → IsPlace (net_of routers) c.to → IsPacket c.bytes p → is_propagated p.header ≡ false → p.header.control ≤ most_routers
+        → length (tree_to routers n c) ≤ (most_routers - p.header.control) + most_on_network (net_of routers) }
+    ensures nowhere { (routers : List Router) (c : Copy) (n : ℕ) → IsInternet (net_of routers) → AllByRecursion IsRouter routers
+        → IsBytes c.bytes → ((p : Parts) → IsPacket c.bytes p → (is_propagated p.header ≡ false) × (most_routers ≤ p.header.control))
+        → length (tree_to routers n c) ≤ 1 }
+    ensures whole { (routers : List Router) (c : Copy) (n : ℕ) → IsInternet (net_of routers) → AllByRecursion IsRouter routers
+        → IsBytes c.bytes → most_routers < n → IsTree routers c (tree_to routers n c) }
+{
+    ipx_wire::laws::readings();
+    ipx_wire::laws::reread();
+    ipx_wire::laws::sent_on();
+    ipx_router::laws::same_offers();
+    ipx_router::laws::relays();
+}
+
+/// An event of a router makes few deliveries: each packet that it sends reaches at most all other ports of a network, and
+/// it sends no more packets than stated, where the router has at most 32 ports.
+pub fn deliveries()
+    ensures one_packet { (net : Internet) (from : Place) (link : Node) → IsPlace net from → length (delivered net from link) ≤ most_on_network net - 1 }
+    ensures one_event { (net : Internet) (router most_routes most_services : ℕ) (history : History) (event : Event)
+        → IsInternet net → length (ports_of net router) ≤ 32
+        → AllByRecursion (IsOnPort (ports_of net router)) (history ++ event ∷ []) → AllByRecursion IsOfBytes (history ++ event ∷ [])
+        → length (flat_map (deliveries_of net router) (sends (ports_of net router) most_routes most_services history event))
+        ≤ most_packets (length (ports_of net router)) (length (routes_held (ports_of net router) most_routes history))
+        (length (services_held (ports_of net router) most_services history)) event
+        * (most_on_network net - 1) }
+{
+    ipx_router::laws::bounds();
+    ipx_router::laws::down_ports();
+    ipx_router::laws::relays();
+}
