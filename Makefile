@@ -1,8 +1,8 @@
-# Needs the Rattle toolchain (its command rt) and nothing else.
+# Needs the Rattle toolchain (its command rt, and the Python that it runs on) and nothing else.
 PREFIX ?= /usr/local
 PROGRAM = crates/ipxr/out/ipxr
 
-.PHONY: run build test bench install
+.PHONY: run build test edits bench install
 
 # Proves and builds all, then plays the worked script and prints what the router sent and learned.
 run: build
@@ -12,9 +12,13 @@ run: build
 build:
 	@tools/build
 
-# The gate, then every example against its kept output. The last line is 'N passed, M failed'.
+# The gate, then every example and transcript. The last line is 'N passed, M failed'.
 test:
 	@tools/test
+
+# Tries every must-fail edit, or with CRATE=NAME those of one crate. The last line is 'N refused, M not refused'.
+edits:
+	@tools/edits $(CRATE)
 
 # Proves, builds and runs the measurements; docs/SPEED.md tells what they gave.
 bench:

@@ -1,13 +1,15 @@
-//! Worked examples that cross crates: tests alone, each seen from outside, by public calls.
+//! Worked examples: tests alone, each seen from outside, by public calls of the crates below.
 //!
 //! Nothing stands on this crate. It is one of its own because a crate with tests is proved twice: here only the tests
-//! are, over what the crates below promise.
+//! are, over what the crates below promise. What a script can show needs no test: see `tests/replay`.
 //!
-//! - `scripts`: whole runs of `replay`, what they write and how they end.
+//! - `wire`, `table`, `ports`, `thin_router`: packets and devices, offers, what a router is made of, and what it does.
+//! - `devices`: runs of `replay` on devices that give or take few bytes, or fail.
 //! - `program_words`, `exit_statuses`: the words of the command line, the end of a run.
-//! - `ports`, `thin_router`: what a router is made of, and what it does with events.
 #![tactic(auto)]
 
+#[cfg(test)]
+mod devices;
 #[cfg(test)]
 mod exit_statuses;
 #[cfg(test)]
@@ -15,6 +17,8 @@ mod ports;
 #[cfg(test)]
 mod program_words;
 #[cfg(test)]
-mod scripts;
+mod table;
 #[cfg(test)]
 mod thin_router;
+#[cfg(test)]
+mod wire;

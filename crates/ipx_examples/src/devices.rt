@@ -1,12 +1,25 @@
-use super::{START, joined, play};
+//! Runs of `replay` on devices that give or take few bytes a call, or fail. Whole scripts stand in `tests/replay`.
+
 use ipx_cmd::{Ended, RunFault, replay};
 use ipx_wire::{Intake, Outlet};
+use std::alloc::Global;
 use std::io;
 use std::io::{ErrorKind, Read, Write};
 
-/// Lines after the start. The last one has no line feed.
-const LINES: &str =
-    "in 0 -\nin 1 FFFF0028000100000020FFFFFFFFFFFF0453000000200000000000BB045300020000003000010002\nroutes\n\nroutes";
+/// Two ports, a start, a packet that is dropped, one that is heard, and routes. The last line has no line feed.
+const SCRIPT: &[u8] =
+    b"port 00000010 000000000001 1 576\nport 00000020 000000000002 1 576\nstart\nin 0 -\n\
+in 1 FFFF0028000100000020FFFFFFFFFFFF0453000000200000000000BB045300020000003000010002\nroutes\n\nroutes";
+
+/// How a run ends that plays a script from memory, and what it wrote.
+fn play(heap: Global, script: &[u8]) -> (Result<Ended, RunFault>, Vec<u8>) {
+    let mut text = Vec::new(heap);
+    let mut intake = Intake::new(script);
+    let mut outlet = Outlet::new(&mut text);
+    let answer = replay(heap, &mut intake, &mut outlet);
+    drop(outlet);
+    (answer, text)
+}
 
 /// Gives at most `most` bytes a call, and is interrupted at call number `last`.
 #[derive(Drop)]
@@ -80,13 +93,12 @@ impl Read for Endless<'_> {
 #[test]
 fn a_byte_at_a_time_changes_nothing(rt: HostRuntime) {
     let heap = rt.alloc();
-    let script = joined(heap, START, LINES).expect(&rt, "memory");
-    let (answer, wanted) = play(heap, script.as_bytes());
+    let (answer, wanted) = play(heap, SCRIPT);
     assert_eq!(rt; answer, Ok(Ended::Done));
     for (given, taken) in [(1, 1), (1, 9999), (9999, 1), (7, 50), (36, 2)] {
         let mut text = Vec::new(heap);
         let mut intake = Intake::new(Slow {
-            rest: script.as_bytes(),
+            rest: SCRIPT,
             most: given,
             calls: 0,
             last: 0,
@@ -110,13 +122,11 @@ fn a_byte_at_a_time_changes_nothing(rt: HostRuntime) {
 #[test]
 fn a_failed_read_leaves_the_text_so_far(rt: HostRuntime) {
     let heap = rt.alloc();
-    let script = joined(heap, START, LINES).expect(&rt, "memory");
-    let script = script.as_bytes();
     // The last call is the one that would tell the end.
-    for last in 1..=script.len().div_ceil(12) + 1 {
+    for last in 1..=SCRIPT.len().div_ceil(12) + 1 {
         let mut text = Vec::new(heap);
         let mut intake = Intake::new(Slow {
-            rest: script,
+            rest: SCRIPT,
             most: 12,
             calls: 0,
             last,
@@ -124,7 +134,7 @@ fn a_failed_read_leaves_the_text_so_far(rt: HostRuntime) {
         let mut outlet = Outlet::new(&mut text);
         let answer = replay(heap, &mut intake, &mut outlet);
         drop(outlet);
-        let given = &script[..script.len().min(12 * (last - 1))];
+        let given = &SCRIPT[..SCRIPT.len().min(12 * (last - 1))];
         let open = given
             .rsplit(|byte| *byte == b'\n')
             .next()
@@ -138,14 +148,13 @@ fn a_failed_read_leaves_the_text_so_far(rt: HostRuntime) {
 }
 
 #[test]
-fn a_failed_write_leaves_a_front_of_the_text(rt: HostRuntime) {
+fn a_failed_write_leaves_a_prefix_of_the_text(rt: HostRuntime) {
     let heap = rt.alloc();
-    let script = joined(heap, START, LINES).expect(&rt, "memory");
-    let (_, wanted) = play(heap, script.as_bytes());
+    let (_, wanted) = play(heap, SCRIPT);
     for fails in [false, true] {
         for last in 1..=wanted.len() {
             let mut text = Vec::new(heap);
-            let mut intake = Intake::new(script.as_bytes());
+            let mut intake = Intake::new(SCRIPT);
             let mut outlet = Outlet::new(Narrow {
                 taken: &mut text,
                 most: 1,

@@ -1,0 +1,71 @@
+//! What a writer takes, and that its failures are remembered.
+
+use ipx_wire::{Failed, Outlet};
+use std::io;
+use std::io::{ErrorKind, Write};
+
+/// Takes at most `room` bytes a call, is interrupted at call number `last`, and counts the calls.
+#[derive(Drop)]
+struct Narrow<'a> {
+    room: usize,
+    calls: &'a mut u32,
+    last: u32,
+}
+
+impl Write for Narrow<'_> {
+    fn write(&mut self, buf: &[u8]) -> io::Result<usize> {
+        *self.calls = self.calls.wrapping_add(1);
+        if *self.calls == self.last {
+            return Err(io::Error::from(ErrorKind::Interrupted));
+        }
+        Ok(buf.len().min(self.room))
+    }
+
+    fn flush(&mut self) -> io::Result<()> {
+        Ok(())
+    }
+}
+
+#[test]
+fn takes_what_the_writer_takes(rt: HostRuntime) {
+    let mut held = Vec::new(rt.alloc());
+    let mut outlet = Outlet::new(&mut held);
+    assert_eq!(rt; outlet.write(b"ab"), Ok(2));
+    assert_eq!(rt; outlet.write(b""), Ok(0));
+    assert_eq!(rt; outlet.write(b"c"), Ok(1));
+    assert!(rt; !outlet.failed());
+    drop(outlet);
+    assert_eq!(rt; held.as_slice(), b"abc".as_slice());
+}
+
+#[test]
+fn fails_where_the_writer_fails(rt: HostRuntime) {
+    let mut calls = 0;
+    let mut outlet = Outlet::new(Narrow {
+        room: 2,
+        calls: &mut calls,
+        last: 2,
+    });
+    assert_eq!(rt; outlet.write(b"abc"), Ok(2));
+    assert!(rt; !outlet.failed());
+    assert_eq!(rt; outlet.write(b"c"), Err(Failed));
+    assert!(rt; outlet.failed());
+    drop(outlet);
+    assert_eq!(rt; calls, 2);
+}
+
+#[test]
+fn fails_where_the_writer_takes_none(rt: HostRuntime) {
+    let mut calls = 0;
+    let mut outlet = Outlet::new(Narrow {
+        room: 0,
+        calls: &mut calls,
+        last: 9,
+    });
+    assert_eq!(rt; outlet.write(b""), Ok(0));
+    assert!(rt; !outlet.failed());
+    assert_eq!(rt; outlet.write(b"a"), Err(Failed));
+    assert!(rt; outlet.failed());
+    drop(outlet);
+    assert_eq!(rt; calls, 2);
+}

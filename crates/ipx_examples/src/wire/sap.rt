@@ -1,0 +1,84 @@
+//! Packets of the service advertising protocol, read and written.
+
+use ipx_wire::{
+    Address, Network, Node, Packet, Sap, SapFault, Service, ServiceName, Socket, write_sap,
+};
+use std::test::Fail;
+
+#[test]
+fn reads_queries(rt: HostRuntime) -> Result<(), Fail> {
+    for data in [&[0, 1, 0, 4, 0xFF], &[0, 1, 0, 4]] as [&[u8]; 2] {
+        match Sap::read(data)? {
+            Sap::Query { nearest, kind } => {
+                assert!(rt; !nearest);
+                assert_eq!(rt; kind, 4);
+            }
+            Sap::Response { .. } => panic!(rt; "a response"),
+        }
+    }
+    assert_eq!(rt; Sap::read(&[0, 1, 0]).err(), Some(SapFault::Short));
+    assert_eq!(rt; Sap::read(&[0]).err(), Some(SapFault::Short));
+    assert_eq!(rt; Sap::read(&[0, 5]).err(), Some(SapFault::Operation(5)));
+    Ok(())
+}
+
+#[test]
+fn reads_one_to_seven_entries(rt: HostRuntime) -> Result<(), Fail> {
+    let mut data = [0; 514];
+    data[1] = 2;
+    assert_eq!(rt; Sap::read(&data[..65]).err(), Some(SapFault::NoEntry));
+    assert_eq!(rt; Sap::read(&data).err(), Some(SapFault::TooMany));
+    match Sap::read(&data[..513])? {
+        Sap::Response { nearest, entries } => {
+            assert!(rt; !nearest);
+            assert_eq!(rt; entries.len(), 7);
+            assert!(rt; entries.entry(6).name.is_none());
+        }
+        Sap::Query { .. } => panic!(rt; "a query"),
+    }
+    Ok(())
+}
+
+fn on(network: u32, last: u8, socket: Socket) -> Address {
+    Address {
+        network: Network(network),
+        node: Node([0, 0, 0, 0, 0, last]),
+        socket,
+    }
+}
+
+#[test]
+fn writes_services_that_are_read_again(rt: HostRuntime) -> Result<(), Fail> {
+    let mut field = [0; 48];
+    field[..4].copy_from_slice(b"S8\0X");
+    let service = Service {
+        kind: 4,
+        name: ServiceName::read(&field).expect(&rt, "a name"),
+        address: on(0x30, 1, Socket(0x0451)),
+        hops: 2,
+    };
+    let mut out = [0xEE; 98];
+    let from = on(0x10, 1, Socket::SAP);
+    let to = on(0x10, 0xAA, Socket::SAP);
+    let count = write_sap(from, to, true, &[service], &mut out);
+    assert_eq!(rt; count, 96);
+    assert_eq!(rt; &out[96..], [0xEE, 0xEE].as_slice());
+    assert_eq!(rt; &out[30..39], [0, 4, 0, 4, b'S', b'8', 0, 0, 0].as_slice());
+    let behind = [0, 0, 0, 0x30, 0, 0, 0, 0, 0, 1, 4, 0x51, 0, 2];
+    assert_eq!(rt; &out[82..96], behind.as_slice());
+    let packet = Packet::read(&out)?;
+    assert_eq!(rt; packet.header().length, 96);
+    match Sap::read(packet.payload())? {
+        Sap::Response { nearest, entries } => {
+            assert!(rt; nearest);
+            assert_eq!(rt; entries.len(), 1);
+            let entry = entries.entry(0);
+            assert_eq!(rt; entry.kind, service.kind);
+            assert_eq!(rt; entry.name, Some(service.name));
+            assert_eq!(rt; entry.address, service.address);
+            assert_eq!(rt; entry.hops, service.hops);
+        }
+        Sap::Query { .. } => panic!(rt; "a query"),
+    }
+    Ok(())
+}

@@ -1,0 +1,65 @@
+//! Numbers as text, there and back, and the texts of failures.
+
+use ipx_wire::{Failed, Hex, Network, Node, OutOfMemory, Socket};
+use std::alloc::{AllocError, Global};
+use std::test::Fail;
+
+const NODE: Node = Node([0, 0, 0, 0, 0, 0xAA]);
+
+#[test]
+fn shows_upper_case_digits(rt: HostRuntime) -> Result<(), Fail> {
+    let alloc = rt.alloc();
+    let network = Network(0x0123_ABCD);
+    let socket = Socket(0x0F5E);
+    let hex = Hex(&[0x00, 0x7F, 0xC0]);
+    let text = format!(in alloc; "{network} {NODE} {socket} {hex}")?;
+    assert_eq!(rt; text.as_str(), "0123ABCD 0000000000AA 0F5E 007FC0");
+    Ok(())
+}
+
+#[test]
+fn reads_digits_of_both_cases(rt: HostRuntime) {
+    let network = Some(Network(0x0123_ABCD));
+    assert_eq!(rt; Network::from_hex("0123ABCD"), network);
+    assert_eq!(rt; Network::from_hex("0123abCd"), network);
+    for text in [
+        "",
+        "0123ABC",
+        "0123ABCDE",
+        "+123ABCD",
+        " 123ABCD",
+        "0x23ABCD",
+        "0123ABCG",
+    ] {
+        assert_eq!(rt; Network::from_hex(text), None, "{text}");
+    }
+    assert_eq!(rt; Node::from_hex("0000000000aA"), Some(NODE));
+    for text in [
+        "0000000000A",
+        "0000000000AA0",
+        "-000000000AA",
+        "0000000000A ",
+    ] {
+        assert_eq!(rt; Node::from_hex(text), None, "{text}");
+    }
+}
+
+#[test]
+fn says_what_failed(rt: HostRuntime) -> Result<(), Fail> {
+    let memory = format!(in rt.alloc(); "{}", OutOfMemory::from(AllocError))?;
+    assert_eq!(rt; memory.as_str(), "memory");
+    let failed = format!(in rt.alloc(); "{}", Failed)?;
+    assert_eq!(rt; failed.as_str(), "the device failed");
+    Ok(())
+}
+
+fn kept(alloc: Global) -> Result<Vec<u8>, OutOfMemory> {
+    let mut bytes = Vec::with_capacity(alloc, 1)?;
+    bytes.push(7)?;
+    Ok(bytes)
+}
+
+#[test]
+fn comes_from_each_refusal(rt: HostRuntime) {
+    assert_eq!(rt; kept(rt.alloc()).map(|bytes| bytes.len()), Ok(1));
+}
