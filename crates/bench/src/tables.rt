@@ -52,6 +52,9 @@ impl Offer for Way {
 /// How many records a full table has: a network for each number of a byte.
 pub const RECORDS: usize = 256;
 
+/// The network in the middle of them.
+const MIDDLE: u8 = 128;
+
 /// How many calls a block has. As seconds they are two less than an offer lives, so nothing ends.
 const BLOCK: u32 = 178;
 
@@ -67,16 +70,26 @@ pub enum Call {
     Second,
     Refresh,
     LookUp,
+    Exchange,
+    ReadAll,
 }
 
 impl Call {
-    pub const ALL: [Call; 3] = [Call::Second, Call::Refresh, Call::LookUp];
+    pub const ALL: [Call; 5] = [
+        Call::Second,
+        Call::Refresh,
+        Call::LookUp,
+        Call::Exchange,
+        Call::ReadAll,
+    ];
 
     pub fn name(self) -> &'static str {
         match self {
             Call::Second => "let a second pass",
             Call::Refresh => "refresh a record",
             Call::LookUp => "look up a record",
+            Call::Exchange => "withdraw a record in the middle and admit it again",
+            Call::ReadAll => "get every record, place by place",
         }
     }
 }
@@ -140,6 +153,8 @@ fn done(call: Call, table: &mut Table<Way, RECORDS>, first: u32) -> u64 {
         Call::Second => let_pass(table),
         Call::Refresh => refresh(table, first),
         Call::LookUp => look_up(table, first),
+        Call::Exchange => exchange(table),
+        Call::ReadAll => read_all(table),
     }
 }
 
@@ -152,7 +167,7 @@ fn let_pass(table: &mut Table<Way, RECORDS>) -> u64 {
     seen.wrapping_add(seen_at(table, 0))
 }
 
-/// Offers again what is held, one network after the other.
+/// Offers again what is held, in an order that jumps.
 fn refresh(table: &mut Table<Way, RECORDS>, first: u32) -> u64 {
     let mut seen = 0u64;
     for turn in 0..BLOCK {
@@ -162,13 +177,45 @@ fn refresh(table: &mut Table<Way, RECORDS>, first: u32) -> u64 {
     seen
 }
 
-/// Looks one network up after the other.
+/// Looks networks up, in an order that jumps.
 fn look_up(table: &Table<Way, RECORDS>, first: u32) -> u64 {
     let mut seen = 0u64;
     for turn in 0..BLOCK {
         seen = seen.wrapping_add(seen_at(table, number_at(first.wrapping_add(turn))));
     }
     seen
+}
+
+/// Withdraws the network in the middle, and offers it again.
+fn exchange(table: &mut Table<Way, RECORDS>) -> u64 {
+    let way = way_to(MIDDLE);
+    let gone = Way { hops: 16, ..way };
+    let mut seen = 0u64;
+    for _ in 0..BLOCK {
+        seen = seen.wrapping_add(u64::from(table.offer(gone) == Taken::Withdrawn));
+        seen = seen.wrapping_add(u64::from(table.offer(way) == Taken::Admitted));
+    }
+    seen
+}
+
+/// Gets all records by their places, as often as a block has calls.
+fn read_all(table: &Table<Way, RECORDS>) -> u64 {
+    let mut seen = 0u64;
+    for _ in 0..BLOCK {
+        seen = seen.wrapping_add(sum_held(table));
+    }
+    seen
+}
+
+/// The ages and the ticks of the records of a table.
+fn sum_held(table: &Table<Way, RECORDS>) -> u64 {
+    let mut sum = 0u64;
+    for place in 0..RECORDS {
+        if let Some(held) = table.get_at(place) {
+            sum = sum.wrapping_add(u64::from(held.age) + u64::from(held.offer.ticks));
+        }
+    }
+    sum
 }
 
 /// What the table holds of a network.
@@ -195,9 +242,10 @@ fn full_list() -> [Held<Way>; RECORDS] {
     records
 }
 
-/// Which network a turn is about.
+/// Which network a turn is about: each once in 256 turns, in an order that a processor doesn't guess.
 fn number_at(turn: u32) -> u8 {
-    (turn % 256) as u8
+    let turn = turn % 256;
+    (turn * (turn + 1) / 2 % 256) as u8
 }
 
 fn way_to(number: u8) -> Way {
