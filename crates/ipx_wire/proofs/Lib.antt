@@ -14,6 +14,7 @@ pub mod Rereading
 pub mod Rips
 pub mod Saps
 pub mod Services
+pub mod Sizes
 pub mod StoredEntries
 pub mod Written
 pub mod Yields

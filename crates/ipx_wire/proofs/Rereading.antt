@@ -76,7 +76,7 @@ forwarded_again bytes p further is below =
     is.counted
 
 -- one network in a place of the data changes nothing of their length
-length-crossing : (control : ℕ) (network : Network) (payload : List ℕ) → control < 8 → 32 ≤ length payload
+pub length-crossing : (control : ℕ) (network : Network) (payload : List ℕ) → control < 8 → 32 ≤ length payload
     → length (crossing control network payload) ≡ length payload
 length-crossing control network payload free eight =
     let front = take (4 * control) payload in

@@ -30,6 +30,7 @@ use crate::network::Network;
 use crate::node::Node;
 use crate::rip::{Operation, RipEntry};
 use crate::sap_entries::SapEntry;
+use crate::service::Service;
 use crate::service_name::ServiceName;
 use crate::socket::Socket;
 
@@ -78,6 +79,21 @@ pub fn reread()
     ensures crossed { (p : Parts) (networks : List Network) (arrived outgoing : Network) → IsCrossed p.header.control p.payload networks
         → (propagated arrived outgoing p).header.control < 8 → IsNetwork arrived
         → IsCrossed (propagated arrived outgoing p).header.control (propagated arrived outgoing p).payload (networks ++ arrived ∷ []) }
+{}
+
+/// How many bytes the writers write: 32 and 8 for each entry, 32 and 64 for each service, 34 for a query, and for a packet
+/// sent on as many as its length counts.
+pub fn sizes()
+    ensures rip { (from to : Address) (operation : Operation) (entries : List RipEntry) → IsAddress from → IsAddress to
+        → length (rip_packet from to operation entries) ≡ 32 + 8 * length entries }
+    ensures sap { (from to : Address) (nearest : Bool) (services : List Service) → IsAddress from → IsAddress to → AllByRecursion IsService services
+        → length (sap_packet from to nearest services) ≡ 32 + 64 * length services }
+    ensures query { (from to : Address) (nearest : Bool) (kind : ℕ) → IsAddress from → IsAddress to
+        → length (query_packet from to nearest kind) ≡ 34 }
+    ensures forwarded { (bytes : List ℕ) (p : Parts) → IsPacket bytes p
+        → length (packet_bytes (forwarded p)) ≡ p.header.length }
+    ensures propagated { (bytes : List ℕ) (p : Parts) (arrived outgoing : Network) → IsPacket bytes p → p.header.control < 8 → 32 ≤ length p.payload
+        → length (packet_bytes (propagated arrived outgoing p)) ≡ p.header.length }
 {}
 
 /// What is sent on, over the bytes that came: those that the length counts, but for a few places, counted from 0.
@@ -132,3 +148,19 @@ pub fn constants()
     ensures service_size { SapEntry.SIZE ≡ 64 }
     ensures most_services { SapEntry.MOST ≡ most_services }
 {}
+
+/// What a slice of services holds are services in the ranges of their fields: their type says so, and a call of this says it
+/// to a proof.
+pub fn in_range(services: &[Service])
+    ensures { AllByRecursion IsService services.now }
+{
+    for service in services {
+        is_in_range(*service);
+    }
+}
+
+fn is_in_range(service: Service)
+    ensures { IsService service }
+{
+    service.name.bytes();
+}
