@@ -10,7 +10,7 @@ use Rattle.ipx_wire.specs.declared.rip.Operation.{Operation}
 use Rattle.ipx_wire.specs.declared.rip.Operation.TheVariants.{Request, Response}
 use Rattle.ipx_wire.specs.declared.rip.RipEntry.{RipEntry}
 use Rattle.ipx_wire.specs.declared.service.Service.{Service}
-use Rattle.ipx_router.specs.Bounds.{route_sheets, service_sheets}
+use Rattle.ipx_router.specs.Bounds.{route_sheets, service_sheets, all_sheets}
 use Rattle.ipx_router.specs.Changes.{Change, changes}
 use Rattle.ipx_router.specs.News.{same_route, route_told, news, same_service, service_told, news_services}
 use Rattle.ipx_router.specs.Numbers.{entries_a_page, services_a_page}
@@ -19,7 +19,7 @@ use Rattle.ipx_router.specs.Port.{Port, port_at, is_up, everyone, every_server}
 use Rattle.ipx_router.specs.Routes.{network_order}
 use Rattle.ipx_router.specs.Sends.{Holding, entries_sent, rip_sends, services_sent, sap_sends, rip_broadcast, sap_broadcast, broadcasts, every_route, routes_request, services_query, introduction, second_on, stop_on, port_down_on, port_up_on}
 use Rattle.ipx_router.specs.Services.{service_order}
-use Rattle.ipx_router.specs.Told.{told, told_services, told_at, direct_entry, by_network, by_name, dead, down}
+use Rattle.ipx_router.specs.Told.{told, told_services, told_at, direct_entry, by_network, by_name, dead, dead_service}
 use Rattle.ipx_router.specs.declared.route_offer.RouteOffer.{RouteOffer}
 use Rattle.ipx_router.specs.declared.service_offer.ServiceOffer.{ServiceOffer}
 use Rattle.ipx_router.proofs.Every.{all_then}
@@ -107,18 +107,18 @@ length-start ports up ups few =
 -- ---- stop
 
 pub length-stop : (ports : List Port) (before : Holding) (r s : ℕ) → length before.up ≤ length ports → length before.routes ≤ r → length before.services ≤ s
-    → length (flat_map (stop_on ports before) before.up) ≤ length ports * (route_sheets (length ports) r + service_sheets s)
+    → length (flat_map (stop_on ports before) before.up) ≤ length ports * all_sheets (length ports) r s
 length-stop ports before r s ups few_before few_of_services =
-    let each = length-each (stop_on ports before) (route_sheets (length ports) r + service_sheets s) before.up on in
-    let more = mul-le-mul_right (route_sheets (length ports) r + service_sheets s) ups in
+    let each = length-each (stop_on ports before) (all_sheets (length ports) r s) before.up on in
+    let more = mul-le-mul_right (all_sheets (length ports) r s) ups in
     omega (arith, each, more)
   where
-    on : (number : ℕ) → is_up before.up number ≡ true → length (stop_on ports before number) ≤ route_sheets (length ports) r + service_sheets s
+    on : (number : ℕ) → is_up before.up number ≡ true → length (stop_on ports before number) ≤ all_sheets (length ports) r s
     on number there =
         let entries = told ports before.up before.routes number in
-        length-broadcasts ports number (map dead entries) (map down (told_services before.services number)) (r + length ports - 1) s
+        length-broadcasts ports number (map dead entries) (map dead_service (told_services before.services number)) (r + length ports - 1) s
         (omega (arith, length-map entries dead, length-told ports before.up before.routes number there, few_before, ups))
-        (omega (arith, length-map (told_services before.services number) down, length-told_services before.services number, few_of_services))
+        (omega (arith, length-map (told_services before.services number) dead_service, length-told_services before.services number, few_of_services))
 
 -- ---- changes
 
@@ -162,14 +162,14 @@ module _ (ports : List Port) (before after : Holding) where
   -- what changes at a second is what ends with it; that and what is left are not more than what was held
   pub length-second : (periodic : Bool) (r s ends gone : ℕ) → length after.up ≤ length ports
       → RoutesChange ends → length after.routes + ends ≤ r → ServicesChange gone → length after.services + gone ≤ s
-      → length (flat_map (second_on ports before after periodic) after.up) ≤ length ports * (route_sheets (length ports) r + service_sheets s)
+      → length (flat_map (second_on ports before after periodic) after.up) ≤ length ports * all_sheets (length ports) r s
   length-second periodic r s ends gone ups few_ends left few_gone left_services =
-      let each = length-each (second_on ports before after periodic) (route_sheets (length ports) r + service_sheets s) after.up (on periodic) in
-      let more = mul-le-mul_right (route_sheets (length ports) r + service_sheets s) ups in
+      let each = length-each (second_on ports before after periodic) (all_sheets (length ports) r s) after.up (on periodic) in
+      let more = mul-le-mul_right (all_sheets (length ports) r s) ups in
       omega (arith, each, more)
     where
       on : (periodic : Bool) (number : ℕ) → is_up after.up number ≡ true
-          → length (second_on ports before after periodic number) ≤ route_sheets (length ports) r + service_sheets s
+          → length (second_on ports before after periodic number) ≤ all_sheets (length ports) r s
       on true number there =
           let rest = told ports after.up after.routes number in
           let ended = news ports before.routes after.routes number in
@@ -205,14 +205,14 @@ module _ (ports : List Port) (before after : Holding) where
   -- what changes is what came by it; its own network is one more, and there is one port less to tell it
   pub length-port_down : (port r s ends gone : ℕ) → length after.up + 1 ≤ length ports
       → RoutesChange ends → ends ≤ r → ServicesChange gone → gone ≤ s
-      → length (flat_map (port_down_on ports before after port) after.up) ≤ (length ports - 1) * (route_sheets (length ports) r + service_sheets s)
+      → length (flat_map (port_down_on ports before after port) after.up) ≤ (length ports - 1) * all_sheets (length ports) r s
   length-port_down port r s ends gone ups few_ends fit few_gone fits =
-      let each = length-each (port_down_on ports before after port) (route_sheets (length ports) r + service_sheets s) after.up on in
+      let each = length-each (port_down_on ports before after port) (all_sheets (length ports) r s) after.up on in
       let fewer : length after.up ≤ length ports - 1 = omega (arith, ups) in
-      let more = mul-le-mul_right (route_sheets (length ports) r + service_sheets s) fewer in
+      let more = mul-le-mul_right (all_sheets (length ports) r s) fewer in
       omega (arith, each, more)
     where
-      on : (number : ℕ) → is_up after.up number ≡ true → length (port_down_on ports before after port number) ≤ route_sheets (length ports) r + service_sheets s
+      on : (number : ℕ) → is_up after.up number ≡ true → length (port_down_on ports before after port number) ≤ all_sheets (length ports) r s
       on number there =
           let ended = news ports before.routes after.routes number in
           length-broadcasts ports number (by_network (dead (direct_entry ports port) ∷ ended)) (news_services before.services after.services number)
@@ -222,7 +222,7 @@ module _ (ports : List Port) (before after : Holding) where
 
 -- ---- a port comes up
 
--- so many items for one number, at most one for each other
+-- at most this number of items for one port, and one for each other
 abbrev weight : ℕ → ℕ → ℕ → ℕ
 weight port most number = if number == port then most else 1
 
@@ -255,13 +255,13 @@ pub length-port_up : (ports : List Port) (after : Holding) (port r s : ℕ) → 
     → IsRising after.up
     → length (flat_map (port_up_on ports after port) after.up) ≤ length ports + 1 + route_sheets (length ports) r + service_sheets s
 length-port_up ports after port r s ups few few_of_services rise =
-    let most = route_sheets (length ports) r + service_sheets s + 2 in
+    let most = all_sheets (length ports) r s + 2 in
     let all = one_for_most (port_up_on ports after port) port most after.up (omega arith) rise
     (all_then (λ j. is_up after.up j ≡ true) (λ j. length (port_up_on ports after port j) ≤ weight port most j) on after.up (members after.up)) in
     omega (arith, ups, all)
   where
     on : (number : ℕ) → is_up after.up number ≡ true
-        → length (port_up_on ports after port number) ≤ weight port (route_sheets (length ports) r + service_sheets s + 2) number
+        → length (port_up_on ports after port number) ≤ weight port (all_sheets (length ports) r s + 2) number
     on number there = elim (cases_Bool (number == port)) [
       | inl own ↦
           rw own (length-introduction ports after.up after.routes after.services number (r + length ports - 1) s there

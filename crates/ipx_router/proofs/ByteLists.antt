@@ -34,7 +34,7 @@ bytes_both [] ys one two i = two i
 bytes_both (x ∷ xs) ys one two zero = one 0
 bytes_both (x ∷ xs) ys one two (suc i) = bytes_both xs ys (λ j. one (suc j)) two i
 
--- so many copies of a byte
+-- a byte, repeated
 pub bytes_same : (n x : ℕ) → x < 256 → IsBytes (replicate n x)
 bytes_same zero x below i = omega arith
 bytes_same (suc n) x below zero = below

@@ -15,7 +15,7 @@ use Rattle.ipx_router.proofs.Keys.{neither, few_changes}
 use Rattle.ipx_router.proofs.Lengths.{length-filter}
 
 -- the offer that is found among offers is that of the record that is found
-found : {O : Type 0} (p : O → Bool) (records : List (Held O)) → find p (offers records) ≡ option_map (λ h. h.offer) (find (λ h. p h.offer) records)
+pub found : {O : Type 0} (p : O → Bool) (records : List (Held O)) → find p (offers records) ≡ option_map (λ h. h.offer) (find (λ h. p h.offer) records)
 found p [] = refl
 found p (h ∷ records) = elim (cases_Bool (p h.offer)) [ inl e ↦ rw e refl | inr e ↦ rw e (found p records) ]
 

@@ -15,7 +15,7 @@ use Rattle.ipx_wire.specs.declared.sap_entries.SapEntry.{SapEntry}
 use Rattle.ipx_router.specs.Facts.{heard_after, routes_offered, routes_heard, routes_held, services_offered, services_heard, services_held, offers}
 use Rattle.ipx_router.specs.Heard.{Heard, HeardRip, HeardSap}
 use Rattle.ipx_router.specs.History.{History, IsOfBytes, running, ports_up}
-use Rattle.ipx_router.specs.Port.{is_skipped, Port}
+use Rattle.ipx_router.specs.Port.{takes_no_route, Port}
 use Rattle.ipx_router.specs.Told.{entry_of}
 use Rattle.ipx_router.specs.declared.route_offer.RouteOffer.{RouteOffer}
 use Rattle.ipx_router.specs.declared.service_offer.ServiceOffer.{ServiceOffer}
@@ -36,7 +36,7 @@ ServiceFits offer = IsTellable offer.service
 routes_fit : (ports : List Port) (number : ℕ) (node : Node) (entries : List RipEntry) → AllByRecursion IsEntry entries
     → AllByRecursion (OfferIs RouteFits) (routes_offered ports number node entries)
 routes_fit ports number node [] all = tt
-routes_fit ports number node (entry ∷ entries) all = elim (cases_Bool (is_skipped ports entry.network)) [
+routes_fit ports number node (entry ∷ entries) all = elim (cases_Bool (takes_no_route ports entry.network)) [
   | inl e ↦ rw e (routes_fit ports number node entries all.1)
   | inr e ↦ rw e (record { network = all.0.network; hops = all.0.hops; ticks = all.0.ticks }, routes_fit ports number node entries all.1)
 ]

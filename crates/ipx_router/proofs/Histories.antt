@@ -1,10 +1,11 @@
 -- What one event more does to a history: whether the router runs then, and which of its ports are up.
-use Rattle.std.proofs.Common.{◌≡◌, refl, sym, ap, ◌∙◌, ℕ, ◌==◌, Bool, true, false, not, ◌&&◌, ◌||◌, List, [], ◌∷◌, ◌++◌, filter, length, inl, inr, true≢false, append-nil, append_assoc}
+use Rattle.std.proofs.Common.{◌≡◌, refl, sym, ap, ◌∙◌, ℕ, zero, suc, ◌<◌, arith, ◌==◌, Bool, true, false, not, ◌&&◌, ◌||◌, List, [], ◌∷◌, ◌++◌, filter, length, inl, inr, true≢false, append-nil, append_assoc}
 use Rattle.std.specs.List.{AllByRecursion, list_any}
-use Rattle.std.proofs.lemmas.Bool.{cases_Bool, and_parts, and_from, or_right, eq-eqb, eqb-true, not-true}
+use Rattle.std.proofs.lemmas.Bool.{cases_Bool, cases_lt, and_parts, and_from, or_right, eq-eqb, eqb-true, not-true}
+use Rattle.std.proofs.lemmas.List.Elements.{filter-append}
 use Rattle.std.proofs.lemmas.List.Folds.{list_any-append}
 use Rattle.std.proofs.lemmas.Map.Views.{any-filter_same}
-use Rattle.ipx_router.specs.History.{Event, History, Stop, PortDown, is_start, is_stop, takes_down, brings_up, since_stop, behind_start, running, present_run, ends_down, is_down, ports_up}
+use Rattle.ipx_router.specs.History.{Event, History, Stop, PortDown, PortUp, is_start, is_stop, is_second, takes_down, brings_up, since_stop, behind_start, running, present_run, seconds_run, ends_down, is_down, ports_up}
 use Rattle.ipx_router.specs.Port.{Port, numbers, is_up}
 
 -- ---- any history
@@ -26,7 +27,7 @@ pub or_none : (b : Bool) → (b || false) ≡ b
 or_none true = refl
 or_none false = refl
 
-since_stop-more : (history : History) (event : Event) → is_stop event ≡ false → since_stop (history ++ event ∷ []) ≡ since_stop history ++ event ∷ []
+pub since_stop-more : (history : History) (event : Event) → is_stop event ≡ false → since_stop (history ++ event ∷ []) ≡ since_stop history ++ event ∷ []
 since_stop-more [] event on = rw on refl
 since_stop-more (first ∷ history) event on =
     let same : list_any is_stop (first ∷ (history ++ event ∷ [])) ≡ list_any is_stop (first ∷ history) =
@@ -37,7 +38,7 @@ since_stop-more (first ∷ history) event on =
       | inr goes_on ↦ rw (same, goes_on) refl
     ]
 
-since_stop-none : (history : History) → since_stop (history ++ Stop ∷ []) ≡ []
+pub since_stop-none : (history : History) → since_stop (history ++ Stop ∷ []) ≡ []
 since_stop-none [] = refl
 since_stop-none (first ∷ history) =
     let stops : list_any is_stop (first ∷ (history ++ Stop ∷ [])) ≡ true =
@@ -64,7 +65,7 @@ present_run-more history event on runs = ap behind_start (since_stop-more histor
 
 -- ---- ports that are up
 
-ends_down-more : (port : ℕ) (events : List Event) (event : Event)
+pub ends_down-more : (port : ℕ) (events : List Event) (event : Event)
     → ends_down port (events ++ event ∷ []) ≡ (takes_down port event || (ends_down port events && not (brings_up port event)))
 ends_down-more port [] event = elim (cases_Bool (takes_down port event)) [ inl e ↦ rw e refl | inr e ↦ rw e refl ]
 ends_down-more port (first ∷ events) event =
@@ -106,7 +107,7 @@ up_is ports history port =
     any-filter_same (λ j. j == port) (λ j. running history && not (is_down history j)) (running history && not (is_down history port))
     (λ j same. ap (λ k. running history && not (is_down history k)) (eqb-true j port same)) (numbers (length ports))
 
-is_down-more : (history : History) (event : Event) (port : ℕ) → is_stop event ≡ false → running history ≡ true
+pub is_down-more : (history : History) (event : Event) (port : ℕ) → is_stop event ≡ false → running history ≡ true
     → is_down (history ++ event ∷ []) port ≡ (takes_down port event || (is_down history port && not (brings_up port event)))
 is_down-more history event port on runs = ap (ends_down port) (present_run-more history event on runs) ∙ ends_down-more port (present_run history) event
 
@@ -142,11 +143,72 @@ down_port ports history port = elim (cases_Bool (running history)) [
     none true = refl
     none false = refl
 
-filter-same : {X : Type 0} (p q : X → Bool) (xs : List X) → ((x : X) → p x ≡ q x) → filter p xs ≡ filter q xs
-filter-same p q [] same = refl
-filter-same p q (x ∷ xs) same =
-    let e = same x in
-    elim (cases_Bool (q x)) [ inl f ↦ rw (e, f) (ap (λ ys. x ∷ ys) (filter-same p q xs same)) | inr f ↦ rw (e, f) (filter-same p q xs same) ]
+-- each number below n is among the numbers below n
+pub among : (n number : ℕ) → number < n → list_any (λ j. j == number) (numbers n) ≡ true
+among zero number below = absurd (omega (arith, below))
+among (suc n) number below =
+    list_any-append (λ j. j == number) (numbers n) (n ∷ [])
+    ∙ elim (cases_lt number n) [
+      | inl less ↦ ap (λ b. b || ((n == number) || false)) (among n number less)
+      | inr most ↦
+          or_right (list_any (λ j. j == number) (numbers n)) ((n == number) || false) (ap (λ b. b || false) (eq-eqb n number (omega (arith, below, most))))
+    ]
+
+-- the port that comes up is up, while the router runs
+pub port_comes_up : (ports : List Port) (history : History) (port : ℕ) → port < length ports → running history ≡ true
+    → is_up (ports_up ports (history ++ PortUp port ∷ [])) port ≡ true
+port_comes_up ports history port exists runs =
+    let later : running (history ++ PortUp port ∷ []) ≡ true = running-more history (PortUp port) refl ∙ ap (λ b. b || false) runs in
+    let undone : is_down (history ++ PortUp port ∷ []) port ≡ false =
+    is_down-more history (PortUp port) port refl runs ∙ ap (λ b. is_down history port && not b) (eq-eqb port port refl) ∙ never (is_down history port) in
+    up_is ports (history ++ PortUp port ∷ []) port
+    ∙ and_from (running (history ++ PortUp port ∷ []) && not (is_down (history ++ PortUp port ∷ []) port)) (list_any (λ j. j == port) (numbers (length ports)))
+    (and_from (running (history ++ PortUp port ∷ [])) (not (is_down (history ++ PortUp port ∷ []) port)) later (ap not undone))
+    (among (length ports) port exists)
+  where
+    never : (b : Bool) → (b && false) ≡ false
+    never true = refl
+    never false = refl
+
+filter-same_on : {X : Type 0} (p q : X → Bool) (xs : List X) → AllByRecursion (λ x. p x ≡ q x) xs → filter p xs ≡ filter q xs
+filter-same_on p q [] same = refl
+filter-same_on p q (x ∷ xs) same =
+    let e = same.0 in
+    elim (cases_Bool (q x)) [ inl f ↦ rw (e, f) (ap (λ ys. x ∷ ys) (filter-same_on p q xs same.1)) | inr f ↦ rw (e, f) (filter-same_on p q xs same.1) ]
+
+pub filter-same : {X : Type 0} (p q : X → Bool) (xs : List X) → ((x : X) → p x ≡ q x) → filter p xs ≡ filter q xs
+filter-same {X = X} p q xs same = filter-same_on p q xs (each xs)
+  where
+    each : (xs : List X) → AllByRecursion (λ x. p x ≡ q x) xs
+    each [] = tt
+    each (x ∷ xs) = (same x, each xs)
+
+-- while the router runs, an event leaves the ports as they are after which the same of them are down
+pub ups_stay : (ports : List Port) (history : History) (event : Event) → is_stop event ≡ false → running history ≡ true
+    → AllByRecursion (λ port. is_down (history ++ event ∷ []) port ≡ is_down history port) (numbers (length ports))
+    → ports_up ports (history ++ event ∷ []) ≡ ports_up ports history
+ups_stay ports history event on runs same =
+    filter-same_on (λ port. running (history ++ event ∷ []) && not (is_down (history ++ event ∷ []) port)) (λ port. running history && not (is_down history port))
+    (numbers (length ports)) (each (numbers (length ports)) same)
+  where
+    as_before : running (history ++ event ∷ []) ≡ running history
+    as_before = running-more history event on ∙ ap (λ b. b || (is_start event || false)) runs ∙ sym runs
+
+    each : (xs : List ℕ) → AllByRecursion (λ port. is_down (history ++ event ∷ []) port ≡ is_down history port) xs
+        → AllByRecursion (λ port. (running (history ++ event ∷ []) && not (is_down (history ++ event ∷ []) port)) ≡ (running history && not (is_down history port))) xs
+    each [] all = tt
+    each (x ∷ xs) all =
+        (ap (λ b. b && not (is_down (history ++ event ∷ []) x)) as_before ∙ ap (λ b. running history && not b) all.0, each xs all.1)
+
+-- and the seconds, if it is no second
+pub seconds_stay : (history : History) (event : Event) → is_stop event ≡ false → is_second event ≡ false → running history ≡ true
+    → seconds_run (history ++ event ∷ []) ≡ seconds_run history
+seconds_stay history event on other runs =
+    ap (λ events. length (filter is_second events)) (present_run-more history event on runs)
+    ∙ ap length (filter-append is_second (present_run history) (event ∷ []) ∙ ap (λ es. filter is_second (present_run history) ++ es) none ∙ append-nil (filter is_second (present_run history)))
+  where
+    none : filter is_second (event ∷ []) ≡ []
+    none = rw other refl
 
 -- an event that is no start and no stop, and takes no port down and brings none up, leaves the ports as they are
 pub ports_stay : (ports : List Port) (history : History) (event : Event) → is_start event ≡ false → is_stop event ≡ false

@@ -47,12 +47,12 @@ filter-mapped p f (x ∷ xs) = elim (cases_Bool (p (f x))) [
 
 -- ---- the three answers
 
-is_less : (r : Ordering) → is_lt r ≡ true → r ≡ Less
+pub is_less : (r : Ordering) → is_lt r ≡ true → r ≡ Less
 is_less Less e = refl
 is_less Equal e = absurd (true≢false (sym e))
 is_less Greater e = absurd (true≢false (sym e))
 
-is_equal : (r : Ordering) → is_eq r ≡ true → r ≡ Equal
+pub is_equal : (r : Ordering) → is_eq r ≡ true → r ≡ Equal
 is_equal Less e = absurd (true≢false (sym e))
 is_equal Equal e = refl
 is_equal Greater e = absurd (true≢false (sym e))
@@ -99,7 +99,7 @@ module _ {O K : Type 0} (key_of : O → K) (order : K → K → Ordering) (same 
     | inr new ↦ rw new (rises_placed key keys new up)
   ]
 
-  rises-puts : (offers : List O) (keys : List K) → Rises keys → Rises (put_keys key_of order same offers keys)
+  pub rises-puts : (offers : List O) (keys : List K) → Rises keys → Rises (put_keys key_of order same offers keys)
   rises-puts [] keys up = up
   rises-puts (o ∷ offers) keys up = rises-put (key_of o) (put_keys key_of order same offers keys) (rises-puts offers keys up)
 
@@ -139,7 +139,7 @@ module _ {O K : Type 0} (key_of : O → K) (order : K → K → Ordering) (same 
 
   -- ---- how many changes there are
 
-  alike : ((o : O) → same o o ≡ true) → (o : Option O) → same_or_none key_of order same o o ≡ true
+  pub alike : ((o : O) → same o o ≡ true) → (o : Option O) → same_or_none key_of order same o o ≡ true
   alike itself None = refl
   alike itself (Some o) = itself o
 

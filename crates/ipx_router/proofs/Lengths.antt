@@ -29,12 +29,12 @@ pub length-singles : {X Y : Type 0} (f : X → List Y) (xs : List X) → ((x : X
 length-singles f [] few = omega arith
 length-singles f (x ∷ xs) few = omega (arith, length-append (f x) (flat_map f xs), few x, length-singles f xs few)
 
--- at most so many items for each
+-- at most this number of items for each
 length-flat : {X Y : Type 0} (f : X → List Y) (most : ℕ) (xs : List X) → AllByRecursion (λ x. length (f x) ≤ most) xs → length (flat_map f xs) ≤ length xs * most
 length-flat f most [] all = omega arith
 length-flat f most (x ∷ xs) all = omega (arith, length-append (f x) (flat_map f xs), all.0, length-flat f most xs all.1)
 
--- at most so many items for each port that is up
+-- at most this number of items for each port that is up
 pub length-each : {X : Type 0} (f : ℕ → List X) (most : ℕ) (up : List ℕ) → ((number : ℕ) → is_up up number ≡ true → length (f number) ≤ most)
     → length (flat_map f up) ≤ length up * most
 length-each f most up few = length-flat f most up (all_then (λ j. is_up up j ≡ true) (λ j. length (f j) ≤ most) few up (members up))

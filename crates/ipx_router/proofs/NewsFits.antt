@@ -10,7 +10,7 @@ use Rattle.ipx_router.specs.News.{same_route, same_service, route_now, route_tol
 use Rattle.ipx_router.specs.Port.{Port, port_at}
 use Rattle.ipx_router.specs.Routes.{network_order}
 use Rattle.ipx_router.specs.Services.{service_order}
-use Rattle.ipx_router.specs.Told.{is_reached_on, entry_of, dead, down}
+use Rattle.ipx_router.specs.Told.{is_reached_on, entry_of, dead, dead_service}
 use Rattle.ipx_router.specs.declared.route_offer.RouteOffer.{RouteOffer}
 use Rattle.ipx_router.specs.declared.service_offer.ServiceOffer.{ServiceOffer}
 use Rattle.ipx_router.proofs.ByteFields.{IsTellable}
@@ -22,7 +22,7 @@ use Rattle.ipx_router.proofs.ToldFits.{reached, told_at_fits, dead_fits, farther
 abbrev pub ChangeOf : {O : Type 0} → (O → Type 0) → Change O → Type 0
 ChangeOf P change = IfSome change.before P × IfSome change.after P
 
-anything : {X : Type 0} (xs : List X) → AllByRecursion (λ x. Unit {0}) xs
+pub anything : {X : Type 0} (xs : List X) → AllByRecursion (λ x. Unit {0}) xs
 anything [] = tt
 anything (x ∷ xs) = (tt, anything xs)
 
@@ -76,7 +76,7 @@ service_now_fits offer is = elim (cases_Bool (is_reached_on offer.service.hops))
 service_told_fits : (number : ℕ) (before after : Option ServiceOffer) → IfSome before ServiceFits → IfSome after ServiceFits
     → AllByRecursion IsTellable (service_told number (record { before = before; after = after }))
 service_told_fits number before (Some offer) old new = one_or_none IsTellable (offer.port == number) (service_now offer) (service_now_fits offer new)
-service_told_fits number (Some offer) None old new = one_or_none IsTellable (offer.port == number) (down offer.service) (down_fits offer.service old)
+service_told_fits number (Some offer) None old new = one_or_none IsTellable (offer.port == number) (dead_service offer.service) (down_fits offer.service old)
 service_told_fits number None None old new = tt
 
 pub news_services_fit : (before after : List ServiceOffer) (number : ℕ) → AllByRecursion ServiceFits before → AllByRecursion ServiceFits after

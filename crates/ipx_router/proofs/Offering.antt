@@ -7,12 +7,12 @@ use Rattle.ipx_wire.specs.declared.rip.RipEntry.{RipEntry}
 use Rattle.ipx_wire.specs.declared.sap_entries.SapEntry.{SapEntry}
 use Rattle.ipx_router.specs.Facts.{route_offer, routes_offered, services_offered, facts_from}
 use Rattle.ipx_router.specs.History.{Event, History}
-use Rattle.ipx_router.specs.Port.{is_skipped, Port}
+use Rattle.ipx_router.specs.Port.{takes_no_route, Port}
 use Rattle.ipx_router.specs.declared.service_offer.ServiceOffer.{ServiceOffer}
 
 -- ---- what a message offers
 
--- the facts are offers, and not more than so many
+-- the facts are offers, and not more than stated
 pub record FewOffers {O : Type 0} (most : ℕ) (facts : List (Fact O)) : Type 0 where
   pub offered : List O
   pub are : facts ≡ map Offered offered
@@ -36,7 +36,7 @@ pub few_routes : (ports : List Port) (number : ℕ) (node : Node) (entries : Lis
 few_routes ports number node [] = no_offers
 few_routes ports number node (entry ∷ entries) =
     let rest = few_routes ports number node entries in
-    elim (cases_Bool (is_skipped ports entry.network)) [
+    elim (cases_Bool (takes_no_route ports entry.network)) [
       | inl skipped ↦ rw skipped (less_one (length entries) (routes_offered ports number node entries) rest)
       | inr taken ↦ rw taken (one_more (length entries) (route_offer number node entry) (routes_offered ports number node entries) rest)
     ]

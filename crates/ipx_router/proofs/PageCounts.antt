@@ -5,12 +5,12 @@ use Rattle.std.proofs.lemmas.Nat.{le-div}
 use Rattle.ipx_router.specs.Pages.{pages_from, pages, sheets}
 
 -- one more item for a page with room
-room_left : {X : Type 0} (n : ℕ) (page : List X) (x : X) (xs : List X) → length page < n → pages_from n page (x ∷ xs) ≡ pages_from n (page ++ x ∷ []) xs
+pub room_left : {X : Type 0} (n : ℕ) (page : List X) (x : X) (xs : List X) → length page < n → pages_from n page (x ∷ xs) ≡ pages_from n (page ++ x ∷ []) xs
 room_left n [] x xs room = rw (lt-ltb 0 n room) refl
 room_left n (p ∷ page) x xs room = rw (lt-ltb (length (p ∷ page)) n room) refl
 
 -- one more item for a full page
-page_full : {X : Type 0} (n : ℕ) (p : X) (page : List X) (x : X) (xs : List X) → n ≤ length (p ∷ page)
+pub page_full : {X : Type 0} (n : ℕ) (p : X) (page : List X) (x : X) (xs : List X) → n ≤ length (p ∷ page)
     → pages_from n (p ∷ page) (x ∷ xs) ≡ (p ∷ page) ∷ pages_from n (x ∷ []) xs
 page_full n p page x xs full = rw (le-ltb (length (p ∷ page)) n full) refl
 
@@ -33,7 +33,7 @@ pages_counted n (p ∷ page) (x ∷ xs) some few =
           rw e (omega (arith, full, pages_counted n (x ∷ []) xs some (omega (arith, some))))
     ]
 
--- as many items as there may be make no more pieces than so many sheets
+-- the most items that there may be make no more pages than stated
 pub length-pages : {X : Type 0} (n most : ℕ) (xs : List X) → 0 < n → length xs ≤ most → length (pages n xs) ≤ sheets n most
 length-pages n most xs some few =
     le-div (length (pages n xs)) (most + (n - 1)) n some (omega (arith, few, pages_counted n [] xs some (omega arith)))

@@ -1,4 +1,4 @@
--- The pieces of a list have its items, one at least and so many at most.
+-- The pages of a list have its items: each at least one, and at most the number that fits.
 use Rattle.std.proofs.Common.{ℕ, ◌≤◌, length, List, [], ◌∷◌, ◌++◌, arith, inl, inr}
 use Rattle.std.specs.List.{AllByRecursion}
 use Rattle.std.proofs.lemmas.Bool.{cases_lt, lt-ltb, le-ltb}

@@ -14,7 +14,7 @@ use Rattle.ipx_wire.specs.declared.network.Network.{Network}
 use Rattle.ipx_router.specs.Numbers.{default_route, most_routers}
 use Rattle.ipx_router.specs.Outgoing.{Way, way_to, port_to, route_to, serving}
 use Rattle.ipx_router.specs.Packets.{IsRelayed}
-use Rattle.ipx_router.specs.Port.{Port, port_at, is_up, is_skipped}
+use Rattle.ipx_router.specs.Port.{Port, port_at, is_up, takes_no_route}
 use Rattle.ipx_router.specs.Relays.{Sent, IsForwarded, IsPropagated, forwarded_by, goes_out, propagated_on, relayed}
 use Rattle.ipx_router.specs.Why.{why, is_propagated, is_far}
 use Rattle.ipx_router.specs.declared.route_offer.RouteOffer.{RouteOffer}
@@ -47,10 +47,10 @@ module _ (up : List ℕ) (routes : List RouteOffer) (by_ups : AllUp up routes) w
   serving_up ports network route e = by (route_to routes network.0) refl e
     where
       by : (o : Option RouteOffer) → route_to routes network.0 ≡ o
-          → elim o [ Some route ↦ Some route | None ↦ if is_skipped ports network then None else route_to routes default_route ] ≡ Some route
+          → elim o [ Some route ↦ Some route | None ↦ if takes_no_route ports network then None else route_to routes default_route ] ≡ Some route
           → is_up up route.port ≡ true
       by (Some r) own e = it_is (λ (r : RouteOffer). is_up up r.port ≡ true) route r e (route_up network.0 r own)
-      by None own e = elim (cases_Bool (is_skipped ports network)) [
+      by None own e = elim (cases_Bool (takes_no_route ports network)) [
         | inl skipped ↦ nothing (rw skipped at e)
         | inr taken ↦ route_up default_route route (rw taken at e)
       ]

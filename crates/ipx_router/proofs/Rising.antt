@@ -23,7 +23,7 @@ IsRising [] = Unit
 IsRising (n ∷ ns) = AllByRecursion (λ m. n < m) ns × IsRising ns
 
 -- so it is greater than the one before it
-increasing : (xs : List ℕ) → IsRising xs → IsStrictlyIncreasing xs
+pub increasing : (xs : List ℕ) → IsRising xs → IsStrictlyIncreasing xs
 increasing [] rise k below = absurd (omega (arith, below))
 increasing (x ∷ []) rise k below = absurd (omega (arith, below))
 increasing (x ∷ y ∷ ys) rise zero below = rise.0.0

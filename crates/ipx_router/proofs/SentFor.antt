@@ -5,40 +5,42 @@ use Rattle.std.proofs.lemmas.Bool.{cases_Bool}
 use Rattle.ipx_wire.specs.Packet.{Parts, packet_of}
 use Rattle.ipx_wire.specs.Piece.{IsBytes}
 use Rattle.ipx_wire.specs.declared.packet.PacketFault.{PacketFault}
+use Rattle.ipx_wire.specs.declared.rip.RipEntry.{RipEntry}
 use Rattle.ipx_router.specs.Facts.{routes_held, offers}
 use Rattle.ipx_router.specs.Heard.{Heard, heard}
 use Rattle.ipx_router.specs.History.{Event, History, Start, Stop, Second, Packet, PortDown, PortUp, IsOnPort, IsOfBytes, running, ports_up}
-use Rattle.ipx_router.specs.Packets.{IsBroadcast, IsAnswer, IsRelayed, IsSentFor}
+use Rattle.ipx_router.specs.Packets.{IsBroadcast, IsForHeard, IsRelayed, IsForPacket, IsSentFor}
 use Rattle.ipx_router.specs.Port.{Port, IsPort, port_at, is_up}
 use Rattle.ipx_router.specs.Relays.{Sent, relayed}
 use Rattle.ipx_router.specs.Sends.{Holding, introduction, second_on, stop_on, port_down_on, port_up_on, heard_sends, packet_sends, sends_of, holding, is_periodic, ports_sending, sends}
 use Rattle.ipx_router.specs.Why.{why}
 use Rattle.ipx_router.specs.declared.route_offer.RouteOffer.{RouteOffer}
 use Rattle.ipx_router.specs.declared.why.Why.{Why}
+use Rattle.ipx_router.proofs.Entries.{Opens}
 use Rattle.ipx_router.proofs.Every.{all_then, all_before, all_behind, all_listed}
 use Rattle.ipx_router.proofs.Fitting.{held_routes_fit, held_services_fit}
 use Rattle.ipx_router.proofs.Hearing.{heard_is}
-use Rattle.ipx_router.proofs.Histories.{ports_stay}
+use Rattle.ipx_router.proofs.Histories.{ports_stay, port_comes_up}
+use Rattle.ipx_router.proofs.NewsFits.{anything}
 use Rattle.ipx_router.proofs.Owned.{IsOwned}
 use Rattle.ipx_router.proofs.PortPlaces.{ports_up-within}
 use Rattle.ipx_router.proofs.Relayed.{AllUp}
-use Rattle.ipx_router.proofs.Sendings.{Fits, each_owned, introduction_owned, stop_owned, second_owned, port_down_owned, port_up_owned, heard_owned}
+use Rattle.ipx_router.proofs.Sendings.{Fits, Allows, each_owned, introduction_owned, stop_owned, second_owned, port_down_owned, port_up_owned, heard_owned}
 use Rattle.ipx_router.proofs.Tables.{nothing, came_in, heard_up, near_source}
 use Rattle.ipx_router.proofs.Upheld.{held_routes_up}
 use Rattle.ipx_router.proofs.Wire.{Readings, Rereadings}
 
--- a packet to all, or to the one that asked
-abbrev pub IsSaid : List Port → List ℕ → ℕ → List ℕ → Sent → Type 0
-IsSaid ports up number bytes s = IsBroadcast ports up s ⊎ IsAnswer ports up number bytes s
+-- the packet that came, sent on
+pub record IsSentOn (ports : List Port) (up : List ℕ) (routes : List RouteOffer) (runs : Bool) (event : Event) (s : Sent) : Type 0 where
+  pub number : ℕ
+  pub bytes : List ℕ
+  pub came : event ≡ Packet number bytes
+  pub relayed : IsRelayed ports up routes number bytes s
+  pub own : IsSentFor ports up routes runs event s
 
--- what an event sends: its own packets, which are short, or the packet that came
-abbrev pub IsSending : List Port → List ℕ → List RouteOffer → Event → Sent → Type 0
-IsSending ports up routes Start s = IsOwned (IsBroadcast ports up) s
-IsSending ports up routes Stop s = IsOwned (IsBroadcast ports up) s
-IsSending ports up routes Second s = IsOwned (IsBroadcast ports up) s
-IsSending ports up routes (Packet number bytes) s = IsOwned (IsSaid ports up number bytes) s ⊎ IsRelayed ports up routes number bytes s
-IsSending ports up routes (PortDown number) s = IsOwned (IsBroadcast ports up) s
-IsSending ports up routes (PortUp number) s = IsOwned (IsBroadcast ports up) s
+-- what an event sends: packets of the router's own, whose entries are such, or the packet that came
+abbrev pub IsSending : (RipEntry → Type 0) → List Port → List ℕ → List RouteOffer → Bool → Event → Sent → Type 0
+IsSending P ports up routes runs event s = IsOwned P ports up (IsSentFor ports up routes runs event) s ⊎ IsSentOn ports up routes runs event s
 
 -- what is listed is sent on by the relations
 abbrev pub IsListed : Type 0
@@ -48,26 +50,34 @@ IsListed =
     → why ports up routes true number bytes ≡ None → packet_of bytes ≡ Ok p
     → slice_get (relayed ports up routes number p) k ≡ Some s → IsRelayed ports up routes number bytes s
 
-module _ (readings : Readings) (again : Rereadings) (listed : IsListed) (ports : List Port) (are : AllByRecursion IsPort ports) where
+module _ (readings : Readings) (again : Rereadings) (listed : IsListed) (P : RipEntry → Type 0) (K : RouteOffer → Type 0) (allows : Allows P K)
+    (ports : List Port) (are : AllByRecursion IsPort ports) where
   -- ---- a packet, where the same ports are up before it and after it
 
-  module _ (before after : Holding) (same : after.up ≡ before.up) (old : Fits ports before) (new : Fits ports after) (table : AllUp before.up before.routes)
+  module _ (before after : Holding) (same : after.up ≡ before.up) (old : Fits K ports before) (new : Fits K ports after)
+      (opens : Opens P ports before.up) (table : AllUp before.up before.routes)
       (number : ℕ) (bytes : List ℕ) (are_bytes : IsBytes bytes) where
-    -- what a packet sends
-    abbrev Sends : Sent → Type 0
-    Sends s = IsOwned (IsSaid ports before.up number bytes) s ⊎ IsRelayed ports before.up before.routes number bytes s
+    -- the packet that came, where nothing was heard of it
+    abbrev SentOn : Bool → Sent → Type 0
+    SentOn runs s = IsSentOn ports before.up before.routes runs (Packet number bytes) s
+
+    -- what is sent for what was heard, if anything was
+    abbrev SentFor : Bool → Option Heard → Sent → Type 0
+    SentFor runs o s = IsOwned P ports before.up (IsForPacket ports before.up before.routes number bytes o) s ⊎ SentOn runs s
 
     relayed_all : (runs : Bool) (r : Result Parts PacketFault) → packet_of bytes ≡ r → why ports before.up before.routes runs number bytes ≡ None
-        → AllByRecursion (IsRelayed ports before.up before.routes number bytes)
-        (elim r [ Ok p ↦ relayed ports before.up before.routes number p | Err fault ↦ [] ])
-    relayed_all false r e passed = nothing (sym passed)
-    relayed_all true (Err fault) e passed = tt
-    relayed_all true (Ok p) e passed =
-        all_listed (IsRelayed ports before.up before.routes number bytes) (relayed ports before.up before.routes number p)
-        (λ k s at. listed ports before.up before.routes number bytes p k s are_bytes table passed e at)
+        → heard ports before.up runs number bytes ≡ None
+        → AllByRecursion (SentOn runs) (elim r [ Ok p ↦ relayed ports before.up before.routes number p | Err fault ↦ [] ])
+    relayed_all false r e passed unheard = nothing (sym passed)
+    relayed_all true (Err fault) e passed unheard = tt
+    relayed_all true (Ok p) e passed unheard =
+        all_listed (SentOn true) (relayed ports before.up before.routes number p) (λ k s at.
+        let is : IsRelayed ports before.up before.routes number bytes s =
+        listed ports before.up before.routes number bytes p k s are_bytes table passed e at in
+        record { number = number; bytes = bytes; came = refl; relayed = is; own = rw unheard is })
 
     said_all : (runs : Bool) (o : Option Heard) → heard ports before.up runs number bytes ≡ o → why ports before.up before.routes runs number bytes ≡ None
-        → AllByRecursion Sends (elim o [
+        → AllByRecursion (SentFor runs o) (elim o [
           | Some message ↦ heard_sends ports before after number message
           | None ↦ elim (packet_of bytes) [ Ok p ↦ relayed ports before.up before.routes number p | Err fault ↦ [] ]
         ])
@@ -76,17 +86,17 @@ module _ (readings : Readings) (again : Rereadings) (listed : IsListed) (ports :
         let is = (readings.packet_read bytes came.packet are_bytes).0 came.read in
         let there = heard_up ports before.up number runs bytes m e in
         let source = near_source (port_at ports number) came.packet m came.near in
-        all_then (IsOwned (IsSaid ports before.up number bytes)) Sends (λ s is. inl is)
+        all_then (IsOwned P ports before.up (IsForHeard ports before.up number bytes m)) (SentFor runs (Some m)) (λ s is. inl is)
         (heard_sends ports before after number m)
-        (heard_owned readings again ports are before.up old.ups before after old new number there bytes came.packet is same m source
+        (heard_owned readings again P K allows ports are before.up old.ups before after old new number there bytes came.packet is same opens m source
         (heard_is readings ports before.up number bytes are_bytes runs m e))
     said_all runs None e passed =
-        all_then (IsRelayed ports before.up before.routes number bytes) Sends (λ s is. inr is)
+        all_then (SentOn runs) (SentFor runs None) (λ s is. inr is)
         (elim (packet_of bytes) [ Ok p ↦ relayed ports before.up before.routes number p | Err fault ↦ [] ])
-        (relayed_all runs (packet_of bytes) refl passed)
+        (relayed_all runs (packet_of bytes) refl passed e)
 
     judged_all : (runs : Bool) (o : Option Why) → why ports before.up before.routes runs number bytes ≡ o
-        → AllByRecursion Sends (elim o [
+        → AllByRecursion (SentFor runs (heard ports before.up runs number bytes)) (elim o [
           | Some reason ↦ []
           | None ↦ elim (heard ports before.up runs number bytes) [
             | Some message ↦ heard_sends ports before after number message
@@ -96,105 +106,138 @@ module _ (readings : Readings) (again : Rereadings) (listed : IsListed) (ports :
     judged_all runs (Some reason) e = tt
     judged_all runs None e = said_all runs (heard ports before.up runs number bytes) refl e
 
-    packet_all : (runs : Bool) → AllByRecursion Sends (packet_sends ports before after runs number bytes)
+    packet_all : (runs : Bool) → AllByRecursion (IsSending P ports before.up before.routes runs (Packet number bytes)) (packet_sends ports before after runs number bytes)
     packet_all runs = judged_all runs (why ports before.up before.routes runs number bytes) refl
 
-  -- ---- each event
+  -- ---- each other event
 
-  module _ (before after : Holding) (old : Fits ports before) (new : Fits ports after) (table : AllUp before.up before.routes) where
-    start_all : (runs periodic : Bool) → AllByRecursion (IsOwned (IsBroadcast ports after.up)) (sends_of ports before after runs periodic Start)
+  module _ (before after : Holding) (old : Fits K ports before) (new : Fits K ports after) (opens : Opens P ports after.up) where
+    -- broadcasts on ports that are up
+    abbrev Casts : List ℕ → List Sent → Type 0
+    Casts up sent = AllByRecursion (IsOwned P ports up (IsBroadcast ports up)) sent
+
+    start_all : (runs periodic : Bool) → Casts after.up (sends_of ports before after runs periodic Start)
     start_all true periodic = tt
     start_all false periodic =
-        each_owned readings again ports are after.up new.ups (IsOwned (IsBroadcast ports after.up)) (introduction ports after.up [] [])
-        (introduction_owned readings again ports are after.up new.ups [] [] tt tt)
+        each_owned readings again P K allows ports are after.up new.ups (IsOwned P ports after.up (IsBroadcast ports after.up)) (introduction ports after.up [] [])
+        (introduction_owned readings again P K allows ports are after.up new.ups [] [] opens tt tt tt)
 
-    stop_all : (runs periodic : Bool) → AllByRecursion (IsOwned (IsBroadcast ports before.up)) (sends_of ports before after runs periodic Stop)
+    stop_all : (runs periodic : Bool) → Casts before.up (sends_of ports before after runs periodic Stop)
     stop_all true periodic =
-        each_owned readings again ports are before.up old.ups (IsOwned (IsBroadcast ports before.up)) (stop_on ports before)
-        (stop_owned readings again ports are before.up old.ups before after old new)
+        each_owned readings again P K allows ports are before.up old.ups (IsOwned P ports before.up (IsBroadcast ports before.up)) (stop_on ports before)
+        (stop_owned readings again P K allows ports are before.up old.ups before after old new)
     stop_all false periodic = tt
 
-    second_all : (runs periodic : Bool) → AllByRecursion (IsOwned (IsBroadcast ports after.up)) (sends_of ports before after runs periodic Second)
+    second_all : (runs periodic : Bool) → Casts after.up (sends_of ports before after runs periodic Second)
     second_all true periodic =
-        each_owned readings again ports are after.up new.ups (IsOwned (IsBroadcast ports after.up)) (second_on ports before after periodic)
-        (second_owned readings again ports are after.up new.ups before after old new periodic)
+        each_owned readings again P K allows ports are after.up new.ups (IsOwned P ports after.up (IsBroadcast ports after.up)) (second_on ports before after periodic)
+        (second_owned readings again P K allows ports are after.up new.ups before after old new opens periodic)
     second_all false periodic = tt
 
-    down_all : (runs periodic : Bool) (number : ℕ) → number < length ports
-        → AllByRecursion (IsOwned (IsBroadcast ports after.up)) (sends_of ports before after runs periodic (PortDown number))
+    down_all : (runs periodic : Bool) (number : ℕ) → number < length ports → Casts after.up (sends_of ports before after runs periodic (PortDown number))
     down_all false periodic number on = tt
     down_all true periodic number on = elim (cases_Bool (is_up before.up number)) [
       | inl goes ↦
-          rw goes (each_owned readings again ports are after.up new.ups (IsOwned (IsBroadcast ports after.up)) (port_down_on ports before after number)
-          (port_down_owned readings again ports are after.up new.ups before after old new number on))
+          rw goes (each_owned readings again P K allows ports are after.up new.ups (IsOwned P ports after.up (IsBroadcast ports after.up)) (port_down_on ports before after number)
+          (port_down_owned readings again P K allows ports are after.up new.ups before after old new number on))
       | inr down ↦ rw down tt
     ]
 
-    up_all : (runs periodic : Bool) (number : ℕ) → number < length ports
-        → AllByRecursion (IsOwned (IsBroadcast ports after.up)) (sends_of ports before after runs periodic (PortUp number))
-    up_all false periodic number on = tt
-    up_all true periodic number on = elim (cases_Bool (is_up before.up number)) [
+    up_all : (runs periodic : Bool) (number : ℕ) → number < length ports → (runs ≡ true → is_up after.up number ≡ true)
+        → Casts after.up (sends_of ports before after runs periodic (PortUp number))
+    up_all false periodic number on comes = tt
+    up_all true periodic number on comes = elim (cases_Bool (is_up before.up number)) [
       | inl is ↦ rw is tt
       | inr down ↦
-          rw down (each_owned readings again ports are after.up new.ups (IsOwned (IsBroadcast ports after.up)) (port_up_on ports after number)
-          (port_up_owned readings again ports are after.up new.ups after refl new number on))
+          rw down (each_owned readings again P K allows ports are after.up new.ups (IsOwned P ports after.up (IsBroadcast ports after.up)) (port_up_on ports after number)
+          (port_up_owned readings again P K allows ports are after.up new.ups after refl opens new number on (comes refl)))
     ]
 
   -- ---- over histories
 
   module _ (most_routes most_services : ℕ) (history : History) where
-    abbrev held_before : List RouteOffer
-    held_before = offers (routes_held ports most_routes history)
+    abbrev held_after : History → List RouteOffer
+    held_after history = offers (routes_held ports most_routes history)
 
-    fits : (history : History) → AllByRecursion IsOfBytes history → Fits ports (holding ports most_routes most_services history)
-    fits history bytes = record {
+    fits : (history : History) → AllByRecursion IsOfBytes history → AllByRecursion K (held_after history)
+        → Fits K ports (holding ports most_routes most_services history)
+    fits history bytes table = record {
       ups = ports_up-within ports history;
       routes = held_routes_fit readings ports most_routes history bytes;
       services = held_services_fit readings ports most_services history bytes;
+      table = table;
     }
 
-    pub sendings : (event : Event) → AllByRecursion (IsOnPort ports) (history ++ event ∷ []) → AllByRecursion IsOfBytes (history ++ event ∷ [])
-        → AllByRecursion (IsSending ports (ports_sending ports history event) held_before event) (sends ports most_routes most_services history event)
-    sendings event on bytes =
-        by event (fits history (all_before IsOfBytes history (event ∷ []) bytes)) (fits (history ++ event ∷ []) bytes)
+    -- what an event sends, if such are the networks of the ports that are up after it, and its routes before it and after it
+    pub sendings_of : (event : Event) → AllByRecursion (IsOnPort ports) (history ++ event ∷ []) → AllByRecursion IsOfBytes (history ++ event ∷ [])
+        → Opens P ports (ports_up ports (history ++ event ∷ [])) → AllByRecursion K (held_after history) → AllByRecursion K (held_after (history ++ event ∷ []))
+        → AllByRecursion (IsSending P ports (ports_sending ports history event) (held_after history) (running history) event)
+        (sends ports most_routes most_services history event)
+    sendings_of event on bytes opens kept keeps =
+        by event (fits history (all_before IsOfBytes history (event ∷ []) bytes) kept) (fits (history ++ event ∷ []) bytes keeps) opens
         (all_behind (IsOnPort ports) history (event ∷ []) on).0 (all_behind IsOfBytes history (event ∷ []) bytes).0
       where
         before : Holding
         before = holding ports most_routes most_services history
 
-        table : AllUp (ports_up ports history) held_before
-        table = held_routes_up ports most_routes history
+        after : Event → Holding
+        after event = holding ports most_routes most_services (history ++ event ∷ [])
 
-        by : (event : Event) → Fits ports before → Fits ports (holding ports most_routes most_services (history ++ event ∷ [])) → IsOnPort ports event → IsOfBytes event
-            → AllByRecursion (IsSending ports (ports_sending ports history event) held_before event) (sends ports most_routes most_services history event)
-        by Start old new on bytes = start_all before (holding ports most_routes most_services (history ++ Start ∷ [])) old new table (running history) (is_periodic history)
-        by Stop old new on bytes = stop_all before (holding ports most_routes most_services (history ++ Stop ∷ [])) old new table (running history) (is_periodic history)
-        by Second old new on bytes = second_all before (holding ports most_routes most_services (history ++ Second ∷ [])) old new table (running history) (is_periodic history)
-        by (PortDown number) old new on bytes =
-            down_all before (holding ports most_routes most_services (history ++ PortDown number ∷ [])) old new table (running history) (is_periodic history) number on
-        by (PortUp number) old new on bytes =
-            up_all before (holding ports most_routes most_services (history ++ PortUp number ∷ [])) old new table (running history) (is_periodic history) number on
-        by (Packet number bytes) old new on are_bytes =
+        Is : Event → Sent → Type 0
+        Is event s = IsSending P ports (ports_sending ports history event) (held_after history) (running history) event s
+
+        own : (event : Event) (up : List ℕ) (sent : List Sent) → up ≡ ports_sending ports history event
+            → ((s : Sent) → IsBroadcast ports up s → IsSentFor ports up (held_after history) (running history) event s)
+            → AllByRecursion (IsOwned P ports up (IsBroadcast ports up)) sent → AllByRecursion (Is event) sent
+        own event up sent same step all =
+            subst (λ (u : List ℕ). AllByRecursion (IsSending P ports u (held_after history) (running history) event) sent) same
+            (all_then (IsOwned P ports up (IsBroadcast ports up)) (IsSending P ports up (held_after history) (running history) event)
+            (λ s is. inl (record { own = step s is.own; short = is.short; bytes = is.bytes; entries = is.entries })) sent all)
+
+        by : (event : Event) → Fits K ports before → Fits K ports (after event) → Opens P ports (ports_up ports (history ++ event ∷ [])) → IsOnPort ports event → IsOfBytes event
+            → AllByRecursion (Is event) (sends ports most_routes most_services history event)
+        by Start old new opens on bytes =
+            own Start (after Start).up (sends ports most_routes most_services history Start) refl (λ s is. is)
+            (start_all before (after Start) old new opens (running history) (is_periodic history))
+        by Stop old new opens on bytes =
+            own Stop before.up (sends ports most_routes most_services history Stop) refl (λ s is. is)
+            (stop_all before (after Stop) old new opens (running history) (is_periodic history))
+        by Second old new opens on bytes =
+            own Second (after Second).up (sends ports most_routes most_services history Second) refl (λ s is. is)
+            (second_all before (after Second) old new opens (running history) (is_periodic history))
+        by (PortDown number) old new opens on bytes =
+            own (PortDown number) (after (PortDown number)).up (sends ports most_routes most_services history (PortDown number)) refl (λ s is. is)
+            (down_all before (after (PortDown number)) old new opens (running history) (is_periodic history) number on)
+        by (PortUp number) old new opens on bytes =
+            own (PortUp number) (after (PortUp number)).up (sends ports most_routes most_services history (PortUp number)) refl (λ s is. is)
+            (up_all before (after (PortUp number)) old new opens (running history) (is_periodic history) number on (port_comes_up ports history number on))
+        by (Packet number bytes) old new opens on are_bytes =
             let stay = ports_stay ports history (Packet number bytes) refl refl (λ port. refl) (λ port. refl) in
-            let after = holding ports most_routes most_services (history ++ Packet number bytes ∷ []) in
-            subst (λ (up : List ℕ). AllByRecursion (IsSending ports up held_before (Packet number bytes)) (sends ports most_routes most_services history (Packet number bytes))) (sym stay)
-            (packet_all before after stay old new table number bytes are_bytes (running history))
+            subst (λ (up : List ℕ). AllByRecursion (IsSending P ports up (held_after history) (running history) (Packet number bytes))
+            (sends ports most_routes most_services history (Packet number bytes))) (sym stay)
+            (packet_all before (after (Packet number bytes)) stay old new (subst (Opens P ports) stay opens) (held_routes_up ports most_routes history)
+            number bytes are_bytes (running history))
+
+-- ---- whatever the entries
+
+-- nothing is asked of an entry
+abbrev pub Any : RipEntry → Type 0
+Any entry = Unit
+
+pub sendings : Readings → Rereadings → IsListed → (ports : List Port) → AllByRecursion IsPort ports → (most_routes most_services : ℕ) (history : History) (event : Event)
+    → AllByRecursion (IsOnPort ports) (history ++ event ∷ []) → AllByRecursion IsOfBytes (history ++ event ∷ [])
+    → AllByRecursion (IsSending Any ports (ports_sending ports history event) (offers (routes_held ports most_routes history)) (running history) event)
+    (sends ports most_routes most_services history event)
+sendings readings again listed ports are most_routes most_services history event on bytes =
+    sendings_of readings again listed Any (λ route. Unit) (record { asking = tt; gone = λ e. tt; heard = λ r c is. tt }) ports are
+    most_routes most_services history event on bytes (λ port cost there. tt) (anything (offers (routes_held ports most_routes history)))
+    (anything (offers (routes_held ports most_routes (history ++ event ∷ []))))
 
 -- by the layouts alone
-pub sent_for : (ports : List Port) (up : List ℕ) (routes : List RouteOffer) (event : Event) (sent : List Sent)
-    → AllByRecursion (IsSending ports up routes event) sent → AllByRecursion (IsSentFor ports up routes event) sent
-sent_for ports up routes Start sent all = all_then (IsOwned (IsBroadcast ports up)) (IsBroadcast ports up) (λ s is. is.own) sent all
-sent_for ports up routes Stop sent all = all_then (IsOwned (IsBroadcast ports up)) (IsBroadcast ports up) (λ s is. is.own) sent all
-sent_for ports up routes Second sent all = all_then (IsOwned (IsBroadcast ports up)) (IsBroadcast ports up) (λ s is. is.own) sent all
-sent_for ports up routes (PortDown number) sent all = all_then (IsOwned (IsBroadcast ports up)) (IsBroadcast ports up) (λ s is. is.own) sent all
-sent_for ports up routes (PortUp number) sent all = all_then (IsOwned (IsBroadcast ports up)) (IsBroadcast ports up) (λ s is. is.own) sent all
-sent_for ports up routes (Packet number bytes) sent all =
-    all_then (IsSending ports up routes (Packet number bytes)) (IsSentFor ports up routes (Packet number bytes)) one sent all
+pub sent_for : (P : RipEntry → Type 0) (ports : List Port) (up : List ℕ) (routes : List RouteOffer) (runs : Bool) (event : Event) (sent : List Sent)
+    → AllByRecursion (IsSending P ports up routes runs event) sent → AllByRecursion (IsSentFor ports up routes runs event) sent
+sent_for P ports up routes runs event sent all = all_then (IsSending P ports up routes runs event) (IsSentFor ports up routes runs event) one sent all
   where
-    one : (s : Sent) → IsSending ports up routes (Packet number bytes) s → IsSentFor ports up routes (Packet number bytes) s
-    one s (inl is) = said is.own
-      where
-        said : IsSaid ports up number bytes s → IsSentFor ports up routes (Packet number bytes) s
-        said (inl told) = inl told
-        said (inr answer) = inr (inl answer)
-    one s (inr is) = inr (inr is)
+    one : (s : Sent) → IsSending P ports up routes runs event s → IsSentFor ports up routes runs event s
+    one s (inl is) = is.own
+    one s (inr is) = is.own

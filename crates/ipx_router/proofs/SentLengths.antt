@@ -1,34 +1,34 @@
 -- How long the packets are that an event sends.
-use Rattle.std.proofs.Common.{◌≡◌, ap, ◌∙◌, ℕ, zero, suc, ◌≤◌, max, inl, inr, length, List, [], ◌∷◌, Result, Ok, Err, arith, lit<}
+use Rattle.std.proofs.Common.{◌≡◌, sym, ap, ◌∙◌, subst, Bool, ℕ, zero, suc, ◌≤◌, max, inl, inr, length, List, [], ◌∷◌, Result, Ok, Err, arith, lit<}
 use Rattle.std.specs.List.{AllByRecursion}
 use Rattle.ipx_wire.specs.Crossed.{IsNetwork}
 use Rattle.ipx_wire.specs.Forward.{forwarded, propagated}
 use Rattle.ipx_wire.specs.Packet.{Parts, IsPacket, packet_of}
 use Rattle.ipx_wire.specs.Piece.{IsBytes}
 use Rattle.ipx_wire.specs.declared.packet.PacketFault.{PacketFault}
+use Rattle.ipx_wire.specs.declared.rip.RipEntry.{RipEntry}
 use Rattle.ipx_router.specs.Bounds.{most_length}
 use Rattle.ipx_router.specs.History.{Event, Start, Stop, Second, Packet, PortDown, PortUp, IsOfBytes}
 use Rattle.ipx_router.specs.Numbers.{most_own_length}
-use Rattle.ipx_router.specs.Packets.{IsBroadcast, IsRelayed}
+use Rattle.ipx_router.specs.Packets.{IsRelayed}
 use Rattle.ipx_router.specs.Port.{Port, IsPort, port_at}
 use Rattle.ipx_router.specs.Relays.{Sent}
 use Rattle.ipx_router.specs.declared.route_offer.RouteOffer.{RouteOffer}
 use Rattle.ipx_router.proofs.Every.{all_then}
-use Rattle.ipx_router.proofs.Owned.{IsOwned}
 use Rattle.ipx_router.proofs.SentFor.{IsSending}
 use Rattle.ipx_router.proofs.Wire.{Readings, Rereadings, whole}
 
 -- the network at any number, also where no port is, fits into four bytes
-network_fits : (ports : List Port) (number : ℕ) → AllByRecursion IsPort ports → IsNetwork (port_at ports number).network
+pub network_fits : (ports : List Port) (number : ℕ) → AllByRecursion IsPort ports → IsNetwork (port_at ports number).network
 network_fits [] number are = lit< tt
 network_fits (port ∷ ports) zero are =
     let below = are.0.ordinary_network in
     omega (arith, below)
 network_fits (port ∷ ports) (suc number) are = network_fits ports number are.1
 
-own_length : (r : Result Parts PacketFault) → most_own_length ≤ elim r [ Ok p ↦ max most_own_length p.header.length | Err fault ↦ most_own_length ]
-own_length (Ok p) = omega arith
-own_length (Err fault) = omega arith
+pub packet_length : (r : Result Parts PacketFault) → most_own_length ≤ elim r [ Ok p ↦ max most_own_length p.header.length | Err fault ↦ most_own_length ]
+packet_length (Ok p) = omega arith
+packet_length (Err fault) = omega arith
 
 module _ (readings : Readings) (again : Rereadings) (ports : List Port) (are : AllByRecursion IsPort ports) (up : List ℕ) (routes : List RouteOffer) where
   module _ (number : ℕ) (bytes : List ℕ) (are_bytes : IsBytes bytes) where
@@ -55,19 +55,22 @@ module _ (readings : Readings) (again : Rereadings) (ports : List Port) (are : A
         (λ further. again.propagated_again bytes p arrived outgoing further is.is is.crossed.free is.crossed.eight (network_fits ports s.port are)) in
         as_long p (length s.bytes) is.is size
 
-  pub short : (event : Event) (sent : List Sent) → IsOfBytes event → AllByRecursion (IsSending ports up routes event) sent
+  own_length : (event : Event) → most_own_length ≤ most_length event
+  own_length Start = omega arith
+  own_length Stop = omega arith
+  own_length Second = omega arith
+  own_length (PortDown number) = omega arith
+  own_length (PortUp number) = omega arith
+  own_length (Packet number bytes) = packet_length (packet_of bytes)
+
+  pub short : (P : RipEntry → Type 0) (runs : Bool) (event : Event) (sent : List Sent) → IsOfBytes event → AllByRecursion (IsSending P ports up routes runs event) sent
       → AllByRecursion (λ s. length s.bytes ≤ most_length event) sent
-  short Start sent bytes all = all_then (IsOwned (IsBroadcast ports up)) (λ s. length s.bytes ≤ most_own_length) (λ s is. is.short) sent all
-  short Stop sent bytes all = all_then (IsOwned (IsBroadcast ports up)) (λ s. length s.bytes ≤ most_own_length) (λ s is. is.short) sent all
-  short Second sent bytes all = all_then (IsOwned (IsBroadcast ports up)) (λ s. length s.bytes ≤ most_own_length) (λ s is. is.short) sent all
-  short (PortDown number) sent bytes all = all_then (IsOwned (IsBroadcast ports up)) (λ s. length s.bytes ≤ most_own_length) (λ s is. is.short) sent all
-  short (PortUp number) sent bytes all = all_then (IsOwned (IsBroadcast ports up)) (λ s. length s.bytes ≤ most_own_length) (λ s is. is.short) sent all
-  short (Packet number bytes) sent are_bytes all =
-      all_then (IsSending ports up routes (Packet number bytes)) (λ s. length s.bytes ≤ most_length (Packet number bytes)) one sent all
+  short P runs event sent bytes all = all_then (IsSending P ports up routes runs event) (λ s. length s.bytes ≤ most_length event) one sent all
     where
-      one : (s : Sent) → IsSending ports up routes (Packet number bytes) s → length s.bytes ≤ most_length (Packet number bytes)
+      one : (s : Sent) → IsSending P ports up routes runs event s → length s.bytes ≤ most_length event
       one s (inl is) =
           let few = is.short in
-          let room = own_length (packet_of bytes) in
-          omega (arith, few, room)
-      one s (inr is) = relayed_length number bytes are_bytes s is
+          omega (arith, few, own_length event)
+      one s (inr is) =
+          subst (λ (e : Event). length s.bytes ≤ most_length e) (sym is.came)
+          (relayed_length is.number is.bytes (subst IsOfBytes is.came bytes) s is.relayed)

@@ -23,7 +23,7 @@ use Rattle.ipx_wire.specs.declared.rip.RipEntry.{RipEntry}
 use Rattle.ipx_router.specs.Facts.{facts_of, facts_from, heard_after, routes_offered, routes_heard, route_facts, routes_held, services_heard, service_facts, services_held, offers}
 use Rattle.ipx_router.specs.Heard.{Heard, HeardRip, HeardSap, heard, heard_near, heard_in}
 use Rattle.ipx_router.specs.History.{Event, History, Start, Stop, Second, Packet, PortDown, PortUp, IsOnPort, running, ports_up}
-use Rattle.ipx_router.specs.Port.{Port, broadcast, port_at, is_up, same_node, is_skipped}
+use Rattle.ipx_router.specs.Port.{Port, broadcast, port_at, is_up, same_node, takes_no_route}
 use Rattle.ipx_router.specs.Relays.{IsTableRoute}
 use Rattle.ipx_router.specs.Routes.{route_rules}
 use Rattle.ipx_router.specs.Services.{service_rules}
@@ -170,7 +170,7 @@ module _ (ports : List Port) (up : List ℕ) (number : ℕ) where
     offered_all : (node : Node) (entries : List RipEntry) → same_node node broadcast ≡ false
         → AllByRecursion (OfferIs (IsTableRoute ports)) (routes_offered ports number node entries)
     offered_all node [] one = tt
-    offered_all node (entry ∷ entries) one = elim (cases_Bool (is_skipped ports entry.network)) [
+    offered_all node (entry ∷ entries) one = elim (cases_Bool (takes_no_route ports entry.network)) [
       | inl e ↦ rw e (offered_all node entries one)
       | inr e ↦ rw e (record { network = e; port = within; neighbour = one }, offered_all node entries one)
     ]

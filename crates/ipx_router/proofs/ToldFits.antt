@@ -7,7 +7,7 @@ use Rattle.ipx_wire.specs.declared.rip.RipEntry.{RipEntry}
 use Rattle.ipx_wire.specs.declared.service.Service.{Service}
 use Rattle.ipx_router.specs.Numbers.{unreachable, most_ticks}
 use Rattle.ipx_router.specs.Port.{Port, IsPort, port_at}
-use Rattle.ipx_router.specs.Told.{network_before, name_before, by_network, by_name, is_reached_on, told_at, dead, farther, down, direct_entry, direct, entry_of, is_route_told, told, is_service_told, told_services}
+use Rattle.ipx_router.specs.Told.{network_before, name_before, by_network, by_name, is_reached_on, told_at, dead, farther, dead_service, direct_entry, direct, entry_of, is_route_told, told, is_service_told, told_services}
 use Rattle.ipx_router.specs.declared.route_offer.RouteOffer.{RouteOffer}
 use Rattle.ipx_router.specs.declared.service_offer.ServiceOffer.{ServiceOffer}
 use Rattle.ipx_router.proofs.ByteFields.{IsTellable}
@@ -56,7 +56,7 @@ farther_fits service is near = record {
   node = is.node;
 }
 
-pub down_fits : (service : Service) → IsTellable service → IsTellable (down service)
+pub down_fits : (service : Service) → IsTellable service → IsTellable (dead_service service)
 down_fits service is = record {
   ranges = record { kind = is.ranges.kind; named = is.ranges.named; address = is.ranges.address; hops = lit< tt };
   name = is.name;

@@ -17,7 +17,7 @@ use Rattle.ipx_wire.specs.declared.sap_entries.SapEntry.{SapEntry}
 use Rattle.ipx_router.specs.Facts.{facts_of, facts_from, heard_after, routes_offered, routes_heard, routes_held, services_offered, services_heard, services_held, offers}
 use Rattle.ipx_router.specs.Heard.{Heard, HeardRip, HeardSap}
 use Rattle.ipx_router.specs.History.{Event, History, Start, Stop, Second, Packet, PortDown, PortUp, is_stop, takes_down, running, ports_up}
-use Rattle.ipx_router.specs.Port.{Port, is_up, is_skipped}
+use Rattle.ipx_router.specs.Port.{Port, is_up, takes_no_route}
 use Rattle.ipx_router.specs.Routes.{route_rules}
 use Rattle.ipx_router.specs.Services.{service_rules}
 use Rattle.ipx_router.specs.declared.route_offer.RouteOffer.{RouteOffer}
@@ -145,7 +145,7 @@ module _ {O : Type 0} (rules : Rules O) (ports : List Port) (offered : History �
 module _ (ports : List Port) (up : List ℕ) (number : ℕ) (is : is_up up number ≡ true) where
   routes_up : (node : Node) (entries : List RipEntry) → AllByRecursion (OfferIs (λ (r : RouteOffer). is_up up r.port ≡ true)) (routes_offered ports number node entries)
   routes_up node [] = tt
-  routes_up node (entry ∷ entries) = elim (cases_Bool (is_skipped ports entry.network)) [
+  routes_up node (entry ∷ entries) = elim (cases_Bool (takes_no_route ports entry.network)) [
     | inl e ↦ rw e (routes_up node entries)
     | inr e ↦ rw e (is, routes_up node entries)
   ]

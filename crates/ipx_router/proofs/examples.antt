@@ -18,12 +18,15 @@ pub mod FarServices
 pub mod GoingDown
 pub mod Indifferent
 pub mod LongLists
+pub mod LongestPackets
 pub mod Making
 pub mod Orders
+pub mod RelayCalls
 pub mod Relaying
 pub mod RouteShares
 pub mod ServiceShares
 pub mod Serving
+pub mod Standing
 pub mod Starting
 pub mod Stopping
 pub mod TableRoutes

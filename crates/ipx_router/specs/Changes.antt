@@ -23,11 +23,11 @@ module _ {O K : Type 0} (key_of : O → K) (order : K → K → Ordering) (same 
   same_or_none (Some a) None = false
   same_or_none (Some a) (Some b) = same a b
 
-  -- the key in its place, once
+  -- a key in its place among others, unless it is one of them
   abbrev pub put_key : K → List K → List K
   put_key key keys = if list_any (λ other. is_eq (order key other)) keys then keys else put (λ a b. is_lt (order a b)) key keys
 
-  -- the keys of the offers too, each once
+  -- the keys of offers too, each once
   abbrev pub put_keys : List O → List K → List K
   put_keys [] keys = keys
   put_keys (o ∷ offers) keys = put_key (key_of o) (put_keys offers keys)
@@ -36,7 +36,7 @@ module _ {O K : Type 0} (key_of : O → K) (order : K → K → Ordering) (same 
   abbrev pub change_at : List O → List O → K → Change O
   change_at before after key = record { before = offer_of key before; after = offer_of key after }
 
-  -- they aren't the same
+  -- the two offers differ
   abbrev pub differs : Change O → Bool
   differs change = not (same_or_none change.before change.after)
 

@@ -1,4 +1,4 @@
--- What a history says of routes and services, and what is held of them.
+-- What a history means for the tables of routes and of services, and what they hold after it.
 use Rattle.std.specs.Prelude.{ℕ, Bool, if◌then◌else◌, List, [], ◌∷◌, ◌++◌, map, Option, None, Some}
 use Rattle.ipx_table.specs.Facts.{Fact, Offered, Second as SecondPassed, PortEnd, End}
 use Rattle.ipx_table.specs.Stands.{held}
@@ -10,7 +10,7 @@ use Rattle.ipx_wire.specs.declared.sap.Sap.TheVariants.{Query, Response as SapRe
 use Rattle.ipx_wire.specs.declared.sap_entries.SapEntry.{SapEntry}
 use Rattle.ipx_router.specs.Heard.{Heard, HeardRip, HeardSap, heard}
 use Rattle.ipx_router.specs.History.{Event, History, Start, Stop, Second, Packet, PortDown, PortUp, running, ports_up}
-use Rattle.ipx_router.specs.Port.{Port, is_up, is_skipped}
+use Rattle.ipx_router.specs.Port.{Port, is_up, takes_no_route}
 use Rattle.ipx_router.specs.Routes.{route_rules}
 use Rattle.ipx_router.specs.Services.{service_rules}
 use Rattle.ipx_router.specs.declared.route_offer.RouteOffer.{RouteOffer}
@@ -18,17 +18,17 @@ use Rattle.ipx_router.specs.declared.service_offer.ServiceOffer.{ServiceOffer}
 
 -- ---- what a packet offers
 
--- an entry as an offer, with hops and ticks as they were heard
+-- an entry as an offer of the neighbour that sent it, with hops and ticks as they were heard
 abbrev pub route_offer : ℕ → Node → RipEntry → RouteOffer
 route_offer number node entry = record { network = entry.network; hops = entry.hops; ticks = entry.ticks; port = number; node = node }
 
--- the entries as offers, in order, but for networks that no route leads to
+-- the entries as offers, in order, but for networks to which no route is taken
 abbrev pub routes_offered : List Port → ℕ → Node → List RipEntry → List (Fact RouteOffer)
 routes_offered ports number node [] = []
 routes_offered ports number node (entry ∷ entries) =
-    (if is_skipped ports entry.network then [] else Offered (route_offer number node entry) ∷ []) ++ routes_offered ports number node entries
+    (if takes_no_route ports entry.network then [] else Offered (route_offer number node entry) ∷ []) ++ routes_offered ports number node entries
 
--- a response of routing information offers its entries
+-- what a RIP response offers: its entries; a request offers nothing
 abbrev pub routes_heard : List Port → ℕ → Option Heard → List (Fact RouteOffer)
 routes_heard ports number None = []
 routes_heard ports number (Some (HeardRip source rip)) =
@@ -48,17 +48,17 @@ services_offered number node (entry ∷ entries) =
       }) ∷ []
     ] ++ services_offered number node entries
 
--- a response of service advertising offers its entries
+-- what a SAP response offers: its entries; a query offers nothing
 abbrev pub services_heard : ℕ → Option Heard → List (Fact ServiceOffer)
 services_heard number None = []
 services_heard number (Some (HeardRip source rip)) = []
 services_heard number (Some (HeardSap source (Query nearest kind))) = []
 services_heard number (Some (HeardSap source (SapResponse nearest entries))) = services_offered number source.node entries
 
--- ---- what an event says
+-- ---- what an event means
 
--- what an event says of offers, in a router that runs or not and has those ports up, where a packet offers those:
--- a stop ends all, a port that goes down ends what came by it, and to a stopped router nothing is said
+-- what an event means for a table, with those ports up and the router running or not, where `offered` says what a packet offers:
+-- a stop ends all offers, a port that goes down ends those that came by it, and a stopped router hears nothing
 abbrev pub facts_of : {O : Type 0} → List ℕ → Bool → (ℕ → List ℕ → List (Fact O)) → Event → List (Fact O)
 facts_of up runs offered Start = []
 facts_of up runs offered Stop = if runs then End ∷ [] else []
@@ -68,11 +68,11 @@ facts_of up runs offered (PortDown number) = if is_up up number then PortEnd num
 facts_of up runs offered (PortUp number) = []
 
 module _ (ports : List Port) where
-  -- what is heard of a packet after a history
+  -- what is heard of a packet that comes after a history
   abbrev pub heard_after : History → ℕ → List ℕ → Option Heard
   heard_after history number bytes = heard ports (ports_up ports history) (running history) number bytes
 
-  -- what an event says of routes, after a history, and of services
+  -- what an event after a history means for the routes, and for the services
   abbrev pub route_facts_of : History → Event → List (Fact RouteOffer)
   route_facts_of history event =
       facts_of (ports_up ports history) (running history) (λ number bytes. routes_heard ports number (heard_after history number bytes)) event
@@ -81,12 +81,12 @@ module _ (ports : List Port) where
   service_facts_of history event =
       facts_of (ports_up ports history) (running history) (λ number bytes. services_heard number (heard_after history number bytes)) event
 
--- what events say, one after the other, each after those before it
+-- what events mean, one after the other, each after those before it
 abbrev pub facts_from : {O : Type 0} → (History → Event → List (Fact O)) → History → List Event → List (Fact O)
 facts_from says history [] = []
 facts_from says history (event ∷ events) = says history event ++ facts_from says (history ++ event ∷ []) events
 
--- what a history says of routes, and of services
+-- what a history means for the routes, and for the services
 abbrev pub route_facts : List Port → History → List (Fact RouteOffer)
 route_facts ports history = facts_from (route_facts_of ports) [] history
 
@@ -95,11 +95,11 @@ service_facts ports history = facts_from (service_facts_of ports) [] history
 
 -- ---- what is held
 
--- the alive routes after a history, by network, in a router that holds so many
+-- the routes that are alive after a history, by network, in a router with room for `capacity` of them
 abbrev pub routes_held : List Port → ℕ → History → List (Held RouteOffer)
 routes_held ports capacity history = held (route_rules ports capacity) (route_facts ports history)
 
--- the alive services after a history, by type and name
+-- the services that are alive after a history, by type and name
 abbrev pub services_held : List Port → ℕ → History → List (Held ServiceOffer)
 services_held ports capacity history = held (service_rules ports capacity) (service_facts ports history)
 

@@ -19,11 +19,12 @@ heard_in p =
     if is_for_rip p.header then elim (rip_of p.payload) [ Ok rip ↦ Some (HeardRip p.header.source rip) | Err fault ↦ None ]
     else elim (sap_of p.payload) [ Ok sap ↦ Some (HeardSap p.header.source sap) | Err fault ↦ None ]
 
--- what a near packet says
+-- what a packet says, if it is near
 abbrev pub heard_near : Port → Parts → Option Heard
 heard_near port p = if is_near port p.header then heard_in p else None
 
--- what is heard on a port; of a near packet no check asks for routes, so it is judged as with none
+-- what is heard on a port: what a near packet says that no check drops; no check asks a near packet about routes, so it is
+-- judged as with none
 abbrev pub heard : List Port → List ℕ → Bool → ℕ → List ℕ → Option Heard
 heard ports up running number bytes =
     elim (why ports up [] running number bytes) [

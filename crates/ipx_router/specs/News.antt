@@ -1,5 +1,5 @@
--- What a router tells of a change, at once (IPX Router Specification, immediate broadcasts): on each port but that of the
--- later offer, or, where there is none, of the earlier.
+-- `news`: what a router broadcasts of a change at once (IPX Router Specification, immediate broadcasts), on each port but that of
+-- the later offer or, where there is none, of the earlier.
 use Rattle.std.specs.Prelude.{ℕ, ◌==◌, ◌&&◌, Bool, if◌then◌else◌, List, [], ◌∷◌, None, Some}
 use Rattle.std.specs.List.{flat_map}
 use Rattle.ipx_wire.specs.Name.{same_name}
@@ -10,7 +10,7 @@ use Rattle.ipx_router.specs.Changes.{Change, changes}
 use Rattle.ipx_router.specs.Port.{Port, port_at, same_node}
 use Rattle.ipx_router.specs.Routes.{network_order}
 use Rattle.ipx_router.specs.Services.{service_order}
-use Rattle.ipx_router.specs.Told.{is_reached_on, told_at, dead, farther, down, entry_of}
+use Rattle.ipx_router.specs.Told.{is_reached_on, told_at, dead, farther, dead_service, entry_of}
 use Rattle.ipx_router.specs.declared.route_offer.RouteOffer.{RouteOffer}
 use Rattle.ipx_router.specs.declared.service_offer.ServiceOffer.{ServiceOffer}
 
@@ -21,11 +21,11 @@ abbrev pub same_route : RouteOffer → RouteOffer → Bool
 same_route a b =
     (a.network.0 == b.network.0) && (a.hops == b.hops) && (a.ticks == b.ticks) && (a.port == b.port) && same_node a.node b.node
 
--- a route as it is told on a port; where the next router on doesn't reach it, it is dead
+-- a route as it is advertised on a port: unreachable, if the next router can't reach its network
 abbrev pub route_now : Port → RouteOffer → RipEntry
 route_now port route = if is_reached_on route.hops then told_at port.cost (entry_of route) else dead (entry_of route)
 
--- a changed route as it is told on a port: as it is now, or, where it ended, dead; nothing where it was learned
+-- what is advertised of a change on a port: the route as it is now or, if it ended, as unreachable; nothing where it was learned
 abbrev pub route_told : List Port → ℕ → Change RouteOffer → List RipEntry
 route_told ports number change =
     elim change.after [
@@ -36,7 +36,7 @@ route_told ports number change =
       ]
     ]
 
--- what changed of the routes, as it is told on a port, by network
+-- what is advertised on a port of all changes of routes, by network
 abbrev pub news : List Port → List RouteOffer → List RouteOffer → ℕ → List RipEntry
 news ports before after number = flat_map (route_told ports number) (changes (λ r. r.network) network_order same_route before after)
 
@@ -52,22 +52,23 @@ same_service a b =
     (a.service.kind == b.service.kind) && same_name a.service.name b.service.name && same_address a.service.address b.service.address
     && (a.service.hops == b.service.hops) && (a.port == b.port) && same_node a.node b.node
 
--- a service as it is told; where the next router on doesn't reach it, it is down
+-- a service as it is advertised: unreachable, if the next router can't reach it
 abbrev pub service_now : ServiceOffer → Service
-service_now offer = if is_reached_on offer.service.hops then farther offer.service else down offer.service
+service_now offer = if is_reached_on offer.service.hops then farther offer.service else dead_service offer.service
 
--- a changed service as it is told on a port; one that ended keeps the address that it had before the event
+-- what is advertised of a change on a port: the service as it is now or, if it ended, as unreachable, at the address that it had
+-- before the event; nothing where it was learned
 abbrev pub service_told : ℕ → Change ServiceOffer → List Service
 service_told number change =
     elim change.after [
       | Some offer ↦ if offer.port == number then [] else service_now offer ∷ []
       | None ↦ elim change.before [
-        | Some offer ↦ if offer.port == number then [] else down offer.service ∷ []
+        | Some offer ↦ if offer.port == number then [] else dead_service offer.service ∷ []
         | None ↦ []
       ]
     ]
 
--- what changed of the services, as it is told on a port, by type and name
+-- what is advertised on a port of all changes of services, by type and name
 abbrev pub news_services : List ServiceOffer → List ServiceOffer → ℕ → List Service
 news_services before after number =
     flat_map (service_told number) (changes (λ s. (s.service.kind, s.service.name)) service_order same_service before after)

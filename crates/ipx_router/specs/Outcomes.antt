@@ -1,5 +1,5 @@
 -- What becomes of an event.
-use Rattle.std.specs.Prelude.{ℕ, Bool, if◌then◌else◌, List, None, Some, Ok, Err}
+use Rattle.std.specs.Prelude.{ℕ, Bool, true, false, if◌then◌else◌, List, None, Some, Ok, Err}
 use Rattle.ipx_wire.specs.Packet.{packet_of}
 use Rattle.ipx_wire.specs.declared.rip.Operation.TheVariants.{Request, Response as RipResponse}
 use Rattle.ipx_wire.specs.declared.sap.Sap.TheVariants.{Query, Response as SapResponse}
@@ -13,13 +13,13 @@ use Rattle.ipx_router.specs.declared.outcome.Outcome.TheVariants.{Started, Alrea
 use Rattle.ipx_router.specs.declared.route_offer.RouteOffer.{RouteOffer}
 use Rattle.ipx_router.specs.declared.why.Why.TheVariants.{NotRunning}
 
--- a response was learned from, a request or a query was answered, also where nothing is sent
+-- a response is learned from; a request or a query is answered, also where nothing is sent
 abbrev pub heard_outcome : Heard → Outcome
 heard_outcome (HeardRip source rip) = elim rip.operation [ RipResponse ↦ Learned | Request ↦ Answered ]
 heard_outcome (HeardSap source (Query nearest kind)) = Answered
 heard_outcome (HeardSap source (SapResponse nearest entries)) = Learned
 
--- a packet that is not for the router was sent on, also where no port was left for it
+-- a packet that isn't for the router is forwarded or propagated, also where no port is left for it
 abbrev pub relayed_outcome : List ℕ → Outcome
 relayed_outcome bytes = elim (packet_of bytes) [ Ok p ↦ if is_propagated p.header then Propagated else Forwarded | Err fault ↦ Forwarded ]
 
@@ -40,3 +40,11 @@ outcome_of ports up routes runs (PortUp number) = if runs then if is_up up numbe
 abbrev pub outcome : List Port → ℕ → History → Event → Outcome
 outcome ports most_routes history event =
     outcome_of ports (ports_up ports history) (offers (routes_held ports most_routes history)) (running history) event
+
+-- nothing is done: the event is dropped, or the router runs already, or the port is already as it would become
+abbrev pub changes_nothing : Outcome → Bool
+changes_nothing (Dropped reason) = true
+changes_nothing AlreadyRunning = true
+changes_nothing AlreadyDown = true
+changes_nothing AlreadyUp = true
+changes_nothing outcome = false

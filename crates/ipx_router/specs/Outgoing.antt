@@ -6,32 +6,33 @@ use Rattle.ipx_wire.specs.declared.address.Address.{Address}
 use Rattle.ipx_wire.specs.declared.network.Network.{Network}
 use Rattle.ipx_wire.specs.declared.node.Node.{Node}
 use Rattle.ipx_router.specs.Numbers.{default_route}
-use Rattle.ipx_router.specs.Port.{Port, port_at, same_node, is_skipped}
+use Rattle.ipx_router.specs.Port.{Port, port_at, same_node, takes_no_route}
 use Rattle.ipx_router.specs.declared.route_offer.RouteOffer.{RouteOffer}
 
--- the port on which a packet leaves, and the node to which the link sends it
+-- the port on which a packet leaves, and the next hop: the node on that port's network to which the link sends it
 pub record Way : Type 0 where
   pub port : ℕ
   pub link : Node
 
--- the port of that network, if the router has one that is up
+-- the port on that network, if there is one and it is up
 abbrev pub port_to : List Port → List ℕ → Network → Option ℕ
 port_to ports up network = find (λ j. (port_at ports j).network.0 == network.0) up
 
--- the route that is held for a network number
+-- the route that is held for a network number, if there is one
 abbrev pub route_to : List RouteOffer → ℕ → Option RouteOffer
 route_to routes number = find (λ r. r.network.0 == number) routes
 
--- the route that serves packets for a network: the one that is held for it, or else the default route, which serves
--- every network that a route may lead to: not that of all routes, and none of a port, whether it is up or not
+-- the route for packets to a network: the one that is held for it, or else the default route. This one serves every network to
+-- which a route may be taken: so neither that of all routes nor that of a port, up or not
 abbrev pub serving : List Port → List RouteOffer → Network → Option RouteOffer
 serving ports routes network =
     elim (route_to routes network.0) [
       | Some route ↦ Some route
-      | None ↦ if is_skipped ports network then None else route_to routes default_route
+      | None ↦ if takes_no_route ports network then None else route_to routes default_route
     ]
 
--- to a network of a port that is up the node itself is the link, to any other the neighbour that told the route
+-- to the network of a port that is up a packet goes straight to its destination node, to any other by the neighbour that
+-- advertised the route
 abbrev pub way_to : List Port → List ℕ → List RouteOffer → Address → Option Way
 way_to ports up routes destination =
     elim (port_to ports up destination.network) [
@@ -39,7 +40,7 @@ way_to ports up routes destination =
       | None ↦ option_map (λ r. record { port = r.port; link = r.node }) (serving ports routes destination.network)
     ]
 
--- the destination is a port of the router itself, up or not
+-- the destination is one of the router's own ports, up or not
 abbrev pub is_own_port : List Port → Address → Bool
 is_own_port ports destination =
     list_any (λ p. (p.network.0 == destination.network.0) && same_node p.node destination.node) ports

@@ -10,7 +10,7 @@ use Rattle.ipx_wire.specs.declared.network.Network.{Network}
 use Rattle.ipx_wire.specs.declared.node.Node.{Node}
 use Rattle.ipx_router.specs.Numbers.{most_routers}
 use Rattle.ipx_router.specs.Outgoing.{way_to, is_own_port}
-use Rattle.ipx_router.specs.Port.{Port, broadcast, port_at, is_up, same_node, is_skipped}
+use Rattle.ipx_router.specs.Port.{Port, broadcast, port_at, is_up, same_node, takes_no_route}
 use Rattle.ipx_router.specs.Why.{is_propagated, is_far, is_own_echo, is_bad_source}
 use Rattle.ipx_router.specs.declared.route_offer.RouteOffer.{RouteOffer}
 
@@ -22,9 +22,9 @@ pub record Sent : Type 0 where
 
 -- ---- as a relation, over any tables and any ports that are up
 
--- a route that a table may have: to a network that routes lead to, by a port that there is, and by one neighbour
+-- a route that a table may have: to a network to which routes are taken, by one of the ports, and by one neighbour
 pub record IsTableRoute (ports : List Port) (r : RouteOffer) : Type 0 where
-  pub network : is_skipped ports r.network ≡ false
+  pub network : takes_no_route ports r.network ≡ false
   pub port : r.port < length ports
   pub neighbour : same_node r.node broadcast ≡ false
 
@@ -37,7 +37,7 @@ pub record MayLeave (ports : List Port) (up : List ℕ) (number : ℕ) (p : Part
   pub source : is_bad_source p.header ≡ false
   pub short : p.header.length ≤ (port_at ports out).longest
 
--- a packet for another network leaves by its way, with its transport control one higher
+-- a packet for another network leaves by the way there, with its transport control one higher
 pub record IsForwarded (ports : List Port) (up : List ℕ) (routes : List RouteOffer) (number : ℕ) (bytes : List ℕ) (s : Sent) : Type 0 where
   pub packet : Parts
   pub is : IsPacket bytes packet
@@ -48,7 +48,7 @@ pub record IsForwarded (ports : List Port) (up : List ℕ) (routes : List RouteO
   pub leaves : MayLeave ports up number packet s.port
   pub written : s.bytes ≡ packet_bytes (forwarded packet)
 
--- a packet for all networks leaves on another port, if neither that port's network nor the arriving one was crossed
+-- a propagated packet leaves on another port, if it has crossed neither that port's network nor the one on which it came
 pub record IsPropagated (ports : List Port) (up : List ℕ) (number : ℕ) (bytes : List ℕ) (s : Sent) : Type 0 where
   pub packet : Parts
   pub is : IsPacket bytes packet
@@ -64,7 +64,7 @@ pub record IsPropagated (ports : List Port) (up : List ℕ) (number : ℕ) (byte
 
 -- ---- as the list of what leaves, for packets that no check drops
 
--- a far packet, by its way
+-- a far packet, by the way to its network
 abbrev pub forwarded_by : List Port → List ℕ → List RouteOffer → Parts → List Sent
 forwarded_by ports up routes p =
     elim (way_to ports up routes p.header.destination) [
@@ -88,7 +88,7 @@ propagated_on ports number p out =
     } ∷ []
     else []
 
--- what leaves of a packet that is to be sent on, ports in order
+-- all that leaves of a packet, ports in order
 abbrev pub relayed : List Port → List ℕ → List RouteOffer → ℕ → Parts → List Sent
 relayed ports up routes number p =
     if is_propagated p.header then flat_map (propagated_on ports number p) up

@@ -8,7 +8,7 @@ use Rattle.ipx_router.specs.Numbers.{unreachable}
 use Rattle.ipx_router.specs.Port.{Port}
 use Rattle.ipx_router.specs.declared.route_offer.RouteOffer.{RouteOffer}
 
--- it is known by its network, came by a port from a neighbour, and is down at 16 hops or more
+-- a route is known by its network, came by a port from a neighbour, and is unreachable at 16 hops or more
 abbrev pub route_reading : Reading RouteOffer Network
 route_reading = record {
   key = λ r. r.network;
@@ -21,6 +21,6 @@ route_reading = record {
 abbrev pub network_order : Network → Network → Ordering
 network_order a b = nat_cmp a.0 b.0
 
--- what decides between routes, in a table of that capacity, of which each port has its share
+-- the rules of the table of routes: their order, its capacity, and the share of each port
 abbrev pub route_rules : List Port → ℕ → Rules RouteOffer
 route_rules ports capacity = rules_of route_reading network_order capacity (map (λ p. p.route_share) ports)

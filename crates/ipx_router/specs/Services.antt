@@ -8,7 +8,7 @@ use Rattle.ipx_router.specs.Numbers.{unreachable}
 use Rattle.ipx_router.specs.Port.{Port}
 use Rattle.ipx_router.specs.declared.service_offer.ServiceOffer.{ServiceOffer}
 
--- it is known by its type and name, came by a port from a neighbour, and is down at 16 hops or more
+-- a service is known by its type and name, came by a port from a neighbour, and is unreachable at 16 hops or more
 abbrev pub service_reading : Reading ServiceOffer (ℕ × List ℕ)
 service_reading = record {
   key = λ s. (s.service.kind, s.service.name);
@@ -17,10 +17,10 @@ service_reading = record {
   is_down = λ s. nat_le unreachable s.service.hops;
 }
 
--- by type, then by the bytes of the name
+-- services are in the order of their types, then of the bytes of their names
 abbrev pub service_order : ℕ × List ℕ → ℕ × List ℕ → Ordering
 service_order a b = ordering_then (nat_cmp a.0 b.0) (name_order a.1 b.1)
 
--- what decides between services, in a table of that capacity, of which each port has its share
+-- the rules of the table of services: their order, its capacity, and the share of each port
 abbrev pub service_rules : List Port → ℕ → Rules ServiceOffer
 service_rules ports capacity = rules_of service_reading service_order capacity (map (λ p. p.service_share) ports)

@@ -1,4 +1,4 @@
--- A router stands for a history: it holds what the history says, and knows when the next periodic second is.
+-- A router stands for a history: it is what the history says, and knows when the next periodic second is.
 use Rattle.std.specs.Prelude.{◌≡◌, ℕ, ◌%◌, Bool, true, List}
 use Rattle.ipx_table.specs.Stands.{Stands}
 use Rattle.ipx_table.specs.declared.held.Held.{Held}
@@ -11,8 +11,8 @@ use Rattle.ipx_router.specs.Services.{service_rules}
 use Rattle.ipx_router.specs.declared.route_offer.RouteOffer.{RouteOffer}
 use Rattle.ipx_router.specs.declared.service_offer.ServiceOffer.{ServiceOffer}
 
--- what a router is, to its callers; `up` are the numbers of the ports that are up, in order, and none of a stopped router's
--- is; seconds are those since the last periodic one
+-- what a router is, to its callers; `up` are the numbers of the ports that are up, in order, none while it is stopped; `seconds`
+-- are those since the last periodic one
 pub record State : Type 0 where
   pub ports : List Port
   pub running : Bool
@@ -21,8 +21,8 @@ pub record State : Type 0 where
   pub routes : List (Held RouteOffer)
   pub services : List (Held ServiceOffer)
 
--- its tables stand for what was heard, it runs and its ports are up as the history says, and it counts towards the next
--- periodic second
+-- its tables stand for what was heard, it runs and its ports are up as the history says, and while it runs it counts towards the
+-- next periodic second
 pub record StandsFor (most_routes most_services : ℕ) (s : State) (history : History) : Type 0 where
   pub routes_stand : Stands (route_rules s.ports most_routes) s.routes (route_facts s.ports history)
   pub services_stand : Stands (service_rules s.ports most_services) s.services (service_facts s.ports history)

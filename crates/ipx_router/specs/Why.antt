@@ -18,19 +18,19 @@ use Rattle.ipx_router.specs.declared.why.Why.TheVariants.{NotRunning, Malformed,
 
 -- ---- three kinds of packets
 
--- of the propagated type and to all nodes, whatever the destination network (own)
+-- of the propagated type and to the broadcast node, whatever the destination network (own)
 abbrev pub is_propagated : Header → Bool
 is_propagated h = (h.kind == propagated_type) && same_node h.destination.node broadcast
 
--- not to be propagated, and for the port's own network
+-- not propagated, and for the port's own network
 abbrev pub is_near : Port → Header → Bool
 is_near port h = not (is_propagated h) && is_local port h.destination.network
 
--- the rest
+-- not propagated, and for another network
 abbrev pub is_far : Port → Header → Bool
 is_far port h = not (is_propagated h) && not (is_local port h.destination.network)
 
--- for the routing process, and for the service process
+-- for the RIP process, and for the SAP process
 abbrev pub is_for_rip : Header → Bool
 is_for_rip h = h.destination.socket.0 == rip_socket
 
@@ -51,7 +51,7 @@ is_bad_source h = same_node h.source.node broadcast
 abbrev pub is_crossed_short : Parts → Bool
 is_crossed_short p = is_propagated p.header && nat_lt (length p.payload) crossed_bytes
 
--- propagated, and eight networks were crossed, or more than there are places
+-- propagated, and it has crossed eight networks or more
 abbrev pub is_crossed_full : Parts → Bool
 is_crossed_full p = is_propagated p.header && nat_le crossed_places p.header.control
 
@@ -63,7 +63,7 @@ is_crossed_seen port p = is_propagated p.header && is_among port.network (networ
 abbrev pub is_elsewhere : Port → Header → Bool
 is_elsewhere port h = is_near port h && not (same_node h.destination.node port.node || same_node h.destination.node broadcast)
 
--- near, and of the propagated type or for a socket without a process
+-- near, and of the propagated type or for a socket other than those of RIP and SAP
 abbrev pub is_other_socket : Port → Header → Bool
 is_other_socket port h = is_near port h && ((h.kind == propagated_type) || not (is_for_rip h || is_for_sap h))
 
@@ -71,13 +71,13 @@ is_other_socket port h = is_near port h && ((h.kind == propagated_type) || not (
 abbrev pub is_not_neighbour : Port → Header → Bool
 is_not_neighbour port h = is_near port h && not (is_local port h.source.network)
 
--- near, for the routing process, and no routing information
+-- near, for the RIP process, and no routing information
 abbrev pub bad_rip : Port → Parts → Option Why
 bad_rip port p =
     if is_near port p.header && is_for_rip p.header then elim (rip_of p.payload) [ Ok r ↦ None | Err fault ↦ Some (BadRip fault) ]
     else None
 
--- near, for the service process, and no service advertising
+-- near, for the SAP process, and no service advertising
 abbrev pub bad_sap : Port → Parts → Option Why
 bad_sap port p =
     if is_near port p.header && is_for_sap p.header then elim (sap_of p.payload) [ Ok s ↦ None | Err fault ↦ Some (BadSap fault) ]
@@ -88,20 +88,20 @@ abbrev pub is_nearest_response : Sap → Bool
 is_nearest_response (Query nearest kind) = false
 is_nearest_response (Response nearest entries) = nearest
 
--- near, for the service process, and such a response
+-- near, for the SAP process, and such a response
 abbrev pub is_nearest_reply : Port → Parts → Bool
 is_nearest_reply port p =
     is_near port p.header && is_for_sap p.header && elim (sap_of p.payload) [ Ok s ↦ is_nearest_response s | Err fault ↦ false ]
 
--- far, and through sixteen routers or more (own: what comes with 15 leaves with 16)
+-- far, and it came through sixteen routers or more (own: what comes with 15 leaves with 16)
 abbrev pub is_through_too_many : Port → Header → Bool
 is_through_too_many port h = is_far port h && nat_le most_routers h.control
 
--- far, and for a port of this router, up or not
+-- far, and for one of the router's own ports, up or not
 abbrev pub is_far_side : List Port → Port → Header → Bool
 is_far_side ports port h = is_far port h && is_own_port ports h.destination
 
--- far, and there is no way
+-- far, and there is no way to its network
 abbrev pub is_no_route : List Port → List ℕ → List RouteOffer → Port → Header → Bool
 is_no_route ports up routes port h = is_far port h && is_none (way_to ports up routes h.destination)
 
@@ -121,7 +121,7 @@ abbrev pub when : Bool → Why → Option Why
 when true why = Some why
 when false why = None
 
--- the first reason of a list of checks
+-- the first reason of a list of checks, if there is one
 abbrev pub first_of : List (Option Why) → Option Why
 first_of [] = None
 first_of (Some why ∷ checks) = Some why
@@ -155,7 +155,7 @@ is_stopped running = not running
 abbrev pub malformed : List ℕ → Option Why
 malformed bytes = elim (packet_of bytes) [ Ok p ↦ None | Err fault ↦ Some (Malformed fault) ]
 
--- the checks of the packet in the bytes, if they are one
+-- the checks of the packet in the bytes, if they are a packet
 abbrev pub packet_checks : List Port → List ℕ → List RouteOffer → Port → List ℕ → List (Option Why)
 packet_checks ports up routes port bytes = elim (packet_of bytes) [ Ok p ↦ checks ports up routes port p | Err fault ↦ [] ]
 

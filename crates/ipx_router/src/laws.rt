@@ -2,6 +2,7 @@
 ghost use Rattle.std.specs.Prelude.{◌≡◌, ◌≢◌, ◌↔◌, ◌⊎◌, ℕ, ◌^◌, ◌<◌, ◌≤◌, ◌==◌, Bool, true, false, not, List, [], ◌∷◌, ◌++◌, length, filter, map, slice_get, Some, None, Ok};
 ghost use Rattle.std.specs.List.{AllByRecursion};
 ghost use Rattle.std.specs.List.Sorted.{IsStrictlyIncreasing};
+ghost use Rattle.ipx_table.specs.Stands.{Ascends};
 ghost use Rattle.ipx_wire.specs.Packet.{Parts, packet_of};
 ghost use Rattle.ipx_wire.specs.Piece.{IsBytes};
 ghost use Rattle.ipx_wire.specs.declared.address.Address.{Address};
@@ -9,20 +10,24 @@ ghost use Rattle.ipx_wire.specs.declared.network.Network.{Network};
 ghost use Rattle.ipx_wire.specs.declared.node.Node.{Node};
 ghost use Rattle.ipx_router.specs.Bounds.{most_packets, most_length};
 ghost use Rattle.ipx_router.specs.Facts.{routes_held, services_held, offers};
-ghost use Rattle.ipx_router.specs.History.{Event, History, Start, Stop, Second, Packet, PortDown, PortUp, IsOnPort, IsOfBytes, running, ports_up};
+ghost use Rattle.ipx_router.specs.History.{Event, History, Start, Stop, Second, Packet, PortDown, PortUp, IsOnPort, IsOfBytes, running, seconds_run, ports_up};
 ghost use Rattle.ipx_router.specs.News.{news, news_services, same_address, same_route, same_service};
-ghost use Rattle.ipx_router.specs.Packets.{IsSentFor, IsRelayed};
+ghost use Rattle.ipx_router.specs.Numbers.{unreachable};
+ghost use Rattle.ipx_router.specs.Outcomes.{outcome, changes_nothing};
+ghost use Rattle.ipx_router.specs.Packets.{EachEntryIs, IsSentFor, IsRelayed};
 ghost use Rattle.ipx_router.specs.Port.{Port, IsPort, IsNoPort, AreApart, port_at, is_up, same_node};
+ghost use Rattle.ipx_router.specs.Relay.{relay_sends};
 ghost use Rattle.ipx_router.specs.Relays.{Sent, IsTableRoute, relayed};
 ghost use Rattle.ipx_router.specs.Why.{why};
 ghost use Rattle.ipx_router.specs.Sends.{sends, ports_sending};
+ghost use Rattle.ipx_router.specs.Services.{service_order};
 ghost use Rattle.ipx_router.specs.Told.{told, told_services};
 ghost use Rattle.ipx_router.specs.declared.port.PortFault.{PortFault};
 
 use crate::route_offer::RouteOffer;
 use crate::service_offer::ServiceOffer;
 
-/// What was learned on a port changes nothing of what is told there.
+/// What was learned on a port changes nothing of what is advertised there.
 pub fn split_horizon()
     ensures routes { (ports : List Port) (up : List ℕ) (routes : List RouteOffer) (number : ℕ)
         → told ports up (filter (λ r. not (r.port == number)) routes) number ≡ told ports up routes number }
@@ -43,6 +48,26 @@ pub fn stopped()
     ensures port_up { (ports : List Port) (most_routes most_services : ℕ) (history : History) (number : ℕ) → running history ≡ false
         → sends ports most_routes most_services history (PortUp number) ≡ [] }
     ensures none_up { (ports : List Port) (history : History) → running history ≡ false → ports_up ports history ≡ [] }
+{}
+
+/// Where an event is dropped, or the router or the port is already as it would become, nothing is sent and all stays: whether
+/// the router runs, the ports that are up, every route and every service with its age, and the seconds counted.
+pub fn nothing_changes()
+    ensures sends { (ports : List Port) (most_routes most_services : ℕ) (history : History) (event : Event)
+        → changes_nothing (outcome ports most_routes history event) ≡ true → sends ports most_routes most_services history event ≡ [] }
+    ensures running { (ports : List Port) (most_routes : ℕ) (history : History) (event : Event)
+        → changes_nothing (outcome ports most_routes history event) ≡ true → running (history ++ event ∷ []) ≡ running history }
+    ensures ports_up { (ports : List Port) (most_routes : ℕ) (history : History) (event : Event)
+        → changes_nothing (outcome ports most_routes history event) ≡ true → ports_up ports (history ++ event ∷ []) ≡ ports_up ports history }
+    ensures routes { (ports : List Port) (most_routes : ℕ) (history : History) (event : Event)
+        → changes_nothing (outcome ports most_routes history event) ≡ true
+        → routes_held ports most_routes (history ++ event ∷ []) ≡ routes_held ports most_routes history }
+    ensures services { (ports : List Port) (most_routes most_services : ℕ) (history : History) (event : Event)
+        → changes_nothing (outcome ports most_routes history event) ≡ true
+        → services_held ports most_services (history ++ event ∷ []) ≡ services_held ports most_services history }
+    ensures seconds { (ports : List Port) (most_routes : ℕ) (history : History) (event : Event)
+        → changes_nothing (outcome ports most_routes history event) ≡ true → running history ≡ true
+        → seconds_run (history ++ event ∷ []) ≡ seconds_run history }
 {}
 
 /// Where the same is held before an event and after it, there is no news.
@@ -69,7 +94,7 @@ pub fn port_values()
 
 /// The routes that are held after any history are such as a table may have: none is to network 0, FFFFFFFFh or a
 /// port's own; each is by a port that there is, and by one neighbour, not the broadcast. What is held came by a port that is
-/// up.
+/// up. Networks rise from each route to the next, so there is one route for a network; services likewise, by type and name.
 pub fn tables()
     ensures of_a_table { (ports : List Port) (capacity : ℕ) (history : History) → AllByRecursion (IsOnPort ports) history
         → AllByRecursion (IsTableRoute ports) (offers (routes_held ports capacity history)) }
@@ -77,7 +102,14 @@ pub fn tables()
         → AllByRecursion (λ r. is_up (ports_up ports history) r.port ≡ true) (offers (routes_held ports capacity history)) }
     ensures services_up { (ports : List Port) (capacity : ℕ) (history : History)
         → AllByRecursion (λ s. is_up (ports_up ports history) s.port ≡ true) (offers (services_held ports capacity history)) }
-{}
+    ensures routes_rise { (ports : List Port) (capacity : ℕ) (history : History)
+        → IsStrictlyIncreasing (map (λ r. r.network.0) (offers (routes_held ports capacity history))) }
+    ensures services_rise { (ports : List Port) (capacity : ℕ) (history : History)
+        → Ascends (λ a b. service_order (a.service.kind, a.service.name) (b.service.kind, b.service.name)) (offers (services_held ports capacity history)) }
+{
+    ipx_table::laws::standing_records::<RouteOffer>();
+    ipx_table::laws::standing_records::<ServiceOffer>();
+}
 
 /// What is listed as sent on of a packet that no check drops is sent on by the relations, over any ports that are up and any
 /// routes by them that a table may have; and what the relations say is sent on comes of a packet that no check drops, and is
@@ -98,13 +130,29 @@ pub fn relays()
     ipx_wire::laws::readings();
 }
 
-/// Each packet that an event sends is one by the layouts, on a port that is up: routing information or service advertising
-/// with the header of an own packet, from the port's own process to all on its network or to the one that asked; or the packet
-/// that came, sent on. What is sent are bytes.
+/// What leaves of a packet that a running router is only asked to send on is what the relations say of its bytes, no more and
+/// no less, ports in order.
+pub fn relaying()
+    ensures listed { (ports : List Port) (up : List ℕ) (routes : List RouteOffer) (number : ℕ) (bytes : List ℕ) (p : Parts) (k : ℕ) (s : Sent)
+        → IsBytes bytes → AllByRecursion (λ r. is_up up r.port ≡ true) routes → packet_of bytes ≡ Ok p
+        → slice_get (relay_sends ports up routes true number p) k ≡ Some s → IsRelayed ports up routes number bytes s }
+    ensures all { (ports : List Port) (up : List ℕ) (routes : List RouteOffer) (number : ℕ) (bytes : List ℕ) (s : Sent)
+        → IsBytes bytes → IsRelayed ports up routes number bytes s
+        → (p : Parts) × (k : ℕ) × (packet_of bytes ≡ Ok p) × (slice_get (relay_sends ports up routes true number p) k ≡ Some s) }
+    ensures in_order { (ports : List Port) (up : List ℕ) (routes : List RouteOffer) (number : ℕ) (p : Parts)
+        → IsStrictlyIncreasing up → IsStrictlyIncreasing (map (λ s. s.port) (relay_sends ports up routes true number p)) }
+{
+    relays();
+}
+
+/// Each packet that an event sends has the layout of its kind and leaves on a port that is up. A packet that came is sent
+/// on if nothing was heard of it. All others are the router's own, with nothing behind the last entry: broadcasts, also for a
+/// response that was heard; for a request or a query routing information or service advertising to the one that asked. What
+/// is sent are bytes.
 pub fn packets()
     ensures layouts { (ports : List Port) (most_routes most_services : ℕ) (history : History) (event : Event)
         → AllByRecursion IsPort ports → AllByRecursion (IsOnPort ports) (history ++ event ∷ []) → AllByRecursion IsOfBytes (history ++ event ∷ [])
-        → AllByRecursion (IsSentFor ports (ports_sending ports history event) (offers (routes_held ports most_routes history)) event)
+        → AllByRecursion (IsSentFor ports (ports_sending ports history event) (offers (routes_held ports most_routes history)) (running history) event)
         (sends ports most_routes most_services history event) }
     ensures bytes { (ports : List Port) (most_routes most_services : ℕ) (history : History) (event : Event)
         → AllByRecursion IsPort ports → AllByRecursion (IsOnPort ports) (history ++ event ∷ []) → AllByRecursion IsOfBytes (history ++ event ∷ [])
@@ -116,8 +164,9 @@ pub fn packets()
     relays();
 }
 
-/// Nothing is sent on a port that is down, and its network is told as reached nowhere: not among all that is told on a
-/// port, and not among the changes.
+/// Nothing is sent on a port that is down, and no entry of the router's own says that its network is reached: neither what
+/// is advertised on a port nor a change names it, and where an event sends an entry for it, as when the port goes down, it is
+/// unreachable.
 pub fn down_ports()
     ensures silent { (ports : List Port) (most_routes most_services : ℕ) (history : History) (event : Event)
         → AllByRecursion IsPort ports → AllByRecursion (IsOnPort ports) (history ++ event ∷ []) → AllByRecursion IsOfBytes (history ++ event ∷ [])
@@ -129,7 +178,16 @@ pub fn down_ports()
         → AllByRecursion (IsOnPort ports) before → AllByRecursion (IsOnPort ports) after → other < length ports
         → AllByRecursion (λ e. e.network ≢ (port_at ports other).network)
         (news ports (offers (routes_held ports most_routes before)) (offers (routes_held ports most_routes after)) number) }
+    ensures unreachable { (ports : List Port) (most_routes most_services : ℕ) (history : History) (event : Event) (down : ℕ)
+        → AllByRecursion IsPort ports → AreApart ports → AllByRecursion (IsOnPort ports) (history ++ event ∷ []) → AllByRecursion IsOfBytes (history ++ event ∷ [])
+        → down < length ports → is_up (ports_up ports (history ++ event ∷ [])) down ≡ false
+        → AllByRecursion (EachEntryIs (λ e. e.network ≡ (port_at ports down).network → e.hops ≡ unreachable) ports (ports_sending ports history event))
+        (sends ports most_routes most_services history event) }
 {
+    ipx_wire::laws::readings();
+    ipx_wire::laws::service_readings();
+    ipx_wire::laws::reread();
+    relays();
     packets();
 }
 

@@ -15,14 +15,14 @@ pub enum PortFault {
     #[error("no cost")]
     Cost,
     /// The network is 0, FFFFFFFEh or FFFFFFFFh.
-    #[error("a network number that no network has")]
+    #[error("a network number that no port may have")]
     Network,
     /// The node is the broadcast.
     #[error("the broadcast as node")]
     Node,
 }
 
-/// Where a router stands on a network.
+/// A port of a router: the network on which it stands, its node there, its cost, and its limits.
 #[derive(Clone, Copy, Debug, PartialEq, Eq, Hash)]
 pub struct Port {
     network: Network,
@@ -63,8 +63,11 @@ impl Port {
     ghost use Rattle.ipx_router.specs.Numbers.{whole_share};
     ghost use Rattle.ipx_router.specs.Port.{IsNoPort, IsPort};
 
-    /// Every port lets packets of so many bytes leave.
+    /// The least that the longest packet of a port may be, in bytes.
     pub const LEAST_LONGEST: u16 = 576;
+
+    /// The number of the network at hand, whichever it is.
+    const LOCAL_NETWORK: Network = Network(0);
 
     /// A port of a network with a node number there, its cost in ticks, and the bytes of the
     /// longest packet that may leave on it. Its shares limit nothing.
@@ -79,7 +82,7 @@ impl Port {
         if cost == 0 {
             return Err(PortFault::Cost);
         }
-        if network.0 == 0 || network.0 >= Network::DEFAULT_ROUTE.0 {
+        if network == Port::LOCAL_NETWORK || network.0 >= Network::DEFAULT_ROUTE.0 {
             return Err(PortFault::Network);
         }
         if node == Node::BROADCAST {
@@ -106,6 +109,13 @@ impl Port {
             service_share: services,
             ..self
         }
+    }
+
+    /// Its values are a port's: its type says so, and a call of this says it to a proof.
+    pub(crate) fn is_port(&self)
+        ensures { IsPort self.now }
+    {
+        let _ = &self.network;
     }
 
     pub fn network(&self) -> Network
@@ -150,6 +160,6 @@ impl Port {
 }
 
 /// What a slice of bytes holds are bytes: its type says so, and a call of this says it to a proof.
-fn are_bytes(bytes: &[u8])
+pub(crate) fn are_bytes(bytes: &[u8])
     ensures { IsBytes bytes.now }
 {}

@@ -1,22 +1,22 @@
-//! A route as a neighbour tells it.
+//! A route as a neighbour advertises it.
 ghost use Rattle.std.proofs.Common.{rules};
 ghost use Rattle.ipx_router.specs.Routes.{route_reading};
 
 use ipx_table::Offer;
 use ipx_wire::{Network, Node, RipEntry};
 
-/// A route as a neighbour told it: fewer ticks are better, then fewer hops.
+/// A route as a neighbour advertised it: fewer ticks are better, then fewer hops.
 #[derive(Clone, Copy, Debug, Default, PartialEq, Eq, Hash)]
 pub struct RouteOffer {
     /// The network that it leads to.
     pub network: Network,
-    /// How many routers are on the way, as heard; 16 or more mean that it isn't reached any more.
+    /// How many routers are on the way, as heard; 16 or more mean that it is unreachable.
     pub hops: u16,
     /// How long a packet takes, in ticks of about an eighteenth of a second, as heard.
     pub ticks: u16,
     /// The port on which it was heard.
     pub port: u8,
-    /// The neighbour that told it.
+    /// The neighbour that advertised it.
     pub node: Node,
 }
 

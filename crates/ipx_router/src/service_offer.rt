@@ -1,18 +1,18 @@
-//! A service as a neighbour tells it.
+//! A service as a neighbour advertises it.
 ghost use Rattle.std.proofs.Common.{rules};
 ghost use Rattle.ipx_router.specs.Services.{service_reading};
 
 use ipx_table::Offer;
 use ipx_wire::{Node, RipEntry, Service, ServiceName};
 
-/// A service as a neighbour told it: fewer hops are better. It is known by its type and its name.
+/// A service as a neighbour advertised it: fewer hops are better. It is known by its type and its name.
 #[derive(Clone, Copy, Debug, Default, PartialEq, Eq, Hash)]
 pub struct ServiceOffer {
     /// Type, name, address and hops, as heard.
     pub service: Service,
     /// The port on which it was heard.
     pub port: u8,
-    /// The neighbour that told it.
+    /// The neighbour that advertised it.
     pub node: Node,
 }
 

@@ -1,5 +1,5 @@
 -- A packet that meets two reasons or more to be dropped is dropped for the first of them.
-use Rattle.std.proofs.Common.{◌≡◌, [], ◌∷◌, ◌++◌, refl, codes, replicate, None, Some}
+use Rattle.std.proofs.Common.{◌≡◌, [], ◌∷◌, ◌++◌, refl, codes, replicate, Some}
 use Rattle.hex.specs.Hex.{decode_pairs}
 use Rattle.ipx_wire.specs.Address.{address_bytes, address_at}
 use Rattle.ipx_wire.specs.Crossed.{network_bytes, network_at}

@@ -11,9 +11,10 @@ use Rattle.ipx_wire.specs.Rip.{rip_of, entry_at, entry_bytes}
 use Rattle.ipx_wire.specs.Sap.{sap_of}
 use Rattle.ipx_wire.specs.SapEntries.{sap_entry_at}
 use Rattle.ipx_wire.specs.WriteServices.{service_bytes}
+use Rattle.ipx_router.specs.Facts.{routes_held}
 use Rattle.ipx_router.specs.History.{Start, Stop, Packet, PortDown, PortUp}
 use Rattle.ipx_router.specs.Sends.{sends}
-use Rattle.ipx_router.proofs.examples.Words.{hex, node, port_on, sent_by, sent_by_three, out, all_nodes, general_request, response, heard_of_30, over_the_third, service_b}
+use Rattle.ipx_router.proofs.examples.Words.{hex, node, port_on, sent_by, sent_by_three, out, all_nodes, general_request, response, heard_of_30, over_the_third, service_b, two_ports, held_route}
 
 -- the other port tells its network; the port itself tells that of the other, and asks for all routes and all services
 pub it_comes_up : sent_by (heard_of_30 ++ PortDown 1 ∷ []) (PortUp 1)
@@ -73,6 +74,11 @@ it_hears_again = refl
 pub up_already : sent_by heard_of_30 (PortUp 1) ≡ []
 unfolding decode_pairs header_bytes address_bytes entry_bytes network_bytes service_bytes name_field packet_of header_at address_at rip_of entry_at sap_of items sap_entry_at name_of network_at
 up_already = refl
+
+-- so it keeps what came by it
+pub up_already_keeps : routes_held two_ports 256 (heard_of_30 ++ PortUp 1 ∷ []) ≡ held_route 0x30 1 2 1 (node 0xBB) 0 ∷ []
+unfolding decode_pairs header_bytes address_bytes entry_bytes network_bytes service_bytes name_field packet_of header_at address_at rip_of entry_at sap_of items sap_entry_at name_of network_at
+up_already_keeps = refl
 
 -- nor does one of a stopped router
 pub up_of_a_stopped_router : sent_by (heard_of_30 ++ PortDown 1 ∷ Stop ∷ []) (PortUp 1) ≡ []

@@ -22,6 +22,10 @@ use Rattle.ipx_router.proofs.examples.Words.{hex, node, three_ports, sent_by, se
 abbrev default_by_b : List ℕ
 default_by_b = hex (codes "FFFF0028000100000020FFFFFFFFFFFF0453000000200000000000BB0453" ++ codes "0002FFFFFFFE00010002")
 
+-- node BBh on network 20h reaches it fifteen hops away
+abbrev default_far : List ℕ
+default_far = hex (codes "FFFF0028000100000020FFFFFFFFFFFF0453000000200000000000BB0453" ++ codes "0002FFFFFFFE000F0002")
+
 -- node CCh on network 20h tells it
 abbrev default_by_c : List ℕ
 default_by_c = hex (codes "FFFF0028000100000020FFFFFFFFFFFF0453000000200000000000CC0453" ++ codes "0002FFFFFFFE00010002")
@@ -196,3 +200,16 @@ pub told_at_a_period : sent_by (Start ∷ Packet 1 default_by_b ∷ replicate 59
     ∷ []
 unfolding decode_pairs header_bytes address_bytes entry_bytes network_bytes service_bytes name_field packet_of header_at address_at rip_of entry_at sap_of items sap_entry_at name_of network_at
 told_at_a_period = refl
+
+-- fifteen hops away it is used as any other route, though no asker hears of it
+pub fifteen_hops_away : sent_by (Start ∷ Packet 1 default_far ∷ []) (Packet 0 unknown)
+    ≡ out 1 (node 0xBB) (hex (codes "FFFF001E0100000000990000000000CC4003000000100000000000AA4003"))
+    ∷ []
+unfolding decode_pairs header_bytes address_bytes entry_bytes network_bytes service_bytes name_field packet_of header_at address_at rip_of entry_at sap_of items sap_entry_at name_of network_at
+fifteen_hops_away = refl
+
+pub fifteen_hops_away_unasked : sent_by (Start ∷ Packet 1 default_far ∷ []) (Packet 0 general_request)
+    ≡ out 0 (node 0xAA) (hex (codes "FFFF00280001000000100000000000AA0453000000100000000000010453" ++ codes "00020000002000010002"))
+    ∷ []
+unfolding decode_pairs header_bytes address_bytes entry_bytes network_bytes service_bytes name_field packet_of header_at address_at rip_of entry_at sap_of items sap_entry_at name_of network_at
+fifteen_hops_away_unasked = refl

@@ -98,6 +98,11 @@ pub not_neighbour : dropped_by (Start ∷ []) 0 (hex (codes "FFFF002800010000001
 unfolding decode_pairs header_bytes address_bytes entry_bytes network_bytes service_bytes name_field packet_of header_at address_at rip_of entry_at sap_of items sap_entry_at name_of network_at
 not_neighbour = refl
 
+-- with the port's own node, but from another network, it is no echo
+pub own_node_elsewhere : dropped_by (Start ∷ []) 0 (hex (codes "FFFF0028000100000010FFFFFFFFFFFF045300000099000000000001" ++ codes "045300020000003000010002")) ≡ Some NotNeighbour
+unfolding decode_pairs header_bytes address_bytes entry_bytes network_bytes service_bytes name_field packet_of header_at address_at rip_of entry_at sap_of items sap_entry_at name_of network_at
+own_node_elsewhere = refl
+
 -- for another node and another socket: the node is judged first
 pub elsewhere_before_socket : dropped_by (Start ∷ []) 0 (hex (codes "FFFF001E0000000000100000000000CC4003000000990000000000AA" ++ codes "4003")) ≡ Some Elsewhere
 unfolding decode_pairs header_bytes address_bytes entry_bytes network_bytes service_bytes name_field packet_of header_at address_at rip_of entry_at sap_of items sap_entry_at name_of network_at

@@ -67,3 +67,18 @@ pub far_at_a_stop : sent_by (Start ∷ Packet 1 far ∷ []) Stop
     ∷ []
 unfolding decode_pairs header_bytes address_bytes entry_bytes network_bytes service_bytes name_field packet_of header_at address_at rip_of entry_at sap_of items sap_entry_at name_of network_at
 far_at_a_stop = refl
+
+-- service A two hops away
+abbrev near : List ℕ
+near = hex (codes "FFFF0060000400000020FFFFFFFFFFFF0452000000200000000000BB" ++ codes "04520002000441") ++ replicate 50 0 ++ hex (codes "3000000000000104510002")
+
+-- service A at another address, fifteen hops away
+abbrev moved_away : List ℕ
+moved_away = hex (codes "FFFF0060000400000020FFFFFFFFFFFF0452000000200000000000BB" ++ codes "04520002000441") ++ replicate 50 0 ++ hex (codes "310000000000020451000F")
+
+-- a service that moves out of reach is unreachable at its new address
+pub moved_out_of_reach : sent_by (Start ∷ Packet 1 near ∷ []) (Packet 1 moved_away)
+    ≡ out 0 all_nodes (hex (codes "FFFF0060000400000010FFFFFFFFFFFF045200000010000000000001" ++ codes "04520002000441") ++ replicate 50 0 ++ hex (codes "3100000000000204510010"))
+    ∷ []
+unfolding decode_pairs header_bytes address_bytes entry_bytes network_bytes service_bytes name_field packet_of header_at address_at rip_of entry_at sap_of items sap_entry_at name_of network_at
+moved_out_of_reach = refl

@@ -1,5 +1,5 @@
 -- What makes no difference: the packet type of a request, the socket that a response comes from, type 20 to one node, where
--- in a request all routes are named, and a start of a router that runs.
+-- in a request all routes are named, a start of a router that runs, and a neighbour with the node number of another port.
 use Rattle.std.proofs.Common.{◌≡◌, [], ◌∷◌, ◌++◌, refl, codes, replicate}
 use Rattle.hex.specs.Hex.{decode_pairs}
 use Rattle.ipx_wire.specs.Address.{address_bytes, address_at}
@@ -57,3 +57,10 @@ pub a_start_leaves_the_minute : sent_by (Start ∷ replicate 30 Second ++ Start 
     ∷ []
 unfolding decode_pairs header_bytes address_bytes entry_bytes network_bytes service_bytes name_field packet_of header_at address_at rip_of entry_at sap_of items sap_entry_at name_of network_at
 a_start_leaves_the_minute = refl
+
+-- a node of network 10h that has the number of the port on network 20h is a neighbour like any other
+pub a_namesake_of_the_other_port : sent_by (Start ∷ []) (Packet 0 (hex (codes "FFFF0028000100000010FFFFFFFFFFFF0453000000100000000000" ++ codes "0204530001FFFFFFFFFFFFFFFF")))
+    ≡ out 0 (node 2) (hex (codes "FFFF0028000100000010000000000002045300000010000000000001" ++ codes "045300020000002000010002"))
+    ∷ []
+unfolding decode_pairs header_bytes address_bytes entry_bytes network_bytes service_bytes name_field packet_of header_at address_at rip_of entry_at sap_of items sap_entry_at name_of network_at
+a_namesake_of_the_other_port = refl

@@ -107,6 +107,10 @@ crossed_the_other = (hex (codes "FFFF003E011400000010FFFFFFFFFFFF045500000010000
 abbrev not_counted : List ℕ
 not_counted = (hex (codes "FFFF003E001400000010FFFFFFFFFFFF0455000000100000000000AA" ++ codes "045500000010") ++ replicate 27 0 ++ hex (codes "00"))
 
+-- network 20h stands in two places that don't count
+abbrev not_counted_there : List ℕ
+not_counted_there = (hex (codes "FFFF003E001400000010FFFFFFFFFFFF0455000000100000000000AA" ++ codes "04550000002000000020") ++ replicate 24 0)
+
 -- the arriving network is written in the next place, and the packet leaves for the other one
 pub propagated : sent_by (Start ∷ []) (Packet 0 to_all)
     ≡ out 1 all_nodes (hex (codes "FFFF003E011400000020FFFFFFFFFFFF0455000000100000000000AA" ++ codes "045500000010") ++ replicate 27 0 ++ hex (codes "00"))
@@ -133,6 +137,13 @@ pub only_those_counted : sent_by (Start ∷ []) (Packet 0 not_counted)
     ∷ []
 unfolding decode_pairs header_bytes address_bytes entry_bytes network_bytes service_bytes name_field packet_of header_at address_at rip_of entry_at sap_of items sap_entry_at name_of network_at
 only_those_counted = refl
+
+-- so it leaves for a network that stands there alone
+pub only_those_counted_there : sent_by (Start ∷ []) (Packet 0 not_counted_there)
+    ≡ out 1 all_nodes (hex (codes "FFFF003E011400000020FFFFFFFFFFFF0455000000100000000000AA" ++ codes "04550000001000000020") ++ replicate 24 0)
+    ∷ []
+unfolding decode_pairs header_bytes address_bytes entry_bytes network_bytes service_bytes name_field packet_of header_at address_at rip_of entry_at sap_of items sap_entry_at name_of network_at
+only_those_counted_there = refl
 
 -- to all networks, with network 0 as the destination
 abbrev to_all_of_here : List ℕ

@@ -29,6 +29,10 @@ all_of_them = (hex (codes "FFFF0022000400000010FFFFFFFFFFFF045200000010000000000
 abbrev of_type_4 : List ℕ
 of_type_4 = (hex (codes "FFFF0022000400000010FFFFFFFFFFFF0452000000100000000000AA" ++ codes "400300010004"))
 
+-- so it does in a packet of type 0, and with bytes behind the type that it asks for
+abbrev of_type_4_oddly : List ℕ
+of_type_4_oddly = (hex (codes "FFFF0024000000000010FFFFFFFFFFFF0452000000100000000000AA" ++ codes "4003000100040005"))
+
 -- for the nearest of type 4
 abbrev nearest_of_type_4 : List ℕ
 nearest_of_type_4 = (hex (codes "FFFF0022000400000010FFFFFFFFFFFF0452000000100000000000AA" ++ codes "400300030004"))
@@ -73,6 +77,13 @@ pub services_of_a_type : sent_by known (Packet 0 of_type_4)
     ∷ []
 unfolding decode_pairs header_bytes address_bytes entry_bytes network_bytes service_bytes name_field packet_of header_at address_at rip_of entry_at sap_of items sap_entry_at name_of network_at
 services_of_a_type = refl
+
+-- the packet type makes no difference, nor what follows the type of service
+pub asked_oddly : sent_by known (Packet 0 of_type_4_oddly)
+    ≡ out 0 (node 0xAA) (hex (codes "FFFF00A00004000000100000000000AA400300000010000000000001" ++ codes "04520002000441") ++ replicate 50 0 ++ hex (codes "3000000000000104510003000442") ++ replicate 50 0 ++ hex (codes "3000000000000104510003"))
+    ∷ []
+unfolding decode_pairs header_bytes address_bytes entry_bytes network_bytes service_bytes name_field packet_of header_at address_at rip_of entry_at sap_of items sap_entry_at name_of network_at
+asked_oddly = refl
 
 -- of services equally near the smaller name is answered
 pub a_tie : sent_by known (Packet 0 nearest_of_type_4)

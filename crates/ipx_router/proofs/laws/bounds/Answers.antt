@@ -1,10 +1,10 @@
 use Rattle.std.proofs.Common.{[], ◌∷◌, map}
 use Rattle.ipx_router.specs.Facts.{routes_held, offers}
-use Rattle.ipx_router.specs.History.{IsOfBytes}
+use Rattle.ipx_router.specs.History.{IsOfBytes, running}
 use Rattle.ipx_router.specs.Sends.{ports_sending, sends}
 use Rattle.ipx_router.proofs.Counting.{few_packets}
 use Rattle.ipx_router.proofs.Every.{all_behind}
-use Rattle.ipx_router.proofs.SentFor.{sendings}
+use Rattle.ipx_router.proofs.SentFor.{Any, sendings}
 use Rattle.ipx_router.proofs.SentLengths.{short}
 use Rattle.ipx_router.proofs.Wire.{Readings, Rereadings}
 use Rattle.ipx_router.proofs.laws.bounds.Goals as goal
@@ -40,5 +40,5 @@ returns-clause-short c ports most_routes most_services history event are on byte
       forwarded_again = c.reread.ensures.forwarded;
       propagated_again = c.reread.ensures.propagated;
     } in
-    short readings again ports are (ports_sending ports history event) (offers (routes_held ports most_routes history)) event (sends ports most_routes most_services history event)
+    short readings again ports are (ports_sending ports history event) (offers (routes_held ports most_routes history)) Any (running history) event (sends ports most_routes most_services history event)
     (all_behind IsOfBytes history (event ∷ []) bytes).0 (sendings readings again c.relays.ensures.listed ports are most_routes most_services history event on bytes)

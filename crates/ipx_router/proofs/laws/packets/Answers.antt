@@ -1,10 +1,10 @@
 use Rattle.std.proofs.Common.{[], ◌∷◌}
 use Rattle.ipx_router.specs.Facts.{routes_held, offers}
-use Rattle.ipx_router.specs.History.{IsOfBytes}
+use Rattle.ipx_router.specs.History.{IsOfBytes, running}
 use Rattle.ipx_router.specs.Sends.{ports_sending, sends}
 use Rattle.ipx_router.proofs.Every.{all_behind}
 use Rattle.ipx_router.proofs.SentBytes.{of_bytes}
-use Rattle.ipx_router.proofs.SentFor.{sendings, sent_for}
+use Rattle.ipx_router.proofs.SentFor.{Any, sendings, sent_for}
 use Rattle.ipx_router.proofs.Wire.{Readings, Rereadings}
 use Rattle.ipx_router.proofs.laws.packets.Goals as goal
 
@@ -31,11 +31,11 @@ again c = record {
 
 pub returns-clause-layouts : goal.returns-clause-layouts
 returns-clause-layouts c ports most_routes most_services history event are on bytes =
-    sent_for ports (ports_sending ports history event) (offers (routes_held ports most_routes history)) event (sends ports most_routes most_services history event)
+    sent_for Any ports (ports_sending ports history event) (offers (routes_held ports most_routes history)) (running history) event (sends ports most_routes most_services history event)
     (sendings (readings c) (again c) c.relays.ensures.listed ports are most_routes most_services history event on bytes)
 
 pub returns-clause-bytes : goal.returns-clause-bytes
 returns-clause-bytes c ports most_routes most_services history event are on bytes =
-    of_bytes ports (ports_sending ports history event) (offers (routes_held ports most_routes history)) event (sends ports most_routes most_services history event)
+    of_bytes ports (ports_sending ports history event) (offers (routes_held ports most_routes history)) Any (running history) event (sends ports most_routes most_services history event)
     (all_behind IsOfBytes history (event ∷ []) bytes).0
     (sendings (readings c) (again c) c.relays.ensures.listed ports are most_routes most_services history event on bytes)

@@ -1,0 +1,18 @@
+use Rattle.std.proofs.Common.{length, map}
+use Rattle.std.specs.List.{flat_map}
+use Rattle.ipx_router.specs.News.{service_told}
+use Rattle.ipx_router.specs.Numbers.{most_own_length}
+use Rattle.ipx_router.specs.Sends.{sap_broadcast}
+use Rattle.ipx_router.specs.Touched.{change_of}
+use Rattle.ipx_router.proofs.AdvertisedChanges.{room_next, sent_next}
+use Rattle.ipx_router.proofs.news.advertise_service_changes.Goals as goal
+
+pub loop-number-preserved : goal.loop-number-preserved
+loop-number-preserved c =
+    let k = c.loop-number.number-index in
+    let n = length c.args.up.now in
+    record {
+      sent = sent_next (λ j. sap_broadcast c.args.ports.now j (flat_map (service_told j) (map change_of c.args.changes.now))) c.args.up.now k _
+          c.loop-number-test.true c.loop-number.invariant.sent c.advertise_services_on.ensures.sent;
+      room = c.advertise_services_on.ensures.left _ _ (room_next n k most_own_length c.loop-number-test.true c.loop-number.invariant.room);
+    }

@@ -1,0 +1,42 @@
+use Rattle.std.proofs.Common.{◌≡◌, ◌-◌, ℕ, List, [], ◌∷◌, length, arith, subst}
+use Rattle.ipx_wire.specs.Forward.{propagated}
+use Rattle.ipx_wire.specs.Write.{packet_bytes}
+use Rattle.ipx_router.specs.Port.{broadcast}
+use Rattle.ipx_router.specs.Outbox.{Contents, Appends}
+use Rattle.ipx_router.specs.contracts.outbox.Outbox.{the_view}
+use Rattle.ipx_router.specs.declared.outbox.Slot.{Slot}
+use Rattle.ipx_router.proofs.Appending.{flat_after, sent_after}
+use Rattle.ipx_router.proofs.outbox.Outbox.append_crossed.Goals as goal
+use Rattle.ipx_router.proofs.outbox.Outbox.append_crossed.Goals.{After-add_slot}
+
+abbrev packet : After-add_slot → List ℕ
+packet c = packet_bytes (propagated c.args.arrived c.args.outgoing c.args.packet.now)
+
+abbrev slot : After-add_slot → Slot
+slot c = record { port = c.args.port; link = broadcast; start = c.len-start.result; size = c.len.result - c.len-start.result }
+
+start : (c : After-add_slot) → c.len-start.result ≡ length c.self.inside.bytes.items
+start c = omega (arith, c.len-start.ensures, c.self.inside.bytes.ok.0)
+
+size : (c : After-add_slot) → c.len.result - c.len-start.result ≡ length (packet c)
+size c = omega (arith, c.len-start.ensures, c.len.ensures, c.put_crossed.ensures.len)
+
+pub invariant_of-self : goal.invariant_of-self
+invariant_of-self c =
+    flat_after c.self.inside.bytes.items (packet c) c.self.inside.slots.items (slot c) c.put_crossed.new.bytes.items c.add_slot.new.slots.items c.self.invariant
+    c.put_crossed.ensures.items c.add_slot.ensures.items (start c) (size c)
+
+pub returns : goal.returns
+returns c =
+    subst
+    (λ (v : Contents).
+    Appends v (the_view (record { slots = c.add_slot.new.slots; bytes = c.put_crossed.new.bytes }))
+    (record { port = c.args.port; link = broadcast; bytes = packet c } ∷ []))
+    c.self.view_is
+    (record {
+      sent =
+          sent_after c.self.inside.bytes.items (packet c) c.self.inside.slots.items (slot c) c.put_crossed.new.bytes.items c.add_slot.new.slots.items
+          c.self.invariant c.put_crossed.ensures.items c.add_slot.ensures.items (start c) (size c);
+      places = omega (arith, c.add_slot.ensures.len, c.add_slot.ensures.capacity);
+      spare = omega (arith, c.put_crossed.ensures.len, c.put_crossed.ensures.capacity);
+    })

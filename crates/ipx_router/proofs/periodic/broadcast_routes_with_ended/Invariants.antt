@@ -1,0 +1,24 @@
+use Rattle.std.proofs.Common.{◌++◌, length}
+use Rattle.std.specs.List.{flat_map}
+use Rattle.ipx_wire.specs.declared.rip.Operation.TheVariants.{Response}
+use Rattle.ipx_router.specs.Ended.{RoutesAscend, ended_on}
+use Rattle.ipx_router.specs.Facts.{offers}
+use Rattle.ipx_router.specs.Numbers.{entries_a_page}
+use Rattle.ipx_router.specs.Owed.{Pays, owed}
+use Rattle.ipx_router.specs.Sends.{entries_sent, rip_broadcast}
+use Rattle.ipx_router.specs.Sorted.{put_all}
+use Rattle.ipx_router.specs.Told.{by_network, network_before, told}
+use Rattle.ipx_router.specs.ToldRoutes.{routes_left}
+use Rattle.ipx_router.proofs.periodic.broadcast_routes_with_ended.Given as goal
+
+abbrev pub invariant-loop-entry : goal.invariant-loop-entry
+invariant-loop-entry g l = record {
+  pays : Pays l.initial.outbox l.outbox
+      (rip_broadcast l.ports l.number (by_network (told l.ports l.up (offers l.table.records) l.number ++ flat_map (ended_on l.number) l.ended)))
+      (owed entries_a_page (entries_sent l.ports l.number l.to Response) l.page.items
+      (put_all network_before (routes_left l.source l.table.records) (flat_map (ended_on l.number) l.rest)));
+  ascends : RoutesAscend l.rest;
+}
+
+abbrev pub decreases-loop-entry : goal.decreases-loop-entry
+decreases-loop-entry g l = length (routes_left l.source l.table.records)

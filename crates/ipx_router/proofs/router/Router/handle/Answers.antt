@@ -1,0 +1,21 @@
+use Rattle.std.proofs.Common.{sym, ◌∙◌, subst, List}
+use Rattle.ipx_router.specs.Happened.{happened}
+use Rattle.ipx_router.specs.Outbox.{Appends}
+use Rattle.ipx_router.specs.Relays.{Sent}
+use Rattle.ipx_router.proofs.Standing.{follows, sends_stand, outcome_stand}
+use Rattle.ipx_router.proofs.router.Router.handle.Goals as goal
+
+pub returns-clause-stands : goal.returns-clause-stands
+returns-clause-stands g c = λ h stands.
+    follows g.row.R g.row.S c.args.self.now h stands c.dispatch.new.self (happened c.args.event) c.dispatch.ensures.follows c.requires.port
+
+pub returns-clause-sends : goal.returns-clause-sends
+returns-clause-sends g c = λ h stands.
+    let later = follows g.row.R g.row.S c.args.self.now h stands c.dispatch.new.self (happened c.args.event) c.dispatch.ensures.follows c.requires.port in
+    subst (λ (ps : List Sent). Appends c.args.outbox.now c.dispatch.new.outbox ps)
+    (sym (sends_stand g.row.R g.row.S c.args.self.now c.dispatch.new.self h (happened c.args.event) stands later c.dispatch.ensures.follows.ports))
+    c.dispatch.ensures.sends
+
+pub returns-clause-outcome : goal.returns-clause-outcome
+returns-clause-outcome g c = λ h stands.
+    c.dispatch.ensures.outcome ∙ sym (outcome_stand g.row.R g.row.S c.args.self.now h (happened c.args.event) stands)

@@ -1,0 +1,74 @@
+//! What a router answers to a request for routes and to a query for services, on the port where it was heard.
+ghost use Rattle.std.specs.Prelude.{◌<◌, ◌≤◌, if◌then◌else◌, length};
+ghost use Rattle.std.specs.List.{AllByRecursion};
+ghost use Rattle.ipx_wire.specs.declared.rip.Operation.TheVariants.{Response};
+ghost use Rattle.ipx_router.specs.Facts.{offers};
+ghost use Rattle.ipx_router.specs.Outbox.{Fits, Appends};
+ghost use Rattle.ipx_router.specs.Port.{port_at, reply_to};
+ghost use Rattle.ipx_router.specs.Sends.{asked, nearest_of, of_kind, rip_sends, sap_sends};
+ghost use Rattle.ipx_router.specs.Told.{told, told_services};
+
+use crate::addresses::{port_of, reply_to};
+use crate::nearest::advertise_nearest;
+use crate::outbox::Outbox;
+use crate::port::Port;
+use crate::route_offer::RouteOffer;
+use crate::service_offer::ServiceOffer;
+use crate::shown::{Shown, ShownServices};
+use crate::told::{advertise_routes, advertise_services};
+use ipx_table::Table;
+use ipx_wire::{Address, Rip};
+
+/// Sends the routes that a request asks for to the one that asked.
+pub(crate) fn answer_request<const R: usize>(
+    outbox: &mut Outbox,
+    ports: &[Port],
+    up: &[u8],
+    routes: &Table<RouteOffer, R>,
+    number: u8,
+    source: Address,
+    request: &Rip<'_>,
+)
+    requires port { number < length ports.now }
+    requires ports { AllByRecursion (λ j. j < length ports.now) up.now }
+    requires few { length up.now ≤ 32 }
+    requires room { Fits outbox.old (rip_sends ports.now number (reply_to (port_at ports.now number) source) Response
+        (asked request.now.entries (told ports.now up.now (offers routes.now.records) number))) }
+    ensures { Appends outbox.old outbox.new (rip_sends ports.now number (reply_to (port_at ports.now number) source) Response
+        (asked request.now.entries (told ports.now up.now (offers routes.now.records) number))) }
+{
+    let to = reply_to(port_of(ports, number), source);
+    advertise_routes(outbox, ports, up, routes, number, to, Shown::Asked(request));
+}
+
+/// Sends the services of a type to the one that asked, or the nearest of them.
+pub(crate) fn answer_query<const S: usize>(
+    outbox: &mut Outbox,
+    ports: &[Port],
+    services: &Table<ServiceOffer, S>,
+    number: u8,
+    source: Address,
+    nearest: bool,
+    kind: u16,
+)
+    requires port { number < length ports.now }
+    requires room { let found = of_kind kind (told_services (offers services.now.records) number) in
+        Fits outbox.old (sap_sends ports.now number (reply_to (port_at ports.now number) source) nearest (if nearest then nearest_of found else found)) }
+    ensures { let found = of_kind kind (told_services (offers services.now.records) number) in
+        Appends outbox.old outbox.new (sap_sends ports.now number (reply_to (port_at ports.now number) source) nearest (if nearest then nearest_of found else found)) }
+{
+    let to = reply_to(port_of(ports, number), source);
+    if nearest {
+        advertise_nearest(outbox, ports, services, number, to, kind);
+    } else {
+        advertise_services(
+            outbox,
+            ports,
+            services,
+            number,
+            to,
+            nearest,
+            ShownServices::OfKind(kind),
+        );
+    }
+}

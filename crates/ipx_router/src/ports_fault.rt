@@ -1,0 +1,16 @@
+//! Why ports make no router.
+use thiserror::Error;
+
+/// Why ports make no router, the first that holds.
+#[derive(Clone, Copy, Debug, PartialEq, Eq, Hash, Error)]
+pub enum PortsFault {
+    /// There is none.
+    #[error("no port")]
+    NoPort,
+    /// There are more than the router can have.
+    #[error("more ports than a router can have")]
+    TooMany,
+    /// Two are on one network.
+    #[error("two ports on one network")]
+    SameNetwork,
+}

@@ -1,0 +1,161 @@
+//! The router.
+ghost use Rattle.std.specs.Prelude.{◌≡◌, ◌≤◌, ◌<◌, false, [], length, slice_get, nat_lt, IfOk, IfErr, IfSome};
+ghost use Rattle.ipx_table.specs.Alive.{lifetime};
+ghost use Rattle.ipx_table.specs.Stands.{record_of};
+ghost use Rattle.ipx_router.specs.RouterOf.{IsNoRouter, made_of};
+ghost use Rattle.ipx_router.specs.Port.{AreApart, is_up};
+ghost use Rattle.ipx_router.specs.Routes.{network_order};
+ghost use Rattle.ipx_router.specs.Stands.{StandsFor};
+
+use crate::making::{are_apart, are_ports, route_shares, service_shares};
+use crate::port::Port;
+use crate::ports_fault::PortsFault;
+use crate::route_offer::RouteOffer;
+use crate::service_offer::ServiceOffer;
+use crate::up_ports::{UpPorts, has_number};
+use arrayvec::ArrayVec;
+use ipx_table::{Held, Table};
+use ipx_wire::Network;
+use std::marker::Model;
+
+/// A router with at most `P` ports, `R` routes and `S` services.
+#[derive(Debug, Drop)]
+pub struct Router<const P: usize, const R: usize, const S: usize> {
+    pub(crate) ports: ArrayVec<Port, P>,
+    pub(crate) running: bool,
+    /// The numbers of the ports that are up, in order; none of a stopped router's.
+    pub(crate) up: UpPorts,
+    /// Since the last periodic second.
+    pub(crate) seconds: u8,
+    pub(crate) routes: Table<RouteOffer, R>,
+    pub(crate) services: Table<ServiceOffer, S>,
+}
+
+impl<const P: usize, const R: usize, const S: usize> Model for Router<P, R, S> {
+    ghost use Rattle.ipx_router.specs.RouterOf.{IsRouter};
+    ghost use Rattle.ipx_router.specs.Stands.{State};
+
+    ghost Value = { State };
+
+    ghost view = { λ r. record { ports = r.ports.items; running = r.running; up = r.up.items; seconds = r.seconds; routes = r.routes.records; services = r.services.records } };
+
+    ghost invariant = { λ r. IsRouter R S (record { ports = r.ports.items; running = r.running; up = r.up.items; seconds = r.seconds; routes = r.routes.records; services = r.services.records }) r.routes.shares r.services.shares };
+}
+
+impl<const P: usize, const R: usize, const S: usize> Router<P, R, S> {
+    /// A router with these ports, numbered from 0, and the shares that they have. It is stopped, and its tables are empty.
+    pub fn new(ports: &[Port]) -> Result<Router<P, R, S>, PortsFault>
+        requires some { 1 ≤ P }
+        requires few { P ≤ 32 }
+        requires some_routes { 1 ≤ R }
+        requires few_routes { R ≤ 65535 }
+        requires some_services { 1 ≤ S }
+        requires few_services { S ≤ 65535 }
+        ensures made { IfOk result (λ r. r ≡ made_of ports.now) }
+        ensures stands { IfOk result (λ r. StandsFor R S r []) }
+        ensures within { IfOk result (λ r. (1 ≤ length ports.now) × (length ports.now ≤ P)) }
+        ensures apart { IfOk result (λ r. AreApart ports.now) }
+        ensures refused { IfErr result (IsNoRouter P ports.now) }
+    {
+        if ports.is_empty() {
+            return Err(PortsFault::NoPort);
+        }
+        if ports.len() > P {
+            return Err(PortsFault::TooMany);
+        }
+        if !are_apart(ports) {
+            return Err(PortsFault::SameNetwork);
+        }
+        are_ports(ports);
+        let mut kept = ArrayVec::new();
+        kept.try_extend_from_slice(ports).unwrap();
+        Ok(Router {
+            ports: kept,
+            running: false,
+            up: ArrayVec::new(),
+            seconds: 0,
+            routes: Table::with_shares(&route_shares(ports)),
+            services: Table::with_shares(&service_shares(ports)),
+        })
+    }
+
+    /// Whether it runs.
+    pub fn is_running(&self) -> bool
+        ensures { result ≡ self.now.running }
+    {
+        self.running
+    }
+
+    /// Whether it runs, has a port of this number, and that port is up.
+    pub fn is_up(&self, port: u8) -> bool
+        ensures value { result ≡ is_up self.now.up port }
+        ensures stopped { self.now.running ≡ false → result ≡ false }
+        ensures missing { length self.now.ports ≤ port → result ≡ false }
+    {
+        has_number(&self.up, port)
+    }
+
+    /// Whether it has a port of this number.
+    pub fn has_port(&self, port: u8) -> bool
+        ensures { result ≡ nat_lt port (length self.now.ports) }
+    {
+        usize::from(port) < self.ports.len()
+    }
+
+    /// How many ports it has.
+    pub fn ports(&self) -> usize
+        ensures value { result ≡ length self.now.ports }
+        ensures some { 1 ≤ result }
+        ensures few { result ≤ 32 }
+        ensures apart { AreApart self.now.ports }
+    {
+        self.ports.len()
+    }
+
+    /// The port of this number, if there is one.
+    pub fn port(&self, number: usize) -> Option<Port>
+        ensures { result ≡ slice_get self.now.ports number }
+    {
+        self.ports.get(number).copied()
+    }
+
+    /// How many routes are in its table.
+    pub fn routes(&self) -> usize
+        ensures value { result ≡ length self.now.routes }
+        ensures fits { result ≤ R }
+    {
+        self.routes.len()
+    }
+
+    /// How many services are in its table.
+    pub fn services(&self) -> usize
+        ensures value { result ≡ length self.now.services }
+        ensures fits { result ≤ S }
+    {
+        self.services.len()
+    }
+
+    /// The route to that network, with its age, if there is one in the table.
+    pub fn route(&self, network: Network) -> Option<Held<RouteOffer>>
+        ensures value { result ≡ record_of (λ r. r.network) network_order network self.now.routes }
+        ensures young { IfSome result (λ h. h.age < lifetime) }
+    {
+        self.routes.get(&network)
+    }
+
+    /// The route with exactly `k` routes to smaller networks; `None` where `k` is `routes()` or more.
+    pub fn route_at(&self, k: usize) -> Option<Held<RouteOffer>>
+        ensures value { result ≡ slice_get self.now.routes k }
+        ensures young { IfSome result (λ h. h.age < lifetime) }
+    {
+        self.routes.get_at(k)
+    }
+
+    /// The service with exactly `k` services before it, by type and name; `None` where `k` is `services()` or more.
+    pub fn service_at(&self, k: usize) -> Option<Held<ServiceOffer>>
+        ensures value { result ≡ slice_get self.now.services k }
+        ensures young { IfSome result (λ h. h.age < lifetime) }
+    {
+        self.services.get_at(k)
+    }
+}
