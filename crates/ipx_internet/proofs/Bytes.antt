@@ -5,10 +5,12 @@ use Rattle.std.specs.List.{AllByRecursion}
 use Rattle.std.proofs.lemmas.Nat.{mod_below}
 use Rattle.ipx_wire.specs.Crossed.{IsCrossed, network_bytes}
 use Rattle.ipx_wire.specs.Forward.{forwarded, propagated}
+use Rattle.ipx_wire.specs.Numbers.{crossed_bytes, crossed_places}
 use Rattle.ipx_wire.specs.Packet.{Parts, IsPacket}
 use Rattle.ipx_wire.specs.Piece.{IsBytes, piece}
 use Rattle.ipx_wire.specs.Write.{packet_bytes}
 use Rattle.ipx_wire.specs.declared.network.Network.{Network}
+use Rattle.ipx_router.specs.Numbers.{most_routers}
 use Rattle.ipx_internet.proofs.Lists.{all-append, all_or}
 
 abbrev IsByte : ℕ → Type 0
@@ -52,7 +54,7 @@ of_network network = of_number 4 network.0
 pub record SentOn : Type 0 where
   pub forwarded_over : (bytes : List ℕ) (p : Parts) → IsPacket bytes p → p.header.control < 255
       → packet_bytes (forwarded p) ≡ take 4 bytes ++ (p.header.control + 1) ∷ drop 5 (take p.header.length bytes)
-  pub propagated_over : (bytes : List ℕ) (p : Parts) (arrived outgoing : Network) → IsPacket bytes p → p.header.control < 8 → 32 ≤ length p.payload
+  pub propagated_over : (bytes : List ℕ) (p : Parts) (arrived outgoing : Network) → IsPacket bytes p → p.header.control < crossed_places → crossed_bytes ≤ length p.payload
       → packet_bytes (propagated arrived outgoing p) ≡ replicate 2 0xff ++ piece bytes 2 2 ++ (p.header.control + 1) ∷ piece bytes 5 1 ++ network_bytes outgoing
       ++ piece bytes 10 (20 + 4 * p.header.control) ++ network_bytes arrived ++ drop (34 + 4 * p.header.control) (take p.header.length bytes)
 
@@ -60,7 +62,7 @@ module _ (laws : SentOn) (bytes : List ℕ) (p : Parts) (are : IsBytes bytes) (i
   all : AreBytes bytes
   all = each_byte bytes are
 
-  pub forwarded_bytes : p.header.control < 16 → IsBytes (packet_bytes (forwarded p))
+  pub forwarded_bytes : p.header.control < most_routers → IsBytes (packet_bytes (forwarded p))
   forwarded_bytes few =
       let behind : List ℕ = drop 5 (take p.header.length bytes) in
       at_each_place (packet_bytes (forwarded p))

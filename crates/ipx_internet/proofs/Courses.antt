@@ -8,6 +8,7 @@ use Rattle.std.proofs.lemmas.Bool.{and_parts, or_parts, not-true, eqb-true, eqb-
 use Rattle.ipx_wire.specs.Forward.{forwarded}
 use Rattle.ipx_wire.specs.Packet.{Parts, IsPacket}
 use Rattle.ipx_wire.specs.Write.{packet_bytes}
+use Rattle.ipx_router.specs.Numbers.{most_routers}
 use Rattle.ipx_router.specs.Outgoing.{way_to}
 use Rattle.ipx_router.specs.Port.{broadcast, same_node, is_local}
 use Rattle.ipx_router.specs.Relays.{Sent}
@@ -49,7 +50,7 @@ module _ (w : Wire) (net : Internet) (is : IsInternet net) (differ : NodesDiffer
   -- how a packet for one network is sent on
   record Goes (s : Sending) (p : Parts) : Type 0 where
     pub far : is_far (port_of net (reception_at log s.place).to) p.header ≡ true
-    pub few : p.header.control < 16
+    pub few : p.header.control < most_routers
     pub way :
         way_to (ports_of net (reception_at log s.place).to.router) (reception_at log s.place).up (reception_at log s.place).routes p.header.destination
         ≡ Some (record { port = s.sent.port; link = s.sent.link })
@@ -182,9 +183,9 @@ module _ (w : Wire) (net : Internet) (is : IsInternet net) (differ : NodesDiffer
       (whole.origins a.child a.first a.within a.origin).forward.there a.goes_first a.on a.goes_next b.on b.goes_next
 
   -- the forwards of other receptions than the start are in the course of one of them
-  others_few : (start : ℕ) (p : Parts) → IsAt start p → p.header.control < 16
+  others_few : (start : ℕ) (p : Parts) → IsAt start p → p.header.control < most_routers
       → ((child : ℕ) → IsAt child (forwarded p) → (forwards : List Sending) → AllByRecursion (IsOfCourse child) forwards → AreDifferent forwards
-      → length forwards ≤ 16 - (forwarded p).header.control)
+      → length forwards ≤ most_routers - (forwarded p).header.control)
       → (others : List Sending) → AllByRecursion (λ s. IsOfCourse start s × (not (is_at start s) ≡ true)) others → AreDifferent others
       → length others ≤ 15 - p.header.control
   others_few start p at few next [] all differ = omega arith
@@ -195,7 +196,7 @@ module _ (w : Wire) (net : Internet) (is : IsInternet net) (differ : NodesDiffer
       λ f both.
       let other : Deeper start p f = deeper start p f at both.0 (elsewhere f both.1) in
       subst (λ (k : ℕ). IsOfCourse k f) (same_child start p f e other d) other.of_course in
-      let counted : length (e ∷ others) ≤ 16 - (p.header.control + 1) =
+      let counted : length (e ∷ others) ≤ most_routers - (p.header.control + 1) =
       next d.child (at_child start d.child d.first p at d.within d.origin d.here) (e ∷ others)
       (all_then (λ s. IsOfCourse start s × (not (is_at start s) ≡ true)) (IsOfCourse d.child) in_child (e ∷ others) all) differ in
       omega (arith, counted)
@@ -211,16 +212,16 @@ module _ (w : Wire) (net : Internet) (is : IsInternet net) (differ : NodesDiffer
       one_forward s t p (here_s ∙ sym here_t) (goes_from start p s at here_s on_s.0.0) (goes_from start p t at here_t on_t.0.0))
       here all differ
 
-  few_within : (n start : ℕ) (p : Parts) → 16 ≤ n + p.header.control → IsAt start p → (forwards : List Sending) → AllByRecursion (IsOfCourse start) forwards
-      → AreDifferent forwards → length forwards ≤ 16 - p.header.control
+  few_within : (n start : ℕ) (p : Parts) → most_routers ≤ n + p.header.control → IsAt start p → (forwards : List Sending) → AllByRecursion (IsOfCourse start) forwards
+      → AreDifferent forwards → length forwards ≤ most_routers - p.header.control
   few_within n start p enough at [] all differ = omega arith
   few_within zero start p enough at (e ∷ forwards) all differ =
       let (first, forward, here) = active start e.place all.0.1 e all.0.0 refl in
-      let few : p.header.control < 16 = (goes_from start p first at here forward).few in
+      let few : p.header.control < most_routers = (goes_from start p first at here forward).few in
       absurd (omega (arith, few, enough))
   few_within (suc n) start p enough at (e ∷ forwards) all differ =
       let (first, forward, here) = active start e.place all.0.1 e all.0.0 refl in
-      let few : p.header.control < 16 = (goes_from start p first at here forward).few in
+      let few : p.header.control < most_routers = (goes_from start p first at here forward).few in
       let off : Sending → Bool = λ s. not (is_at start s) in
       let parted = length_parted (is_at start) (e ∷ forwards) in
       let one = here_few start p at (filter (is_at start) (e ∷ forwards)) (all_passed (IsOfCourse start) (is_at start) (e ∷ forwards) all)
@@ -231,5 +232,5 @@ module _ (w : Wire) (net : Internet) (is : IsInternet net) (differ : NodesDiffer
       omega (arith, parted, one, others, few)
 
   pub one_network : (start : ℕ) (p : Parts) (forwards : List Sending) → IsPacket (reception_at log start).bytes p → is_propagated p.header ≡ false
-      → AllByRecursion (IsOfCourse start) forwards → AreDifferent forwards → length forwards ≤ 16 - p.header.control
-  one_network start p forwards packet one all differ = few_within 16 start p (omega arith) (packet, one) forwards all differ
+      → AllByRecursion (IsOfCourse start) forwards → AreDifferent forwards → length forwards ≤ most_routers - p.header.control
+  one_network start p forwards packet one all differ = few_within most_routers start p (omega arith) (packet, one) forwards all differ

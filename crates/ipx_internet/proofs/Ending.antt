@@ -7,6 +7,7 @@ use Rattle.ipx_wire.specs.Packet.{Parts, IsPacket, packet_of}
 use Rattle.ipx_wire.specs.Piece.{IsBytes}
 use Rattle.ipx_wire.specs.declared.network.Network.{Network}
 use Rattle.ipx_wire.specs.declared.packet.PacketFault.{PacketFault}
+use Rattle.ipx_router.specs.Numbers.{most_routers}
 use Rattle.ipx_router.specs.Packets.{IsRelayed}
 use Rattle.ipx_router.specs.Port.{Port, port_at}
 use Rattle.ipx_router.specs.Relays.{Sent}
@@ -32,7 +33,7 @@ module _ (w : Wire) (laws : Relaying) (over : SentOn) (routers : List Router) (m
   module _ (k : ℕ) (c : Copy) (old : IsOld k c.bytes) where
     -- what is sent on was sent on once more, and not too often
     IsOlder : Sent → Type 0
-    IsOlder s = IsOld (k + 1) s.bytes × (k < 16)
+    IsOlder s = IsOld (k + 1) s.bytes × (k < most_routers)
 
     older_by : (s : Sent) → IsRelayed (router_of c).ports (router_of c).up (router_of c).routes c.to.port c.bytes s → IsOlder s
     unfolding IsOld IsOlder
@@ -91,7 +92,7 @@ module _ (w : Wire) (laws : Relaying) (over : SentOn) (routers : List Router) (m
         (all_of (λ to. Unit {0}) (λ to. tt) (delivered (net_of routers) (record { router = c.to.router; port = s.port }) s.link)))
         (forwards routers c) older
 
-    last : 16 ≤ k → IsLast routers c
+    last : most_routers ≤ k → IsLast routers c
     unfolding IsOlder
     last full = by (forwards routers c) older
       where
@@ -99,7 +100,7 @@ module _ (w : Wire) (laws : Relaying) (over : SentOn) (routers : List Router) (m
         by [] all = refl
         by (s ∷ ss) all = let few = all.0.1 in absurd (omega (arith, few, full))
 
-  ends : (n k first : ℕ) (level : List Copy) → 16 ≤ n + k → AllByRecursion (λ c. IsOld k c.bytes) level
+  ends : (n k first : ℕ) (level : List Copy) → most_routers ≤ n + k → AllByRecursion (λ c. IsOld k c.bytes) level
       → joined (levels routers (suc n) first level) ≡ joined (levels routers (suc (suc n)) first level)
   ends zero k first level enough old =
       let none = nothing_next routers first level
@@ -110,7 +111,7 @@ module _ (w : Wire) (laws : Relaying) (over : SentOn) (routers : List Router) (m
       (ends n (k + 1) (first + length level) (next_level routers first level) (omega (arith, enough))
       (next_all routers (λ c. IsOld k c.bytes) (λ c. IsOld (k + 1) c.bytes) (λ c number is. children_older k c is number) first level old))
 
-  pub whole : (c : Copy) (n : ℕ) → IsBytes c.bytes → 17 ≤ n → IsTree routers c (tree_to routers n c)
+  pub whole : (c : Copy) (n : ℕ) → IsBytes c.bytes → most_routers < n → IsTree routers c (tree_to routers n c)
   unfolding IsOld
   whole c zero bytes enough = absurd (omega (arith, enough))
   whole c (suc n) bytes enough = record {

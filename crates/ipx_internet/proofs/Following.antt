@@ -9,6 +9,7 @@ use Rattle.ipx_wire.specs.Piece.{IsBytes}
 use Rattle.ipx_wire.specs.Write.{packet_bytes}
 use Rattle.ipx_wire.specs.declared.network.Network.{Network}
 use Rattle.ipx_wire.specs.declared.packet.PacketFault.{PacketFault}
+use Rattle.ipx_router.specs.Numbers.{most_routers}
 use Rattle.ipx_router.specs.Outgoing.{way_to}
 use Rattle.ipx_router.specs.Packets.{IsRelayed}
 use Rattle.ipx_router.specs.Port.{Port, broadcast, port_at, is_up, is_local, same_node}
@@ -76,7 +77,7 @@ module _ (w : Wire) (laws : Relaying) (over : SentOn) (routers : List Router) (m
   -- how a packet for one network is sent on
   record Passed (c : Copy) (p : Parts) (s : Sent) : Type 0 where
     pub far : is_far (port_at (router_of c).ports c.to.port) p.header ≡ true
-    pub few : p.header.control < 16
+    pub few : p.header.control < most_routers
     pub way : way_to (router_of c).ports (router_of c).up (router_of c).routes p.header.destination ≡ Some (record { port = s.port; link = s.link })
     pub leaves_up : is_up (router_of c).up s.port ≡ true
     pub written : s.bytes ≡ packet_bytes (forwarded p)
@@ -191,7 +192,7 @@ module _ (w : Wire) (laws : Relaying) (over : SentOn) (routers : List Router) (m
     EndsOrLeads : List Copy → Type 0
     EndsOrLeads ks =
         (AllByRecursion (IsLast routers) ks × (length ks ≤ most_on_network net - 1))
-        ⊎ ((length ks ≤ 1) × AllByRecursion (λ k. IsOne k (forwarded p) × IsPlace net k.to) ks × (p.header.control < 16))
+        ⊎ ((length ks ≤ 1) × AllByRecursion (λ k. IsOne k (forwarded p) × IsPlace net k.to) ks × (p.header.control < most_routers))
 
     ends_or_leads : NodesDiffer net → (number : ℕ) → EndsOrLeads (next_level routers number (c ∷ []))
     unfolding EndsOrLeads
@@ -212,41 +213,41 @@ module _ (w : Wire) (laws : Relaying) (over : SentOn) (routers : List Router) (m
               | inr one ↦ inr (one_node s f differ one number, received s f number, f.few)
             ])
 
-  follow : NodesDiffer net → (m first : ℕ) (c : Copy) (p : Parts) → IsOne c p → IsPlace net c.to → p.header.control ≤ 16
-      → length (joined (levels routers m first (c ∷ []))) ≤ (16 - p.header.control) + most_on_network net
+  follow : NodesDiffer net → (m first : ℕ) (c : Copy) (p : Parts) → IsOne c p → IsPlace net c.to → p.header.control ≤ most_routers
+      → length (joined (levels routers m first (c ∷ []))) ≤ (most_routers - p.header.control) + most_on_network net
   unfolding EndsOrLeads
   follow differ zero first c p at there few = omega arith
   follow differ (suc m) first c p at there few =
       let next = next_level routers first (c ∷ []) in
       let counted = length-append (c ∷ []) (joined (levels routers m (first + 1) next)) in
       let some = some_on_network net c.to there in
-      let rest : length (joined (levels routers m (first + 1) next)) + 1 ≤ (16 - p.header.control) + most_on_network net =
+      let rest : length (joined (levels routers m (first + 1) next)) + 1 ≤ (most_routers - p.header.control) + most_on_network net =
       elim (ends_or_leads c p at differ first) [
         | inl (last, short) ↦ let behind = last_level routers m (first + 1) next last in omega (arith, behind, short, some)
         | inr (one, are, below) ↦ leads (λ x q at_x there_x few_x. follow differ m (first + 1) x q at_x there_x few_x) next one are below some
       ] in
       omega (arith, counted, rest)
     where
-      leads : ((x : Copy) (q : Parts) → IsOne x q → IsPlace net x.to → q.header.control ≤ 16
-          → length (joined (levels routers m (first + 1) (x ∷ []))) ≤ (16 - q.header.control) + most_on_network net) → (ks : List Copy) → length ks ≤ 1 → AllByRecursion (λ k. IsOne k (forwarded p) × IsPlace net k.to) ks → p.header.control < 16 → 1 ≤ most_on_network net
-          → length (joined (levels routers m (first + 1) ks)) + 1 ≤ (16 - p.header.control) + most_on_network net
+      leads : ((x : Copy) (q : Parts) → IsOne x q → IsPlace net x.to → q.header.control ≤ most_routers
+          → length (joined (levels routers m (first + 1) (x ∷ []))) ≤ (most_routers - q.header.control) + most_on_network net) → (ks : List Copy) → length ks ≤ 1 → AllByRecursion (λ k. IsOne k (forwarded p) × IsPlace net k.to) ks → p.header.control < most_routers → 1 ≤ most_on_network net
+          → length (joined (levels routers m (first + 1) ks)) + 1 ≤ (most_routers - p.header.control) + most_on_network net
       leads on [] one are below some = let none = none_behind routers m (first + 1) in omega (arith, none, some)
       leads on (x ∷ y ∷ ks) one are below some = absurd (omega (arith, one))
       leads on (x ∷ []) one are below some =
-          let deeper : length (joined (levels routers m (first + 1) (x ∷ []))) ≤ (16 - (p.header.control + 1)) + most_on_network net =
+          let deeper : length (joined (levels routers m (first + 1) (x ∷ []))) ≤ (most_routers - (p.header.control + 1)) + most_on_network net =
           on x (forwarded p) are.0.0 are.0.1 (omega (arith, below)) in
           omega (arith, deeper, below)
 
   pub one_network : NodesDiffer net → (c : Copy) (p : Parts) (n : ℕ) → IsBytes c.bytes → IsPlace net c.to → IsPacket c.bytes p → is_propagated p.header ≡ false
-      → p.header.control ≤ 16 → length (tree_to routers n c) ≤ (16 - p.header.control) + most_on_network net
+      → p.header.control ≤ most_routers → length (tree_to routers n c) ≤ (most_routers - p.header.control) + most_on_network net
   one_network differ c p n bytes there packet one few = follow differ n 0 c p (record { bytes = bytes; packet = packet; one = one }) there few
 
   -- all other bytes go nowhere
-  pub nowhere : (c : Copy) (n : ℕ) → IsBytes c.bytes → ((p : Parts) → IsPacket c.bytes p → (is_propagated p.header ≡ false) × (16 ≤ p.header.control))
+  pub nowhere : (c : Copy) (n : ℕ) → IsBytes c.bytes → ((p : Parts) → IsPacket c.bytes p → (is_propagated p.header ≡ false) × (most_routers ≤ p.header.control))
       → length (tree_to routers n c) ≤ 1
   nowhere c n bytes old = last_level routers n 0 (c ∷ []) (by (packet_of c.bytes) refl, tt)
     where
-      none : (p : Parts) → IsOne c p → 16 ≤ p.header.control → (ss : List Sent) → AllByRecursion (Passed c p) ss → ss ≡ []
+      none : (p : Parts) → IsOne c p → most_routers ≤ p.header.control → (ss : List Sent) → AllByRecursion (Passed c p) ss → ss ≡ []
       none p at full [] all = refl
       none p at full (s ∷ ss) all = let few = all.0.few in absurd (omega (arith, few, full))
 

@@ -7,6 +7,7 @@ use Rattle.std.specs.List.{AllByRecursion}
 use Rattle.std.proofs.lemmas.Bool.{or_parts, or_from, eqb-false, ne_eqb}
 use Rattle.ipx_wire.specs.Crossed.{IsCrossed, is_among}
 use Rattle.ipx_wire.specs.Forward.{propagated}
+use Rattle.ipx_wire.specs.Numbers.{crossed_places}
 use Rattle.ipx_wire.specs.Packet.{Parts, IsPacket}
 use Rattle.ipx_wire.specs.declared.network.Network.{Network}
 use Rattle.ipx_router.specs.Why.{is_propagated}
@@ -39,7 +40,7 @@ module _ (w : Wire) (net : Internet) (is : IsInternet net) (log : List Reception
   record Fresh (start : ℕ) (p : Parts) (networks : List Network) (path : List Sending) : Type 0 where
     pub new : AllByRecursion (λ s. is_among (goes_to s) (networks ++ network_at start ∷ []) ≡ false) path
     pub differ : AreDifferent (map goes_to path)
-    pub few : length path ≤ 8 - p.header.control
+    pub few : length path ≤ crossed_places - p.header.control
 
   spreads_from : (start : ℕ) (p : Parts) (s : Sending) → IsAt start p → s.place ≡ start → IsForward net log s → IsAt s.place p × Spreads w net is log whole s p
   spreads_from start p s at here forward =
@@ -48,7 +49,7 @@ module _ (w : Wire) (net : Internet) (is : IsInternet net) (log : List Reception
 
   -- one forward: to a new network
   first_is_new : (start : ℕ) (p : Parts) (networks : List Network) (s : Sending) → s.place ≡ start → IsForward net log s
-      → Spreads w net is log whole s p → (p.header.control < 8 → IsCrossed p.header.control p.payload networks)
+      → Spreads w net is log whole s p → (p.header.control < crossed_places → IsCrossed p.header.control p.payload networks)
       → is_among (goes_to s) (networks ++ network_at start ∷ []) ≡ false
   first_is_new start p networks s here forward spread crossed =
       let same : spread.networks ≡ networks = w.one_crossed p.header.control p.payload spread.networks networks spread.crossed (crossed spread.crossed.free) in
@@ -58,7 +59,7 @@ module _ (w : Wire) (net : Internet) (is : IsInternet net) (log : List Reception
       none_joined (λ n. n.0 == (goes_to s).0) networks (network_at start ∷ []) unlisted (or_from ((network_at start).0 == (goes_to s).0) false off refl)
 
   fresh : {start : ℕ} {path : List Sending} → IsPath net log start path → (p : Parts) (networks : List Network) → IsAt start p
-      → (p.header.control < 8 → IsCrossed p.header.control p.payload networks) → Fresh start p networks path
+      → (p.header.control < crossed_places → IsCrossed p.header.control p.payload networks) → Fresh start p networks path
   fresh stays p networks at crossed = record { new = tt; differ = tt; few = omega arith }
   fresh {start = start} (leaves s here forward) p networks at crossed =
       let (there, spread) = spreads_from start p s at here forward in
@@ -66,7 +67,7 @@ module _ (w : Wire) (net : Internet) (is : IsInternet net) (log : List Reception
       record { new = (first_is_new start p networks s here forward spread crossed, tt); differ = (tt, tt); few = omega (arith, free) }
   fresh {start = start} (leads_on {path = path} s place here forward within origin on) p networks at crossed =
       let (there, spread) = spreads_from start p s at here forward in
-      let free : p.header.control < 8 = spread.crossed.free in
+      let free : p.header.control < crossed_places = spread.crossed.free in
       let came : Network = network_at s.place in
       let next : Parts = propagated came (goes_to s) p in
       let rest : Fresh place next (networks ++ came ∷ []) path =
@@ -112,7 +113,7 @@ module _ (w : Wire) (net : Internet) (is : IsInternet net) (log : List Reception
   on_ports (leads_on s place here forward within origin on) = (outlet_is w net is log whole s forward, on_ports on)
 
   module _ (start : ℕ) (p : Parts) (packet : IsPacket (reception_at log start).bytes p) (all : is_propagated p.header ≡ true) where
-    pub all_networks : (path : List Sending) → IsPath net log start path → length path ≤ 8 - p.header.control
+    pub all_networks : (path : List Sending) → IsPath net log start path → length path ≤ crossed_places - p.header.control
     all_networks [] leads = omega arith
     all_networks (s ∷ path) leads =
         let (networks, crossed, within) = begun leads p (packet, all) (omega arith) in

@@ -1,12 +1,12 @@
 -- A run does with its queue what the queue of an internet says.
-use Rattle.std.proofs.Common.{◌≡◌, refl, ap, ◌∙◌, ℕ, List, [], ◌∷◌, ◌++◌, length, map, flat_map, Option}
+use Rattle.std.proofs.Common.{◌≡◌, refl, ap, ◌∙◌, ℕ, zero, suc, List, [], ◌∷◌, ◌++◌, length, map, flat_map, replicate, Option}
 use Rattle.std.proofs.lemmas.List.{map-append}
 use Rattle.ipx_router.specs.History.{Event, History, Packet}
 use Rattle.ipx_router.specs.Relays.{Sent}
 use Rattle.ipx_internet.specs.Internet.{Internet}
 use Rattle.ipx_internet.specs.Log.{Sending, Reception}
-use Rattle.ipx_internet.specs.Queue.{Delivery, Queued, deliveries_of, with_event, sends_at, queued, settled_one}
-use Rattle.ipx_internet.specs.Run.{Waiting, Run, Settles, forgotten, forward_of, waits_of, happens, stepped}
+use Rattle.ipx_internet.specs.Queue.{Delivery, Queued, deliveries_of, with_event, sends_at, queued, settled_one, settled}
+use Rattle.ipx_internet.specs.Run.{Waiting, Run, Settles, forgotten, forward_of, waits_of, happens, stepped, run_of}
 
 -- deliveries with forwards, without them
 without : (origin : Option Sending) (ds : List Delivery) → map (λ (w : Waiting). w.delivery) (map (λ d. record { delivery = d; origin = origin }) ds) ≡ ds
@@ -43,3 +43,9 @@ module _ (net : Internet) (most_routes most_services : ℕ) where
       by histories log [] = refl
       by histories log (w ∷ waiting) =
           events (record { histories = histories; waiting = waiting; log = log }) w.delivery.to.router (Packet w.delivery.to.port w.delivery.bytes) w.origin
+
+  pub many_deliveries : (run : Run) (n : ℕ)
+      → forgotten (run_of net most_routes most_services run (replicate n Settles)) ≡ settled net most_routes most_services n (forgotten run)
+  many_deliveries run zero = refl
+  many_deliveries run (suc n) =
+      many_deliveries (stepped net most_routes most_services run Settles) n ∙ ap (λ (q : Queued). settled net most_routes most_services n q) (deliveries run)

@@ -5,6 +5,7 @@ use Rattle.std.proofs.lemmas.Bool.{and_parts, not-true, both_ways}
 use Rattle.std.proofs.lemmas.List.{length-map}
 use Rattle.ipx_wire.specs.Crossed.{IsNetwork, IsCrossed}
 use Rattle.ipx_wire.specs.Forward.{propagated}
+use Rattle.ipx_wire.specs.Numbers.{crossed_places}
 use Rattle.ipx_wire.specs.Packet.{Parts, IsPacket}
 use Rattle.ipx_wire.specs.Piece.{IsBytes}
 use Rattle.ipx_wire.specs.Write.{packet_bytes}
@@ -131,7 +132,7 @@ module _ (w : Wire) (laws : Relaying) (over : SentOn) (routers : List Router) (m
         omega (arith, joined, few)
 
     -- none, from eight networks on
-    no_children : 8 ≤ k → (number : ℕ) → length (children routers number c) ≤ 0
+    no_children : crossed_places ≤ k → (number : ℕ) → length (children routers number c) ≤ 0
     no_children full number = by (forwards routers c) spread
       where
         by : (ss : List Sent) → AllByRecursion (SpreadBy r c.to.port p) ss → length (flat_map (receivers routers number c) ss) ≤ 0
@@ -157,7 +158,7 @@ module _ (w : Wire) (laws : Relaying) (over : SentOn) (routers : List Router) (m
         (delivered net from s.link) (all_of (λ to. Unit {0}) (λ to. tt) (delivered net from s.link)))
         (forwards routers c) spread
 
-  size : (m n k first : ℕ) (level : List Copy) → 8 ≤ n + k → AllByRecursion (IsLive k) level
+  size : (m n k first : ℕ) (level : List Copy) → crossed_places ≤ n + k → AllByRecursion (IsLive k) level
       → length (joined (levels routers m first level)) ≤ length level * most_of degree n
   size zero n k first level enough live = omega arith
   size (suc m) zero k first level enough live =
@@ -182,9 +183,9 @@ module _ (w : Wire) (laws : Relaying) (over : SentOn) (routers : List Router) (m
       omega (arith, counted, all_of_it)
 
   pub all_networks : (c : Copy) (p : Parts) (n : ℕ) → IsBytes c.bytes → IsPacket c.bytes p → is_propagated p.header ≡ true
-      → length (tree_to routers n c) ≤ most net (8 - p.header.control)
+      → length (tree_to routers n c) ≤ most net (crossed_places - p.header.control)
   all_networks c p n bytes packet propagates =
-      let bound = size n (8 - p.header.control) p.header.control 0 (c ∷ []) (omega arith)
+      let bound = size n (crossed_places - p.header.control) p.header.control 0 (c ∷ []) (omega arith)
       (record { packet = p; bytes = bytes; is = packet; all = propagates; old = omega arith }, tt) in
-      let one : 1 * most_of degree (8 - p.header.control) ≡ most_of degree (8 - p.header.control) = one-mul (most_of degree (8 - p.header.control)) in
+      let one : 1 * most_of degree (crossed_places - p.header.control) ≡ most_of degree (crossed_places - p.header.control) = one-mul (most_of degree (crossed_places - p.header.control)) in
       omega (arith, bound, one)

@@ -3,7 +3,7 @@
 -- All receptions of one level have the same transport control. A propagated packet goes on to each other port of a router
 -- and each other port of its network, at most, and eight times at most. A packet for one network goes on to one router,
 -- sixteen times at most, and then perhaps to all on the network that it is for.
-use Rattle.std.proofs.Common.{◌≡◌, ◌↔◌, refl, subst, ℕ, zero, suc, ◌+◌, ◌*◌, ◌≤◌, Bool, true, List, [], ◌∷◌, length, map, Option, Some, None, Result, Ok, Err, slice_get, arith, length-append, mul_assoc, mul-add, mul-one}
+use Rattle.std.proofs.Common.{◌≡◌, ◌↔◌, refl, sym, subst, ℕ, zero, suc, ◌+◌, ◌*◌, ◌≤◌, Bool, true, List, [], ◌∷◌, length, map, Option, Some, None, Result, Ok, Err, slice_get, arith, length-append, mul_assoc, mul-add, mul-one}
 use Rattle.std.specs.List.{AllByRecursion}
 use Rattle.std.specs.List.Sorted.{IsStrictlyIncreasing}
 use Rattle.ipx_wire.specs.Packet.{Parts, IsPacket, packet_of}
@@ -19,6 +19,7 @@ use Rattle.ipx_internet.specs.Different.{AreDifferent}
 use Rattle.ipx_internet.specs.Tree.{Router, IsRouter, Copy, sent_on, children, next_level, levels, joined}
 use Rattle.ipx_internet.proofs.Lists.{all-append, all_listed, rising_differ}
 use Rattle.ipx_internet.proofs.Sends.{runs_then}
+use Rattle.ipx_internet.proofs.Ways.{nothing}
 
 -- the laws of routers that trees rest on
 pub record Relaying : Type 0 where
@@ -27,6 +28,10 @@ pub record Relaying : Type 0 where
       → IsBytes bytes → AllByRecursion (λ r. is_up up r.port ≡ true) routes
       → why ports up routes true number bytes ≡ None → packet_of bytes ≡ Ok p
       → slice_get (relayed ports up routes number p) k ≡ Some s → IsRelayed ports up routes number bytes s
+  pub all : (ports : List Port) (up : List ℕ) (routes : List RouteOffer) (number : ℕ) (bytes : List ℕ) (s : Sent)
+      → IsBytes bytes → IsRelayed ports up routes number bytes s
+      → (why ports up routes true number bytes ≡ None)
+      × ((p : Parts) × (k : ℕ) × (packet_of bytes ≡ Ok p) × (slice_get (relayed ports up routes number p) k ≡ Some s))
   pub in_order : (ports : List Port) (up : List ℕ) (routes : List RouteOffer) (number : ℕ) (p : Parts)
       → IsStrictlyIncreasing up → IsStrictlyIncreasing (map (λ s. s.port) (relayed ports up routes number p))
 
@@ -87,3 +92,39 @@ module _ (laws : Relaying) (r : Router) (is : IsRouter r) (number : ℕ) (bytes 
                 (λ k s there. laws.listed r.ports r.up r.routes number bytes p k s are is.routes_up undropped ((laws.packet_read bytes p are).1 packet) there);
             differ = rising_differ (map (λ s. s.port) (relayed r.ports r.up r.routes number p)) (laws.in_order r.ports r.up r.routes number p is.rising);
           })
+
+-- it is just what the relations say that a router sends on that runs
+module _ (laws : Relaying) (r : Router) (is : IsRouter r) (number : ℕ) (bytes : List ℕ) (s : Sent) (are : IsBytes bytes) where
+  -- what is sent on, by what the checks and the reader say
+  abbrev sent_by : Option Why → Result Parts PacketFault → List Sent
+  sent_by o q = elim o [ Some reason ↦ [] | None ↦ elim q [ Ok p ↦ relayed r.ports r.up r.routes number p | Err fault ↦ [] ] ]
+
+  abbrev nothing_sent : List Sent
+  nothing_sent = []
+
+  none_in : (k : ℕ) → slice_get nothing_sent k ≡ Some s → (r.running ≡ true) × IsRelayed r.ports r.up r.routes number bytes s
+  none_in zero e = nothing e
+  none_in (suc k) e = nothing e
+
+  pub is_forward : (k : ℕ) → slice_get (sent_on r number bytes) k ≡ Some s → (r.running ≡ true) × IsRelayed r.ports r.up r.routes number bytes s
+  is_forward k there = by (why r.ports r.up r.routes r.running number bytes) (packet_of bytes) refl refl there
+    where
+      by : (o : Option Why) (q : Result Parts PacketFault) → why r.ports r.up r.routes r.running number bytes ≡ o → packet_of bytes ≡ q
+          → slice_get (sent_by o q) k ≡ Some s → (r.running ≡ true) × IsRelayed r.ports r.up r.routes number bytes s
+      by (Some reason) q judged read there = none_in k there
+      by None (Err fault) judged read there = none_in k there
+      by None (Ok p) judged read there =
+          let runs : r.running ≡ true = runs_then r.ports r.up r.routes r.running number bytes judged in
+          let undropped : why r.ports r.up r.routes true number bytes ≡ None = subst (λ (b : Bool). why r.ports r.up r.routes b number bytes ≡ None) runs judged in
+          (runs, laws.listed r.ports r.up r.routes number bytes p k s are is.routes_up undropped read there)
+
+  pub is_sent_on : r.running ≡ true → IsRelayed r.ports r.up r.routes number bytes s → (k : ℕ) × (slice_get (sent_on r number bytes) k ≡ Some s)
+  is_sent_on runs relays =
+      let (undropped, (p, k, read, there)) = laws.all r.ports r.up r.routes number bytes s are relays in
+      let passed : why r.ports r.up r.routes r.running number bytes ≡ None =
+      subst (λ (b : Bool). why r.ports r.up r.routes b number bytes ≡ None) (sym runs) undropped in
+      (k, by (why r.ports r.up r.routes r.running number bytes) (packet_of bytes) passed p k read there)
+    where
+      by : (o : Option Why) (q : Result Parts PacketFault) → o ≡ None → (p : Parts) (k : ℕ) → q ≡ Ok p
+          → slice_get (relayed r.ports r.up r.routes number p) k ≡ Some s → slice_get (sent_by o q) k ≡ Some s
+      by o q passed p k read there = rw passed (rw read there)

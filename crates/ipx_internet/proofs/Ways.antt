@@ -6,7 +6,7 @@ use Rattle.ipx_wire.specs.declared.address.Address.{Address}
 use Rattle.ipx_wire.specs.declared.network.Network.{Network}
 use Rattle.ipx_router.specs.Numbers.{default_route}
 use Rattle.ipx_router.specs.Outgoing.{Way, port_to, route_to, serving, way_to}
-use Rattle.ipx_router.specs.Port.{Port, broadcast, port_at, same_node, is_skipped}
+use Rattle.ipx_router.specs.Port.{Port, broadcast, port_at, same_node, takes_no_route}
 use Rattle.ipx_router.specs.Relays.{Sent, IsTableRoute}
 use Rattle.ipx_router.specs.declared.route_offer.RouteOffer.{RouteOffer}
 
@@ -40,9 +40,9 @@ served P ports routes network route all e = by (route_to routes network.0) refl 
     otherwise false e = (found P (λ r. r.network.0 == default_route) routes route all e).0
 
     by : (o : Option RouteOffer) → route_to routes network.0 ≡ o
-        → elim o [ Some r ↦ Some r | None ↦ if is_skipped ports network then None else route_to routes default_route ] ≡ Some route → P route
+        → elim o [ Some r ↦ Some r | None ↦ if takes_no_route ports network then None else route_to routes default_route ] ≡ Some route → P route
     by (Some r) there e = it_is P route r e (found P (λ r. r.network.0 == network.0) routes r all there).0
-    by None there e = otherwise (is_skipped ports network) e
+    by None there e = otherwise (takes_no_route ports network) e
 
 -- the way is by a port of the destination's network, or to one node
 pub by_port_or_node : (ports : List Port) (up : List ℕ) (routes : List RouteOffer) (destination : Address) (way : Way) → AllByRecursion (IsTableRoute ports) routes

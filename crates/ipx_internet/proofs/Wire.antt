@@ -2,10 +2,12 @@
 use Rattle.std.proofs.Common.{◌≡◌, ◌↔◌, subst, ℕ, ◌<◌, ◌≤◌, true, List, [], ◌∷◌, ◌++◌, length, append-nil, arith}
 use Rattle.ipx_wire.specs.Crossed.{IsNetwork, IsCrossed}
 use Rattle.ipx_wire.specs.Forward.{forwarded, propagated}
+use Rattle.ipx_wire.specs.Numbers.{crossed_bytes, crossed_places}
 use Rattle.ipx_wire.specs.Packet.{Parts, IsPacket}
 use Rattle.ipx_wire.specs.Write.{packet_bytes}
 use Rattle.ipx_wire.specs.declared.network.Network.{Network}
 use Rattle.ipx_wire.specs.declared.node.Node.{Node}
+use Rattle.ipx_router.specs.Numbers.{most_routers}
 use Rattle.ipx_router.specs.Port.{same_node}
 
 pub record Wire : Type 0 where
@@ -13,16 +15,16 @@ pub record Wire : Type 0 where
   pub one_crossed : (control : ℕ) (payload : List ℕ) (ms ns : List Network) → IsCrossed control payload ms → IsCrossed control payload ns → ms ≡ ns
   pub forwarded_again : (bytes : List ℕ) (p : Parts) (further : List ℕ) → IsPacket bytes p → p.header.control < 255
       → IsPacket (packet_bytes (forwarded p) ++ further) (forwarded p)
-  pub propagated_again : (bytes : List ℕ) (p : Parts) (arrived outgoing : Network) (further : List ℕ) → IsPacket bytes p → p.header.control < 8
-      → 32 ≤ length p.payload → IsNetwork outgoing → IsPacket (packet_bytes (propagated arrived outgoing p) ++ further) (propagated arrived outgoing p)
+  pub propagated_again : (bytes : List ℕ) (p : Parts) (arrived outgoing : Network) (further : List ℕ) → IsPacket bytes p → p.header.control < crossed_places
+      → crossed_bytes ≤ length p.payload → IsNetwork outgoing → IsPacket (packet_bytes (propagated arrived outgoing p) ++ further) (propagated arrived outgoing p)
   pub crossed_again : (p : Parts) (networks : List Network) (arrived outgoing : Network) → IsCrossed p.header.control p.payload networks
-      → (propagated arrived outgoing p).header.control < 8 → IsNetwork arrived
+      → (propagated arrived outgoing p).header.control < crossed_places → IsNetwork arrived
       → IsCrossed (propagated arrived outgoing p).header.control (propagated arrived outgoing p).payload (networks ++ arrived ∷ [])
   pub same_nodes : (a b : Node) → (same_node a b ≡ true ↔ a ≡ b)
 
 module _ (w : Wire) (bytes : List ℕ) (p : Parts) (is : IsPacket bytes p) where
   -- what is sent on is read as it was changed
-  pub read_forwarded : p.header.control < 16 → IsPacket (packet_bytes (forwarded p)) (forwarded p)
+  pub read_forwarded : p.header.control < most_routers → IsPacket (packet_bytes (forwarded p)) (forwarded p)
   read_forwarded few =
       let P : List ℕ → Type 0 = λ bytes. IsPacket bytes (forwarded p) in
       subst P (append-nil (packet_bytes (forwarded p))) (w.forwarded_again bytes p [] is (omega (arith, few)))

@@ -1,7 +1,10 @@
 -- Worked examples: each is checked by computing it.
+pub mod Branches
 pub mod Directed
+pub mod Logs
 pub mod Loops
 pub mod Rings
 pub mod Running
 pub mod Segments
+pub mod Waiting
 pub mod Words

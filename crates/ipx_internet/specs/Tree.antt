@@ -3,6 +3,8 @@ use Rattle.std.specs.Prelude.{◌≡◌, ℕ, zero, suc, ◌+◌, ◌<◌, Bool,
 use Rattle.std.specs.List.{AllByRecursion, flat_map}
 use Rattle.std.specs.List.Sorted.{IsStrictlyIncreasing}
 use Rattle.ipx_wire.specs.Packet.{packet_of}
+use Rattle.ipx_router.specs.Facts.{routes_held, offers}
+use Rattle.ipx_router.specs.History.{History, running, ports_up}
 use Rattle.ipx_router.specs.Port.{Port, is_up}
 use Rattle.ipx_router.specs.Relays.{Sent, IsTableRoute, relayed}
 use Rattle.ipx_router.specs.Why.{why}
@@ -16,6 +18,15 @@ pub record Router : Type 0 where
   pub running : Bool
   pub up : List ℕ
   pub routes : List RouteOffer
+
+-- a router as it is after a history, where it holds so many routes
+abbrev pub router_now : List Port → ℕ → History → Router
+router_now ports most_routes history = record {
+  ports = ports;
+  running = running history;
+  up = ports_up ports history;
+  routes = offers (routes_held ports most_routes history);
+}
 
 -- its ports that are up are some of its ports, in order, and its routes are such as a table may have, by ports that are up
 pub record IsRouter (r : Router) : Type 0 where

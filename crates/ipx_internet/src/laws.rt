@@ -1,5 +1,5 @@
 //! What holds of every internet, whatever its routers' tables.
-ghost use Rattle.std.specs.Prelude.{◌≡◌, ℕ, ◌+◌, ◌-◌, ◌*◌, ◌<◌, ◌≤◌, true, false, List, [], ◌∷◌, ◌++◌, length, flat_map, Option};
+ghost use Rattle.std.specs.Prelude.{◌≡◌, ◌↔◌, ℕ, ◌+◌, ◌-◌, ◌*◌, ◌<◌, ◌≤◌, true, false, List, [], ◌∷◌, ◌++◌, length, flat_map, replicate, Option, Some, slice_get};
 ghost use Rattle.std.specs.List.{AllByRecursion};
 ghost use Rattle.ipx_wire.specs.Crossed.{is_among};
 ghost use Rattle.ipx_wire.specs.Numbers.{crossed_places};
@@ -11,6 +11,9 @@ ghost use Rattle.ipx_router.specs.Bounds.{most_packets};
 ghost use Rattle.ipx_router.specs.Facts.{routes_held, services_held};
 ghost use Rattle.ipx_router.specs.History.{Event, History, IsOnPort, IsOfBytes};
 ghost use Rattle.ipx_router.specs.Numbers.{most_routers};
+ghost use Rattle.ipx_router.specs.Packets.{IsRelayed};
+ghost use Rattle.ipx_router.specs.Port.{Port};
+ghost use Rattle.ipx_router.specs.Relays.{Sent};
 ghost use Rattle.ipx_router.specs.Sends.{sends};
 ghost use Rattle.ipx_router.specs.Why.{is_propagated};
 ghost use Rattle.ipx_internet.specs.Course.{IsInCourse, IsPath, visited};
@@ -19,9 +22,9 @@ ghost use Rattle.ipx_internet.specs.Different.{AreDifferent};
 ghost use Rattle.ipx_internet.specs.Internet.{Internet, Place, IsInternet, NodesDiffer, IsPlace, network_of, ports_of};
 ghost use Rattle.ipx_internet.specs.Log.{Sending, Reception, reception_at, IsForward, IsLog};
 ghost use Rattle.ipx_internet.specs.Most.{most, most_on_network};
-ghost use Rattle.ipx_internet.specs.Queue.{deliveries_of, queued, settled_one};
+ghost use Rattle.ipx_internet.specs.Queue.{deliveries_of, queued, settled_one, settled};
 ghost use Rattle.ipx_internet.specs.Run.{Step, Settles, IsStep, AreHistories, Run, begun, forgotten, happens, stepped, run_of};
-ghost use Rattle.ipx_internet.specs.Tree.{Router, IsRouter, Copy, net_of, tree_to, IsTree};
+ghost use Rattle.ipx_internet.specs.Tree.{Router, router_now, IsRouter, Copy, net_of, sent_on, tree_to, IsTree};
 
 /// How far a packet goes, in any internet and any log: with any tables and any ports up, also such as change on the way.
 ///
@@ -61,6 +64,8 @@ pub fn runs()
         → forgotten (happens net most_routes most_services run router event origin) ≡ queued net most_routes most_services (forgotten run) router event }
     ensures deliveries { (net : Internet) (most_routes most_services : ℕ) (run : Run)
         → forgotten (stepped net most_routes most_services run Settles) ≡ settled_one net most_routes most_services (forgotten run) }
+    ensures many_deliveries { (net : Internet) (most_routes most_services : ℕ) (run : Run) (n : ℕ)
+        → forgotten (run_of net most_routes most_services run (replicate n Settles)) ≡ settled net most_routes most_services n (forgotten run) }
 {
     ipx_router::laws::relays();
     ipx_router::laws::tables();
@@ -71,7 +76,8 @@ pub fn runs()
 ///
 /// For a propagated packet: itself, and from each on, eight times at most, at most one for each other port of a router and
 /// each other port of a network. For a packet for one network: at most 16 routers that send it on, and all ports of one
-/// network. For all other bytes: itself.
+/// network. For all other bytes: itself. What a reception of a tree sends on are just the forwards of a router that runs, and
+/// every router, after any history, is such a router as these are said of.
 pub fn trees()
     ensures all_networks { (routers : List Router) (c : Copy) (p : Parts) (n : ℕ) → IsInternet (net_of routers) → AllByRecursion IsRouter routers
         → IsBytes c.bytes → IsPacket c.bytes p → is_propagated p.header ≡ true
@@ -84,11 +90,16 @@ pub fn trees()
         → length (tree_to routers n c) ≤ 1 }
     ensures whole { (routers : List Router) (c : Copy) (n : ℕ) → IsInternet (net_of routers) → AllByRecursion IsRouter routers
         → IsBytes c.bytes → most_routers < n → IsTree routers c (tree_to routers n c) }
+    ensures by_forwards { (r : Router) (number : ℕ) (bytes : List ℕ) (s : Sent) → IsRouter r → IsBytes bytes
+        → (((k : ℕ) × (slice_get (sent_on r number bytes) k ≡ Some s)) ↔ (r.running ≡ true) × IsRelayed r.ports r.up r.routes number bytes s) }
+    ensures as_they_are { (ports : List Port) (most_routes : ℕ) (history : History) → AllByRecursion (IsOnPort ports) history
+        → IsRouter (router_now ports most_routes history) }
 {
     ipx_wire::laws::readings();
     ipx_wire::laws::reread();
     ipx_wire::laws::sent_on();
     ipx_router::laws::same_offers();
+    ipx_router::laws::tables();
     ipx_router::laws::relays();
 }
 

@@ -8,11 +8,12 @@ use Rattle.ipx_wire.specs.Packet.{packet_of}
 use Rattle.ipx_wire.specs.Rip.{rip_of}
 use Rattle.ipx_wire.specs.Sap.{sap_of}
 use Rattle.ipx_router.specs.History.{Start, Stop, Packet}
-use Rattle.ipx_router.specs.Port.{broadcast}
+use Rattle.ipx_router.specs.Port.{Port, broadcast}
 use Rattle.ipx_internet.specs.Internet.{Internet}
 use Rattle.ipx_internet.specs.Log.{Reception}
 use Rattle.ipx_internet.specs.Run.{Step, Happens, Settles, begun, run_of}
-use Rattle.ipx_internet.proofs.examples.Words.{port_on, to_all, at}
+use Rattle.ipx_internet.specs.Tree.{router_now}
+use Rattle.ipx_internet.proofs.examples.Words.{port_on, running, plain, to_all, at}
 
 abbrev segment : Internet
 segment = (port_on 0x10 1 ∷ port_on 0x20 2 ∷ []) ∷ (port_on 0x20 3 ∷ port_on 0x30 4 ∷ []) ∷ []
@@ -38,3 +39,22 @@ at_ports = refl
 pub stopped_between : map (λ r. r.acts) (log_of (comes ∷ Happens 1 Stop ∷ Settles ∷ [])) ≡ true ∷ false ∷ []
 unfolding header_bytes address_bytes network_bytes packet_of header_at address_at items network_at rip_of sap_of
 stopped_between = refl
+
+-- a packet for one network that is forwarded has its forward as origin too; the router that it is near for sends nothing on
+abbrev all_nodes : Step
+all_nodes = Happens 0 (Packet 0 (plain 0 0x20 broadcast))
+
+pub one_network : map (λ r. r.origin) (log_of (all_nodes ∷ Settles ∷ Settles ∷ []))
+    ≡ None ∷ Some (record { place = 0; sent = record { port = 1; link = broadcast; bytes = plain 1 0x20 broadcast } }) ∷ []
+unfolding header_bytes address_bytes network_bytes packet_of header_at address_at items network_at rip_of sap_of
+one_network = refl
+
+-- a router is as its history has left it
+abbrev ports : List Port
+ports = port_on 0x10 1 ∷ port_on 0x20 2 ∷ []
+
+pub started : router_now ports 8 (Start ∷ []) ≡ running ports []
+started = refl
+
+pub stopped : router_now ports 8 (Start ∷ Stop ∷ []) ≡ record { ports = ports; running = false; up = []; routes = [] }
+stopped = refl

@@ -1,4 +1,4 @@
-use Rattle.ipx_internet.proofs.Queues.{events, deliveries}
+use Rattle.ipx_internet.proofs.Queues.{events, deliveries, many_deliveries}
 use Rattle.ipx_internet.proofs.Runs.{listed}
 use Rattle.ipx_internet.proofs.Sends.{Routing}
 use Rattle.ipx_internet.proofs.laws.runs.Goals as goal
@@ -22,3 +22,6 @@ returns-clause-events c = events
 
 pub returns-clause-deliveries : goal.returns-clause-deliveries
 returns-clause-deliveries c = deliveries
+
+pub returns-clause-many_deliveries : goal.returns-clause-many_deliveries
+returns-clause-many_deliveries c = many_deliveries

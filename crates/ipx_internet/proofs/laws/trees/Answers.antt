@@ -1,9 +1,8 @@
-use Rattle.std.proofs.Common.{arith}
 use Rattle.ipx_internet.proofs.Bytes.{SentOn}
 use Rattle.ipx_internet.proofs.Ending as ending
 use Rattle.ipx_internet.proofs.Following as following
 use Rattle.ipx_internet.proofs.Spreading as spreading
-use Rattle.ipx_internet.proofs.Trees.{Relaying}
+use Rattle.ipx_internet.proofs.Trees.{Relaying, is_forward, is_sent_on}
 use Rattle.ipx_internet.proofs.Wire.{Wire}
 use Rattle.ipx_internet.proofs.laws.trees.Goals as goal
 
@@ -19,7 +18,7 @@ wire c = record {
 }
 
 relaying : goal.After-relays → Relaying
-relaying c = record { packet_read = c.readings.ensures.packet_read; listed = c.relays.ensures.listed; in_order = c.relays.ensures.in_order }
+relaying c = record { packet_read = c.readings.ensures.packet_read; listed = c.relays.ensures.listed; all = c.relays.ensures.all; in_order = c.relays.ensures.in_order }
 
 over : goal.After-relays → SentOn
 over c = record { forwarded_over = c.sent_on.ensures.forwarded; propagated_over = c.sent_on.ensures.propagated }
@@ -34,4 +33,18 @@ pub returns-clause-nowhere : goal.returns-clause-nowhere
 returns-clause-nowhere c routers copy n made right = following.nowhere (wire c) (relaying c) (over c) routers made right copy n
 
 pub returns-clause-whole : goal.returns-clause-whole
-returns-clause-whole c routers copy n made right bytes deep = ending.whole (wire c) (relaying c) (over c) routers made right copy n bytes (omega (arith, deep))
+returns-clause-whole c routers copy n made right bytes deep = ending.whole (wire c) (relaying c) (over c) routers made right copy n bytes (deep)
+
+pub returns-clause-as_they_are : goal.returns-clause-as_they_are
+returns-clause-as_they_are c ports most_routes history on_ports = record {
+  rising = (c.relays.ensures.ups ports history).0;
+  within = (c.relays.ensures.ups ports history).1;
+  table = c.tables.ensures.of_a_table ports most_routes history on_ports;
+  routes_up = c.tables.ensures.routes_up ports most_routes history;
+}
+
+pub returns-clause-by_forwards : goal.returns-clause-by_forwards
+returns-clause-by_forwards c r number bytes s is are = (
+  λ there. is_forward (relaying c) r is number bytes s are there.0 there.1,
+  λ forward. is_sent_on (relaying c) r is number bytes s are forward.0 forward.1,
+)
