@@ -1,16 +1,18 @@
 //! How fast packets are read and written, beside copying the same bytes in the same run; and how fast a
-//! full table is called, beside reading its records in the same run.
+//! full table is called, beside reading its records in the same run; and how fast a capture is shown, beside copying its file.
 //!
 //! With no word it prints what it can measure; with the word `run` it measures. A copy is what any
 //! program must at least do with a packet, and a reading with records that age, so the ratios hold on
 //! any machine.
 #![tactic(auto)]
 
+mod captures;
 mod kinds;
 mod packets;
 mod tables;
 mod work;
 
+use crate::captures::measure_decode;
 use crate::kinds::Kind;
 use crate::packets::Packets;
 use crate::tables::{CALLS, Call, RECORDS};
@@ -38,7 +40,8 @@ fn list(rt: &HostRuntime) -> io::Result<()> {
         let name = call.name();
         println!(rt; "{name}: {RECORDS} records")?;
     }
-    Ok(())
+    let records = captures::RECORDS;
+    println!(rt; "show a capture: {records} records")
 }
 
 fn measure(rt: &HostRuntime) -> io::Result<()> {
@@ -49,7 +52,7 @@ fn measure(rt: &HostRuntime) -> io::Result<()> {
     for call in Call::ALL {
         report_call(rt, call)?;
     }
-    Ok(())
+    report_capture(rt, &packets)
 }
 
 fn report(rt: &HostRuntime, kind: Kind, packets: &Packets) -> io::Result<()> {
@@ -74,6 +77,17 @@ fn report_call(rt: &HostRuntime, call: Call) -> io::Result<()> {
     let readings = Tenths(timed.calls.wrapping_mul(10) / timed.readings.max(1));
     let mark = timed.seen % 10;
     println!(rt; "{name}: {each} ns a call, {readings} readings of {RECORDS} records ({mark})")
+}
+
+fn report_capture(rt: &HostRuntime, packets: &Packets) -> io::Result<()> {
+    let timed = measure_decode(rt, packets)?;
+    let microseconds = (timed.show / 1000).max(1);
+    let records = u128::from(captures::RECORDS) * 1_000_000 / microseconds;
+    let megabytes = u128::from(timed.bytes) / microseconds;
+    let copies = Tenths(timed.show.wrapping_mul(10) / timed.copy.max(1));
+    println!(rt;
+        "show a capture: {records} records a second, {megabytes} megabytes a second, {copies} copies of the file"
+    )
 }
 
 /// A number of tenths, shown with a point.

@@ -96,7 +96,7 @@ calls_are (r ∷ rs) (suc most) p q ended xs fault e few (m, t, calls) end of =
     ∙ later)
 
 -- further bytes change no header
-header_append : (a b : List ℕ) → 24 ≤ length a → header_of (a ++ b) ≡ header_of a
+pub header_append : (a b : List ℕ) → 24 ≤ length a → header_of (a ++ b) ≡ header_of a
 unfolding header_of
 header_append a b h =
     rw (le-ltb (length (a ++ b)) 24 (omega (arith, length-append a b)), le-ltb (length a) 24 h)

@@ -1,66 +1,83 @@
--- What the parser makes of the words that ask for a replay.
+-- What the parser makes of the words that ask for a run.
 use Rattle.std.proofs.Common.{◌≡◌, ◌==◌, ℕ, Bool, true, false, not, List, [], ◌∷◌, Option, Some, None, sym, refl, subst, inl, inr, codes, option_map, bytes_eq, eqb-true, ap, unwrap_or, ◌∙◌}
 use Rattle.clap.specs.Walk.{Row, Text, first_of}
 use Rattle.clap.specs.Simple.{is_simple, subcommand_of}
 use Rattle.clap.specs.Lexer.{long_of, short_of}
 use Rattle.clap.specs.Takes.{takes}
 use Rattle.clap.proofs.OnLiterals.{clap_on_literals}
-use Rattle.ipx_cmd.specs.Chosen.{IsReplay, command_line, is_plain}
+use Rattle.ipx_cmd.specs.Chosen.{IsAsked, IsOffered, command_line, is_plain, word_of}
+use Rattle.ipx_cmd.specs.declared.chosen.Run.{Run}
+use Rattle.ipx_cmd.specs.declared.chosen.Run.TheVariants.{Replay, Internet, Decode}
 
 -- the file in a subcommand's matches
 abbrev pub file_of : Option (Text × List Row) → Option (Option Text)
 file_of = option_map (λ p. first_of (codes "file") p.1)
 
--- the parser takes the words, and finds this file
-abbrev pub Reads : List Text → Option Text → Type 0
-Reads words file = (takes command_line words ≡ true) × (file_of (subcommand_of command_line words) ≡ Some file)
+-- the word of a subcommand
+abbrev pub verb_of : Option (Text × List Row) → Option Text
+verb_of = option_map (λ p. p.0)
+
+-- the parser takes the words, and finds this command and this file
+abbrev pub Reads : Run → List Text → Option Text → Type 0
+Reads run words file =
+    (takes command_line words ≡ true) × (file_of (subcommand_of command_line words) ≡ Some file) × (verb_of (subcommand_of command_line words) ≡ Some (word_of run))
 
 pub simple : is_simple command_line ≡ true
 unfolding clap_on_literals
 simple = refl
 
-reads-none : Reads (codes "replay" ∷ []) None
+reads-none : (run : Run) → IsOffered run → Reads run (word_of run ∷ []) None
 unfolding clap_on_literals
-reads-none = (refl, refl)
+reads-none Replay is = (refl, refl, refl)
+reads-none Decode is = (refl, refl, refl)
+reads-none Internet is = absurd is
 
-reads-after : (file : Text) → Reads (codes "replay" ∷ codes "--" ∷ file ∷ []) (Some file)
+reads-after : (run : Run) → IsOffered run → (file : Text) → Reads run (word_of run ∷ codes "--" ∷ file ∷ []) (Some file)
 unfolding clap_on_literals
-reads-after file = (refl, refl)
+reads-after Replay is file = (refl, refl, refl)
+reads-after Decode is file = (refl, refl, refl)
+reads-after Internet is file = absurd is
 
-reads-empty : Reads (codes "replay" ∷ [] ∷ []) (Some [])
+reads-empty : (run : Run) → IsOffered run → Reads run (word_of run ∷ [] ∷ []) (Some [])
 unfolding clap_on_literals
-reads-empty = (refl, refl)
+reads-empty Replay is = (refl, refl, refl)
+reads-empty Decode is = (refl, refl, refl)
+reads-empty Internet is = absurd is
 
-reads-hyphen : Reads (codes "replay" ∷ codes "-" ∷ []) (Some (codes "-"))
+reads-hyphen : (run : Run) → IsOffered run → Reads run (word_of run ∷ codes "-" ∷ []) (Some (codes "-"))
 unfolding clap_on_literals
-reads-hyphen = (refl, refl)
+reads-hyphen Replay is = (refl, refl, refl)
+reads-hyphen Decode is = (refl, refl, refl)
+reads-hyphen Internet is = absurd is
 
-reads-plain : (file : Text) → bytes_eq file (codes "--") ≡ false → long_of file ≡ None → short_of file ≡ None
-    → Reads (codes "replay" ∷ file ∷ []) (Some file)
+reads-plain : (run : Run) → IsOffered run → (file : Text) → bytes_eq file (codes "--") ≡ false → long_of file ≡ None → short_of file ≡ None
+    → Reads run (word_of run ∷ file ∷ []) (Some file)
 unfolding clap_on_literals
-reads-plain file other long short = (rw (other, long, short) refl, rw (other, long, short) refl)
+reads-plain Replay is file other long short = (rw (other, long, short) refl, rw (other, long, short) refl, refl)
+reads-plain Decode is file other long short = (rw (other, long, short) refl, rw (other, long, short) refl, refl)
+reads-plain Internet is file other long short = absurd is
 
-no_option : (first : ℕ) (more : Text) → (first == 45) ≡ false → Reads (codes "replay" ∷ (first ∷ more) ∷ []) (Some (first ∷ more))
-no_option first more other = reads-plain (first ∷ more) (rw other refl) (rw other refl) (rw other refl)
+no_option : (run : Run) → IsOffered run → (first : ℕ) (more : Text) → (first == 45) ≡ false → Reads run (word_of run ∷ (first ∷ more) ∷ []) (Some (first ∷ more))
+no_option run is first more other = reads-plain run is (first ∷ more) (rw other refl) (rw other refl) (rw other refl)
 
-alone : (first : ℕ) (hyphen : Bool) → (first == 45) ≡ hyphen → Reads (codes "replay" ∷ (first ∷ []) ∷ []) (Some (first ∷ []))
-alone first true e = subst (λ (x : ℕ). Reads (codes "replay" ∷ (x ∷ []) ∷ []) (Some (x ∷ []))) (sym (eqb-true first 45 e)) reads-hyphen
-alone first false e = no_option first [] e
+alone : (run : Run) → IsOffered run → (first : ℕ) (hyphen : Bool) → (first == 45) ≡ hyphen → Reads run (word_of run ∷ (first ∷ []) ∷ []) (Some (first ∷ []))
+alone run is first true e = subst (λ (x : ℕ). Reads run (word_of run ∷ (x ∷ []) ∷ []) (Some (x ∷ []))) (sym (eqb-true first 45 e)) (reads-hyphen run is)
+alone run is first false e = no_option run is first [] e
 
 unhyphened : (first : Bool) → not first ≡ true → first ≡ false
 unhyphened true plain = absurd cc
 unhyphened false plain = refl
 
-named : (file : Text) → is_plain file ≡ true → Reads (codes "replay" ∷ file ∷ []) (Some file)
-named [] plain = reads-empty
-named (first ∷ []) plain = alone first (first == 45) refl
-named (first ∷ second ∷ more) plain = no_option first (second ∷ more) (unhyphened (first == 45) plain)
+named : (run : Run) → IsOffered run → (file : Text) → is_plain file ≡ true → Reads run (word_of run ∷ file ∷ []) (Some file)
+named run is [] plain = reads-empty run is
+named run is (first ∷ []) plain = alone run is first (first == 45) refl
+named run is (first ∷ second ∷ more) plain = no_option run is first (second ∷ more) (unhyphened (first == 45) plain)
 
--- each form of a request for a replay
-pub reads : (words : List Text) (file : Option Text) → IsReplay words file → Reads words file
-reads words None e = subst (λ (ws : List Text). Reads ws None) (sym e) reads-none
-reads words (Some file) (inl asked) = subst (λ (ws : List Text). Reads ws (Some file)) (sym asked.0) (named file asked.1)
-reads words (Some file) (inr e) = subst (λ (ws : List Text). Reads ws (Some file)) (sym e) (reads-after file)
+-- each form of a request for a run
+pub reads : (run : Run) → IsOffered run → (words : List Text) (file : Option Text) → IsAsked run words file → Reads run words file
+reads run is words None e = subst (λ (ws : List Text). Reads run ws None) (sym e) (reads-none run is)
+reads run is words (Some file) (inl asked) = subst (λ (ws : List Text). Reads run ws (Some file)) (sym asked.0) (named run is file asked.1)
+reads run is words (Some file) (inr e) = subst (λ (ws : List Text). Reads run ws (Some file)) (sym e) (reads-after run is file)
 
 -- the file that stands in the rows of the subcommand that was met
 pub found : (rows : List Row) (met : Option (Text × List Row)) (file : Option Text) → Some rows ≡ option_map (λ p. p.1) met
@@ -69,3 +86,11 @@ found rows None file same is = absurd cc
 found rows (Some p) file same is =
     let both : Some (first_of (codes "file") rows) ≡ Some file = ap (option_map (first_of (codes "file"))) same ∙ is in
     ap (λ known. unwrap_or known file) both
+
+-- the word that stands in the subcommand that was met
+pub verb_first : {A : Type 0} {B : Type 0} {C : Type 0} (f : A → B) (g : A → C) (o : Option A) → option_map f o ≡ option_map (λ (p : B × C). p.0) (option_map (λ (a : A). (f a, g a)) o)
+verb_first f g None = refl
+verb_first f g (Some a) = refl
+
+pub some_same : {X : Type 0} (x y : X) → Some x ≡ Some y → x ≡ y
+some_same x y e = ap (λ o. unwrap_or o x) e

@@ -9,7 +9,7 @@ use Rattle.std.proofs.lemmas.List.Splits.{slice_split-cons_yes, slice_split_firs
 use Rattle.std.proofs.lemmas.List.Sums.{passes_at_first, fails_before_first}
 use Rattle.std.specs.List.{slice_split, position, position_or_len, before_first, after_first}
 use Rattle.std.specs.Option.{option_map}
-use Rattle.ipx_cmd.specs.Words.{is_blank, words, only_one, only_two, only_four}
+use Rattle.ipx_cmd.specs.Words.{is_blank, words, only_one, only_two}
 
 -- whether a part is a word
 abbrev is_word : List ℕ → Bool
@@ -111,15 +111,3 @@ pub only_two-cons : {X : Type 0} (a : X) (more : List X) → only_two (a ∷ mor
 only_two-cons a [] = refl
 only_two-cons a (b ∷ []) = refl
 only_two-cons a (b ∷ c ∷ more) = refl
-
-only_four-cons : {X : Type 0} (a b : X) (more : List X) → only_four (a ∷ b ∷ more) ≡ option_map (λ p. (a, b, p.0, p.1)) (only_two more)
-only_four-cons a b [] = refl
-only_four-cons a b (c ∷ []) = refl
-only_four-cons a b (c ∷ d ∷ []) = refl
-only_four-cons a b (c ∷ d ∷ e ∷ more) = refl
-
--- two items, and just two behind them
-pub only_four-found : (all rest more : List (List ℕ)) (a b c d : List ℕ) → all ≡ a ∷ rest → rest ≡ b ∷ more → Some (c, d) ≡ only_two more
-    → Some (a, b, c, d) ≡ only_four all
-only_four-found all rest more a b c d first second last =
-    rw (first, second) (ap (option_map (λ p. (a, b, p.0, p.1))) last ∙ sym (only_four-cons a b more))

@@ -19,7 +19,7 @@ pub a_drop : drop_text (codes "NoRoute") ≡ codes "drop NoRoute\n"
 a_drop = refl
 
 -- a route of the largest values
-pub a_route : route_text 48 15 65535 1 (0 ∷ 0 ∷ 0 ∷ 0 ∷ 0 ∷ 187 ∷ []) 179 ≡ codes "route 00000030 15 65535 1 0000000000BB 179\n"
+pub a_route : route_text (record { network = record { 0 = 48 }; hops = 15; ticks = 65535; port = 1; node = record { 0 = 0 ∷ 0 ∷ 0 ∷ 0 ∷ 0 ∷ 187 ∷ [] } }) 179 ≡ codes "route 00000030 15 65535 1 0000000000BB 179\n"
 unfolding encode_with digits
 a_route = refl
 

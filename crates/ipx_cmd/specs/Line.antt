@@ -35,7 +35,7 @@ abbrev pub Answers : {A B : Type 0} → (A → B) → Result A LineFault → Res
 Answers seen (Ok a) meant = meant ≡ Ok (seen a)
 Answers seen (Err fault) meant = meant ≡ Err fault
 
--- the same, where want of memory is apart
+-- the same, where out of memory is apart
 abbrev pub AnswersInMemory : {A B : Type 0} → (A → B) → Result A Refusal → Result B LineFault → Type 0
 AnswersInMemory seen (Ok a) meant = meant ≡ Ok (seen a)
 AnswersInMemory seen (Err (Line fault)) meant = meant ≡ Err fault

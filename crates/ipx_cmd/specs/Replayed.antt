@@ -5,7 +5,7 @@ use Rattle.ipx_wire.specs.Ends.{Output}
 use Rattle.ipx_cmd.specs.declared.ended.RunFault.{RunFault}
 use Rattle.ipx_cmd.specs.declared.ended.RunFault.TheVariants.{Read, Write, Memory}
 
--- the fault that is told is the one that was met: a device's where it has failed, and want of memory where none has
+-- the fault that is told is the one that was met: a device's where it has failed, and out of memory where none has
 abbrev pub IsFaultOf : Bool → Bool → RunFault → Type 0
 IsFaultOf intake outlet Read = intake ≡ true
 IsFaultOf intake outlet Write = outlet ≡ true

@@ -4,6 +4,7 @@ use Rattle.std.specs.List.{list_all, slice_split}
 use Rattle.std.specs.Char.{is_ascii_digit}
 use Rattle.std.specs.Str.{bytes_eq}
 use Rattle.std.specs.Str.Parse.{digits_value}
+use Rattle.std.specs.Option.{option_map}
 use Rattle.std.specs.Result.{result_ok}
 use Rattle.hex.specs.Hex.{decode_of}
 
@@ -32,14 +33,18 @@ only_two (a ∷ []) = None
 only_two (a ∷ b ∷ []) = Some (a, b)
 only_two (a ∷ b ∷ c ∷ more) = None
 
--- the items of a list of just four
-abbrev pub only_four : {X : Type 0} → List X → Option (X × X × X × X)
-only_four [] = None
-only_four (a ∷ []) = None
-only_four (a ∷ b ∷ []) = None
-only_four (a ∷ b ∷ c ∷ []) = None
-only_four (a ∷ b ∷ c ∷ d ∷ []) = Some (a, b, c, d)
-only_four (a ∷ b ∷ c ∷ d ∷ e ∷ more) = None
+-- the words of a port's shares: none, or two
+abbrev pub share_words : {X : Type 0} → List X → Option (Option (X × X))
+share_words [] = Some None
+share_words (a ∷ more) = option_map Some (only_two (a ∷ more))
+
+-- the words that name a port: four, and, where shares are named, two more
+abbrev pub port_words : {X : Type 0} → List X → Option (X × X × X × X × Option (X × X))
+port_words [] = None
+port_words (a ∷ []) = None
+port_words (a ∷ b ∷ []) = None
+port_words (a ∷ b ∷ c ∷ []) = None
+port_words (a ∷ b ∷ c ∷ d ∷ more) = option_map (λ shares. (a, b, c, d, shares)) (share_words more)
 
 -- one to seven decimal digits
 abbrev pub is_numeral : List ℕ → Bool
@@ -49,6 +54,11 @@ is_numeral word = nat_le 1 (length word) && nat_le (length word) 7 && list_all i
 abbrev pub number_of : ℕ → List ℕ → Option ℕ
 number_of most word =
     if is_numeral word && nat_le (digits_value 10 word) most then Some (digits_value 10 word) else None
+
+-- the number that a word names, where it lies between these
+abbrev pub number_between : ℕ → ℕ → List ℕ → Option ℕ
+number_between least most word =
+    if is_numeral word && nat_le least (digits_value 10 word) && nat_le (digits_value 10 word) most then Some (digits_value 10 word) else None
 
 -- the bytes that a word names: `-` for none, else two hexadecimal digits or more, two a byte
 abbrev pub bytes_of : List ℕ → Option (List ℕ)

@@ -1,11 +1,11 @@
 //! What the words after the program's name ask for.
 
-ghost use Rattle.std.specs.Prelude.{◌≡◌, ◌↔◌, ℕ, List, Option, IfOk, codes, map, option_map, string_bytes};
-ghost use Rattle.clap.specs.Words.{app_of, first_value, found_of, kind_of};
+ghost use Rattle.std.specs.Prelude.{◌≡◌, ◌↔◌, ℕ, List, Option, Some, IfOk, IfSome, codes, map, option_map, string_bytes};
+ghost use Rattle.clap.specs.Words.{app_of, first_value, found_of, kind_of, with_subcommand};
 ghost use Rattle.clap.specs.declared.error.kind.ErrorKind.TheVariants.{OutOfMemory};
-ghost use Rattle.ipx_cmd.specs.Chosen.{IsReplay, Replays, command_line};
+ghost use Rattle.ipx_cmd.specs.Chosen.{Chooses, IsAsked, IsOffered, command_line, file_command, word_of};
 ghost use Rattle.ipx_cmd.specs.declared.chosen.ChooseFault.TheVariants.{Memory};
-ghost use Rattle.ipx_cmd.specs.declared.chosen.Run.TheVariants.{Replay};
+ghost use Rattle.ipx_cmd.specs.declared.chosen.Run.{Run};
 
 use clap::error::ErrorKind;
 use clap::{Arg, ArgMatches, Command, Error as Refusal};
@@ -49,36 +49,60 @@ impl From<AllocError> for ChooseFault {
     }
 }
 
-/// Reads the words after the program's name: `replay [FILE]`.
+/// Reads the words after the program's name: `replay [FILE]` or `decode [FILE]`.
 ///
 /// A FILE that begins with `-` stands after the word `--`, unless it is `-` alone.
 pub fn choose(alloc: Global, words: &[&str]) -> Result<Chosen, ChooseFault>
-    ensures run { IfOk result (λ chosen. chosen.run ≡ Replay) }
-    ensures replay { (file : Option (List ℕ)) → IsReplay (map (λ word. word.now) words.now) file → Replays file result }
+    ensures run { IfOk result (λ chosen. IsOffered chosen.run) }
+    ensures asked { (run : Run) (file : Option (List ℕ)) → IsOffered run → IsAsked run (map (λ word. word.now) words.now) file → Chooses run file result }
 {
     let matches = match command(alloc)?.try_get_matches_from(words) {
         Ok(matches) => matches,
         Err(refusal) => return Err(fault_of(&refusal)),
     };
-    let Some((_verb, inner)) = matches.subcommand() else {
+    let Some((verb, inner)) = matches.subcommand() else {
+        return Err(ChooseFault::Usage);
+    };
+    let Some(run) = run_of(verb) else {
         return Err(ChooseFault::Usage);
     };
     let file = file_in(alloc, inner)?;
-    Ok(Chosen {
-        run: Run::Replay,
-        file,
-    })
+    Ok(Chosen { run, file })
+}
+
+/// The run that a command names.
+fn run_of(verb: &str) -> Option<Run>
+    ensures offered { IfSome result IsOffered }
+    ensures named { (run : Run) → IsOffered run → verb.now ≡ word_of run → result ≡ Some run }
+{
+    match verb {
+        "replay" => Some(Run::Replay),
+        "decode" => Some(Run::Decode),
+        _ => None,
+    }
 }
 
 /// The program's command line.
 fn command<'a>(alloc: Global) -> Result<Command<'a>, AllocError>
     ensures { IfOk result (λ command. app_of command ≡ command_line) }
 {
-    let replay = Command::new(alloc, "replay").arg(Arg::new(alloc, "file"))?;
-    Command::new(alloc, "ipxr")
+    let top = Command::new(alloc, "ipxr")
         .no_binary_name(true)
-        .subcommand_required(true)
-        .subcommand(replay)
+        .subcommand_required(true);
+    let with_replay = with_file_command(alloc, top, "replay")?;
+    with_file_command(alloc, with_replay, "decode")
+}
+
+/// The command line with one command more, which may name a file.
+fn with_file_command<'a>(
+    alloc: Global,
+    top: Command<'a>,
+    name: &'a str,
+) -> Result<Command<'a>, AllocError>
+    ensures { IfOk result (λ command. app_of command ≡ with_subcommand (app_of top.entry) (file_command name.now).top) }
+{
+    let command = Command::new(alloc, name).arg(Arg::new(alloc, "file"))?;
+    top.subcommand(command)
 }
 
 fn fault_of(refusal: &Refusal) -> ChooseFault

@@ -7,18 +7,24 @@ ghost use Rattle.std.specs.Str.{bytes_eq};
 ghost use Rattle.std.specs.Option.{option_map};
 ghost use Rattle.ipx_cmd.specs.Instruction.{instruction_of};
 ghost use Rattle.ipx_cmd.specs.Line.{Answers, AnswersInMemory, IsRefusal};
-ghost use Rattle.ipx_cmd.specs.Script.{line_meaning, command_meaning, port_allowed, port_of, port_meaning, packet_of, in_meaning, brings_bytes};
+ghost use Rattle.ipx_cmd.specs.Script.{line_meaning, command_meaning, port_allowed, shares_of, port_of, port_meaning, second_meaning, number_meaning, later_meaning, packet_of, in_meaning, brings_bytes};
 ghost use Rattle.ipx_cmd.specs.Words.{words};
 
 use crate::fault::LineFault;
 use crate::line::{line_words, no_more, read_bytes};
 use crate::refusal::Refusal;
-use crate::words::{four_words, is_word, network, node, number_u8, number_u16, two_words};
+use crate::words::{
+    PortWords, is_word, network, node, number_from_one, number_u8, number_u16, one_word,
+    port_words, two_words,
+};
 use ipx_wire::{Network, Node};
 use std::alloc::Global;
 
 /// How many ports a router of the program has at most.
 pub(crate) const MOST_PORTS: usize = 8;
+
+/// How many seconds one line can let pass: a day.
+const MOST_SECONDS: u32 = 86_400;
 
 /// How far a script has come.
 #[derive(Clone, Copy, Debug, PartialEq, Eq)]
@@ -29,27 +35,42 @@ pub(crate) struct Stage {
     pub ports: usize,
 }
 
+/// A port as a line names it.
+#[derive(Clone, Copy, Debug, PartialEq, Eq)]
+pub(crate) struct NamedPort {
+    pub network: Network,
+    pub node: Node,
+    /// Ticks to the port's network.
+    pub cost: u16,
+    /// Bytes of the longest packet.
+    pub longest: u16,
+    /// How many of the routes in the table may have come by it.
+    pub routes: u16,
+    /// How many of the services in the table may have come by it.
+    pub services: u16,
+}
+
 /// What a line of a script asks for.
 #[derive(Debug, Drop)]
 pub(crate) enum Command {
     /// The next port of the router.
-    Port {
-        network: Network,
-        node: Node,
-        /// Ticks to the port's network.
-        cost: u16,
-        /// Bytes of the longest packet.
-        longest: u16,
-    },
+    Port(NamedPort),
     /// The router starts.
     Start,
+    /// The router stops.
+    Stop,
+    /// This many seconds pass, one after the other.
+    Second { count: u32 },
     /// A packet comes in by a port.
-    In {
-        port: u8,
-        bytes: Vec<u8>,
-    },
-    /// The routes are shown.
+    In { port: u8, bytes: Vec<u8> },
+    /// A port goes down.
+    Down { port: u8 },
+    /// A port comes up.
+    Up { port: u8 },
+    /// The route table is shown.
     Routes,
+    /// The service table is shown.
+    Services,
 }
 
 /// Whether another port may be named.
@@ -65,34 +86,63 @@ fn port_allowed(stage: Stage) -> Result<(), LineFault>
     }
 }
 
-/// The port that four words name, read from left to right.
-fn port_of(
-    network_word: &[u8],
-    node_word: &[u8],
-    cost_word: &[u8],
-    longest_word: &[u8],
-) -> Result<Command, LineFault>
-    ensures { Answers instruction_of result (port_of network_word.now node_word.now cost_word.now longest_word.now) }
+/// The shares that two words name; without them nothing is limited.
+fn shares_of(named: Option<(&[u8], &[u8])>) -> Result<(u16, u16), LineFault>
+    ensures { result ≡ shares_of (option_map (λ shares. (shares.0.now, shares.1.now)) named.entry) }
 {
-    let network = network(network_word).ok_or(LineFault::Network)?;
-    let node = node(node_word).ok_or(LineFault::Node)?;
-    let cost = number_u16(cost_word).ok_or(LineFault::Number)?;
-    let longest = number_u16(longest_word).ok_or(LineFault::Number)?;
-    Ok(Command::Port {
+    match named {
+        None => Ok((u16::MAX, u16::MAX)),
+        Some((routes_word, services_word)) => {
+            let routes = number_u16(routes_word).ok_or(LineFault::Number)?;
+            let services = number_u16(services_word).ok_or(LineFault::Number)?;
+            Ok((routes, services))
+        }
+    }
+}
+
+/// The port that words name, read from left to right.
+fn port_of(named: PortWords<'_>) -> Result<Command, LineFault>
+    ensures { Answers instruction_of result (port_of named.entry.network.now named.entry.node.now named.entry.cost.now named.entry.longest.now (option_map (λ shares. (shares.0.now, shares.1.now)) named.entry.shares)) }
+{
+    let network = network(named.network).ok_or(LineFault::Network)?;
+    let node = node(named.node).ok_or(LineFault::Node)?;
+    let cost = number_u16(named.cost).ok_or(LineFault::Number)?;
+    let longest = number_u16(named.longest).ok_or(LineFault::Number)?;
+    let (routes, services) = shares_of(named.shares)?;
+    Ok(Command::Port(NamedPort {
         network,
         node,
         cost,
         longest,
-    })
+        routes,
+        services,
+    }))
 }
 
-/// `port NET NODE COST LONGEST`, by the words after the first.
+/// `port NET NODE COST LONGEST`, or with ROUTES SERVICES behind it, by the words after the first.
 fn port_command(stage: Stage, arguments: &[u8]) -> Result<Command, LineFault>
     ensures { Answers instruction_of result (port_meaning stage (words arguments.now)) }
 {
-    let (network, node, cost, longest) = four_words(arguments).ok_or(LineFault::Words)?;
+    let named = port_words(arguments).ok_or(LineFault::Words)?;
     port_allowed(stage)?;
-    port_of(network, node, cost, longest)
+    port_of(named)
+}
+
+/// `second N`, by the words after the first.
+fn second_command(arguments: &[u8]) -> Result<Command, LineFault>
+    ensures { Answers instruction_of result (second_meaning (words arguments.now)) }
+{
+    let word = one_word(arguments).ok_or(LineFault::Words)?;
+    let count = number_from_one(word, MOST_SECONDS).ok_or(LineFault::Number)?;
+    Ok(Command::Second { count })
+}
+
+/// The port of `down PORT` and `up PORT`, by the words after the first.
+fn port_number(arguments: &[u8]) -> Result<u8, LineFault>
+    ensures { Answers (λ port. port) result (number_meaning (words arguments.now)) }
+{
+    let word = one_word(arguments).ok_or(LineFault::Words)?;
+    number_u8(word).ok_or(LineFault::Number)
 }
 
 /// The packet that two words name, read from left to right.
@@ -129,14 +179,40 @@ fn read_command(
         no_more(arguments)?;
         return Ok(Command::Start);
     }
+    if is_word(name, b"stop") {
+        no_more(arguments)?;
+        return Ok(Command::Stop);
+    }
+    if is_word(name, b"second") {
+        return second_command(arguments).map_err(Refusal::Line);
+    }
     if is_word(name, b"in") {
         return in_command(alloc, arguments);
+    }
+    read_later_command(name, arguments).map_err(Refusal::Line)
+}
+
+/// The commands behind `in`.
+fn read_later_command(name: &[u8], arguments: &[u8]) -> Result<Command, LineFault>
+    ensures { Answers instruction_of result (later_meaning name.now (words arguments.now)) }
+{
+    if is_word(name, b"down") {
+        let port = port_number(arguments)?;
+        return Ok(Command::Down { port });
+    }
+    if is_word(name, b"up") {
+        let port = port_number(arguments)?;
+        return Ok(Command::Up { port });
     }
     if is_word(name, b"routes") {
         no_more(arguments)?;
         return Ok(Command::Routes);
     }
-    Err(Refusal::Line(LineFault::Command))
+    if is_word(name, b"services") {
+        no_more(arguments)?;
+        return Ok(Command::Services);
+    }
+    Err(LineFault::Command)
 }
 
 /// Reads a line of `replay`'s script, without its line feed and the carriage return before that.

@@ -17,7 +17,7 @@ pub enum Ended {
     BadInput,
 }
 
-/// Why a run was given up. What it wrote before is a front of what it had to say.
+/// Why a run was given up. What it wrote before is a prefix of its text.
 #[derive(Clone, Copy, Debug, PartialEq, Eq, Error)]
 pub enum RunFault {
     /// The intake failed.
@@ -47,7 +47,7 @@ impl From<AllocError> for RunFault {
     }
 }
 
-/// The exit status of a run: 0 done, 1 a device failed, 2 bad input, 3 want of memory.
+/// The exit status of a run: 0 done, 1 a device failed, 2 bad input, 3 out of memory.
 pub fn status(run: &Result<Ended, RunFault>) -> u8
     ensures status { result ≡ status_of run.now }
 {

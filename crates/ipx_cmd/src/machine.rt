@@ -1,24 +1,25 @@
 //! What the lines of a script act on: the ports named so far, and then the router that they make.
-ghost use Rattle.std.specs.Prelude.{◌≡◌, length};
+ghost use Rattle.std.specs.Prelude.{◌≡◌, ◌<◌, length};
+ghost use Rattle.ipx_router.specs.Happened.{happened};
 ghost use Rattle.ipx_router.specs.History.{IsOnPort};
-ghost use Rattle.ipx_cmd.specs.Thin.{event_of, happened};
-ghost use Rattle.ipx_cmd.specs.PortWord.{port_fault};
+ghost use Rattle.ipx_cmd.specs.PortWord.{port_fault, ports_fault};
 
-use crate::command::{Command, MOST_PORTS, Stage, read_line};
+use crate::command::{Command, MOST_PORTS, NamedPort, Stage, read_line};
 use crate::fault::LineFault;
-use crate::output::{drop_line, out_line, route_line};
+use crate::output::{drop_line, out_line, route_line, service_line};
 use crate::refusal::Refusal;
-use crate::thin::{Event, Outbox, Outcome, PortsFault, Router};
 use crate::why_word::WhyWord;
 use arrayvec::ArrayVec;
-use ipx_router::{Port, PortFault};
-use ipx_wire::{Network, Node};
+use ipx_router::{Event, Outbox, Outcome, Port, PortFault, PortsFault, Router};
 use std::alloc::Global;
 
-/// How many routes the router of the program holds at most.
+/// How many routes the router of the program has at most.
 const MOST_ROUTES: usize = 256;
 
-type ScriptRouter = Router<MOST_PORTS, MOST_ROUTES>;
+/// How many services it has at most.
+const MOST_SERVICES: usize = 128;
+
+type ScriptRouter = Router<MOST_PORTS, MOST_ROUTES, MOST_SERVICES>;
 
 /// The ports of a script, its router once that is made, and what the router sends.
 #[derive(Debug, Drop)]
@@ -48,73 +49,39 @@ impl Machine {
         let Some(command) = read_line(self.alloc, line, stage)? else {
             return Ok(());
         };
-        match command {
-            Command::Port {
-                network,
-                node,
-                cost,
-                longest,
-            } => self.add_port(network, node, cost, longest),
-            Command::Start => self.start(text),
-            Command::In { port, bytes } => self.arrive(port, &bytes, text),
-            Command::Routes => self.show_routes(text),
+        if let Command::Port(named) = command {
+            return self.name_port(named);
+        }
+        self.make_router()?;
+        match &mut self.router {
+            Some(router) => act_on(router, &mut self.outbox, command, text),
+            None => Ok(()),
         }
     }
 
-    fn add_port(
-        &mut self,
-        network: Network,
-        node: Node,
-        cost: u16,
-        longest: u16,
-    ) -> Result<(), Refusal> {
-        match Port::new(network, node, cost, longest) {
-            Ok(port) => match self.ports.try_push(port) {
-                Ok(()) => Ok(()),
-                Err(_) => Err(Refusal::Line(LineFault::Many)),
-            },
-            Err(fault) => Err(Refusal::Line(port_fault(fault))),
+    /// Keeps the next port.
+    fn name_port(&mut self, named: NamedPort) -> Result<(), Refusal> {
+        let port = port_of(named)?;
+        match self.ports.try_push(port) {
+            Ok(()) => Ok(()),
+            Err(_) => Err(Refusal::Line(LineFault::Many)),
         }
     }
 
-    fn start(&mut self, text: &mut String) -> Result<(), Refusal> {
-        let mut router = self.take_router()?;
-        let answer = happen(&mut router, &mut self.outbox, Event::Start, text);
-        self.router = Some(router);
-        answer
-    }
-
-    fn arrive(&mut self, port: u8, bytes: &[u8], text: &mut String) -> Result<(), Refusal> {
-        let mut router = self.take_router()?;
-        let answer = if router.has_port(port) {
-            let event = Event::Packet { port, bytes };
-            happen(&mut router, &mut self.outbox, event, text)
-        } else {
-            Err(Refusal::Line(LineFault::Port))
-        };
-        self.router = Some(router);
-        answer
-    }
-
-    fn show_routes(&mut self, text: &mut String) -> Result<(), Refusal> {
-        let router = self.take_router()?;
-        let answer = write_routes(&router, text);
-        self.router = Some(router);
-        answer
-    }
-
-    /// The router, which is made where it isn't yet.
-    fn take_router(&mut self) -> Result<ScriptRouter, Refusal> {
-        if let Some(router) = self.router.take() {
-            return Ok(router);
+    /// Makes the router of the ports named so far, where it isn't made yet.
+    fn make_router(&mut self) -> Result<(), Refusal> {
+        if self.router.is_none() {
+            let router = Router::new(&self.ports).map_err(ports_fault)?;
+            self.router = Some(router);
         }
-        match Router::new(self.alloc, &self.ports) {
-            Ok(router) => Ok(router),
-            Err(PortsFault::NoPort) => Err(Refusal::Line(LineFault::None)),
-            Err(PortsFault::TooMany) => Err(Refusal::Line(LineFault::Many)),
-            Err(PortsFault::SameNetwork) => Err(Refusal::Line(LineFault::Same)),
-        }
+        Ok(())
     }
+}
+
+/// The port that a line names.
+fn port_of(named: NamedPort) -> Result<Port, LineFault> {
+    let port = Port::new(named.network, named.node, named.cost, named.longest).map_err(port_fault)?;
+    Ok(port.with_shares(named.routes, named.services))
 }
 
 /// The word of a port's fault.
@@ -129,6 +96,77 @@ fn port_fault(fault: PortFault) -> LineFault
     }
 }
 
+/// The word of a fault of ports that make no router.
+fn ports_fault(fault: PortsFault) -> LineFault
+    ensures { result ≡ ports_fault fault }
+{
+    match fault {
+        PortsFault::NoPort => LineFault::None,
+        PortsFault::TooMany => LineFault::Many,
+        PortsFault::SameNetwork => LineFault::Same,
+    }
+}
+
+/// Acts on a command once the router is made.
+fn act_on(
+    router: &mut ScriptRouter,
+    outbox: &mut Outbox,
+    command: Command,
+    text: &mut String,
+) -> Result<(), Refusal> {
+    match command {
+        Command::Port(_) => Ok(()),
+        Command::Start => happen(router, outbox, Event::Start, text),
+        Command::Stop => happen(router, outbox, Event::Stop, text),
+        Command::Second { count } => pass(router, outbox, count, text),
+        Command::In { port, bytes } => {
+            happen_on(
+                router,
+                outbox,
+                port,
+                Event::Packet {
+                    port,
+                    bytes: &bytes,
+                },
+                text,
+            )
+        }
+        Command::Down { port } => happen_on(router, outbox, port, Event::PortDown { port }, text),
+        Command::Up { port } => happen_on(router, outbox, port, Event::PortUp { port }, text),
+        Command::Routes => write_routes(router, text),
+        Command::Services => write_services(router, text),
+    }
+}
+
+/// This many seconds, one after the other.
+fn pass(
+    router: &mut ScriptRouter,
+    outbox: &mut Outbox,
+    count: u32,
+    text: &mut String,
+) -> Result<(), Refusal> {
+    for _ in 0..count {
+        happen(router, outbox, Event::Second, text)?;
+    }
+    Ok(())
+}
+
+/// An event of a port, if the router has it.
+fn happen_on(
+    router: &mut ScriptRouter,
+    outbox: &mut Outbox,
+    port: u8,
+    event: Event<'_>,
+    text: &mut String,
+) -> Result<(), Refusal>
+    requires { port < length router.old.ports → IsOnPort router.old.ports (happened event) }
+{
+    if !router.has_port(port) {
+        return Err(Refusal::Line(LineFault::Port));
+    }
+    happen(router, outbox, event, text)
+}
+
 /// One event with an emptied outbox: a line for each packet sent, or one for a drop.
 fn happen(
     router: &mut ScriptRouter,
@@ -136,7 +174,7 @@ fn happen(
     event: Event<'_>,
     text: &mut String,
 ) -> Result<(), Refusal>
-    requires { IsOnPort router.old.ports (event_of (happened event)) }
+    requires { IsOnPort router.old.ports (happened event) }
 {
     outbox.clear();
     match router.step(event, outbox)? {
@@ -146,6 +184,7 @@ fn happen(
     Ok(())
 }
 
+/// A line for each packet of an outbox.
 fn write_sent(outbox: &Outbox, text: &mut String) -> Result<(), Refusal> {
     for place in 0..outbox.len() {
         let sent = outbox.get(place);
@@ -154,19 +193,21 @@ fn write_sent(outbox: &Outbox, text: &mut String) -> Result<(), Refusal> {
     Ok(())
 }
 
+/// A line for each route in the table, by network.
 fn write_routes(router: &ScriptRouter, text: &mut String) -> Result<(), Refusal> {
     for place in 0..router.routes() {
         if let Some(held) = router.route_at(place) {
-            let route = held.offer;
-            route_line(
-                text,
-                route.network,
-                route.hops,
-                route.ticks,
-                route.port,
-                route.node,
-                u16::from(held.age),
-            )?;
+            route_line(text, &held.offer, held.age)?;
+        }
+    }
+    Ok(())
+}
+
+/// A line for each service in the table, by type and name.
+fn write_services(router: &ScriptRouter, text: &mut String) -> Result<(), Refusal> {
+    for place in 0..router.services() {
+        if let Some(held) = router.service_at(place) {
+            service_line(text, &held.offer, held.age)?;
         }
     }
     Ok(())

@@ -1,9 +1,11 @@
 //! The lines that a run writes, each with its line feed.
 ghost use Rattle.std.specs.Prelude.{◌≡◌, ◌++◌, IfSome, OnOk, Some, string_bytes};
-ghost use Rattle.ipx_cmd.specs.Output.{hex_word, out_text, drop_text, route_text, fault_text};
+ghost use Rattle.ipx_cmd.specs.Output.{hex_word, out_text, drop_text, route_text, offered_words, held_words, service_text, fault_text};
 
 use crate::fault::LineFault;
-use ipx_wire::{Hex, Network, Node};
+use crate::show::name_word::NameWord;
+use ipx_router::{RouteOffer, ServiceOffer};
+use ipx_wire::{Address, Hex, Node};
 use std::alloc::AllocError;
 use std::fmt;
 use std::fmt::Display;
@@ -27,7 +29,7 @@ impl<'a> Display for HexWord<'a> {
 
 /// Appends the line of a packet that was sent, by the port and to the node of its network.
 ///
-/// An error is want of memory.
+/// An error means out of memory.
 pub(crate) fn out_line(
     text: &mut String,
     port: u8,
@@ -42,33 +44,73 @@ pub(crate) fn out_line(
 
 /// Appends the line of an event that was dropped.
 ///
-/// An error is want of memory.
+/// An error means out of memory.
 pub(crate) fn drop_line<D: Display>(text: &mut String, why: &D) -> Result<(), AllocError>
     ensures { OnOk result (IfSome (D.output why.now) (λ word. string_bytes text.new ≡ string_bytes text.old ++ drop_text word)) }
 {
     writeln!(text, "drop {why}")
 }
 
-/// Appends the line of a route that is held: its age is in seconds.
+/// Appends the line of a route in the table: its age is in seconds.
 ///
-/// An error is want of memory.
-pub(crate) fn route_line(
-    text: &mut String,
-    network: Network,
-    hops: u16,
-    ticks: u16,
-    port: u8,
-    node: Node,
-    age: u16,
-) -> Result<(), AllocError>
-    ensures { OnOk result (string_bytes text.new ≡ string_bytes text.old ++ route_text network.0 hops ticks port node.0 age) }
+/// An error means out of memory.
+pub(crate) fn route_line(text: &mut String, route: &RouteOffer, age: u8) -> Result<(), AllocError>
+    ensures { OnOk result (string_bytes text.new ≡ string_bytes text.old ++ route_text route.now age) }
 {
+    let RouteOffer {
+        network,
+        hops,
+        ticks,
+        port,
+        node,
+    } = *route;
     writeln!(text, "route {network} {hops} {ticks} {port} {node} {age}")
+}
+
+/// Appends the line of a service in the table: its age is in seconds.
+///
+/// An error means out of memory.
+#[tactic(auto, unfolding(crate::specs::Output::service_text))]
+pub(crate) fn service_line(
+    text: &mut String,
+    offer: &ServiceOffer,
+    age: u8,
+) -> Result<(), AllocError>
+    ensures { OnOk result (string_bytes text.new ≡ string_bytes text.old ++ service_text offer.now age) }
+{
+    let service = offer.service;
+    let kind = service.kind.to_be_bytes();
+    let kind = Hex(&kind);
+    let name = NameWord(service.name.bytes());
+    write!(text, "service {kind} {name}")?;
+    add_offered(text, service.address, service.hops)?;
+    add_held(text, offer.port, age)
+}
+
+/// Appends where a service is offered, and how far away.
+#[tactic(auto, unfolding(crate::specs::Output::offered_words))]
+fn add_offered(text: &mut String, address: Address, hops: u16) -> Result<(), AllocError>
+    ensures { OnOk result (string_bytes text.new ≡ string_bytes text.old ++ offered_words address hops) }
+{
+    let Address {
+        network,
+        node,
+        socket,
+    } = address;
+    write!(text, " {network} {node} {socket} {hops}")
+}
+
+/// Appends by which port a record came, and its age, and ends the line.
+#[tactic(auto, unfolding(crate::specs::Output::held_words))]
+fn add_held(text: &mut String, port: u8, age: u8) -> Result<(), AllocError>
+    ensures { OnOk result (string_bytes text.new ≡ string_bytes text.old ++ held_words port age) }
+{
+    writeln!(text, " {port} {age}")
 }
 
 /// Appends the line that tells what is wrong with a line of the script, numbered from 1.
 ///
-/// An error is want of memory.
+/// An error means out of memory.
 pub(crate) fn fault_line(text: &mut String, number: u64, fault: LineFault) -> Result<(), AllocError>
     ensures { OnOk result (string_bytes text.new ≡ string_bytes text.old ++ fault_text number fault) }
 {

@@ -18,12 +18,12 @@ use std::io::{Read, Write};
 const PIECE: usize = 8192;
 
 /// From how many bytes on text is written in the middle of a piece.
-const LARGE: usize = 65_536;
+pub(crate) const LARGE: usize = 65_536;
 
 /// Plays a script on one router: reads it from the intake, and writes its text to the outlet.
 ///
 /// `BadInput` where a line is refused, which the last line of the text tells. After a fault what was
-/// written is a front of the text.
+/// written is a prefix of the text.
 pub fn replay<R: Read, W: Write>(
     alloc: Global,
     intake: &mut Intake<R>,
@@ -130,7 +130,7 @@ fn tell<W: Write>(
 }
 
 /// Writes the text and empties it.
-fn flush<W: Write>(text: &mut String, outlet: &mut Outlet<W>) -> Result<(), RunFault>
+pub(crate) fn flush<W: Write>(text: &mut String, outlet: &mut Outlet<W>) -> Result<(), RunFault>
     requires { outlet.old.failed ≡ false }
     ensures ok { OnOk result (WroteAll outlet.old outlet.new (string_bytes text.old)) }
     ensures emptied { OnOk result (string_bytes text.new ≡ []) }

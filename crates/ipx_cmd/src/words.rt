@@ -5,11 +5,22 @@ ghost use Rattle.std.specs.Option.{option_map};
 ghost use Rattle.std.specs.Char.{is_ascii_digit};
 ghost use Rattle.std.specs.Str.{bytes_eq};
 ghost use Rattle.std.specs.Str.Parse.{digits_value};
-ghost use Rattle.ipx_cmd.specs.Words.{is_blank, is_text_byte, words, only_one, only_two, only_four, is_numeral, number_of};
+ghost use Rattle.ipx_cmd.specs.Words.{is_blank, is_text_byte, words, only_one, only_two, share_words, port_words, is_numeral, number_of, number_between};
 ghost use Rattle.ipx_wire.specs.Digits.{network_of, node_of};
 
 use ipx_wire::{Network, Node};
 use std::str;
+
+/// The words that name a port.
+#[derive(Clone, Copy, Debug)]
+pub(crate) struct PortWords<'a> {
+    pub network: &'a [u8],
+    pub node: &'a [u8],
+    pub cost: &'a [u8],
+    pub longest: &'a [u8],
+    /// Those of its shares of routes and of services, if they are named.
+    pub shares: Option<(&'a [u8], &'a [u8])>,
+}
 
 /// Whether a byte stands between words.
 fn is_blank(byte: u8) -> bool
@@ -72,7 +83,7 @@ pub(crate) fn has_no_words(line: &[u8]) -> bool
 }
 
 /// The word of a line that has just one.
-fn one_word(line: &[u8]) -> Option<&[u8]>
+pub(crate) fn one_word(line: &[u8]) -> Option<&[u8]>
     ensures { option_map (λ word. word.now) result ≡ only_one (words line.now) }
 {
     match first_word(line) {
@@ -90,14 +101,35 @@ pub(crate) fn two_words(line: &[u8]) -> Option<(&[u8], &[u8])>
     Some((first, second))
 }
 
-/// The words of a line that has just four.
-pub(crate) fn four_words(line: &[u8]) -> Option<(&[u8], &[u8], &[u8], &[u8])>
-    ensures { option_map (λ found. (found.0.now, found.1.now, found.2.now, found.3.now)) result ≡ only_four (words line.now) }
+/// The words that name a port: four, and two more where its shares are named.
+pub(crate) fn port_words(line: &[u8]) -> Option<PortWords<'_>>
+    ensures { option_map (λ found. (found.network.now, found.node.now, found.cost.now, found.longest.now, option_map (λ shares. (shares.0.now, shares.1.now)) found.shares)) result ≡ port_words (words line.now) }
 {
-    let (first, after_first) = first_word(line)?;
-    let (second, after_second) = first_word(after_first)?;
-    let (third, fourth) = two_words(after_second)?;
-    Some((first, second, third, fourth))
+    let (network, after_network) = first_word(line)?;
+    let (node, after_node) = first_word(after_network)?;
+    let (cost, after_cost) = first_word(after_node)?;
+    let (longest, after_longest) = first_word(after_cost)?;
+    let shares = share_words(after_longest)?;
+    Some(PortWords {
+        network,
+        node,
+        cost,
+        longest,
+        shares,
+    })
+}
+
+/// The words of a port's shares: none, or two.
+fn share_words(line: &[u8]) -> Option<Option<(&[u8], &[u8])>>
+    ensures { option_map (λ found. option_map (λ shares. (shares.0.now, shares.1.now)) found) result ≡ share_words (words line.now) }
+{
+    if has_no_words(line) {
+        return Some(None);
+    }
+    match two_words(line) {
+        Some(shares) => Some(Some(shares)),
+        None => None,
+    }
 }
 
 /// Whether a word is this one.
@@ -142,6 +174,15 @@ pub(crate) fn number(word: &[u8], most: u32) -> Option<u32>
     }
     let value = decimal_value(word);
     if value <= most { Some(value) } else { None }
+}
+
+/// A number of one to seven decimal digits that is at least 1 and at most `most`.
+pub(crate) fn number_from_one(word: &[u8], most: u32) -> Option<u32>
+    ensures value { result ≡ number_between 1 most word.now }
+    ensures fits { IfSome result (λ value. value ≤ most) }
+{
+    let value = number(word, most)?;
+    if value == 0 { None } else { Some(value) }
 }
 
 /// A number of 16 bits.

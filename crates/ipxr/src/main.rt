@@ -1,4 +1,4 @@
-//! `ipxr`: replays a script from a file or from standard input, and writes the result to standard output.
+//! `ipxr`: replays a script or shows a capture, from a file or from standard input, and writes the result to standard output.
 //!
 //! The words are judged first, then the file is opened, and then the run begins. Whatever stops the program before its end
 //! is one line on standard error and an exit status:
@@ -12,7 +12,7 @@
 //! A run that comes to its end says nothing there: status 0 for good input, 2 for bad input.
 #![tactic(auto)]
 
-use ipx_cmd::{ChooseFault, Chosen, Ended, RunFault, choose, replay, status};
+use ipx_cmd::{ChooseFault, Chosen, Ended, Run, RunFault, choose, decode, replay, status};
 use ipx_wire::{Intake, Outlet};
 use std::alloc::AllocError;
 use std::fs::File;
@@ -76,14 +76,14 @@ fn main(rt: HostRuntime) -> ExitCode {
 }
 
 fn run(rt: &HostRuntime) -> Result<Ended, Stop> {
-    let chosen = chosen(rt)?;
-    match chosen.file {
+    let Chosen { run, file } = chosen(rt)?;
+    match file {
         Some(name) => match File::open(rt, name.as_str()) {
-            Ok(file) => run_on(rt, file),
+            Ok(file) => run_on(rt, run, file),
             Err(error) if error.kind() == ErrorKind::OutOfMemory => Err(AllocError.into()),
             Err(_) => Err(Stop::File),
         },
-        None => run_on(rt, rt.stdin()),
+        None => run_on(rt, run, rt.stdin()),
     }
 }
 
@@ -103,8 +103,12 @@ fn chosen(rt: &HostRuntime) -> Result<Chosen, Stop> {
 }
 
 /// Runs on what `reader` gives. Each piece of the output goes to standard output as it comes, with no buffer between.
-fn run_on<R: Read + Drop>(rt: &HostRuntime, reader: R) -> Result<Ended, Stop> {
+fn run_on<R: Read + Drop>(rt: &HostRuntime, run: Run, reader: R) -> Result<Ended, Stop> {
     let mut intake = Intake::new(reader);
     let mut outlet = Outlet::new(io::writer(rt));
-    Ok(replay(rt.alloc(), &mut intake, &mut outlet)?)
+    match run {
+        Run::Replay => Ok(replay(rt.alloc(), &mut intake, &mut outlet)?),
+        Run::Decode => Ok(decode(rt.alloc(), &mut intake, &mut outlet)?),
+        Run::Internet => Err(Stop::Usage),
+    }
 }
