@@ -1,6 +1,7 @@
-//! Runs of `replay` on devices that give or take few bytes a call, or fail. Whole scripts stand in `tests/replay`.
+//! Runs of `replay` and `decode` on devices that give or take few bytes a call, or fail. Whole scripts stand in `tests/replay`,
+//! captures in `tests/decode`.
 
-use ipx_cmd::{Ended, RunFault, replay};
+use ipx_cmd::{Ended, RunFault, decode, replay};
 use ipx_wire::{Intake, Outlet};
 use std::alloc::Global;
 use std::io;
@@ -186,4 +187,80 @@ fn a_line_too_long_asks_for_no_more(rt: HostRuntime) {
     assert_eq!(rt; text.as_slice(), b"line 1: long\n".as_slice());
     // 17 pieces of 8,192 bytes: the 131,201st byte is in the last one.
     assert_eq!(rt; calls, 17);
+}
+
+/// A capture of two records, each a frame that carries no IPX, of 14 bytes.
+const CAPTURE: &[u8] = b"\xA1\xB2\xC3\xD4\x00\x02\x00\x04\0\0\0\0\0\0\0\0\0\0\0\0\0\0\0\x01\
+\0\0\0\0\0\0\0\0\0\0\0\x0E\0\0\0\x0E\0\0\0\0\0\0\0\0\0\0\0\0\x08\0\
+\0\0\0\0\0\0\0\0\0\0\0\x0E\0\0\0\x0E\0\0\0\0\0\0\0\0\0\0\0\0\x08\0";
+
+/// Its text.
+const LINES: &[u8] = b"record 1 Other\nrecord 2 Other\n";
+
+/// Each record is written before the reader is asked again: what came before a failed read is the text of the records that
+/// were given whole.
+#[test]
+fn a_failed_read_of_a_capture_leaves_its_records(rt: HostRuntime) {
+    let heap = rt.alloc();
+    // One byte a call; the last call is the one that would tell the end.
+    for last in 1..=CAPTURE.len() + 1 {
+        let mut text = Vec::new(heap);
+        let mut intake = Intake::new(Slow {
+            rest: CAPTURE,
+            most: 1,
+            calls: 0,
+            last,
+        });
+        let mut outlet = Outlet::new(&mut text);
+        let answer = decode(heap, &mut intake, &mut outlet);
+        drop(outlet);
+        let records = (last - 1).saturating_sub(24) / 30;
+        assert_eq!(rt; answer, Err(RunFault::Read));
+        assert_eq!(rt;
+            text.as_slice(),
+            &LINES[..LINES.len().min(15 * records)],
+            "failed at call {last}"
+        );
+    }
+}
+
+#[test]
+fn a_failed_write_of_a_capture_leaves_a_prefix(rt: HostRuntime) {
+    let heap = rt.alloc();
+    for fails in [false, true] {
+        for last in 1..=LINES.len().div_ceil(7) {
+            let mut text = Vec::new(heap);
+            let mut intake = Intake::new(CAPTURE);
+            let mut outlet = Outlet::new(Narrow {
+                taken: &mut text,
+                most: 7,
+                calls: 0,
+                last,
+                fails,
+            });
+            let answer = decode(heap, &mut intake, &mut outlet);
+            drop(outlet);
+            assert_eq!(rt; answer, Err(RunFault::Write));
+            assert_eq!(rt;
+                text.as_slice(),
+                &LINES[..LINES.len().min(7 * (last - 1))],
+                "failed at call {last}"
+            );
+        }
+    }
+}
+
+#[test]
+fn a_capture_without_end_is_refused_at_once(rt: HostRuntime) {
+    let heap = rt.alloc();
+    let mut calls = 0;
+    let mut text = Vec::new(heap);
+    let mut intake = Intake::new(Endless { calls: &mut calls });
+    let mut outlet = Outlet::new(&mut text);
+    let answer = decode(heap, &mut intake, &mut outlet);
+    drop(outlet);
+    drop(intake);
+    assert_eq!(rt; answer, Ok(Ended::BadInput));
+    assert_eq!(rt; text.as_slice(), b"record 0: Magic\n".as_slice());
+    assert_eq!(rt; calls, 1);
 }

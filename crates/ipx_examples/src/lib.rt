@@ -3,8 +3,8 @@
 //! Nothing stands on this crate. It is one of its own because a crate with tests is proved twice: here only the tests
 //! are, over what the crates below promise. What a script can show needs no test: see `tests/replay`.
 //!
-//! - `wire`, `table`, `ports`, `thin_router`: packets and devices, offers, what a router is made of, and what it does.
-//! - `devices`: runs of `replay` on devices that give or take few bytes, or fail.
+//! - `wire`, `table`, `ports`, `router`: packets and devices, offers, what a router is made of, and what it does.
+//! - `devices`: runs of `replay` and `decode` on devices that give or take few bytes, or fail.
 //! - `program_words`, `exit_statuses`: the words of the command line, the end of a run.
 #![tactic(auto)]
 
@@ -17,8 +17,8 @@ mod ports;
 #[cfg(test)]
 mod program_words;
 #[cfg(test)]
-mod table;
+mod router;
 #[cfg(test)]
-mod thin_router;
+mod table;
 #[cfg(test)]
 mod wire;

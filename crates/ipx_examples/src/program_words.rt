@@ -3,18 +3,21 @@
 use ipx_cmd::{ChooseFault, Run, choose};
 
 #[test]
-fn replays_standard_input_or_a_file(rt: HostRuntime) {
-    let table: [(&[&str], Option<&str>); 6] = [
-        (&["replay"], None),
-        (&["replay", "a"], Some("a")),
-        (&["replay", ""], Some("")),
-        (&["replay", "-"], Some("-")),
-        (&["replay", "--", "-a"], Some("-a")),
-        (&["replay", "help"], Some("help")),
+fn runs_on_standard_input_or_a_file(rt: HostRuntime) {
+    let table: [(&[&str], Run, Option<&str>); 9] = [
+        (&["replay"], Run::Replay, None),
+        (&["replay", "a"], Run::Replay, Some("a")),
+        (&["replay", ""], Run::Replay, Some("")),
+        (&["replay", "-"], Run::Replay, Some("-")),
+        (&["replay", "--", "-a"], Run::Replay, Some("-a")),
+        (&["replay", "decode"], Run::Replay, Some("decode")),
+        (&["decode"], Run::Decode, None),
+        (&["decode", "a"], Run::Decode, Some("a")),
+        (&["decode", "--", "-a"], Run::Decode, Some("-a")),
     ];
-    for (words, file) in table {
+    for (words, run, file) in table {
         let chosen = choose(rt.alloc(), words).expect(&rt, "a run");
-        assert_eq!(rt; chosen.run, Run::Replay);
+        assert_eq!(rt; chosen.run, run);
         assert_eq!(rt; chosen.file.as_ref().map(|name| name.as_str()), file);
     }
 }
@@ -38,7 +41,7 @@ fn refuses_all_other_words(rt: HostRuntime) {
         &["help"],
         &["help", "replay"],
         &["internet"],
-        &["decode"],
+        &["decode", "a", "b"],
     ];
     for words in table {
         let refused = choose(rt.alloc(), words).err();

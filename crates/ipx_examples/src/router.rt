@@ -1,7 +1,9 @@
-//! The thin router: which ports make one, and what it holds and tells after a response.
+//! The router: which ports make one, what it learns and advertises, and room in an outbox.
 
-use ipx_cmd::thin::{Event, Held, Outbox, Outcome, PortsFault, Router};
-use ipx_router::{Port, PortFault, RouteOffer, Why};
+use ipx_router::{
+    Event, Need, Outbox, Outcome, Port, PortFault, PortsFault, RouteOffer, Router, Why,
+};
+use ipx_table::Held;
 use ipx_wire::{Network, Node};
 use std::test::Fail;
 
@@ -13,7 +15,7 @@ fn port(network: u32) -> Result<Port, PortFault> {
 }
 
 #[test]
-fn the_first_fault_of_ports_is_told(rt: HostRuntime) -> Result<(), Fail> {
+fn the_first_fault_of_ports_is_reported(rt: HostRuntime) -> Result<(), Fail> {
     let one = port(0x10)?;
     let two = port(0x20)?;
     let table: [(&[Port], Option<PortsFault>); 6] = [
@@ -25,14 +27,14 @@ fn the_first_fault_of_ports_is_told(rt: HostRuntime) -> Result<(), Fail> {
         (&[two], None),
     ];
     for (ports, fault) in table {
-        match Router::<2, 2>::new(rt.alloc(), ports) {
+        match Router::<2, 2, 2>::new(ports) {
             Ok(router) => {
                 assert_eq!(rt; fault, None);
                 assert!(rt; router.has_port(0) && !router.has_port(2) && !router.has_port(255));
                 assert_eq!(rt; router.has_port(1), ports.len() == 2);
                 assert_eq!(rt; router.routes(), 0);
             }
-            Err(told) => assert_eq!(rt; Some(told), fault),
+            Err(found) => assert_eq!(rt; Some(found), fault),
         }
     }
     Ok(())
@@ -46,10 +48,10 @@ const RESPONSE: [u8; 72] = [
 ];
 
 #[test]
-fn a_router_holds_and_tells(rt: HostRuntime) -> Result<(), Fail> {
+fn what_a_neighbour_advertises_is_kept_and_passed_on(rt: HostRuntime) -> Result<(), Fail> {
     let heap = rt.alloc();
     let ports = [port(0x10)?, port(0x20)?];
-    let mut router = Router::<2, 2>::new(heap, &ports)?;
+    let mut router = Router::<2, 2, 2>::new(&ports)?;
     let mut outbox = Outbox::new(heap);
     let response = Event::Packet {
         port: 0,
@@ -70,13 +72,13 @@ fn a_router_holds_and_tells(rt: HostRuntime) -> Result<(), Fail> {
     assert_eq!(rt; outbox.len(), 6);
     assert_eq!(rt; router.step(response, &mut outbox)?, Outcome::Learned);
     assert_eq!(rt; outbox.len(), 7);
-    let told = outbox.get(6);
+    let sent = outbox.get(6);
     assert_eq!(rt;
-        (told.port, told.link, told.bytes.len()),
+        (sent.port, sent.link, sent.bytes.len()),
         (1, Node::BROADCAST, 48)
     );
     let entries = [0, 0, 0, 0x30, 0, 2, 0, 3, 0, 0, 0, 0x31, 0, 4, 0, 5];
-    assert_eq!(rt; &told.bytes[32..], entries.as_slice());
+    assert_eq!(rt; &sent.bytes[32..], entries.as_slice());
     outbox.clear();
     assert_eq!(rt; outbox.len(), 0);
     assert_eq!(rt; router.step(response, &mut outbox)?, Outcome::Learned);
@@ -94,5 +96,35 @@ fn a_router_holds_and_tells(rt: HostRuntime) -> Result<(), Fail> {
     };
     assert_eq!(rt; router.route_at(1), Some(held));
     assert_eq!(rt; router.route_at(2), None);
+    Ok(())
+}
+
+#[test]
+fn an_event_needs_room_for_the_most_that_it_may_send(rt: HostRuntime) -> Result<(), Fail> {
+    let ports = [port(0x10)?, port(0x20)?];
+    let mut router = Router::<2, 50, 8>::new(&ports)?;
+    let mut outbox = Outbox::new(rt.alloc());
+    let start = router.need(&Event::Start);
+    assert_eq!(rt;
+        start,
+        Need {
+            packets: 6,
+            bytes: 2880
+        }
+    );
+    assert!(rt; !outbox.has_room(start));
+    outbox.reserve(start)?;
+    assert!(rt; outbox.has_room(start));
+    assert_eq!(rt; router.handle(Event::Start, &mut outbox), Outcome::Started);
+    assert_eq!(rt; outbox.len(), 6);
+    assert_eq!(rt;
+        router.need(&Event::Second),
+        Need {
+            packets: 2,
+            bytes: 960
+        }
+    );
+    outbox.clear();
+    assert!(rt; outbox.has_room(start));
     Ok(())
 }
