@@ -77,7 +77,7 @@ fn what_a_neighbour_advertises_is_kept_and_passed_on(rt: HostRuntime) -> Result<
         (sent.port, sent.link, sent.bytes.len()),
         (1, Node::BROADCAST, 48)
     );
-    let entries = [0, 0, 0, 0x30, 0, 2, 0, 3, 0, 0, 0, 0x31, 0, 4, 0, 5];
+    let entries = [0, 0, 0, 0x30, 0, 6, 0, 7, 0, 0, 0, 0x31, 0, 4, 0, 5];
     assert_eq!(rt; &sent.bytes[32..], entries.as_slice());
     outbox.clear();
     assert_eq!(rt; outbox.len(), 0);
