@@ -24,7 +24,8 @@ edits:
 bench:
 	@tools/bench
 
-# Puts the proved program into PREFIX/bin.
+# Puts the proved program into PREFIX/bin, and its manual page beside.
 install: build
-	install -d $(PREFIX)/bin
+	install -d $(PREFIX)/bin $(PREFIX)/share/man/man1
 	install -m 755 $(PROGRAM) $(PREFIX)/bin/ipxr
+	install -m 644 docs/ipxr.1 $(PREFIX)/share/man/man1/ipxr.1
