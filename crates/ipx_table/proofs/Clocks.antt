@@ -4,7 +4,7 @@ use Rattle.std.specs.List.{AllByRecursion, list_any}
 use Rattle.std.proofs.lemmas.Bool.{cases_Bool, eqb-true, eqb-false, eq-eqb, ne_eqb}
 use Rattle.ipx_table.specs.Alive.{lifetime}
 use Rattle.ipx_table.specs.Slots.{next, age_at, seen, seen_at}
-use Rattle.ipx_table.specs.Stands.{second_later, ended}
+use Rattle.ipx_table.specs.Stands.{second_later, ended, is_last}
 use Rattle.ipx_table.specs.declared.held.Held.{Held}
 
 pub next_going : (clock : ℕ) → clock < lifetime → next clock < lifetime
@@ -46,7 +46,37 @@ module _ {O : Type 0} (clock : ℕ) (going : clock < lifetime) where
         | inr later ↦ let more = not_last clock p.1 going fits.0 later in simp (later, more) rest
       ]
 
+  pub any-seen : (ps : List (O × ℕ)) → AllByRecursion (λ p. p.1 < lifetime) ps
+      → list_any (λ p. p.1 == next clock) ps ≡ list_any is_last (seen clock ps)
+  any-seen [] fits = refl
+  any-seen (p ∷ ps) fits =
+      elim (cases_Bool (p.1 == next clock)) [
+        | inl now ↦ let last = last_now clock p.1 going fits.0 now in simp (now, last) refl
+        | inr later ↦ let more = not_last clock p.1 going fits.0 later in simp (later, more) (any-seen ps fits.1)
+      ]
+
+  -- where none is in its last second, all are a second older
+  pub quiet-seen : (ps : List (O × ℕ)) → AllByRecursion (λ p. p.1 < lifetime) ps → list_any is_last (seen clock ps) ≡ false
+      → seen (next clock) ps ≡ second_later (seen clock ps)
+  quiet-seen [] fits quiet = refl
+  quiet-seen (p ∷ ps) fits quiet =
+      elim (cases_Bool (p.1 == next clock)) [
+        | inl now ↦
+            let last = last_now clock p.1 going fits.0 now in
+            let no : true ≡ false = rw last at quiet in absurd (true≢false no)
+        | inr later ↦
+            let more = not_last clock p.1 going fits.0 later in
+            let aged = age_next clock p.1 going fits.0 later in
+            let rest = quiet-seen ps fits.1 (rw more at quiet) in
+            simp more (ap (λ zs. seen_at (next clock) p ∷ zs) rest
+            ∙ ap (λ (n : ℕ). let h : Held O = record { offer = p.0; age = n } in h ∷ second_later (seen clock ps)) aged)
+      ]
+
 -- ---- a slot that no record has
+
+pub any_second : {O : Type 0} (test : ℕ → Bool) (ps : List (O × ℕ)) → list_any test (map (λ p. p.1) ps) ≡ list_any (λ p. test p.1) ps
+any_second test [] = refl
+any_second test (p ∷ ps) = ap (λ (b : Bool). test p.1 || b) (any_second test ps)
 
 pub none_of_slot : {O : Type 0} (slot : ℕ) (ps : List (O × ℕ)) → list_any (λ s. s == slot) (map (λ p. p.1) ps) ≡ false
     → (filter (λ p. not (p.1 == slot)) ps ≡ ps) × (filter (λ p. p.1 == slot) ps ≡ [])

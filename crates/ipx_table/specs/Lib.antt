@@ -9,3 +9,4 @@ pub mod Slots
 pub mod Sought
 pub mod Stands
 pub mod Taken
+pub mod TakenWord

@@ -1,7 +1,7 @@
 -- How a table's records keep their age: a clock goes round, and a record has the slot at which it was accepted last.
 -- Only clauses inside the crate speak of it.
-use Rattle.std.specs.Prelude.{ℕ, ◌+◌, ◌-◌, ◌%◌, ◌<◌, ◌==◌, Bool, List, map}
-use Rattle.std.specs.List.{AllByRecursion}
+use Rattle.std.specs.Prelude.{ℕ, ◌+◌, ◌-◌, ◌%◌, ◌<◌, ◌≡◌, ◌==◌, Bool, List, length, map}
+use Rattle.std.specs.List.{AllByRecursion, zip}
 use Rattle.std.specs.declared.cmp.Ordering.{Ordering}
 use Rattle.ipx_table.specs.Alive.{lifetime}
 use Rattle.ipx_table.specs.Stands.{IsAscending}
@@ -29,6 +29,12 @@ seen clock records = map (seen_at clock) records
 abbrev pub ends : {O : Type 0} → (O → ℕ) → Ending → O × ℕ → Bool
 ends port_by (Slot slot) kept = kept.1 == slot
 ends port_by (Port port) kept = port_by kept.0 == port
+
+-- each offer has a slot; slots and clock are below the lifetime
+pub record AreKept {O : Type 0} (offers : List O) (slots : List ℕ) (clock : ℕ) : Type 0 where
+  pub same : length slots ≡ length offers
+  pub below : AllByRecursion (λ p. p.1 < lifetime) (zip offers slots)
+  pub going : clock < lifetime
 
 -- what a table keeps true: records ascend by key, slots and clock are below the lifetime
 pub record IsSorted {O : Type 0} (by_key : O → O → Ordering) (records : List (O × ℕ)) (clock : ℕ) : Type 0 where

@@ -26,6 +26,7 @@ mod sharing;
 mod slotted;
 mod sought;
 mod table;
+mod table_entries;
 mod taken;
 mod taking;
 
@@ -33,4 +34,5 @@ pub use crate::asking::{Asked, Found, find};
 pub use crate::held::Held;
 pub use crate::offer::Offer;
 pub use crate::table::Table;
+pub use crate::table_entries::TableEntries;
 pub use crate::taken::Taken;

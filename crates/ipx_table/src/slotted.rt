@@ -1,13 +1,15 @@
 //! Offers with the slots at which they were accepted, each in an array of its own: so what reads slots alone reads one
 //! byte a record.
 ghost use Rattle.std.specs.Prelude.{◌≡◌, ◌==◌, ◌<◌, ◌≤◌, not, List, [], length, map, insert, remove, set, slice_get, Some};
-ghost use Rattle.std.specs.List.{filter, zip};
+ghost use Rattle.std.specs.List.{AllByRecursion, filter, list_any, zip};
 ghost use Rattle.ipx_table.specs.Reading.{port_of};
-ghost use Rattle.ipx_table.specs.Slots.{ends};
+ghost use Rattle.ipx_table.specs.Slots.{ends, seen};
+ghost use Rattle.ipx_table.specs.Alive.{lifetime};
 
 use crate::clock::has_slot;
 use crate::ending::{Ending, does_end};
 use crate::offer::Offer;
+use crate::table_entries::TableEntries;
 use arrayvec::ArrayVec;
 use std::marker::Model;
 
@@ -60,6 +62,15 @@ impl<O: Offer, const CAP: usize> Slotted<O, CAP> {
         self.offers.as_slice()
     }
 
+    /// The records at that time of the clock, in order.
+    pub(crate) fn entries(&self, clock: u8) -> TableEntries<'_, O>
+        requires slots { AllByRecursion (λ p. p.1 < lifetime) self.now }
+        requires going { clock < lifetime }
+        ensures { result ≡ seen clock self.now }
+    {
+        TableEntries::of(self.offers.as_slice(), self.slots.as_slice(), clock)
+    }
+
     /// The offer and the slot at that place, if there is such a place.
     pub(crate) fn get(&self, place: usize) -> Option<(O, u8)>
         ensures { result ≡ slice_get self.now place }
@@ -100,6 +111,13 @@ impl<O: Offer, const CAP: usize> Slotted<O, CAP> {
     {
         self.offers.clear();
         self.slots.clear();
+    }
+
+    /// Whether a record has that slot.
+    pub(crate) fn has_slot(&self, slot: u8) -> bool
+        ensures { result ≡ list_any (λ p. p.1 == slot) self.now }
+    {
+        has_slot(&self.slots, slot)
     }
 
     /// Takes out the records of that slot. Returns their offers, in order. Where there is none, nothing is written and

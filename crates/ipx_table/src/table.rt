@@ -1,13 +1,13 @@
 //! The table.
 ghost use Rattle.std.specs.Prelude.{◌≡◌, ◌↔◌, ℕ, ◌<◌, ◌≤◌, ◌==◌, List, [], ◌∷◌, ◌++◌, length, slice_get, IfSome, false, true};
-ghost use Rattle.std.specs.List.{AllByRecursion};
+ghost use Rattle.std.specs.List.{AllByRecursion, list_any};
 ghost use Rattle.std.specs.Ordering.{is_eq};
 ghost use Rattle.ipx_table.specs.Reading.{rules_of, port_of, count_by};
 ghost use Rattle.ipx_table.specs.Shares.{most_shares};
 ghost use Rattle.ipx_table.specs.Facts.{Fact, Offered, Second, PortEnd, End};
 ghost use Rattle.ipx_table.specs.Alive.{lifetime};
 ghost use Rattle.ipx_table.specs.Taken.{taken};
-ghost use Rattle.ipx_table.specs.Stands.{Stands, Ascends, IsAscending, IsDistinct, record_of, smaller_than, second_later, ended as ended_of, without_port, ended_with_port};
+ghost use Rattle.ipx_table.specs.Stands.{Stands, Ascends, IsAscending, IsDistinct, record_of, smaller_than, second_later, is_last, ended as ended_of, without_port, ended_with_port};
 
 use crate::clock::{next_slot, with_age};
 use crate::ending::Ending;
@@ -16,6 +16,7 @@ use crate::offer::Offer;
 use crate::sharing::count_by as counted_by;
 use crate::slotted::Slotted;
 use crate::sought::place_in;
+use crate::table_entries::TableEntries;
 use crate::taken::Taken;
 use crate::taking::{record_found, take_offer};
 use arrayvec::ArrayVec;
@@ -103,6 +104,24 @@ impl<O: Offer, const CAP: usize> Table<O, CAP> {
         self.records.end_slot(self.clock)
     }
 
+    /// Whether the next second ends a record.
+    pub fn expires(&self) -> bool
+        ensures { result ≡ list_any is_last self.now.records }
+    {
+        self.records.has_slot(next_slot(self.clock))
+    }
+
+    /// Lets a second pass that ends no record: each is a second older.
+    pub fn pass(&mut self)
+        requires quiet { list_any is_last self.old.records ≡ false }
+        ensures stands { (facts : List (Fact O)) → Stands (rules_of O.reading O.Key.cmp CAP self.old.shares) self.old.records facts
+            → Stands (rules_of O.reading O.Key.cmp CAP self.old.shares) self.new.records (facts ++ Second ∷ []) }
+        ensures records { self.new.records ≡ second_later self.old.records }
+        ensures shares { self.new.shares ≡ self.old.shares }
+    {
+        self.clock = next_slot(self.clock);
+    }
+
     /// Ends the offers that came by that port. Returns them, by key.
     pub fn end_port(&mut self, port: u8) -> ArrayVec<O, CAP>
         ensures stands { (facts : List (Fact O)) → Stands (rules_of O.reading O.Key.cmp CAP self.old.shares) self.old.records facts
@@ -141,6 +160,13 @@ impl<O: Offer, const CAP: usize> Table<O, CAP> {
         ensures young { IfSome result (λ h. h.age < lifetime) }
     {
         with_age(self.clock, self.records.get(k))
+    }
+
+    /// The records, by key.
+    pub fn entries(&self) -> TableEntries<'_, O>
+        ensures { result ≡ self.now.records }
+    {
+        self.records.entries(self.clock)
     }
 
     /// How many records there are, at most `CAP`.

@@ -1,4 +1,8 @@
 //! What a table returns for an offer.
+ghost use Rattle.std.specs.Prelude.{◌≡◌, Some};
+ghost use Rattle.ipx_table.specs.TakenWord.{taken_word};
+
+use std::fmt;
 
 /// What a table did with an offer.
 #[derive(Clone, Copy, Debug, PartialEq, Eq, Hash)]
@@ -23,4 +27,29 @@ pub enum Taken {
     /// It was up, and there was no room for it: the table is full, or its port has as many records as its share. A record of
     /// its key that came by another port stays, with its age. Nothing changed.
     Full,
+}
+
+/// One word: `withdrawn`, `nothing`, `changed` or `refreshed` (as `Refreshed::changed` says), `replaced`, `worse`, `admitted`,
+/// `full`.
+impl fmt::Display for Taken {
+    ghost output = { λ taken. Some (taken_word taken) };
+
+    fn fmt<W: fmt::Write>(&self, f: &mut fmt::Formatter<W>) -> fmt::Result {
+        f.write_str(word(*self))
+    }
+}
+
+fn word(taken: Taken) -> &'static str
+    ensures { result.now ≡ taken_word taken }
+{
+    match taken {
+        Taken::Withdrawn => "withdrawn",
+        Taken::Nothing => "nothing",
+        Taken::Refreshed { changed: true } => "changed",
+        Taken::Refreshed { changed: false } => "refreshed",
+        Taken::Replaced => "replaced",
+        Taken::Worse => "worse",
+        Taken::Admitted => "admitted",
+        Taken::Full => "full",
+    }
 }

@@ -1,5 +1,5 @@
 -- Lists of items of one size, of whatever kind.
-use Rattle.std.proofs.Common.{◌≡◌, ℕ, zero, suc, ◌+◌, ◌*◌, ◌≤◌, ◌<◌, List, [], ◌∷◌, ◌++◌, length, take, drop, map, slice_get, Some, refl, sym, ap, ◌∙◌, arith, append_assoc, length-append, length-drop, take-add}
+use Rattle.std.proofs.Common.{◌≡◌, ℕ, zero, suc, ◌+◌, ◌-◌, ◌*◌, ◌≤◌, ◌<◌, List, [], ◌∷◌, ◌++◌, length, take, drop, map, slice_get, Some, refl, sym, ap, ◌∙◌, arith, append_assoc, length-append, length-drop, take-add}
 use Rattle.std.proofs.lemmas.List.{drop_at, drop-drop, get_or-drop}
 use Rattle.std.proofs.Math.Nat.{mul-suc}
 use Rattle.std.specs.List.{flat_map, AllByRecursion}
@@ -86,3 +86,16 @@ pub map-items : {D E : Type 0} (read : List ℕ → D) (f : D → E) (size n : �
 unfolding items
 map-items read f size zero bytes = refl
 map-items {D} {E} read f size (suc n) bytes = ap (λ (x : List E). f (read bytes) ∷ x) (map-items read f size n (drop size bytes))
+
+-- no item of none
+pub items-none : {E : Type 0} (read : List ℕ → E) (size n : ℕ) (bytes : List ℕ) → n ≡ 0 → items read size n bytes ≡ []
+unfolding items
+items-none read size n bytes e = rw e refl
+
+-- the first item and those behind it
+pub items-first : {E : Type 0} (read : List ℕ → E) (size n : ℕ) (bytes : List ℕ) → 0 < n
+    → items read size n bytes ≡ read bytes ∷ items read size (n - 1) (drop size bytes)
+unfolding items
+items-first read size zero bytes some = absurd (omega arith)
+items-first read size (suc n) bytes some =
+    ap (λ (k : ℕ). read bytes ∷ items read size k (drop size bytes)) (let e : n ≡ suc n - 1 = omega arith in e)

@@ -5,6 +5,7 @@ pub mod Headers
 pub mod HexText
 pub mod Items
 pub mod NameOrder
+pub mod NameWords
 pub mod Names
 pub mod Packets
 pub mod Pieces

@@ -20,7 +20,7 @@ behind old x new place n puts =
     ∙ drop-drop n (place + length x) old
 
 -- a write keeps the length
-length_after : (old x new : List ℕ) (place : ℕ) → PutsAt old place x new → length new ≡ length old
+pub length_after : (old x new : List ℕ) (place : ℕ) → PutsAt old place x new → length new ≡ length old
 length_after old x new place puts =
     let room = puts.room in
     rw puts.after (omega (arith, length-append (take place old ++ x) (drop (place + length x) old), length_front old x place room, length-drop (place + length x) old))

@@ -3,13 +3,13 @@ use Rattle.std.specs.Prelude.{◌≡◌, ℕ, ◌+◌, ◌<◌, ◌≤◌, min, 
 use Rattle.std.specs.Io.KnownBytes.{Appends, Consumes, IsAtEnd, Keeps}
 
 -- what an intake shows: the bytes its reader has left, where the reader tells them, how often it was asked,
--- and whether a call has answered `Failed`
+-- and whether a call has returned `Failed`
 pub record Input : Type 0 where
   pub left : Option (List ℕ)
   pub calls : ℕ
   pub failed : Bool
 
--- what an outlet shows: the bytes its writer holds, where the writer tells them, and whether a call has answered `Failed`
+-- what an outlet shows: the bytes its writer holds, where the writer tells them, and whether a call has returned `Failed`
 pub record Output : Type 0 where
   pub written : Option (List ℕ)
   pub failed : Bool

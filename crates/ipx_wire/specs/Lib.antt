@@ -1,4 +1,5 @@
 pub mod Address
+pub mod AddressWord
 pub mod Crossed
 pub mod Digits
 pub mod Ends
@@ -7,6 +8,7 @@ pub mod Header
 pub mod Items
 pub mod Kept
 pub mod Name
+pub mod NameWord
 pub mod Numbers
 pub mod Packet
 pub mod Piece

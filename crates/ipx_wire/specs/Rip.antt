@@ -1,5 +1,5 @@
 -- The data of a routing information packet: an operation and entries (IPX Router Specification).
-use Rattle.std.specs.Prelude.{◌≡◌, ℕ, ◌+◌, ◌-◌, ◌/◌, ◌<◌, ◌≤◌, ◌^◌, ◌⊎◌, ◌≢◌, ◌==◌, nat_lt, if◌then◌else◌, List, ◌++◌, length, drop, Option, None, Some, Result, Ok, Err}
+use Rattle.std.specs.Prelude.{◌≡◌, ℕ, ◌+◌, ◌-◌, ◌/◌, ◌<◌, ◌≤◌, ◌^◌, ◌⊎◌, ◌≢◌, ◌==◌, nat_lt, if◌then◌else◌, List, ◌++◌, length, drop, codes, Option, None, Some, Result, Ok, Err}
 use Rattle.std.specs.Int.{to_be_bytes, from_be_bytes, w16, w32}
 use Rattle.std.specs.List.{flat_map, AllByRecursion}
 use Rattle.ipx_wire.specs.Items.{items}
@@ -37,6 +37,11 @@ entries_at n bytes = items (λ b. entry_at b 0) 8 n bytes
 abbrev pub operation_number : Operation → ℕ
 operation_number Request = 1
 operation_number Response = 2
+
+-- the word of an operation
+abbrev pub operation_word : Operation → List ℕ
+operation_word Request = codes "request"
+operation_word Response = codes "response"
 
 -- the operation of a number, if it has one
 abbrev pub operation_of : ℕ → Option Operation

@@ -1,13 +1,14 @@
-//! The networks that a packet of type 20 has crossed: a list at the front of its data, counted by its transport control.
+//! The networks that a packet of type 20 has crossed: a list at the beginning of its data, counted by its transport control.
 ghost use Rattle.ipx_wire.specs.Crossed.{network_at};
 ghost use Rattle.std.specs.Prelude.{◌≡◌, ◌+◌, ◌<◌, ◌≤◌, List, length, slice_get, IfOk, IfErr, IsOkAnd, Some};
 
+use crate::crossed_iter::CrossedIter;
 use crate::fields::u32_at;
 use crate::network::Network;
 use std::marker::Model;
 use thiserror::Error;
 
-/// Why data tell no networks crossed. The first fault of this list that holds is answered.
+/// Why data have no list of networks crossed. A reader returns the first fault of this list that holds.
 #[derive(Clone, Copy, Debug, PartialEq, Eq, Hash, Error)]
 pub enum CrossedFault {
     /// There are fewer than 32 bytes, so no room for eight networks.
@@ -53,9 +54,9 @@ impl<'a> Crossed<'a> {
     /// How many bytes the list takes.
     const SIZE: usize = 32;
 
-    /// Reads the networks crossed at the front of a packet's data; `control` is its transport control.
+    /// Reads the networks crossed at the beginning of a packet's data; `control` is its transport control.
     ///
-    /// `Short` under 32 bytes, whatever the transport control; then `Full` where it is 8 or more.
+    /// The faults, in their order: `Short` under 32 bytes, whatever the transport control; `Full` if it is 8 or more.
     #[tactic(auto, unfolding(crate::specs::Crossed::crossed_of))]
     pub fn read(control: u8, payload: &'a [u8]) -> Result<Crossed<'a>, CrossedFault>
         ensures found { IfOk result (IsCrossed control payload.entry.now) }
@@ -92,6 +93,13 @@ impl<'a> Crossed<'a> {
         network_from(self.payload, Self::PLACE * k)
     }
 
+    /// The networks, in the order in which the packet crossed them.
+    pub fn entries(&self) -> CrossedIter<'a>
+        ensures { result ≡ self.now }
+    {
+        CrossedIter::of(self.count, self.payload)
+    }
+
     /// Whether the packet has crossed a network.
     pub fn contains(&self, network: Network) -> bool
         ensures { result ≡ is_among network self.now }
@@ -106,7 +114,7 @@ impl<'a> Crossed<'a> {
 }
 
 #[tactic(auto, unfolding(crate::specs::Crossed::network_at))]
-fn network_from(bytes: &[u8], place: usize) -> Network
+pub(crate) fn network_from(bytes: &[u8], place: usize) -> Network
     requires { place + 4 ≤ length bytes.now }
     ensures { result ≡ network_at bytes.now place }
 {

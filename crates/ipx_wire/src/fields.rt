@@ -104,3 +104,11 @@ pub fn put_address(out: &mut [u8], place: usize, address: Address)
     put_node(out, place + 4, address.node);
     put_u16(out, place + 10, address.socket.0);
 }
+
+/// Writes bytes as they are.
+pub fn put_bytes(out: &mut [u8], place: usize, bytes: &[u8])
+    requires { place + length bytes.now ≤ length out.old }
+    ensures { PutsAt out.old place bytes.now out.new }
+{
+    out[place..place + bytes.len()].copy_from_slice(bytes);
+}

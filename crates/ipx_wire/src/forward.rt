@@ -7,12 +7,12 @@ ghost use Rattle.ipx_wire.specs.Write.{packet_bytes};
 
 use crate::address::Address;
 use crate::crossed::Crossed;
-use crate::fields::put_u32;
+use crate::fields::{put_bytes, put_u32};
 use crate::header::Header;
 use crate::network::Network;
 use crate::packet::Packet;
 
-/// Writes a packet with its transport control one higher to the front of `out`, and answers its number of bytes, which is
+/// Writes a packet with its transport control one higher to the beginning of `out`, and returns its number of bytes, which is
 /// the packet's length.
 ///
 /// Its transport control is under 255, and `out` has room for as many bytes as its length counts. All else is written as it
@@ -34,10 +34,10 @@ pub fn write_forwarded(packet: &Packet<'_>, out: &mut [u8]) -> usize
     count
 }
 
-/// Writes a packet of type 20 as it leaves for the network `outgoing` to the front of `out`, and answers its number of bytes,
+/// Writes a packet of type 20 as it leaves for the network `outgoing` to the beginning of `out`, and returns its number of bytes,
 /// which is the packet's length.
 ///
-/// Its transport control is under 8 and it has 32 bytes of data or more, which is where [`Crossed::read`] of the two answers
+/// Its transport control is under 8 and it has 32 bytes of data or more, just when [`Crossed::read`] of the two returns
 /// a list; and `out` has room for as many bytes as its length counts. Which networks stand in that list isn't looked at,
 /// nor is the type.
 ///
@@ -101,12 +101,4 @@ fn put_crossing(out: &mut [u8], place: usize, control: u8, network: Network, pay
     put_bytes(out, place, listed);
     put_u32(out, place + before, network.0);
     put_bytes(out, place + before + Crossed::PLACE, behind);
-}
-
-/// Writes bytes as they are.
-fn put_bytes(out: &mut [u8], place: usize, bytes: &[u8])
-    requires { place + length bytes.now ≤ length out.old }
-    ensures { PutsAt out.old place bytes.now out.new }
-{
-    out[place..place + bytes.len()].copy_from_slice(bytes);
 }

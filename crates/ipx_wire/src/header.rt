@@ -3,16 +3,16 @@ ghost use Rattle.std.specs.Prelude.{◌≡◌, ◌+◌, ◌≤◌, ◌++◌, len
 use crate::address::Address;
 use crate::fields::{address_from, put_address, put_u8, put_u16, u16_at};
 
-/// The first thirty bytes of a packet.
+/// The first thirty bytes of a packet. Each number stands there with its highest byte first.
 #[derive(Clone, Copy, Debug, PartialEq, Eq, Hash)]
 pub struct Header {
-    /// FFFFh where there is none. It is never computed or compared.
+    /// FFFFh where there is none. This crate neither computes nor checks it.
     pub checksum: u16,
-    /// How many bytes header and data have together.
+    /// How many bytes header and data have together, 30 to 65,535 in a packet.
     pub length: u16,
-    /// Transport control: how many routers the packet has crossed.
+    /// Transport control: how many routers the packet has crossed, 0 to 255.
     pub control: u8,
-    /// The packet type: 1 RIP, 4 SAP, 20 NetBIOS propagation.
+    /// The packet type: [`Header::RIP`], [`Header::SAP`], [`Header::PROPAGATED`], or another.
     pub kind: u8,
     /// Where the packet goes to.
     pub destination: Address,
@@ -23,10 +23,19 @@ pub struct Header {
 impl Header {
     ghost use Rattle.ipx_wire.specs.Header.{header_bytes, header_at};
 
+    /// The packet type of the routing information protocol.
+    pub const RIP: u8 = 1;
+
+    /// The packet type of the service advertising protocol.
+    pub const SAP: u8 = 4;
+
+    /// The packet type of packets that every router propagates, NetBIOS broadcasts.
+    pub const PROPAGATED: u8 = 20;
+
     /// How many bytes a header has.
     pub const SIZE: usize = 30;
 
-    /// Writes the header to the front of a slice that has room for its thirty bytes.
+    /// Writes the header to the beginning of a slice that has room for its thirty bytes.
     pub fn write(&self, out: &mut [u8])
         requires { 30 ≤ length out.old }
         ensures bytes { out.new ≡ header_bytes self.now ++ drop 30 out.old }

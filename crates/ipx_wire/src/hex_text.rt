@@ -1,15 +1,20 @@
 //! Bytes as upper-case hexadecimal text, two digits a byte.
-ghost use Rattle.std.specs.Prelude.{◌≡◌, ◌<◌, [], ◌∷◌, slice_index, Some};
+ghost use Rattle.std.specs.Prelude.{◌≡◌, ◌*◌, ◌<◌, [], ◌∷◌, length, slice_index, Some};
 ghost use Rattle.std.specs.Fmt.{WritesOnOk};
+ghost use Rattle.std.specs.Str.{IsAscii};
 ghost use Rattle.hex.specs.Hex.{encode_upper, upper_digits};
 
+use crate::fields::put_bytes;
 use std::fmt;
 
 /// Bytes that are shown as upper-case hexadecimal digits.
 #[derive(Clone, Copy, Debug)]
-pub struct Hex<'a>(pub &'a [u8]);
+pub struct Hex<'a>(
+    /// The bytes, as many as there are.
+    pub &'a [u8],
+);
 
-/// Two upper-case digits for each byte.
+/// Two upper-case digits for each byte, the high four bits first.
 impl<'a> fmt::Display for Hex<'a> {
     ghost output = { λ hex. Some (encode_upper hex.0.now) };
 
@@ -18,19 +23,41 @@ impl<'a> fmt::Display for Hex<'a> {
     }
 }
 
-fn digit(value: u8) -> char
+fn digit(value: u8) -> u8
     requires { value < 16 }
     ensures value { result ≡ slice_index upper_digits value }
     ensures ascii { result < 128 }
 {
-    char::from(b"0123456789ABCDEF"[value as usize])
+    b"0123456789ABCDEF"[value as usize]
 }
 
-fn write_byte<W: fmt::Write>(f: &mut fmt::Formatter<W>, byte: u8) -> fmt::Result
-    ensures { WritesOnOk W.write_str_gives f.old result (encode_upper (byte ∷ [])) f.new }
+fn byte_digits(byte: u8) -> [u8; 2]
+    ensures { result ≡ encode_upper (byte ∷ []) }
 {
-    f.write_char(digit(byte / 16))?;
-    f.write_char(digit(byte % 16))
+    [digit(byte / 16), digit(byte % 16)]
+}
+
+/// Writes the digits of each byte into a slice of twice as many.
+pub fn put_digits(out: &mut [u8], bytes: &[u8])
+    requires { length out.old ≡ 2 * length bytes.now }
+    ensures { out.new ≡ encode_upper bytes.now }
+{
+    let mut place = 0;
+    for byte in bytes {
+        put_bytes(out, place, &byte_digits(*byte));
+        place += 2;
+    }
+}
+
+/// Writes digits, or other ASCII, as they are.
+pub fn write_ascii<W: fmt::Write>(f: &mut fmt::Formatter<W>, digits: &[u8]) -> fmt::Result
+    requires { IsAscii digits.now }
+    ensures { WritesOnOk W.write_str_gives f.old result digits.now f.new }
+{
+    match std::str::from_utf8(digits) {
+        Ok(text) => f.write_str(text),
+        Err(_) => Ok(()),
+    }
 }
 
 /// Writes the digits of each byte, the high four bits first.
@@ -38,7 +65,7 @@ pub fn write_hex<W: fmt::Write>(f: &mut fmt::Formatter<W>, bytes: &[u8]) -> fmt:
     ensures { WritesOnOk W.write_str_gives f.old result (encode_upper bytes.now) f.new }
 {
     for byte in bytes {
-        write_byte(f, *byte)?;
+        write_ascii(f, &byte_digits(*byte))?;
     }
     Ok(())
 }

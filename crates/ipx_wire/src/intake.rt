@@ -7,7 +7,7 @@ use crate::failed::Failed;
 use std::io::Read;
 use std::marker::Model;
 
-/// How often a reader is asked at most.
+/// How often a reader is asked at most, failures included: 16,777,216 times.
 pub const MOST_CALLS: u32 = 16_777_216;
 
 /// A reader that is asked a bounded number of times.
@@ -45,10 +45,10 @@ impl<R: Read> Intake<R> {
         }
     }
 
-    /// Asks the reader once for bytes into `buf`, and answers how many came.
+    /// Asks the reader once for bytes into `buf`, and returns how many came.
     ///
-    /// None at all into a buffer that has room means that the reader is at its end. `Failed` where the reader fails, and,
-    /// with the reader not asked, where it was asked [`MOST_CALLS`] times before.
+    /// 0 for a buffer that has room means that the reader is at its end. `Failed` if the reader fails, and, without asking it,
+    /// once it was asked [`MOST_CALLS`] times. A failure does not end the intake: the next call asks again.
     pub fn read(&mut self, buf: &mut [u8]) -> Result<usize, Failed>
         ensures ok { IfOk result (Gave self.old self.new buf.new) }
         ensures err { OnErr result (LostInput self.old self.new) }
@@ -72,7 +72,7 @@ impl<R: Read> Intake<R> {
         self.calls
     }
 
-    /// Whether a call of `read` has answered `Failed`.
+    /// Whether a call of `read` has returned `Failed`.
     pub fn failed(&self) -> bool
         ensures told { result ≡ self.now.failed }
     {

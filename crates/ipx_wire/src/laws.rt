@@ -34,7 +34,7 @@ use crate::service::Service;
 use crate::service_name::ServiceName;
 use crate::socket::Socket;
 
-/// What the readers answer, as functions of the bytes, is what the layouts say. A packet's own bytes are the front of
+/// What the readers return, as functions of the bytes, is what the layouts say. A packet's own bytes are the first of
 /// those that it was read from, as many as its length says.
 pub fn readings()
     ensures packet_read { (bytes : List ℕ) (p : Parts) → IsBytes bytes → (packet_of bytes ≡ Ok p ↔ IsPacket bytes p) }
@@ -109,7 +109,7 @@ pub fn sent_on()
         ++ piece bytes 10 (20 + 4 * p.header.control) ++ network_bytes arrived ++ drop (34 + 4 * p.header.control) (take p.header.length bytes) }
 {}
 
-/// What the reader of service advertising answers, as a function of the bytes, is what the layout says.
+/// What the reader of service advertising returns, as a function of the bytes, is what the layout says.
 pub fn service_readings()
     ensures sap_read { (payload : List ℕ) (s : Sap) → IsBytes payload → (sap_of payload ≡ Ok s ↔ IsSap payload s) }
     ensures sap_refused { (payload : List ℕ) (f : SapFault) → (sap_of payload ≡ Err f ↔ IsNoSap payload f) }
@@ -137,10 +137,14 @@ pub fn name_order()
 
 /// The numbers that the constants stand for.
 pub fn constants()
+    ensures local { Network.LOCAL.0 ≡ 0 }
     ensures every_node { Node.BROADCAST.0 ≡ replicate 6 0xff }
     ensures every_route { Network.ALL_ROUTES.0 ≡ 0xffffffff }
     ensures routing { Socket.RIP.0 ≡ 0x453 }
     ensures advertising { Socket.SAP.0 ≡ 0x452 }
+    ensures routing_type { Header.RIP ≡ 1 }
+    ensures advertising_type { Header.SAP ≡ 4 }
+    ensures propagated_type { Header.PROPAGATED ≡ 20 }
     ensures header_size { Header.SIZE ≡ 30 }
     ensures entry_size { RipEntry.SIZE ≡ 8 }
     ensures most_entries { RipEntry.MOST ≡ most_entries }

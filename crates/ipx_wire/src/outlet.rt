@@ -36,9 +36,10 @@ impl<W: Write> Outlet<W> {
         }
     }
 
-    /// Gives the writer `bytes` once, and answers how many of them it took, from the front.
+    /// Gives the writer `bytes` once, and returns how many of them it took, from the first on.
     ///
-    /// `Failed` where the writer fails, and where it takes none of at least one byte.
+    /// `Failed` if the writer fails, or takes none of at least one byte. A failure does not end the outlet: the next call
+    /// hands its bytes on again.
     pub fn write(&mut self, bytes: &[u8]) -> Result<usize, Failed>
         ensures ok { IfOk result (Took self.old self.new bytes.now) }
         ensures err { OnErr result (LostOutput self.old self.new) }
@@ -52,7 +53,7 @@ impl<W: Write> Outlet<W> {
         }
     }
 
-    /// Whether a call of `write` has answered `Failed`.
+    /// Whether a call of `write` has returned `Failed`.
     pub fn failed(&self) -> bool
         ensures told { result ≡ self.now.failed }
     {

@@ -5,7 +5,7 @@ use crate::header::Header;
 use std::marker::Model;
 use thiserror::Error;
 
-/// Why bytes are no packet. The first fault of this list that holds is answered.
+/// Why bytes are no packet. A reader returns the first fault of this list that holds.
 #[derive(Clone, Copy, Debug, PartialEq, Eq, Hash, Error)]
 pub enum PacketFault {
     /// There are fewer than thirty bytes.
@@ -42,7 +42,10 @@ impl<'a> Packet<'a> {
     ghost use Rattle.ipx_wire.specs.Header.{header_bytes};
     ghost use Rattle.ipx_wire.specs.Packet.{Parts, IsPacket, IsNoPacket, packet_of};
 
-    /// Reads the packet at the front of `bytes`. Bytes behind its length are padding, and ignored.
+    /// Reads the packet at the beginning of `bytes`. Bytes behind its length are padding, and ignored.
+    ///
+    /// The faults, in their order: `Short` under 30 bytes; `LengthSmall` if the length field is under 30; `LengthBeyond` if it
+    /// is more than there are bytes.
     #[tactic(auto, unfolding(crate::specs::Packet::packet_of))]
     pub fn read(bytes: &'a [u8]) -> Result<Packet<'a>, PacketFault>
         ensures found { IfOk result (IsPacket bytes.entry.now) }

@@ -1,25 +1,27 @@
 //! The data of routing information packets: a request or a response of 1 to 50 entries.
-ghost use Rattle.ipx_wire.specs.Rip.{entry_at};
+ghost use Rattle.ipx_wire.specs.Rip.{entry_at, operation_word};
 ghost use Rattle.std.specs.Prelude.{◌≡◌, ◌+◌, ◌*◌, ◌<◌, ◌≤◌, length, slice_get, IfOk, IfErr, IsOkAnd, Some};
 
 use crate::fields::{u16_at, u32_at};
 use crate::network::Network;
+use crate::rip_entries::RipEntries;
+use std::fmt;
 use std::marker::Model;
 use thiserror::Error;
 
-/// What a routing information packet asks or tells.
+/// What a routing information packet does.
 #[derive(Clone, Copy, Debug, PartialEq, Eq, Hash)]
 pub enum Operation {
     /// Asks a neighbour for routes.
     Request,
-    /// Tells a neighbour routes.
+    /// Advertises routes.
     Response,
 }
 
 impl Operation {
     ghost use Rattle.ipx_wire.specs.Rip.{operation_number};
 
-    /// The number that stands for it in a packet.
+    /// The number that stands for it in a packet: 1 request, 2 response.
     pub fn number(self) -> u16
         ensures { result ≡ operation_number self }
     {
@@ -30,7 +32,25 @@ impl Operation {
     }
 }
 
-/// Why data are no routing information. The first fault of this list that holds is answered.
+/// `request` or `response`.
+impl fmt::Display for Operation {
+    ghost output = { λ operation. Some (operation_word operation) };
+
+    fn fmt<W: fmt::Write>(&self, f: &mut fmt::Formatter<W>) -> fmt::Result {
+        f.write_str(word(*self))
+    }
+}
+
+fn word(operation: Operation) -> &'static str
+    ensures { result.now ≡ operation_word operation }
+{
+    match operation {
+        Operation::Request => "request",
+        Operation::Response => "response",
+    }
+}
+
+/// Why data are no routing information. A reader returns the first fault of this list that holds.
 #[derive(Clone, Copy, Debug, PartialEq, Eq, Hash, Error)]
 pub enum RipFault {
     /// There are fewer than the two bytes of the operation.
@@ -47,10 +67,10 @@ pub enum RipFault {
     TooMany,
 }
 
-/// A network and how far it is, as a neighbour tells it.
+/// A network and how far it is, as a neighbour advertises it.
 #[derive(Clone, Copy, Debug, Default, PartialEq, Eq, Hash)]
 pub struct RipEntry {
-    /// The network; in a request, `Network::ALL_ROUTES` asks for every one.
+    /// The network; in a request, [`Network::ALL_ROUTES`] asks for every route.
     pub network: Network,
     /// How many routers stand on the way; 16 or more mean unreachable.
     pub hops: u16,
@@ -65,7 +85,7 @@ impl RipEntry {
     /// The most entries that one packet has.
     pub const MOST: usize = 50;
 
-    /// So many hops or more mean that a network or a service isn't reached.
+    /// This many hops or more mean that a network or a service is unreachable.
     pub const UNREACHABLE: u16 = 16;
 }
 
@@ -94,6 +114,9 @@ impl<'a> Rip<'a> {
     ghost use Rattle.ipx_wire.specs.Rip.{RipParts, IsRip, IsNoRip, rip_of};
 
     /// Reads the data of a packet. Fewer than eight bytes behind the last entry are ignored.
+    ///
+    /// The faults, in their order: `Short` under 2 bytes; `Operation` if the operation is neither 1 nor 2; `NoEntry` under
+    /// 10 bytes; `TooMany` from 410 bytes on.
     #[tactic(auto, unfolding(crate::specs::Rip::rip_of))]
     pub fn read(payload: &'a [u8]) -> Result<Rip<'a>, RipFault>
         ensures found { IfOk result (IsRip payload.entry.now) }
@@ -125,7 +148,7 @@ impl<'a> Rip<'a> {
         })
     }
 
-    /// Whether routes are asked for or told.
+    /// Whether the packet asks for routes or advertises them.
     pub fn operation(&self) -> Operation
         ensures { result ≡ self.now.operation }
     {
@@ -149,59 +172,27 @@ impl<'a> Rip<'a> {
         entry_from(self.body, RipEntry::SIZE * k)
     }
 
+    /// The entry with exactly `k` others before it, or `None` if there are no more than `k`.
+    pub fn get(&self, k: usize) -> Option<RipEntry>
+        ensures { result ≡ slice_get self.now.entries k }
+    {
+        if k < self.len() {
+            Some(self.entry(k))
+        } else {
+            None
+        }
+    }
+
     /// The entries in their order.
     pub fn entries(&self) -> RipEntries<'a>
         ensures { result ≡ self.now.entries }
     {
-        RipEntries {
-            count: self.count,
-            body: self.body,
-        }
-    }
-}
-
-/// The entries of a routing information packet that are still to come, in their order.
-#[derive(Debug, Drop)]
-pub struct RipEntries<'a> {
-    count: usize,
-    body: &'a [u8],
-}
-
-impl<'a> Model for RipEntries<'a> {
-    ghost use Rattle.std.specs.Prelude.{◌*◌, ◌≤◌, List, length};
-    ghost use Rattle.ipx_wire.specs.declared.rip.RipEntry.{RipEntry};
-    ghost use Rattle.ipx_wire.specs.Rip.{entries_at};
-
-    ghost Value = { List RipEntry };
-
-    ghost view = { λ r. entries_at r.count r.body.now };
-
-    ghost invariant = { λ r. 8 * r.count ≤ length r.body.now };
-}
-
-impl<'a> Iterator for RipEntries<'a> {
-    ghost use Rattle.std.specs.Iterator.{YieldsFirst, item_count};
-
-    type Item = RipEntry;
-
-    ghost next_gives = { YieldsFirst (λ rest. rest) };
-
-    ghost remaining = { item_count (λ rest. rest) };
-
-    fn next(&mut self) -> Option<RipEntry> {
-        if self.count == 0 {
-            return None;
-        }
-        let entry = entry_from(self.body, 0);
-        let (_, rest) = self.body.split_at(RipEntry::SIZE);
-        self.body = rest;
-        self.count -= 1;
-        Some(entry)
+        RipEntries::of(self.count, self.body)
     }
 }
 
 #[tactic(auto, unfolding(crate::specs::Rip::entry_at))]
-fn entry_from(bytes: &[u8], place: usize) -> RipEntry
+pub(crate) fn entry_from(bytes: &[u8], place: usize) -> RipEntry
     requires { place + 8 ≤ length bytes.now }
     ensures { result ≡ entry_at bytes.now place }
 {

@@ -7,8 +7,8 @@ use crate::fields::u16_at;
 use crate::sap_entries::{SapEntries, SapEntry};
 use thiserror::Error;
 
-/// Why data are no service advertising. The first fault that holds is answered: those of the
-/// operation before those of what stands behind it.
+/// Why data are no service advertising. A reader returns the first fault that holds: those of the operation before those of
+/// what stands behind it.
 #[derive(Clone, Copy, Debug, PartialEq, Eq, Hash, Error)]
 pub enum SapFault {
     /// There are fewer than the two bytes of the operation, or a query has fewer than four.
@@ -35,9 +35,9 @@ pub enum Sap<'a> {
         /// The type of the services; FFFFh stands for every type.
         kind: u16,
     },
-    /// Tells services.
+    /// Advertises services.
     Response {
-        /// Whether it answers a query for the nearest.
+        /// Whether it answers a query for the nearest service.
         nearest: bool,
         /// The services, 1 to 7.
         entries: SapEntries<'a>,

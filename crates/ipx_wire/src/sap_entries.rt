@@ -7,19 +7,20 @@ ghost use Rattle.std.specs.Prelude.{◌≡◌, ◌<◌, ◌≤◌, length, slice
 
 use crate::address::Address;
 use crate::fields::{address_from, u16_at};
+use crate::sap_iter::SapIter;
 use crate::service_name::ServiceName;
 use std::marker::Model;
 
-/// A service as a response tells it.
+/// A service as a response advertises it.
 #[derive(Clone, Copy, Debug, PartialEq, Eq, Hash)]
 pub struct SapEntry {
-    /// The type of the service.
+    /// The type of the service, 0 to FFFFh.
     pub kind: u16,
-    /// Its name; none where the name is empty or is not ended by a zero.
+    /// Its name; `None` if the name is empty or no zero ends it within its 48 bytes.
     pub name: Option<ServiceName>,
-    /// Where it is offered.
+    /// The address where it is offered.
     pub address: Address,
-    /// How many routers stand on the way; 16 or more mean that it is down.
+    /// How many routers stand on the way; 16 or more mean unreachable.
     pub hops: u16,
 }
 
@@ -54,7 +55,7 @@ impl<'a> Model for SapEntries<'a> {
 }
 
 impl<'a> SapEntries<'a> {
-    /// The first `count` entries of bytes that have so many.
+    /// The first `count` entries of bytes that have as many.
     pub(crate) fn of(count: usize, body: &'a [u8]) -> SapEntries<'a>
         requires { IsCounted 1 most_services 64 count body.now }
         ensures { result ≡ sap_entries_at count body.entry.now }
@@ -79,10 +80,28 @@ impl<'a> SapEntries<'a> {
         let (_, rest) = self.body.split_at(SapEntry::SIZE * k);
         entry_from(rest)
     }
+
+    /// The entry with exactly `k` others before it, or `None` if there are no more than `k`.
+    pub fn get(&self, k: usize) -> Option<SapEntry>
+        ensures { result ≡ slice_get self.now k }
+    {
+        if k < self.len() {
+            Some(self.entry(k))
+        } else {
+            None
+        }
+    }
+
+    /// The entries in their order.
+    pub fn entries(&self) -> SapIter<'a>
+        ensures { result ≡ self.now }
+    {
+        SapIter::of(self.count, self.body)
+    }
 }
 
 #[tactic(auto, unfolding(crate::specs::SapEntries::sap_entry_at))]
-fn entry_from(bytes: &[u8]) -> SapEntry
+pub(crate) fn entry_from(bytes: &[u8]) -> SapEntry
     requires { 64 ≤ length bytes.now }
     ensures { result ≡ sap_entry_at bytes.now }
 {

@@ -1,20 +1,23 @@
 //! The name of a service: the bytes before the first zero of the 48 that a packet keeps for it.
-ghost use Rattle.std.specs.Prelude.{◌≡◌, ◌-◌, ◌≤◌, ◌==◌, List, ℕ, ◌++◌, length, take, replicate, IfSome, IfNone, Some, refl};
+ghost use Rattle.std.specs.Prelude.{◌≡◌, ◌-◌, ◌≤◌, ◌==◌, List, ℕ, ◌++◌, length, take, replicate, codes, IfSome, IfNone, Some, refl};
 ghost use Rattle.std.specs.List.{position_or_len};
 ghost use Rattle.std.proofs.Common.{rules};
 ghost use Rattle.std.specs.Cmp.{partial_equiv_from_equiv};
 ghost use Rattle.std.specs.Cmp.Rules.{hashing};
 ghost use Rattle.std.specs.Hash as fed;
 ghost use Rattle.std.specs.Cmp.Lexicographic.{nat_list_eq_equiv, nat_list_cmp_total, texts_po, texts_ties};
+ghost use Rattle.ipx_wire.specs.NameWord.{name_word};
 ghost use Rattle.ipx_wire.specs.Name.{IsName, IsNoName, IsServiceName, name_of, name_field, name_order, same_name, default_name};
 
+use crate::name_word::write_name;
 use std::cmp::Ordering;
+use std::fmt;
 use std::hash::{Hash, Hasher};
 use std::marker::Model;
 
 /// The name of a service, 1 to 47 bytes without a zero. Names are compared byte by byte, and a
 /// name that begins another is the smaller of the two.
-#[derive(Clone, Copy, Debug)]
+#[derive(Clone, Copy)]
 pub struct ServiceName {
     field: [u8; 48],
     count: u8,
@@ -76,6 +79,25 @@ impl ServiceName {
         ensures name { IsServiceName self.now }
     {
         self.field
+    }
+}
+
+/// The name as one word: a byte that isn't visible ASCII, and the backslash, as a backslash and two upper-case hexadecimal
+/// digits, as in `PRINTER\\20A`.
+impl fmt::Display for ServiceName {
+    ghost output = { λ name. Some (name_word name) };
+
+    fn fmt<W: fmt::Write>(&self, f: &mut fmt::Formatter<W>) -> fmt::Result {
+        write_name(f, self.bytes())
+    }
+}
+
+/// The word in brackets, as in `ServiceName(PRINTER\\20A)`.
+impl fmt::Debug for ServiceName {
+    ghost debug_output = { λ name. Some (codes "ServiceName(" ++ name_word name ++ codes ")") };
+
+    fn fmt<W: fmt::Write>(&self, f: &mut fmt::Formatter<W>) -> fmt::Result {
+        write!(f, "ServiceName({self})")
     }
 }
 

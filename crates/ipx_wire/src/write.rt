@@ -1,4 +1,4 @@
-//! Whole packets of a router's own, written to the front of a slice.
+//! Whole packets of a router's own, written to the beginning of a slice.
 ghost use Rattle.std.specs.Prelude.{◌≡◌, ◌+◌, ◌*◌, ◌^◌, ◌<◌, ◌≤◌, ◌++◌, length, drop};
 ghost use Rattle.std.specs.List.{flat_map};
 ghost use Rattle.ipx_wire.specs.Numbers.{most_entries};
@@ -12,13 +12,7 @@ use crate::fields::{put_u16, put_u32};
 use crate::header::Header;
 use crate::rip::{Operation, RipEntry};
 
-/// The packet type of the routing information protocol.
-pub const RIP_KIND: u8 = 1;
-
-/// The packet type of the service advertising protocol.
-pub const SAP_KIND: u8 = 4;
-
-/// Writes a routing information packet of 1 to 50 entries to the front of `out`, and answers its number of bytes: 32, and 8
+/// Writes a routing information packet of 1 to 50 entries to the beginning of `out`, and returns its number of bytes: 32, and 8
 /// for each entry. `out` has room for as many.
 ///
 /// In the header the type is 1, the checksum FFFFh and the transport control 0.
@@ -39,13 +33,13 @@ pub fn write_rip(
     ensures packet { IsPacket (rip_packet from to operation entries.now) (rip_packet_parts from to operation entries.now) }
 {
     let size = 2 + RipEntry::SIZE * entries.len();
-    own(RIP_KIND, from, to, size as u16).write(out);
+    own(Header::RIP, from, to, size as u16).write(out);
     put_u16(out, Header::SIZE, operation.number());
     put_entries(out, Header::SIZE + 2, entries);
     Header::SIZE + size
 }
 
-/// Writes a query for services of a type, all or the nearest, to the front of `out`, and answers its number of bytes, which
+/// Writes a query for services of a type, all or the nearest, to the beginning of `out`, and returns its number of bytes, which
 /// is 34. `out` has room for as many.
 ///
 /// In the header the type is 4, the checksum FFFFh and the transport control 0. The type `kind` of FFFFh stands for every type.
@@ -58,13 +52,13 @@ pub fn write_query(from: Address, to: Address, nearest: bool, kind: u16, out: &m
     ensures packet { IsPacket (query_packet from to nearest kind) (query_packet_parts from to nearest kind) }
 {
     let operation = if nearest { 3 } else { 1 };
-    own(SAP_KIND, from, to, 4).write(out);
+    own(Header::SAP, from, to, 4).write(out);
     put_u16(out, Header::SIZE, operation);
     put_u16(out, Header::SIZE + 2, kind);
     Header::SIZE + 4
 }
 
-/// The header of a router's own packet with so many bytes of data.
+/// The header of a router's own packet with `size` bytes of data.
 pub fn own(kind: u8, from: Address, to: Address, size: u16) -> Header
     requires { size < 2 ^ 15 }
     ensures { result ≡ own_header kind from to size }

@@ -1,4 +1,4 @@
-//! Responses of a router's own, written to the front of a slice.
+//! Responses of a router's own, written to the beginning of a slice.
 ghost use Rattle.std.specs.Prelude.{◌≡◌, ◌+◌, ◌*◌, ◌≤◌, ◌++◌, length, drop, map};
 ghost use Rattle.std.specs.List.{flat_map, AllByRecursion};
 ghost use Rattle.ipx_wire.specs.Name.{IsServiceName, name_field};
@@ -14,10 +14,10 @@ use crate::header::Header;
 use crate::sap_entries::SapEntry;
 use crate::service::Service;
 use crate::service_name::ServiceName;
-use crate::write::{SAP_KIND, own};
+use crate::write::own;
 
-/// Writes a response of 1 to 7 services, general or to a query for the nearest, to the front of
-/// `out`, and answers its number of bytes: 32, and 64 for each service. `out` has room for as many.
+/// Writes a response of 1 to 7 services, general or to a query for the nearest, to the beginning of
+/// `out`, and returns its number of bytes: 32, and 64 for each service. `out` has room for as many.
 ///
 /// In the header the type is 4, the checksum FFFFh and the transport control 0. Behind each name
 /// there are zeros.
@@ -39,7 +39,7 @@ pub fn write_sap(
     ensures response { IsResponse (sap_payload nearest services.now) nearest (map entry_of services.now) }
 {
     let size = 2 + SapEntry::SIZE * services.len();
-    own(SAP_KIND, from, to, size as u16).write(out);
+    own(Header::SAP, from, to, size as u16).write(out);
     let operation = if nearest { 4 } else { 2 };
     put_u16(out, Header::SIZE, operation);
     put_services(out, Header::SIZE + 2, services);

@@ -3,7 +3,7 @@ use Rattle.ipx_wire.specs.Rip.{entries_at}
 use Rattle.ipx_wire.specs.declared.rip.RipEntry.{RipEntry}
 use Rattle.ipx_wire.proofs.Entries.{entries_at-first, entries_at-none}
 use Rattle.ipx_wire.proofs.Yields.{goes_first}
-use Rattle.ipx_wire.proofs.rip.RipEntriesIterator.next.Goals as goal
+use Rattle.ipx_wire.proofs.rip_entries.RipEntriesIterator.next.Goals as goal
 
 none : (c : goal.Then-self-eq0) → c.args.self.now ≡ []
 none c = sym c.self.view_is ∙ entries_at-none c.self.inside.count c.self.inside.body.now c.if-self-eq0.true

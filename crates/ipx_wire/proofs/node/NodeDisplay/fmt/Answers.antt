@@ -1,0 +1,5 @@
+use Rattle.ipx_wire.proofs.HexText.{ascii_digits}
+use Rattle.ipx_wire.proofs.node.NodeDisplay.fmt.Goals as goal
+
+pub write_ascii-requires : goal.write_ascii-requires
+write_ascii-requires g c = ascii_digits c.digits.result c.args.self.now.0 c.digits.ensures
