@@ -1,7 +1,8 @@
 -- Changes are advertised port by port: what is listed for a port, its one packet, and the room that it leaves.
-use Rattle.std.proofs.Common.{◌≡◌, refl, sym, ap, ◌∙◌, subst, ℕ, ◌+◌, ◌-◌, ◌*◌, ◌<◌, ◌≤◌, List, [], ◌∷◌, ◌++◌, length, map, take, get_or, max, arith, append-nil, append_assoc, length-append}
+use Rattle.std.proofs.Common.{◌≡◌, refl, sym, ap, ◌∙◌, subst, ℕ, ◌+◌, ◌-◌, ◌*◌, ◌<◌, ◌≤◌, List, [], ◌∷◌, ◌++◌, length, map, take, get_or, max, arith, append-nil, append_assoc, length-append, Bool, true, ◌==◌, true≢false}
 use Rattle.std.specs.List.{flat_map}
 use Rattle.std.proofs.Math.Nat.{mul-le-mul_left, mul-le-mul_right}
+use Rattle.std.proofs.lemmas.Bool.{ne_eqb}
 use Rattle.std.proofs.lemmas.Grind.{flat_map-append}
 use Rattle.std.proofs.lemmas.List.{take_more, map-append}
 use Rattle.ipx_wire.specs.Packet.{packet_of}
@@ -23,6 +24,11 @@ use Rattle.ipx_router.proofs.PageCounts.{room_left}
 use Rattle.ipx_router.proofs.Paying.{appends_then}
 use Rattle.ipx_router.proofs.SentLengths.{packet_length}
 use Rattle.ipx_router.proofs.Telling.{no_route_news, no_service_news}
+
+-- a list that was found empty
+pub no_items : {X : Type 0} (xs : List X) {empty : Bool} → empty ≡ (length xs == 0) → empty ≡ true → xs ≡ []
+no_items [] is found = refl
+no_items (x ∷ xs) is found = absurd (true≢false (sym found ∙ is ∙ ne_eqb (length (x ∷ xs)) 0 (λ none. omega (arith, none))))
 
 -- ---- a list, change by change
 

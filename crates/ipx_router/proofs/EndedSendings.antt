@@ -1,7 +1,8 @@
 -- What is sent where a second passes, or where a port goes down, is told by what ended with it.
-use Rattle.std.proofs.Common.{◌≡◌, refl, sym, ap, ◌∙◌, ℕ, Bool, true, false, List, [], ◌∷◌, ◌++◌, ◌&&◌, if◌then◌else◌}
-use Rattle.std.specs.List.{flat_map}
-use Rattle.ipx_table.specs.Stands.{second_later, ended, without_port, ended_with_port}
+use Rattle.std.proofs.Common.{◌≡◌, refl, sym, ap, ◌∙◌, ℕ, Bool, true, false, List, [], ◌∷◌, ◌++◌, ◌&&◌, if◌then◌else◌, inl, inr, true≢false}
+use Rattle.std.specs.List.{flat_map, list_any}
+use Rattle.std.proofs.lemmas.Bool.{cases_Bool}
+use Rattle.ipx_table.specs.Stands.{second_later, ended, is_last, without_port, ended_with_port}
 use Rattle.ipx_table.specs.declared.held.Held.{Held}
 use Rattle.ipx_wire.specs.declared.rip.RipEntry.{RipEntry}
 use Rattle.ipx_wire.specs.declared.service.Service.{Service}
@@ -21,6 +22,19 @@ same_each : (f g : ℕ → List Sent) → ((number : ℕ) → f number ≡ g num
 same_each f g same [] = refl
 same_each f g same (number ∷ up) =
     ap (λ (sent : List Sent). sent ++ flat_map f up) (same number) ∙ ap (λ (sent : List Sent). g number ++ sent) (same_each f g same up)
+
+-- nothing on each port
+pub none_each : (f : ℕ → List Sent) → ((number : ℕ) → f number ≡ []) → (up : List ℕ) → flat_map f up ≡ []
+none_each f none [] = refl
+none_each f none (number ∷ up) = ap (λ (sent : List Sent). sent ++ flat_map f up) (none number) ∙ none_each f none up
+
+-- nothing ends where no record is in its last second
+none_ended : {O : Type 0} (held : List (Held O)) → list_any is_last held ≡ false → ended held ≡ []
+none_ended [] quiet = refl
+none_ended (h ∷ held) quiet = elim (cases_Bool (is_last h)) [
+  | inl last ↦ let no : true ≡ false = rw last at quiet in absurd (true≢false no)
+  | inr other ↦ rw other (none_ended held (rw other at quiet))
+]
 
 -- equal entries and equal services make equal broadcasts
 module _ (ports : List Port) (number : ℕ) (entries : List RipEntry → List RipEntry) (services : List Service → List Service)
@@ -42,6 +56,15 @@ module _ (ports : List Port) (up : List ℕ) (routes : List (Held RouteOffer)) (
   second_sent =
       same_each (second_on ports before later false) (ended_sends ports (ended routes) (ended services))
       (λ number. same_broadcasts ports number (λ es. es) (λ ss. ss) (news-second ports number routes routes_up) (services-second number services services_up)) up
+
+  pub nothing_sent : (periodic : Bool) → periodic ≡ false → list_any is_last routes ≡ false → list_any is_last services ≡ false
+      → second_sends ports up routes services periodic ≡ []
+  nothing_sent periodic is no_route no_service =
+      ap (second_sends ports up routes services) is
+      ∙ second_sent
+      ∙ ap (λ (es : List RouteOffer). flat_map (ended_sends ports es (ended services)) up) (none_ended routes no_route)
+      ∙ ap (λ (ls : List ServiceOffer). flat_map (ended_sends ports [] ls) up) (none_ended services no_service)
+      ∙ none_each (ended_sends ports [] []) (λ number. refl) up
 
   pub periodic_sent : second_sends ports up routes services true
       ≡ flat_map (periodic_sends ports (ended routes) (ended services) up (offers (second_later routes)) (offers (second_later services))) up

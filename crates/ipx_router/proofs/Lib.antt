@@ -8,6 +8,7 @@ pub mod Ascending
 pub mod Broadcasting
 pub mod ByteFields
 pub mod ByteLists
+pub mod Comparing
 pub mod Counting
 pub mod Differences
 pub mod DownEntries
@@ -17,6 +18,7 @@ pub mod EndedPages
 pub mod EndedSendings
 pub mod Endings
 pub mod Entries
+pub mod EntriesRead
 pub mod Every
 pub mod Fitting
 pub mod Found
@@ -24,6 +26,9 @@ pub mod HeardCounts
 pub mod Hearing
 pub mod HeldInOrder
 pub mod Histories
+pub mod Horizon
+pub mod HorizonEvents
+pub mod HorizonSends
 pub mod Judging
 pub mod Keys
 pub mod Lasting
@@ -60,6 +65,8 @@ pub mod Sendings
 pub mod SentBytes
 pub mod SentFor
 pub mod SentLengths
+pub mod SharedRoom
+pub mod Shares
 pub mod Showing
 pub mod Sources
 pub mod Standing
@@ -75,4 +82,5 @@ pub mod Upheld
 pub mod Ups
 pub mod Verdicts
 pub mod Wire
+pub mod Within
 pub mod examples

@@ -39,7 +39,7 @@ rising_pairs (x ∷ xs) pairs = (
   rising_pairs xs (λ i j d less below. pairs (suc i) (suc j) d (omega (arith, less)) (omega (arith, below))),
 )
 
-rising : (xs : List ℕ) → IsStrictlyIncreasing xs → IsRising xs
+pub rising : (xs : List ℕ) → IsStrictlyIncreasing xs → IsRising xs
 rising xs ordered = rising_pairs xs (AllPairs-from_increasing xs ordered)
 
 -- one greater number may come last

@@ -16,7 +16,7 @@ use Rattle.ipx_router.proofs.ByteFields.{parts_bytes}
 use Rattle.ipx_router.proofs.Wire.{Readings}
 
 -- two that were read are the same
-one_read : {X F : Type 0} (r : Result X F) (x y : X) → r ≡ Ok x → r ≡ Ok y → x ≡ y
+pub one_read : {X F : Type 0} (r : Result X F) (x y : X) → r ≡ Ok x → r ≡ Ok y → x ≡ y
 one_read {X = X} {F = F} r x y first second = ap (λ (q : Result X F). elim q [ Ok z ↦ z | Err fault ↦ x ]) (sym first ∙ second)
 
 module _ (readings : Readings) (P : RipEntry → Type 0) (ports : List Port) (up : List ℕ) (s : Sent) (are : IsBytes s.bytes)

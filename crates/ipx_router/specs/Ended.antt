@@ -1,4 +1,4 @@
--- What ended, as it is told on a port (IPX Router Specification, immediate broadcasts).
+-- What ended, as it is advertised on a port (IPX Router Specification, immediate broadcasts).
 use Rattle.std.specs.Prelude.{ℕ, ◌==◌, Bool, true, if◌then◌else◌, List, [], ◌∷◌, Option, None, Some}
 use Rattle.std.specs.Borrow.{Bor}
 use Rattle.ipx_table.specs.Stands.{Ascends}

@@ -27,7 +27,7 @@ runs_after runs Start = true
 runs_after runs Stop = false
 runs_after runs event = runs
 
--- of a router with so many ports, that runs or not, and has those ports up
+-- of a router with this many ports, that runs or not, and has those ports up
 abbrev pub up_after : ℕ → Bool → List ℕ → Event → List ℕ
 up_after ports runs up Start = if runs then up else numbers ports
 up_after ports runs up Stop = []

@@ -8,12 +8,14 @@ pub mod Following
 pub mod Happened
 pub mod Heard
 pub mod History
+pub mod Horizon
 pub mod Judged
 pub mod Needs
 pub mod News
 pub mod Numbers
 pub mod Outbox
 pub mod Outcomes
+pub mod OutcomeWord
 pub mod Outgoing
 pub mod Owed
 pub mod Packets
@@ -26,6 +28,7 @@ pub mod RouterOf
 pub mod Routes
 pub mod Sends
 pub mod Services
+pub mod Shares
 pub mod Shown
 pub mod Slots
 pub mod Sorted
@@ -36,3 +39,5 @@ pub mod ToldRoutes
 pub mod ToldServices
 pub mod Touched
 pub mod Why
+pub mod WhyWord
+pub mod Within

@@ -41,6 +41,6 @@ relay_sends ports up routes running number p =
       | None ↦ relayed ports up routes number p
     ]
 
--- at most so many packets: one on each port but that on which it came, and one at least
+-- the most packets that leave: one on each port but that on which it came, and one at least
 abbrev pub relay_places : List Port → ℕ
 relay_places ports = max 1 (length ports - 1)

@@ -8,7 +8,7 @@ use Rattle.ipx_router.specs.Stands.{State, StandsFor}
 use Rattle.ipx_router.specs.declared.ports_fault.PortsFault.{PortsFault}
 use Rattle.ipx_router.specs.declared.ports_fault.PortsFault.TheVariants.{NoPort, TooMany, SameNetwork}
 
--- why ports make no router that has so many at most, the first that holds
+-- why ports make no router that has at most this many, the first that holds
 abbrev pub IsNoRouter : ℕ → List Port → PortsFault → Type 0
 IsNoRouter most ports NoPort = ports ≡ []
 IsNoRouter most ports TooMany = most < length ports

@@ -1,4 +1,4 @@
--- Which routes and services of all that are told are sent, and how.
+-- Which routes and services of all that are advertised are sent, and how.
 use Rattle.std.specs.Prelude.{ℕ, ◌==◌, ◌||◌, Bool, if◌then◌else◌, List, [], ◌∷◌}
 use Rattle.std.specs.List.{list_any}
 use Rattle.ipx_wire.specs.declared.rip.RipEntry.{RipEntry}

@@ -8,7 +8,7 @@ use Rattle.ipx_router.specs.Told.{network_before, told_at, learned}
 use Rattle.ipx_router.specs.declared.route_offer.RouteOffer.{RouteOffer}
 use Rattle.ipx_router.specs.declared.told_routes.ToldRoutes.{ToldRoutes}
 
--- the routes from a place on that are told on the port
+-- the routes from a place on that are advertised on the port
 abbrev pub learned_from : List (Held RouteOffer) → ℕ → ℕ → List RipEntry
 learned_from records number place = learned (drop place (offers records)) number
 

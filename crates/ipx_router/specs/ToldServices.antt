@@ -7,7 +7,7 @@ use Rattle.ipx_router.specs.Told.{by_name, farther, is_service_told}
 use Rattle.ipx_router.specs.declared.service_offer.ServiceOffer.{ServiceOffer}
 use Rattle.ipx_router.specs.declared.told_services.ToldServices.{ToldServices}
 
--- the services from a place on that are told on the port
+-- the services from a place on that are advertised on the port
 abbrev pub services_from : List (Held ServiceOffer) → ℕ → ℕ → List Service
 services_from records number place = map (λ s. farther s.service) (filter (is_service_told number) (drop place (offers records)))
 

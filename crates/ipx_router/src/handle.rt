@@ -17,7 +17,7 @@ use crate::stopping::send_stop;
 use crate::up_ports::{has_number, numbers_below, with_number, without_number};
 use crate::why::Why;
 
-/// Every so many seconds all is advertised.
+/// The seconds from one broadcast of all that is advertised to the next.
 const PERIOD: u8 = 60;
 
 impl<const P: usize, const R: usize, const S: usize> Router<P, R, S> {
@@ -63,6 +63,8 @@ impl<const P: usize, const R: usize, const S: usize> Router<P, R, S> {
         Outcome::Stopped
     }
 
+    // (out of line, since its room on the stack is as large as the tables: no packet shall pay for that)
+    #[inline(never)]
     fn halt(&mut self, outbox: &mut Outbox)
         requires runs { self.old.running ≡ true }
         requires room { HasRoomFor self.old Halted outbox.old }
@@ -93,6 +95,8 @@ impl<const P: usize, const R: usize, const S: usize> Router<P, R, S> {
         Outcome::Ticked
     }
 
+    // (out of line, since its room on the stack is as large as the tables: no packet shall pay for that)
+    #[inline(never)]
     fn tick(&mut self, outbox: &mut Outbox)
         requires runs { self.old.running ≡ true }
         requires room { HasRoomFor self.old Passed outbox.old }
@@ -132,6 +136,8 @@ impl<const P: usize, const R: usize, const S: usize> Router<P, R, S> {
         Outcome::WentDown
     }
 
+    // (out of line, since its room on the stack is as large as the tables: no packet shall pay for that)
+    #[inline(never)]
     fn take_down(&mut self, port: u8, outbox: &mut Outbox)
         requires port { port < length self.old.ports }
         requires runs { self.old.running ≡ true }

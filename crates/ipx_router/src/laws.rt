@@ -9,8 +9,13 @@ ghost use Rattle.ipx_wire.specs.declared.address.Address.{Address};
 ghost use Rattle.ipx_wire.specs.declared.network.Network.{Network};
 ghost use Rattle.ipx_wire.specs.declared.node.Node.{Node};
 ghost use Rattle.ipx_router.specs.Bounds.{most_packets, most_length};
-ghost use Rattle.ipx_router.specs.Facts.{routes_held, services_held, offers};
+ghost use Rattle.ipx_table.specs.Facts.{Fact, Offered};
+ghost use Rattle.ipx_table.specs.Stands.{held};
+ghost use Rattle.ipx_table.specs.Taken.{taken};
+ghost use Rattle.ipx_table.specs.declared.taken.Taken.TheVariants.{Admitted};
+ghost use Rattle.ipx_router.specs.Facts.{route_facts, route_facts_of, routes_held, service_facts, service_facts_of, services_held, offers};
 ghost use Rattle.ipx_router.specs.History.{Event, History, Start, Stop, Second, Packet, PortDown, PortUp, IsOnPort, IsOfBytes, running, seconds_run, ports_up};
+ghost use Rattle.ipx_router.specs.Horizon.{EachEntryReadIs, IsFromElsewhere};
 ghost use Rattle.ipx_router.specs.News.{news, news_services, same_address, same_route, same_service};
 ghost use Rattle.ipx_router.specs.Numbers.{unreachable};
 ghost use Rattle.ipx_router.specs.Outcomes.{outcome, changes_nothing};
@@ -20,7 +25,9 @@ ghost use Rattle.ipx_router.specs.Relay.{relay_sends};
 ghost use Rattle.ipx_router.specs.Relays.{Sent, IsTableRoute, relayed};
 ghost use Rattle.ipx_router.specs.Why.{why};
 ghost use Rattle.ipx_router.specs.Sends.{sends, ports_sending};
-ghost use Rattle.ipx_router.specs.Services.{service_order};
+ghost use Rattle.ipx_router.specs.Routes.{route_rules};
+ghost use Rattle.ipx_router.specs.Services.{service_order, service_rules};
+ghost use Rattle.ipx_router.specs.Shares.{WithinRouteShares, WithinServiceShares, ShareOut, IsNew, KeepsNew};
 ghost use Rattle.ipx_router.specs.Told.{told, told_services};
 ghost use Rattle.ipx_router.specs.declared.port.PortFault.{PortFault};
 
@@ -191,6 +198,25 @@ pub fn down_ports()
     packets();
 }
 
+/// No route goes back to where it was learned: after any event, no route to the network that an entry of a packet names was
+/// learned on the port on which the event sends that packet. Nothing is said of it there, not even that it is unreachable.
+///
+/// It is said of the bytes: of each packet of the type of routing information that came through no router, so of broadcasts
+/// of all that is advertised and of changes, and of answers to requests. Packets that the router only sends on have been
+/// through a router by then, and what they say is another router's.
+pub fn no_route_goes_back()
+    ensures sent { (ports : List Port) (most_routes most_services : ℕ) (history : History) (event : Event)
+        → AllByRecursion IsPort ports → AllByRecursion (IsOnPort ports) (history ++ event ∷ []) → AllByRecursion IsOfBytes (history ++ event ∷ [])
+        → AllByRecursion (λ s. EachEntryReadIs (IsFromElsewhere (offers (routes_held ports most_routes (history ++ event ∷ []))) s.port) s.bytes)
+        (sends ports most_routes most_services history event) }
+{
+    ipx_wire::laws::readings();
+    ipx_wire::laws::service_readings();
+    ipx_wire::laws::reread();
+    tables();
+    packets();
+}
+
 /// An event sends no more packets than stated, where the router has at most 32 ports, and none longer than stated.
 pub fn bounds()
     ensures few { (ports : List Port) (most_routes most_services : ℕ) (history : History) (event : Event) → length ports ≤ 32 → IsOnPort ports event
@@ -206,4 +232,49 @@ pub fn bounds()
     ipx_wire::laws::service_readings();
     ipx_wire::laws::reread();
     relays();
+}
+
+/// After any history the tables have at most as many routes and services as there is room for.
+pub fn within_capacity()
+    ensures routes { (ports : List Port) (capacity : ℕ) (history : History) → length (routes_held ports capacity history) ≤ capacity }
+    ensures services { (ports : List Port) (capacity : ℕ) (history : History) → length (services_held ports capacity history) ≤ capacity }
+{
+    ipx_table::laws::alive_offers::<RouteOffer>();
+    ipx_table::laws::alive_offers::<ServiceOffer>();
+}
+
+/// After any history no port has more of the routes, or of the services, than its share, whatever the shares sum to.
+pub fn shares_hold()
+    ensures routes { (ports : List Port) (capacity : ℕ) (history : History) → WithinRouteShares ports (routes_held ports capacity history) }
+    ensures services { (ports : List Port) (capacity : ℕ) (history : History) → WithinServiceShares ports (services_held ports capacity history) }
+{
+    ipx_table::laws::shares_hold::<RouteOffer>();
+    ipx_table::laws::shares_hold::<ServiceOffer>();
+}
+
+/// Where the shares of all ports fit into a table together, a port below its share finds room, whatever the other ports sent:
+/// a route or a service that an event offers is admitted if it isn't down and there is none of its key when its turn comes.
+/// It is then in the table, unless the same event offers its key once more.
+pub fn room_within_a_share()
+    ensures routes { (ports : List Port) (capacity : ℕ) (history : History) (event : Event) (first : List (Fact RouteOffer)) (route : RouteOffer) (rest : List (Fact RouteOffer))
+        → AllByRecursion (IsOnPort ports) (history ++ event ∷ []) → ShareOut (λ p. p.route_share) ports capacity
+        → route_facts_of ports history event ≡ first ++ Offered route ∷ rest
+        → let rules = route_rules ports capacity in let facts = route_facts ports history ++ first in
+        IsNew rules (held rules facts) route → taken rules same_route facts route ≡ Admitted }
+    ensures services { (ports : List Port) (capacity : ℕ) (history : History) (event : Event) (first : List (Fact ServiceOffer)) (service : ServiceOffer) (rest : List (Fact ServiceOffer))
+        → AllByRecursion (IsOnPort ports) (history ++ event ∷ []) → ShareOut (λ p. p.service_share) ports capacity
+        → service_facts_of ports history event ≡ first ++ Offered service ∷ rest
+        → let rules = service_rules ports capacity in let facts = service_facts ports history ++ first in
+        IsNew rules (held rules facts) service → taken rules same_service facts service ≡ Admitted }
+    ensures routes_kept { (ports : List Port) (capacity : ℕ) (history : History) (event : Event)
+        → AllByRecursion (IsOnPort ports) (history ++ event ∷ []) → ShareOut (λ p. p.route_share) ports capacity
+        → KeepsNew (route_rules ports capacity) (route_facts ports history) (route_facts_of ports history event) (routes_held ports capacity (history ++ event ∷ [])) }
+    ensures services_kept { (ports : List Port) (capacity : ℕ) (history : History) (event : Event)
+        → AllByRecursion (IsOnPort ports) (history ++ event ∷ []) → ShareOut (λ p. p.service_share) ports capacity
+        → KeepsNew (service_rules ports capacity) (service_facts ports history) (service_facts_of ports history event) (services_held ports capacity (history ++ event ∷ [])) }
+{
+    ipx_table::laws::room_within_a_share::<RouteOffer>();
+    ipx_table::laws::room_within_a_share::<ServiceOffer>();
+    ipx_table::laws::standing_records::<RouteOffer>();
+    ipx_table::laws::standing_records::<ServiceOffer>();
 }

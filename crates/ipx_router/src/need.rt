@@ -6,14 +6,12 @@ ghost use Rattle.ipx_router.specs.Numbers.{most_own_length};
 
 use crate::event::Event;
 use crate::outbox::Need;
-use ipx_wire::Packet;
+use crate::pages::ENTRIES_A_PAGE;
+use crate::service_pages::SERVICES_A_PAGE;
+use ipx_wire::{Header, Packet, SapEntry};
 
-/// The entries and the services in a packet of a router's own, and the bytes of the longest one.
-const ENTRIES_A_PAGE: usize = 50;
-
-const SERVICES_A_PAGE: usize = 7;
-
-const MOST_OWN_LENGTH: usize = 480;
+/// The bytes of the longest packet of a router's own: a full page of services.
+const MOST_OWN_LENGTH: usize = Header::SIZE + 2 + SERVICES_A_PAGE * SapEntry::SIZE;
 
 /// The most packets that an event sends, and as many times the bytes of the longest.
 pub(crate) fn need_of(ports: usize, routes: usize, services: usize, event: Event<'_>) -> Need

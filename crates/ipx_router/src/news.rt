@@ -36,6 +36,9 @@ pub(crate) fn advertise_route_changes(
     requires room { HasRoom outbox.old (length up.now) (length up.now * most_own_length) }
     ensures { Appends outbox.old outbox.new (flat_map (λ j. rip_broadcast ports.now j (flat_map (route_told ports.now j) (map change_of changes.now))) up.now) }
 {
+    if changes.is_empty() {
+        return;
+    }
     for &number in up {
         advertise_routes_on(outbox, ports, number, changes);
     }
@@ -53,6 +56,9 @@ pub(crate) fn advertise_service_changes(
     requires room { HasRoom outbox.old (length up.now) (length up.now * most_own_length) }
     ensures { Appends outbox.old outbox.new (flat_map (λ j. sap_broadcast ports.now j (flat_map (service_told j) (map change_of changes.now))) up.now) }
 {
+    if changes.is_empty() {
+        return;
+    }
     for &number in up {
         advertise_services_on(outbox, ports, number, changes);
     }

@@ -1,10 +1,12 @@
 //! What a router does with a packet that comes on a port.
-ghost use Rattle.std.specs.Prelude.{◌≡◌, ◌<◌, ◌≤◌, true, false, None, Some, length};
+ghost use Rattle.std.specs.Prelude.{◌≡◌, ◌<◌, Bool, length};
 ghost use Rattle.ipx_wire.specs.declared.rip.Operation.TheVariants.{Request, Response};
 ghost use Rattle.ipx_wire.specs.declared.sap.Sap.TheVariants.{Query, Response as SapResponse};
+ghost use Rattle.ipx_router.specs.Facts.{offers};
 ghost use Rattle.ipx_router.specs.Following.{Follows, sends_between, outcome_at};
 ghost use Rattle.ipx_router.specs.Heard.{HeardRip, HeardSap};
 ghost use Rattle.ipx_router.specs.History.{Packet as Came};
+ghost use Rattle.ipx_router.specs.Judged.{IsVerdict};
 ghost use Rattle.ipx_router.specs.Needs.{HasRoomFor};
 ghost use Rattle.ipx_router.specs.Outbox.{Appends};
 ghost use Rattle.ipx_router.specs.Received.{IsPassed, IsHeard, IsSentOn, IsSentOnTo};
@@ -28,14 +30,7 @@ impl<const P: usize, const R: usize, const S: usize> Router<P, R, S> {
         ensures sends { Appends outbox.old outbox.new (sends_between self.old self.new (Came port bytes.now)) }
         ensures outcome { result ≡ outcome_at self.old (Came port bytes.now) }
     {
-        match judge(
-            &self.ports,
-            &self.up,
-            &self.routes,
-            self.running,
-            port,
-            bytes,
-        ) {
+        match self.judge(port, bytes) {
             Verdict::Dropped(why) => Outcome::Dropped(why),
             Verdict::Rip { source, rip } => match rip.operation() {
                 Operation::Response => {
@@ -48,8 +43,8 @@ impl<const P: usize, const R: usize, const S: usize> Router<P, R, S> {
                 }
             },
             Verdict::Sap { source, sap } => match sap {
-                Sap::Response { nearest, entries } => {
-                    self.learn_services(port, bytes, source, nearest, &entries, outbox);
+                Sap::Response { entries, .. } => {
+                    self.learn_services(port, bytes, source, &entries, outbox);
                     Outcome::Learned
                 }
                 Sap::Query { nearest, kind } => {
@@ -70,6 +65,21 @@ impl<const P: usize, const R: usize, const S: usize> Router<P, R, S> {
                 Outcome::Forwarded
             }
         }
+    }
+
+    /// What is to be done with bytes that came on a port.
+    fn judge<'a>(&self, port: u8, bytes: &'a [u8]) -> Verdict<'a>
+        requires { port < length self.now.ports }
+        ensures { IsVerdict self.now.ports self.now.up (offers self.now.routes) self.now.running port bytes.entry.now result }
+    {
+        judge(
+            &self.ports,
+            &self.up,
+            &self.routes,
+            self.running,
+            port,
+            bytes,
+        )
     }
 
     /// A response of routing information: what it offers, and what that changes.
@@ -107,18 +117,16 @@ impl<const P: usize, const R: usize, const S: usize> Router<P, R, S> {
         port: u8,
         bytes: &[u8],
         source: Address,
-        nearest: bool,
         entries: &SapEntries<'_>,
         outbox: &mut Outbox,
     )
         requires port { port < length self.old.ports }
         requires passes { IsPassed self.old port bytes.now }
-        requires heard { IsHeard self.old port bytes.now (HeardSap source (SapResponse nearest entries.now)) }
+        requires heard { (nearest : Bool) × IsHeard self.old port bytes.now (HeardSap source (SapResponse nearest entries.now)) }
         requires room { HasRoomFor self.old (Came port bytes.now) outbox.old }
         ensures follows { Follows R S self.old self.new (Came port bytes.now) }
         ensures sends { Appends outbox.old outbox.new (sends_between self.old self.new (Came port bytes.now)) }
     {
-        let _ = nearest;
         are_bytes(bytes);
         hear_services(
             &mut self.services,

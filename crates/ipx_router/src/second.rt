@@ -1,9 +1,9 @@
 //! Seconds, and ports that go down: what ends in both tables, and how the ports that are up advertise it.
-ghost use Rattle.std.specs.Prelude.{◌≡◌, ℕ, ◌<◌, ◌≤◌, List, [], ◌∷◌, ◌++◌, length};
-ghost use Rattle.std.specs.List.{AllByRecursion, flat_map};
+ghost use Rattle.std.specs.Prelude.{◌≡◌, ℕ, ◌<◌, ◌≤◌, List, [], ◌∷◌, ◌++◌, length, true, false};
+ghost use Rattle.std.specs.List.{AllByRecursion, flat_map, list_any};
 ghost use Rattle.ipx_table.specs.Facts.{Fact, Second, PortEnd};
 ghost use Rattle.ipx_table.specs.Reading.{rules_of};
-ghost use Rattle.ipx_table.specs.Stands.{Stands, IsAscending, second_later, without_port};
+ghost use Rattle.ipx_table.specs.Stands.{Stands, IsAscending, second_later, is_last, without_port};
 ghost use Rattle.ipx_router.specs.Ended.{RoutesAscend, ServicesAscend};
 ghost use Rattle.ipx_router.specs.EndedSends.{ended_sends, periodic_sends, down_sends, second_sends, port_down_sends};
 ghost use Rattle.ipx_router.specs.Facts.{offers};
@@ -45,6 +45,11 @@ pub(crate) fn pass_second<const R: usize, const S: usize>(
     ensures sends { Appends outbox.old outbox.new (second_sends ports.now up.now routes.old.records services.old.records periodic) }
 {
     are_by_key(routes, services);
+    if is_quiet(routes, services, periodic) {
+        routes.pass();
+        services.pass();
+        return;
+    }
     let ended = routes.second();
     let lost = services.second();
     if periodic {
@@ -52,6 +57,19 @@ pub(crate) fn pass_second<const R: usize, const S: usize>(
     } else {
         broadcast_ended(outbox, ports, up, &ended, &lost);
     }
+}
+
+/// Whether nothing is advertised in the next second: it isn't a periodic one, and nothing expires in it.
+fn is_quiet<const R: usize, const S: usize>(
+    routes: &Table<RouteOffer, R>,
+    services: &Table<ServiceOffer, S>,
+    periodic: bool,
+) -> bool
+    ensures ordinary { result ≡ true → periodic ≡ false }
+    ensures routes { result ≡ true → list_any is_last routes.now.records ≡ false }
+    ensures services { result ≡ true → list_any is_last services.now.records ≡ false }
+{
+    !periodic && !routes.expires() && !services.expires()
 }
 
 /// Ends in both tables what came by a port that goes down, and advertises that, and the port's network as unreachable, on

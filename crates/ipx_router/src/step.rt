@@ -2,19 +2,25 @@
 ghost use Rattle.std.specs.Prelude.{◌≡◌, ◌≤◌, [], ◌∷◌, ◌++◌, length, IsOk, IfOk, OnOk, OnErr};
 ghost use Rattle.std.specs.List.{AllByRecursion};
 ghost use Rattle.ipx_router.specs.Bounds.{most_packets, most_length};
+ghost use Rattle.ipx_router.specs.Facts.{route_facts, route_facts_of, service_facts, service_facts_of};
 ghost use Rattle.ipx_router.specs.Happened.{happened};
-ghost use Rattle.ipx_router.specs.History.{History, IsOnPort};
+ghost use Rattle.ipx_router.specs.History.{History, IsOnPort, IsOfBytes};
 ghost use Rattle.ipx_router.specs.Following.{Follows, sends_between, outcome_at};
 ghost use Rattle.ipx_router.specs.Needs.{HasRoomFor, packets_needed, bytes_needed};
-ghost use Rattle.ipx_router.specs.Outbox.{Appends};
+ghost use Rattle.ipx_router.specs.Outbox.{Appends, AppendsAtMost};
 ghost use Rattle.ipx_router.specs.Outcomes.{outcome};
+ghost use Rattle.ipx_router.specs.Routes.{route_rules};
 ghost use Rattle.ipx_router.specs.Sends.{sends};
-ghost use Rattle.ipx_router.specs.Stands.{StandsFor};
+ghost use Rattle.ipx_router.specs.Services.{service_rules};
+ghost use Rattle.ipx_router.specs.Shares.{IsWithinCapacity, WithinRouteShares, WithinServiceShares, ShareOut, KeepsNew};
+ghost use Rattle.ipx_router.specs.Stands.{State, StandsFor};
+ghost use Rattle.ipx_router.specs.Within.{StaysWithin};
 
 use crate::event::Event;
 use crate::need::need_of;
 use crate::outbox::{Need, Outbox};
 use crate::outcome::Outcome;
+use crate::port::are_bytes;
 use crate::router::Router;
 use ipx_wire::OutOfMemory;
 
@@ -42,8 +48,30 @@ impl<const P: usize, const R: usize, const S: usize> Router<P, R, S> {
         ensures stands { (h : History) → StandsFor R S self.old h → StandsFor R S self.new (h ++ happened event.entry ∷ []) }
         ensures sends { (h : History) → StandsFor R S self.old h → Appends outbox.old outbox.new (sends self.old.ports R S h (happened event.entry)) }
         ensures outcome { (h : History) → StandsFor R S self.old h → result ≡ outcome self.old.ports R h (happened event.entry) }
+        ensures bounds { AppendsAtMost (packets_needed self.old (happened event.entry)) (most_length (happened event.entry)) outbox.old.sent outbox.new.sent }
+        ensures capacity { IsWithinCapacity R S self.new }
+        ensures route_shares { WithinRouteShares self.new.ports self.new.routes }
+        ensures service_shares { WithinServiceShares self.new.ports self.new.services }
+        ensures route_room { ShareOut (λ p. p.route_share) self.old.ports R → (h : History) → AllByRecursion (IsOnPort self.old.ports) h → StandsFor R S self.old h
+            → KeepsNew (route_rules self.old.ports R) (route_facts self.old.ports h) (route_facts_of self.old.ports h (happened event.entry)) self.new.routes }
+        ensures service_room { ShareOut (λ p. p.service_share) self.old.ports S → (h : History) → AllByRecursion (IsOnPort self.old.ports) h → StandsFor R S self.old h
+            → KeepsNew (service_rules self.old.ports S) (service_facts self.old.ports h) (service_facts_of self.old.ports h (happened event.entry)) self.new.services }
     {
+        self.stays_within(&event);
         self.dispatch(event, outbox)
+    }
+
+    /// Whatever the event makes of the router, it stays within its bounds.
+    fn stays_within(&self, event: &Event<'_>)
+        requires port { IsOnPort self.now.ports (happened event.now) }
+        ensures { (after : State) → Follows R S self.now after (happened event.now) → StaysWithin R S self.now after (happened event.now) }
+    {
+        crate::laws::bounds();
+        crate::laws::within_capacity();
+        crate::laws::shares_hold();
+        crate::laws::room_within_a_share();
+        are_of_bytes(event);
+        let _ = &self.running;
     }
 
     fn dispatch(&mut self, event: Event<'_>, outbox: &mut Outbox) -> Outcome
@@ -72,11 +100,28 @@ impl<const P: usize, const R: usize, const S: usize> Router<P, R, S> {
         ensures stands { OnOk result ((h : History) → StandsFor R S self.old h → StandsFor R S self.new (h ++ happened event.entry ∷ [])) }
         ensures sends { OnOk result ((h : History) → StandsFor R S self.old h → outbox.new.sent ≡ outbox.old.sent ++ sends self.old.ports R S h (happened event.entry)) }
         ensures outcome { IfOk result (λ o. (h : History) → StandsFor R S self.old h → o ≡ outcome self.old.ports R h (happened event.entry)) }
+        ensures bounds { OnOk result (AppendsAtMost (packets_needed self.old (happened event.entry)) (most_length (happened event.entry)) outbox.old.sent outbox.new.sent) }
+        ensures capacity { OnOk result (IsWithinCapacity R S self.new) }
+        ensures route_shares { OnOk result (WithinRouteShares self.new.ports self.new.routes) }
+        ensures service_shares { OnOk result (WithinServiceShares self.new.ports self.new.services) }
+        ensures route_room { OnOk result (ShareOut (λ p. p.route_share) self.old.ports R → (h : History) → AllByRecursion (IsOnPort self.old.ports) h → StandsFor R S self.old h
+            → KeepsNew (route_rules self.old.ports R) (route_facts self.old.ports h) (route_facts_of self.old.ports h (happened event.entry)) self.new.routes) }
+        ensures service_room { OnOk result (ShareOut (λ p. p.service_share) self.old.ports S → (h : History) → AllByRecursion (IsOnPort self.old.ports) h → StandsFor R S self.old h
+            → KeepsNew (service_rules self.old.ports S) (service_facts self.old.ports h) (service_facts_of self.old.ports h (happened event.entry)) self.new.services) }
         ensures router { OnErr result (self.new ≡ self.old) }
         ensures outbox { OnErr result (outbox.new.sent ≡ outbox.old.sent) }
     {
         let need = self.need(&event);
         outbox.reserve(need)?;
         Ok(self.handle(event, outbox))
+    }
+}
+
+/// What comes on a port are bytes.
+fn are_of_bytes(event: &Event<'_>)
+    ensures { IsOfBytes (happened event.now) }
+{
+    if let Event::Packet { bytes, .. } = event {
+        are_bytes(bytes);
     }
 }

@@ -14,14 +14,12 @@ ghost use Rattle.ipx_router.specs.ToldRoutes.{learned_from, routes_left};
 
 use crate::addresses::port_of;
 use crate::advertised::{direct_entry, entry_of, is_route_told, told_at};
+use crate::making::MOST_PORTS;
 use crate::port::Port;
 use crate::route_offer::RouteOffer;
 use arrayvec::ArrayVec;
 use ipx_table::Table;
 use ipx_wire::RipEntry;
-
-/// The most ports of a router.
-const MOST_PORTS: usize = 32;
 
 /// What is left of the routes that a port advertises.
 #[derive(Debug, Drop)]

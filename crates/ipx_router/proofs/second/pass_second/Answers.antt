@@ -1,7 +1,8 @@
 use Rattle.std.proofs.Common.{sym, ◌∙◌, subst, rules}
 use Rattle.ipx_router.specs.Ended.{RoutesAscend, ServicesAscend}
 use Rattle.ipx_router.specs.Outbox.{Fits, Appends}
-use Rattle.ipx_router.proofs.EndedSendings.{quiet_as, periodic_as}
+use Rattle.ipx_router.proofs.EndedSendings.{nothing_sent, quiet_as, periodic_as}
+use Rattle.ipx_router.proofs.Paying.{appends_none}
 use Rattle.ipx_router.proofs.second.pass_second.Goals as goal
 
 pub broadcast_all-requires : goal.broadcast_all-requires
@@ -48,3 +49,13 @@ returns-else-periodic-clause-sends g c =
     (c.deref-else-periodic.ensures.0 ∙ c.second-ended.ensures.ended) (c.deref-else-periodic-2.ensures.0 ∙ c.second-lost.ensures.ended)
     a.periodic c.if-periodic.false))
     c.broadcast_ended.ensures
+
+pub returns-then-is_quiet-clause-sends : goal.returns-then-is_quiet-clause-sends
+returns-then-is_quiet-clause-sends g c =
+    let a = c.args in
+    let quiet = c.is_quiet.ensures in
+    let yes_quiet = c.if-is_quiet.true in
+    subst (Appends a.outbox.now a.outbox.now)
+    (sym (nothing_sent a.ports.now a.up.now a.routes.now.records a.services.now.records c.are_by_key.ensures.routes c.are_by_key.ensures.services
+    a.periodic (quiet.ordinary yes_quiet) (quiet.routes yes_quiet) (quiet.services yes_quiet)))
+    (appends_none a.outbox.now)

@@ -1,4 +1,5 @@
 use Rattle.std.proofs.Common.{sym, ◌∙◌, subst, List}
+use Rattle.ipx_router.specs.Following.{sends_between}
 use Rattle.ipx_router.specs.Happened.{happened}
 use Rattle.ipx_router.specs.Outbox.{Appends}
 use Rattle.ipx_router.specs.Relays.{Sent}
@@ -19,3 +20,28 @@ returns-clause-sends g c = λ h stands.
 pub returns-clause-outcome : goal.returns-clause-outcome
 returns-clause-outcome g c = λ h stands.
     c.dispatch.ensures.outcome ∙ sym (outcome_stand g.row.R g.row.S c.args.self.now h (happened c.args.event) stands)
+
+pub returns-clause-bounds : goal.returns-clause-bounds
+returns-clause-bounds g c =
+    let within = c.stays_within.ensures c.dispatch.new.self c.dispatch.ensures.follows in
+    record {
+      packets = sends_between c.args.self.now c.dispatch.new.self (happened c.args.event);
+      appended = c.dispatch.ensures.sends.sent;
+      few = within.few;
+      short = within.short;
+    }
+
+pub returns-clause-capacity : goal.returns-clause-capacity
+returns-clause-capacity g c = (c.stays_within.ensures c.dispatch.new.self c.dispatch.ensures.follows).capacity
+
+pub returns-clause-route_shares : goal.returns-clause-route_shares
+returns-clause-route_shares g c = (c.stays_within.ensures c.dispatch.new.self c.dispatch.ensures.follows).route_shares
+
+pub returns-clause-service_shares : goal.returns-clause-service_shares
+returns-clause-service_shares g c = (c.stays_within.ensures c.dispatch.new.self c.dispatch.ensures.follows).service_shares
+
+pub returns-clause-route_room : goal.returns-clause-route_room
+returns-clause-route_room g c = λ fits h on stands. (c.stays_within.ensures c.dispatch.new.self c.dispatch.ensures.follows).route_room h on stands fits
+
+pub returns-clause-service_room : goal.returns-clause-service_room
+returns-clause-service_room g c = λ fits h on stands. (c.stays_within.ensures c.dispatch.new.self c.dispatch.ensures.follows).service_room h on stands fits

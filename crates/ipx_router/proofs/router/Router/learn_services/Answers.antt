@@ -38,9 +38,9 @@ invariant_of-self g c =
     let n = c.args.port in
     let b = c.args.bytes.now in
     let passes : IsPassed s n b = subst (λ (v : State). IsPassed v n b) (sym c.self.view_is) c.requires.passes in
-    let is : IsHeard s n b (HeardSap c.args.source (SapResponse c.args.nearest c.args.entries.now)) = subst (λ (v : State). IsHeard v n b (HeardSap c.args.source (SapResponse c.args.nearest c.args.entries.now))) (sym c.self.view_is) c.requires.heard in
+    let is : IsHeard s n b (HeardSap c.args.source (SapResponse c.requires.heard.0 c.args.entries.now)) = subst (λ (v : State). IsHeard v n b (HeardSap c.args.source (SapResponse c.requires.heard.0 c.args.entries.now))) (sym c.self.view_is) c.requires.heard.1 in
     let within : n < length s.ports = rw (ap (λ (v : State). length v.ports) c.self.view_is) c.requires.port in
-    let step = sap_follows g.row.R g.row.S s n b c.deref.result.now c.deref-2.result.now c.deref.ensures.0 c.deref-2.ensures.0 c.args.source passes c.args.nearest c.args.entries.now is c.hear_services.new.table.records c.hear_services.ensures.stands in
+    let step = sap_follows g.row.R g.row.S s n b c.deref.result.now c.deref-2.result.now c.deref.ensures.0 c.deref-2.ensures.0 c.args.source passes c.requires.heard.0 c.args.entries.now is c.hear_services.new.table.records c.hear_services.ensures.stands in
     next_router g.row.R g.row.S s i.routes.shares i.services.shares c.self.invariant (state_of s.ports s.running s.up s.seconds s.routes c.hear_services.new.table.records) (Packet n b) within c.are_bytes.ensures step
     i.routes.shares c.hear_services.new.table.shares refl c.hear_services.ensures.shares c.self.invariant.minute
 
@@ -51,8 +51,8 @@ returns-clause-follows g c =
     let n = c.args.port in
     let b = c.args.bytes.now in
     let passes : IsPassed s n b = subst (λ (v : State). IsPassed v n b) (sym c.self.view_is) c.requires.passes in
-    let is : IsHeard s n b (HeardSap c.args.source (SapResponse c.args.nearest c.args.entries.now)) = subst (λ (v : State). IsHeard v n b (HeardSap c.args.source (SapResponse c.args.nearest c.args.entries.now))) (sym c.self.view_is) c.requires.heard in
-    let step = sap_follows g.row.R g.row.S s n b c.deref.result.now c.deref-2.result.now c.deref.ensures.0 c.deref-2.ensures.0 c.args.source passes c.args.nearest c.args.entries.now is c.hear_services.new.table.records c.hear_services.ensures.stands in
+    let is : IsHeard s n b (HeardSap c.args.source (SapResponse c.requires.heard.0 c.args.entries.now)) = subst (λ (v : State). IsHeard v n b (HeardSap c.args.source (SapResponse c.requires.heard.0 c.args.entries.now))) (sym c.self.view_is) c.requires.heard.1 in
+    let step = sap_follows g.row.R g.row.S s n b c.deref.result.now c.deref-2.result.now c.deref.ensures.0 c.deref-2.ensures.0 c.args.source passes c.requires.heard.0 c.args.entries.now is c.hear_services.new.table.records c.hear_services.ensures.stands in
     subst (λ (v : State). Follows g.row.R g.row.S v (state_of s.ports s.running s.up s.seconds s.routes c.hear_services.new.table.records) (Packet n b)) c.self.view_is step
 
 pub returns-clause-sends : goal.returns-clause-sends
@@ -62,7 +62,7 @@ returns-clause-sends g c =
     let n = c.args.port in
     let b = c.args.bytes.now in
     let passes : IsPassed s n b = subst (λ (v : State). IsPassed v n b) (sym c.self.view_is) c.requires.passes in
-    let is : IsHeard s n b (HeardSap c.args.source (SapResponse c.args.nearest c.args.entries.now)) = subst (λ (v : State). IsHeard v n b (HeardSap c.args.source (SapResponse c.args.nearest c.args.entries.now))) (sym c.self.view_is) c.requires.heard in
-    let sent = sap_sent g.row.R g.row.S s n b c.deref.result.now c.deref-2.result.now c.deref.ensures.0 c.deref-2.ensures.0 c.args.source passes c.args.nearest c.args.entries.now is c.hear_services.new.table.records in
+    let is : IsHeard s n b (HeardSap c.args.source (SapResponse c.requires.heard.0 c.args.entries.now)) = subst (λ (v : State). IsHeard v n b (HeardSap c.args.source (SapResponse c.requires.heard.0 c.args.entries.now))) (sym c.self.view_is) c.requires.heard.1 in
+    let sent = sap_sent g.row.R g.row.S s n b c.deref.result.now c.deref-2.result.now c.deref.ensures.0 c.deref-2.ensures.0 c.args.source passes c.requires.heard.0 c.args.entries.now is c.hear_services.new.table.records in
     subst (λ (v : State). Appends c.args.outbox.now c.hear_services.new.outbox (sends_between v (state_of s.ports s.running s.up s.seconds s.routes c.hear_services.new.table.records) (Packet n b))) c.self.view_is
     (subst (λ (ps : List Sent). Appends c.args.outbox.now c.hear_services.new.outbox ps) sent (c.hear_services.ensures.sent (offers i.routes.records)))

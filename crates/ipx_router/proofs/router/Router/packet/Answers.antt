@@ -1,26 +1,16 @@
-use Rattle.std.proofs.Common.{rules, ◌≡◌, refl, sym, ap, ◌∙◌, subst, Some}
+use Rattle.std.proofs.Common.{rules, ◌≡◌, refl, sym, ap, ◌∙◌, Bool, Some}
 use Rattle.ipx_wire.specs.declared.rip.Operation.TheVariants.{Request, Response}
 use Rattle.ipx_wire.specs.declared.sap.Sap.TheVariants.{Query, Response as SapResponse}
-use Rattle.ipx_router.specs.Facts.{offers}
 use Rattle.ipx_router.specs.Heard.{HeardRip, HeardSap}
-use Rattle.ipx_router.specs.Judged.{IsVerdict}
 use Rattle.ipx_router.specs.Received.{IsPassed, IsHeard, IsSentOn, IsSentOnTo}
-use Rattle.ipx_router.specs.Stands.{State}
-use Rattle.ipx_router.specs.declared.judge.Verdict.TheVariants.{Dropped, Rip, Sap, Propagate, Forward}
-use Rattle.ipx_router.proofs.Received.{dropped_follows, forwarded_becomes, judged_as}
-use Rattle.ipx_router.proofs.Steps.{state_of}
+use Rattle.ipx_router.proofs.Received.{dropped_follows, forwarded_becomes}
 use Rattle.ipx_router.proofs.router.Router.packet.Goals as goal
 
 pub learn_routes-requires : goal.learn_routes-requires
 learn_routes-requires g c =
-    let i = c.self.inside in
-    let s = state_of i.ports.items i.running i.up.items i.seconds i.routes.records i.services.records in
     let n = c.args.port in
     let b = c.args.bytes.now in
-    let v = Rip c.in-Rip.source c.in-Rip.rip in
-    let told : IsVerdict c.args.self.now.ports c.args.self.now.up (offers c.args.self.now.routes) c.args.self.now.running n b v =
-    subst (λ (x : State). IsVerdict x.ports x.up (offers x.routes) x.running n b v) c.self.view_is
-    (judged_as s n b c.deref.result.now c.deref-2.result.now v c.deref.ensures.0 c.deref-2.ensures.0 c.in-Rip.ensures) in
+    let told = c.in-Rip.ensures in
     let passes : IsPassed c.args.self.now n b = told.0 in
     let is : IsHeard c.args.self.now n b (HeardRip c.in-Rip.source c.in-Rip.rip) = told.1 in
     let says : c.in-Rip.rip.operation ≡ Response = sym c.operation.ensures ∙ c.in-Response.is in
@@ -28,14 +18,9 @@ learn_routes-requires g c =
 
 pub advertise-requires : goal.advertise-requires
 advertise-requires g c =
-    let i = c.self.inside in
-    let s = state_of i.ports.items i.running i.up.items i.seconds i.routes.records i.services.records in
     let n = c.args.port in
     let b = c.args.bytes.now in
-    let v = Rip c.in-Rip.source c.in-Rip.rip in
-    let told : IsVerdict c.args.self.now.ports c.args.self.now.up (offers c.args.self.now.routes) c.args.self.now.running n b v =
-    subst (λ (x : State). IsVerdict x.ports x.up (offers x.routes) x.running n b v) c.self.view_is
-    (judged_as s n b c.deref.result.now c.deref-2.result.now v c.deref.ensures.0 c.deref-2.ensures.0 c.in-Rip.ensures) in
+    let told = c.in-Rip.ensures in
     let passes : IsPassed c.args.self.now n b = told.0 in
     let is : IsHeard c.args.self.now n b (HeardRip c.in-Rip.source c.in-Rip.rip) = told.1 in
     let asks : c.in-Rip.rip.operation ≡ Request = sym c.operation.ensures ∙ c.in-Request.is in
@@ -43,29 +28,19 @@ advertise-requires g c =
 
 pub learn_services-requires : goal.learn_services-requires
 learn_services-requires g c =
-    let i = c.self.inside in
-    let s = state_of i.ports.items i.running i.up.items i.seconds i.routes.records i.services.records in
     let n = c.args.port in
     let b = c.args.bytes.now in
-    let v = Sap c.in-Sap.source c.in-Sap.sap in
-    let told : IsVerdict c.args.self.now.ports c.args.self.now.up (offers c.args.self.now.routes) c.args.self.now.running n b v =
-    subst (λ (x : State). IsVerdict x.ports x.up (offers x.routes) x.running n b v) c.self.view_is
-    (judged_as s n b c.deref.result.now c.deref-2.result.now v c.deref.ensures.0 c.deref-2.ensures.0 c.in-Sap.ensures) in
+    let told = c.in-Sap.ensures in
     let passes : IsPassed c.args.self.now n b = told.0 in
-    let is : IsHeard c.args.self.now n b (HeardSap c.in-Sap.source (SapResponse c.in-Response-sap.nearest c.in-Response-sap.entries)) =
-    told.1 ∙ ap (λ x. Some (HeardSap c.in-Sap.source x)) c.in-Response-sap.is in
+    let is : (nearest : Bool) × IsHeard c.args.self.now n b (HeardSap c.in-Sap.source (SapResponse nearest c.in-Response-sap.entries)) =
+    (c.in-Response-sap.nearest, told.1 ∙ ap (λ x. Some (HeardSap c.in-Sap.source x)) c.in-Response-sap.is) in
     search (rules, passes, is)
 
 pub answer-requires : goal.answer-requires
 answer-requires g c =
-    let i = c.self.inside in
-    let s = state_of i.ports.items i.running i.up.items i.seconds i.routes.records i.services.records in
     let n = c.args.port in
     let b = c.args.bytes.now in
-    let v = Sap c.in-Sap.source c.in-Sap.sap in
-    let told : IsVerdict c.args.self.now.ports c.args.self.now.up (offers c.args.self.now.routes) c.args.self.now.running n b v =
-    subst (λ (x : State). IsVerdict x.ports x.up (offers x.routes) x.running n b v) c.self.view_is
-    (judged_as s n b c.deref.result.now c.deref-2.result.now v c.deref.ensures.0 c.deref-2.ensures.0 c.in-Sap.ensures) in
+    let told = c.in-Sap.ensures in
     let passes : IsPassed c.args.self.now n b = told.0 in
     let is : IsHeard c.args.self.now n b (HeardSap c.in-Sap.source (Query c.in-Query.nearest c.in-Query.kind)) =
     told.1 ∙ ap (λ x. Some (HeardSap c.in-Sap.source x)) c.in-Query.is in
@@ -73,50 +48,30 @@ answer-requires g c =
 
 pub propagate-requires : goal.propagate-requires
 propagate-requires g c =
-    let i = c.self.inside in
-    let s = state_of i.ports.items i.running i.up.items i.seconds i.routes.records i.services.records in
     let n = c.args.port in
     let b = c.args.bytes.now in
-    let v = Propagate c.in-Propagate.packet c.in-Propagate.crossed in
-    let told : IsVerdict c.args.self.now.ports c.args.self.now.up (offers c.args.self.now.routes) c.args.self.now.running n b v =
-    subst (λ (x : State). IsVerdict x.ports x.up (offers x.routes) x.running n b v) c.self.view_is
-    (judged_as s n b c.deref.result.now c.deref-2.result.now v c.deref.ensures.0 c.deref-2.ensures.0 c.in-Propagate.ensures) in
+    let told = c.in-Propagate.ensures in
     let on : IsSentOn c.args.self.now n b c.in-Propagate.packet c.in-Propagate.crossed = told in
     search (rules, on)
 
 pub forward-requires : goal.forward-requires
 forward-requires g c =
-    let i = c.self.inside in
-    let s = state_of i.ports.items i.running i.up.items i.seconds i.routes.records i.services.records in
     let n = c.args.port in
     let b = c.args.bytes.now in
-    let v = Forward c.in-Forward.packet c.in-Forward.out c.in-Forward.link in
-    let told : IsVerdict c.args.self.now.ports c.args.self.now.up (offers c.args.self.now.routes) c.args.self.now.running n b v =
-    subst (λ (x : State). IsVerdict x.ports x.up (offers x.routes) x.running n b v) c.self.view_is
-    (judged_as s n b c.deref.result.now c.deref-2.result.now v c.deref.ensures.0 c.deref-2.ensures.0 c.in-Forward.ensures) in
+    let told = c.in-Forward.ensures in
     let on : IsSentOnTo c.args.self.now n b c.in-Forward.packet c.in-Forward.out c.in-Forward.link = told in
     search (rules, on)
 
 pub returns-in-Dropped-clause-follows : goal.returns-in-Dropped-clause-follows
 returns-in-Dropped-clause-follows g c =
-    let i = c.self.inside in
-    let s = state_of i.ports.items i.running i.up.items i.seconds i.routes.records i.services.records in
     let n = c.args.port in
     let b = c.args.bytes.now in
-    let v = Dropped c.in-Dropped.why in
-    let told : IsVerdict c.args.self.now.ports c.args.self.now.up (offers c.args.self.now.routes) c.args.self.now.running n b v =
-    subst (λ (x : State). IsVerdict x.ports x.up (offers x.routes) x.running n b v) c.self.view_is
-    (judged_as s n b c.deref.result.now c.deref-2.result.now v c.deref.ensures.0 c.deref-2.ensures.0 c.in-Dropped.ensures) in
+    let told = c.in-Dropped.ensures in
     dropped_follows c.args.self.now n b g.row.R g.row.S c.in-Dropped.why told
 
 pub returns-in-Forward-clause-outcome : goal.returns-in-Forward-clause-outcome
 returns-in-Forward-clause-outcome g c =
-    let i = c.self.inside in
-    let s = state_of i.ports.items i.running i.up.items i.seconds i.routes.records i.services.records in
     let n = c.args.port in
     let b = c.args.bytes.now in
-    let v = Forward c.in-Forward.packet c.in-Forward.out c.in-Forward.link in
-    let told : IsVerdict c.args.self.now.ports c.args.self.now.up (offers c.args.self.now.routes) c.args.self.now.running n b v =
-    subst (λ (x : State). IsVerdict x.ports x.up (offers x.routes) x.running n b v) c.self.view_is
-    (judged_as s n b c.deref.result.now c.deref-2.result.now v c.deref.ensures.0 c.deref-2.ensures.0 c.in-Forward.ensures) in
+    let told = c.in-Forward.ensures in
     sym (forwarded_becomes c.args.self.now n b c.args.self.now.ports c.args.self.now.up refl refl c.in-Forward.packet c.in-Forward.out c.in-Forward.link told)
