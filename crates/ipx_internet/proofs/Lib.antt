@@ -1,6 +1,7 @@
 pub mod Bytes
 pub mod Counts
 pub mod Courses
+pub mod Departing
 pub mod Ending
 pub mod Fanning
 pub mod Following

@@ -36,7 +36,7 @@ module _ (net : Internet) where
   -- ---- what waits
 
   -- bytes wait for a port that there is, and came of the forward that is named
-  record IsWaiting (log : List Reception) (w : Waiting) : Type 0 where
+  pub record IsWaiting (log : List Reception) (w : Waiting) : Type 0 where
     pub within : IsPlace net w.delivery.to
     pub bytes : IsBytes w.delivery.bytes
     pub comes : (s : Sending) → w.origin ≡ Some s → Comes net log s w.delivery.to w.delivery.bytes
@@ -184,7 +184,7 @@ module _ (net : Internet) where
   -- ---- one step
 
   -- what holds at each step of a run
-  record Good (run : Run) : Type 0 where
+  pub record Good (run : Run) : Type 0 where
     pub histories : AreHistories net run.histories
     pub sound : AreSound run.log
     pub waiting : AllByRecursion (IsWaiting run.log) run.waiting
@@ -412,15 +412,19 @@ module _ (net : Internet) where
         received_well laws is most_routes most_services histories log waiting good.histories good.sound good.waiting.1 w.delivery.to.router w.delivery.to.port
         w.delivery.bytes (router_there net w.delivery.to.router w.delivery.to.port first.within) first.within first.bytes w.origin first.comes good.names
 
+    pub step_well : (run : Run) → Good run → (step : Step) → IsStep net step → Good (stepped net most_routes most_services run step)
+    step_well run good (Happens router event) is = happens_well run good router event is.0 is.1 is.2
+    step_well run good Settles is = settles_well run.histories run.log run.waiting good
+
     run_well : (run : Run) (steps : List Step) → Good run → AllByRecursion (IsStep net) steps → Good (run_of net most_routes most_services run steps)
     run_well run [] good are = good
-    run_well run (Happens router event ∷ steps) good are =
-        run_well (happens net most_routes most_services run router event None) steps (happens_well run good router event are.0.0 are.0.1 are.0.2) are.1
-    run_well run (Settles ∷ steps) good are =
-        run_well (stepped net most_routes most_services run Settles) steps (settles_well run.histories run.log run.waiting good) are.1
+    run_well run (step ∷ steps) good are = run_well (stepped net most_routes most_services run step) steps (step_well run good step are.0) are.1
+
+    -- where nothing was received, and nothing waits
+    pub begun_well : (histories : List History) → AreHistories net histories → Good (begun histories)
+    begun_well histories are = record { histories = are; sound = λ place within. absurd (omega (arith, within)); waiting = tt; names = tt }
 
     pub listed : (histories : List History) (steps : List Step) → AreHistories net histories → AllByRecursion (IsStep net) steps
         → IsLog net (run_of net most_routes most_services (begun histories) steps).log
     listed histories steps are all =
-        let good : Good (begun histories) = record { histories = are; sound = λ place within. absurd (omega (arith, within)); waiting = tt; names = tt } in
-        is_log (run_of net most_routes most_services (begun histories) steps) (run_well (begun histories) steps good all)
+        is_log (run_of net most_routes most_services (begun histories) steps) (run_well (begun histories) steps (begun_well histories are) all)

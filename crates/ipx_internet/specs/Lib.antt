@@ -1,5 +1,6 @@
 pub mod Course
 pub mod Delivery
+pub mod Departure
 pub mod Different
 pub mod Internet
 pub mod Log

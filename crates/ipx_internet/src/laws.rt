@@ -1,5 +1,5 @@
 //! What holds of every internet, whatever its routers' tables.
-ghost use Rattle.std.specs.Prelude.{◌≡◌, ◌↔◌, ℕ, ◌+◌, ◌-◌, ◌*◌, ◌<◌, ◌≤◌, true, false, List, [], ◌∷◌, ◌++◌, length, flat_map, replicate, Option, Some, slice_get};
+ghost use Rattle.std.specs.Prelude.{◌≡◌, ◌↔◌, ℕ, ◌+◌, ◌-◌, ◌*◌, ◌<◌, ◌≤◌, true, false, List, [], ◌∷◌, ◌++◌, length, map, flat_map, replicate, Option, Some, slice_get};
 ghost use Rattle.std.specs.List.{AllByRecursion};
 ghost use Rattle.ipx_wire.specs.Crossed.{is_among};
 ghost use Rattle.ipx_wire.specs.Numbers.{crossed_places};
@@ -18,6 +18,7 @@ ghost use Rattle.ipx_router.specs.Sends.{sends};
 ghost use Rattle.ipx_router.specs.Why.{is_propagated};
 ghost use Rattle.ipx_internet.specs.Course.{IsInCourse, IsPath, visited};
 ghost use Rattle.ipx_internet.specs.Delivery.{delivered};
+ghost use Rattle.ipx_internet.specs.Departure.{ObservesHorizon, departures, handed, deliveries_from};
 ghost use Rattle.ipx_internet.specs.Different.{AreDifferent};
 ghost use Rattle.ipx_internet.specs.Internet.{Internet, Place, IsInternet, NodesDiffer, IsPlace, network_of, ports_of};
 ghost use Rattle.ipx_internet.specs.Log.{Sending, Reception, reception_at, IsForward, IsLog};
@@ -70,6 +71,26 @@ pub fn runs()
     ipx_router::laws::relays();
     ipx_router::laws::tables();
     ipx_router::laws::packets();
+}
+
+/// Over any run, no route goes back to where it was learned: no route that a router holds after an event, to a network that an
+/// entry of a packet names which it sends for that event, was learned on the port on which the packet leaves.
+///
+/// It is said of the bytes of each packet of the type of routing information that came through no router, whichever event it
+/// is sent for. What is handed out in a run, and what waits at its end, is what was sent in it, in that order.
+pub fn horizon()
+    ensures split_horizon { (net : Internet) (most_routes most_services : ℕ) (histories : List History) (steps : List Step)
+        → IsInternet net → AreHistories net histories → AllByRecursion (IsStep net) steps
+        → AllByRecursion ObservesHorizon (departures net most_routes most_services (begun histories) steps) }
+    ensures nothing_else { (net : Internet) (most_routes most_services : ℕ) (histories : List History) (steps : List Step)
+        → handed net most_routes most_services (begun histories) steps
+        ++ map (λ w. w.delivery) (run_of net most_routes most_services (begun histories) steps).waiting
+        ≡ flat_map (deliveries_from net) (departures net most_routes most_services (begun histories) steps) }
+{
+    ipx_router::laws::relays();
+    ipx_router::laws::tables();
+    ipx_router::laws::packets();
+    ipx_router::laws::no_route_goes_back();
 }
 
 /// The tree of a packet that comes to a port while nothing else happens has few receptions, and at most 17 levels.

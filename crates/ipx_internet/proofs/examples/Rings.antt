@@ -39,6 +39,12 @@ pub the_eighth : levels_of (to_all 7 0x10 (0x91 ∷ 0x92 ∷ 0x93 ∷ 0x94 ∷ 0
 unfolding header_bytes address_bytes network_bytes packet_of header_at address_at items network_at rip_of sap_of
 the_eighth = refl
 
+-- one that came through eight goes nowhere
+pub the_ninth : levels_of (to_all 8 0x10 [])
+    ≡ (root (at 0 0) (to_all 8 0x10 []) ∷ []) ∷ [] ∷ [] ∷ [] ∷ []
+unfolding header_bytes address_bytes network_bytes packet_of header_at address_at items network_at rip_of sap_of
+the_ninth = refl
+
 -- a ring has two ports a router and two a network, so a tree of a propagated packet is at most a path of nine receptions
 pub at_most_nine : most (net_of ring) 8 ≡ 9
 at_most_nine = refl

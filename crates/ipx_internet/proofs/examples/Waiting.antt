@@ -49,6 +49,13 @@ pub quiet : (after 8).queue ≡ []
 unfolding header_bytes address_bytes network_bytes packet_of header_at address_at items network_at entry_bytes entry_at rip_of sap_of
 quiet = refl
 
+-- and each router has the other's network
+pub both_learned : (router_now (port_on 0x10 1 ∷ port_on 0x20 2 ∷ []) 8 (history_of (after 8).histories 0)).routes
+    ∷ (router_now (port_on 0x20 3 ∷ port_on 0x30 4 ∷ []) 8 (history_of (after 8).histories 1)).routes ∷ []
+    ≡ (route 0x30 1 3 ∷ []) ∷ (route 0x10 0 2 ∷ []) ∷ []
+unfolding header_bytes address_bytes network_bytes packet_of header_at address_at items network_at entry_bytes entry_at rip_of sap_of
+both_learned = refl
+
 -- nothing of this is a forward, so nothing that is listed has an origin
 pub all_roots : map (λ r. r.origin)
     (run_of segment 8 8 (begun ([] ∷ [] ∷ [])) (Happens 0 Start ∷ Happens 1 Start ∷ Settles ∷ Settles ∷ Settles ∷ Settles ∷ Settles ∷ [])).log
