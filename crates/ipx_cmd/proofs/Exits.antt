@@ -19,7 +19,7 @@ use Rattle.ipx_capture.proofs.First.{first_none}
 use Rattle.ipx_cmd.specs.Decoded.{CutOff, Decoded, IsFront}
 use Rattle.ipx_cmd.specs.Moved.{Refuses, Tells}
 use Rattle.ipx_cmd.specs.RecordText.{record_text}
-use Rattle.ipx_cmd.specs.Replayed.{WroteAll, WroteFront}
+use Rattle.ipx_cmd.specs.WroteFront.{WroteAll, WroteFront}
 use Rattle.ipx_cmd.specs.Shown.{shown, shown_end, sofar, judged, settled, contents_text, ending_text, ended_by, is_some_fault, capture_fault_text}
 use Rattle.ipx_cmd.specs.declared.ended.Ended.{Ended}
 use Rattle.ipx_cmd.specs.declared.ended.Ended.TheVariants.{Done, BadInput}

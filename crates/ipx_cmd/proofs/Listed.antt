@@ -1,5 +1,6 @@
 -- Texts that grow by one item of a list after another.
-use Rattle.std.proofs.Common.{◌≡◌, ℕ, ◌+◌, List, [], ◌∷◌, ◌++◌, take, slice_get, Some, sym, ap, ◌∙◌}
+use Rattle.std.proofs.Common.{◌≡◌, ℕ, zero, suc, ◌+◌, ◌<◌, List, [], ◌∷◌, ◌++◌, length, take, slice_get, None, Some, is_some, sym, ap, ◌∙◌, arith}
+use Rattle.std.proofs.lemmas.Bool.{true≢false}
 use Rattle.std.proofs.lemmas.List.{flat_map_more, take_more}
 use Rattle.std.proofs.lemmas.Option.{slice_get_within, get_or_from_slice_get}
 use Rattle.std.specs.List.{flat_map}
@@ -15,3 +16,9 @@ pub listed_more : {X : Type 0} (f : X → List ℕ) (xs : List X) (k : ℕ) (x :
 listed_more f xs k x start now after e has gained =
     gained ∙ ap (λ (t : List ℕ). t ++ f x) has ∙ flat_map_more f start (take k xs) x
     ∙ ap (λ l. start ++ flat_map f l) (sym (listed_next xs k x e))
+
+-- before the end there is an item
+pub not_past : {X : Type 0} (xs : List X) (k : ℕ) → slice_get xs k ≡ None → k < length xs → ⊥
+not_past [] k e below = omega (arith, below)
+not_past (x ∷ xs) zero e below = true≢false (ap is_some e)
+not_past (x ∷ xs) (suc k) e below = not_past xs k e (omega (arith, below))

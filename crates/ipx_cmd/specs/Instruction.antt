@@ -1,6 +1,7 @@
 -- What a line asks for, without memory.
 use Rattle.std.specs.Prelude.{ℕ, List}
 use Rattle.ipx_cmd.specs.declared.command.Command.{Command}
+use Rattle.ipx_cmd.specs.declared.command.NamedPort.{NamedPort}
 use Rattle.ipx_cmd.specs.declared.command.Command.TheVariants.{Port, Start, Stop, Second, In, Down, Up, Routes, Services}
 
 -- what a line asks for: the router's next port, an event of it, or what is in one of its tables
@@ -15,14 +16,18 @@ pub data Instruction : Type 0 where
   ShowsRoutes : Instruction
   ShowsServices : Instruction
 
--- what a command asks for
-abbrev pub instruction_of : Command → Instruction
-instruction_of (Port p) = NextPort p.network.0 p.node.0 p.cost p.longest p.routes p.services
-instruction_of Start = Starts
-instruction_of Stop = Stops
-instruction_of (Second count) = Passes count
-instruction_of (In port bytes) = Arrives port bytes.items
-instruction_of (Down port) = GoesDown port
-instruction_of (Up port) = ComesUp port
-instruction_of Routes = ShowsRoutes
-instruction_of Services = ShowsServices
+-- the next port, as a line names it
+abbrev pub next_port : NamedPort → Instruction
+next_port p = NextPort p.network.0 p.node.0 p.cost p.longest p.routes p.services
+
+-- what a command asks for; the bytes of a packet lie in a buffer
+abbrev pub instruction_of : List ℕ → Command → Instruction
+instruction_of buffer (Port named) = next_port named
+instruction_of buffer Start = Starts
+instruction_of buffer Stop = Stops
+instruction_of buffer (Second count) = Passes count
+instruction_of buffer (In port) = Arrives port buffer
+instruction_of buffer (Down port) = GoesDown port
+instruction_of buffer (Up port) = ComesUp port
+instruction_of buffer Routes = ShowsRoutes
+instruction_of buffer Services = ShowsServices

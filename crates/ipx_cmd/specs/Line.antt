@@ -1,8 +1,9 @@
 -- What the lines of every script have in common.
-use Rattle.std.specs.Prelude.{◌≡◌, ℕ, ⊤, nat_eq, if◌then◌else◌, List, [], ◌∷◌, codes, Option, Some, None, Result, Ok, Err}
+use Rattle.std.specs.Prelude.{◌≡◌, ℕ, nat_eq, if◌then◌else◌, List, [], ◌∷◌, codes, Option, Some, None, Result, Ok, Err}
 use Rattle.std.specs.List.{list_all, starts_with}
-use Rattle.ipx_cmd.specs.declared.refusal.Refusal.{Refusal}
-use Rattle.ipx_cmd.specs.declared.refusal.Refusal.TheVariants.{Line, Memory}
+use Rattle.ipx_cmd.specs.declared.ended.RunFault.TheVariants.{Memory}
+use Rattle.ipx_cmd.specs.declared.halt.Halt.{Halt}
+use Rattle.ipx_cmd.specs.declared.halt.Halt.TheVariants.{Line, Run}
 use Rattle.ipx_cmd.specs.declared.fault.LineFault.{LineFault}
 use Rattle.ipx_cmd.specs.declared.fault.LineFault.TheVariants.{Text, Words}
 use Rattle.ipx_cmd.specs.Words.{is_text_byte, words}
@@ -35,13 +36,13 @@ abbrev pub Answers : {A B : Type 0} → (A → B) → Result A LineFault → Res
 Answers seen (Ok a) meant = meant ≡ Ok (seen a)
 Answers seen (Err fault) meant = meant ≡ Err fault
 
--- the same, where out of memory is apart
-abbrev pub AnswersInMemory : {A B : Type 0} → (A → B) → Result A Refusal → Result B LineFault → Type 0
+-- the same, where the run may be given up: out of memory
+abbrev pub AnswersInMemory : {A B : Type 0} → (A → B) → Result A Halt → Result B LineFault → Type 0
 AnswersInMemory seen (Ok a) meant = meant ≡ Ok (seen a)
 AnswersInMemory seen (Err (Line fault)) meant = meant ≡ Err fault
-AnswersInMemory seen (Err Memory) meant = ⊤
+AnswersInMemory seen (Err (Run why)) meant = why ≡ Memory
 
--- the refusal tells what is wrong with a line, or that memory was wanting
-abbrev pub IsRefusal : {B : Type 0} → Result B LineFault → Refusal → Type 0
-IsRefusal meant (Line fault) = meant ≡ Err fault
-IsRefusal meant Memory = ⊤
+-- the line is wrong in that way, or the run is given up: out of memory
+abbrev pub Stops : {B : Type 0} → Result B LineFault → Halt → Type 0
+Stops meant (Line fault) = meant ≡ Err fault
+Stops meant (Run why) = why ≡ Memory

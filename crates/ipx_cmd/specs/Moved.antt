@@ -4,7 +4,7 @@ use Rattle.std.specs.Io.KnownBytes.{Appends}
 use Rattle.ipx_wire.specs.Ends.{Output}
 use Rattle.ipx_capture.specs.declared.capture_fault.CaptureFault.{CaptureFault}
 use Rattle.ipx_capture.specs.declared.capture_fault.CaptureFault.TheVariants.{CutHeader, Magic, Version, Link, RecordLong, CutRecord, Read, Memory}
-use Rattle.ipx_cmd.specs.Replayed.{IsFaultOf, WroteAll, WroteFront}
+use Rattle.ipx_cmd.specs.WroteFront.{IsFaultOf, WroteAll, WroteFront}
 use Rattle.ipx_cmd.specs.Shown.{capture_fault_text}
 use Rattle.ipx_cmd.specs.declared.ended.Ended.{Ended}
 use Rattle.ipx_cmd.specs.declared.ended.Ended.TheVariants.{BadInput}

@@ -1,22 +1,31 @@
--- What a run leaves at its two ends.
-use Rattle.std.specs.Prelude.{◌≡◌, ℕ, List, Bool, true, false, take}
-use Rattle.std.specs.Io.KnownBytes.{Appends}
-use Rattle.ipx_wire.specs.Ends.{Output}
-use Rattle.ipx_cmd.specs.declared.ended.RunFault.{RunFault}
-use Rattle.ipx_cmd.specs.declared.ended.RunFault.TheVariants.{Read, Write, Memory}
+-- The text of a script for one router.
+use Rattle.std.specs.Prelude.{ℕ, Bool, List}
+use Rattle.ipx_wire.specs.Ends.{Input, Output}
+use Rattle.ipx_cmd.specs.Machine.{acts, nothing_yet}
+use Rattle.ipx_cmd.specs.Played.{GivenUp, Played, PlayedSoFar}
+use Rattle.ipx_cmd.specs.Playing.{is_bad, of_front, of_script}
+use Rattle.ipx_cmd.specs.declared.ended.Ended.{Ended}
 
--- the fault that is told is the one that was met: a device's where it has failed, and out of memory where none has
-abbrev pub IsFaultOf : Bool → Bool → RunFault → Type 0
-IsFaultOf intake outlet Read = intake ≡ true
-IsFaultOf intake outlet Write = outlet ≡ true
-IsFaultOf intake outlet Memory = (intake ≡ false) × (outlet ≡ false)
+-- the text of a script, and how its run ends
+abbrev pub replayed : List ℕ → List ℕ
+replayed bytes = (of_script acts nothing_yet bytes).text
 
--- some first bytes were written
-pub record WroteFront (old new : Output) (bytes : List ℕ) : Type 0 where
-  pub count : ℕ
-  pub written : Appends old.written new.written (take count bytes)
+abbrev pub replayed_end : List ℕ → Ended
+replayed_end bytes = (of_script acts nothing_yet bytes).ended
 
--- all bytes were written, and nothing failed
-pub record WroteAll (old new : Output) (bytes : List ℕ) : Type 0 where
-  pub written : Appends old.written new.written bytes
-  pub fine : new.failed ≡ old.failed
+-- the text of a script that may go on, and whether it ends at a line that is wrong
+abbrev pub sofar : List ℕ → List ℕ
+sofar bytes = (of_front acts nothing_yet bytes).text
+
+abbrev pub judged : List ℕ → Bool
+judged bytes = is_bad (of_front acts nothing_yet bytes).ended
+
+-- what a run of `replay` leaves: all was played, or the run was given up; and what stands where it has read so far
+abbrev pub Replayed : Input → Input → Output → Output → Ended → Type 0
+Replayed old new from to ended = Played acts nothing_yet old new from to ended
+
+abbrev pub ReplayGivenUp : Input → Input → Output → Output → Type 0
+ReplayGivenUp old new from to = GivenUp acts nothing_yet old new from to
+
+abbrev pub ReplayedSoFar : Input → Input → Output → Output → Type 0
+ReplayedSoFar old new from to = PlayedSoFar acts nothing_yet old new from to

@@ -2,23 +2,23 @@
 //!
 //! The order of judging: a comment is skipped; then `text`; a line without words is skipped; then
 //! `command`, `words`, `late`, `many`, and the words from left to right.
-ghost use Rattle.std.specs.Prelude.{◌≡◌, codes, IsTrue, IsErrOf, IfOk, IfErr, Ok};
+ghost use Rattle.std.specs.Prelude.{◌≡◌, ℕ, List, codes, IsTrue, IsErrOf, IfOk, IfErr, Ok, Err};
 ghost use Rattle.std.specs.Str.{bytes_eq};
 ghost use Rattle.std.specs.Option.{option_map};
-ghost use Rattle.ipx_cmd.specs.Instruction.{instruction_of};
-ghost use Rattle.ipx_cmd.specs.Line.{Answers, AnswersInMemory, IsRefusal};
+ghost use Rattle.ipx_cmd.specs.declared.ended.RunFault.{RunFault};
+ghost use Rattle.ipx_cmd.specs.Instruction.{Passes, instruction_of, next_port};
+ghost use Rattle.ipx_cmd.specs.Line.{Answers, AnswersInMemory, Stops};
 ghost use Rattle.ipx_cmd.specs.Script.{line_meaning, command_meaning, port_allowed, shares_of, port_of, port_meaning, second_meaning, number_meaning, later_meaning, packet_of, in_meaning, brings_bytes};
 ghost use Rattle.ipx_cmd.specs.Words.{words};
 
 use crate::fault::LineFault;
+use crate::halt::Halt;
 use crate::line::{line_words, no_more, read_bytes};
-use crate::refusal::Refusal;
 use crate::words::{
     PortWords, is_word, network, node, number_from_one, number_u8, number_u16, one_word,
     port_words, two_words,
 };
 use ipx_wire::{Network, Node};
-use std::alloc::Global;
 
 /// How many ports a router of the program has at most.
 pub(crate) const MOST_PORTS: usize = 8;
@@ -51,7 +51,7 @@ pub(crate) struct NamedPort {
 }
 
 /// What a line of a script asks for.
-#[derive(Debug, Drop)]
+#[derive(Clone, Copy, Debug)]
 pub(crate) enum Command {
     /// The next port of the router.
     Port(NamedPort),
@@ -61,8 +61,8 @@ pub(crate) enum Command {
     Stop,
     /// This many seconds pass, one after the other.
     Second { count: u32 },
-    /// A packet comes in by a port.
-    In { port: u8, bytes: Vec<u8> },
+    /// The packet in the buffer comes in by a port.
+    In { port: u8 },
     /// A port goes down.
     Down { port: u8 },
     /// A port comes up.
@@ -101,40 +101,39 @@ fn shares_of(named: Option<(&[u8], &[u8])>) -> Result<(u16, u16), LineFault>
 }
 
 /// The port that words name, read from left to right.
-fn port_of(named: PortWords<'_>) -> Result<Command, LineFault>
-    ensures { Answers instruction_of result (port_of named.entry.network.now named.entry.node.now named.entry.cost.now named.entry.longest.now (option_map (λ shares. (shares.0.now, shares.1.now)) named.entry.shares)) }
+fn port_of(named: PortWords<'_>) -> Result<NamedPort, LineFault>
+    ensures { Answers next_port result (port_of named.entry.network.now named.entry.node.now named.entry.cost.now named.entry.longest.now (option_map (λ shares. (shares.0.now, shares.1.now)) named.entry.shares)) }
 {
     let network = network(named.network).ok_or(LineFault::Network)?;
     let node = node(named.node).ok_or(LineFault::Node)?;
     let cost = number_u16(named.cost).ok_or(LineFault::Number)?;
     let longest = number_u16(named.longest).ok_or(LineFault::Number)?;
     let (routes, services) = shares_of(named.shares)?;
-    Ok(Command::Port(NamedPort {
+    Ok(NamedPort {
         network,
         node,
         cost,
         longest,
         routes,
         services,
-    }))
+    })
 }
 
-/// `port NET NODE COST LONGEST`, or with ROUTES SERVICES behind it, by the words after the first.
-fn port_command(stage: Stage, arguments: &[u8]) -> Result<Command, LineFault>
-    ensures { Answers instruction_of result (port_meaning stage (words arguments.now)) }
+/// The port of `port NET NODE COST LONGEST`, or with ROUTES SERVICES behind it, by the words after the first.
+fn named_port(stage: Stage, arguments: &[u8]) -> Result<NamedPort, LineFault>
+    ensures { Answers next_port result (port_meaning stage (words arguments.now)) }
 {
     let named = port_words(arguments).ok_or(LineFault::Words)?;
     port_allowed(stage)?;
     port_of(named)
 }
 
-/// `second N`, by the words after the first.
-fn second_command(arguments: &[u8]) -> Result<Command, LineFault>
-    ensures { Answers instruction_of result (second_meaning (words arguments.now)) }
+/// The count of `second N`, by the words after the first.
+fn seconds(arguments: &[u8]) -> Result<u32, LineFault>
+    ensures { Answers Passes result (second_meaning (words arguments.now)) }
 {
     let word = one_word(arguments).ok_or(LineFault::Words)?;
-    let count = number_from_one(word, MOST_SECONDS).ok_or(LineFault::Number)?;
-    Ok(Command::Second { count })
+    number_from_one(word, MOST_SECONDS).ok_or(LineFault::Number)
 }
 
 /// The port of `down PORT` and `up PORT`, by the words after the first.
@@ -145,35 +144,36 @@ fn port_number(arguments: &[u8]) -> Result<u8, LineFault>
     number_u8(word).ok_or(LineFault::Number)
 }
 
-/// The packet that two words name, read from left to right.
-fn packet_of(alloc: Global, port_word: &[u8], bytes_word: &[u8]) -> Result<Command, Refusal>
-    ensures { AnswersInMemory instruction_of result (packet_of port_word.now bytes_word.now) }
+/// The packet that two words name, read from left to right; its bytes go into the buffer.
+fn packet_of(buffer: &mut Vec<u8>, port_word: &[u8], bytes_word: &[u8]) -> Result<Command, Halt>
+    ensures { AnswersInMemory (instruction_of buffer.new.items) result (packet_of port_word.now bytes_word.now) }
 {
     let port = number_u8(port_word).ok_or(LineFault::Number)?;
-    let bytes = read_bytes(alloc, bytes_word)?;
-    Ok(Command::In { port, bytes })
+    read_bytes(buffer, bytes_word)?;
+    Ok(Command::In { port })
 }
 
 /// `in PORT HEX`, by the words after the first.
-fn in_command(alloc: Global, arguments: &[u8]) -> Result<Command, Refusal>
-    ensures { AnswersInMemory instruction_of result (in_meaning (words arguments.now)) }
+fn in_command(buffer: &mut Vec<u8>, arguments: &[u8]) -> Result<Command, Halt>
+    ensures { AnswersInMemory (instruction_of buffer.new.items) result (in_meaning (words arguments.now)) }
 {
     let (port, bytes) = two_words(arguments).ok_or(LineFault::Words)?;
-    packet_of(alloc, port, bytes)
+    packet_of(buffer, port, bytes)
 }
 
 /// A command by its first word and what follows that.
 fn read_command(
-    alloc: Global,
+    buffer: &mut Vec<u8>,
     stage: Stage,
     name: &[u8],
     arguments: &[u8],
-) -> Result<Command, Refusal>
-    ensures meaning { AnswersInMemory instruction_of result (command_meaning stage name.now (words arguments.now)) }
-    ensures memory { IsErrOf result Refusal.Memory → IsTrue (bytes_eq name.now (codes "in")) }
+) -> Result<Command, Halt>
+    ensures meaning { AnswersInMemory (instruction_of buffer.new.items) result (command_meaning stage name.now (words arguments.now)) }
+    ensures memory { IsErrOf result (Halt.Run RunFault.Memory) → IsTrue (bytes_eq name.now (codes "in")) }
 {
     if is_word(name, b"port") {
-        return port_command(stage, arguments).map_err(Refusal::Line);
+        let named = named_port(stage, arguments)?;
+        return Ok(Command::Port(named));
     }
     if is_word(name, b"start") {
         no_more(arguments)?;
@@ -184,17 +184,20 @@ fn read_command(
         return Ok(Command::Stop);
     }
     if is_word(name, b"second") {
-        return second_command(arguments).map_err(Refusal::Line);
+        let count = seconds(arguments)?;
+        return Ok(Command::Second { count });
     }
     if is_word(name, b"in") {
-        return in_command(alloc, arguments);
+        return in_command(buffer, arguments);
     }
-    read_later_command(name, arguments).map_err(Refusal::Line)
+    let command = read_later_command(name, arguments)?;
+    Ok(command)
 }
 
 /// The commands behind `in`.
 fn read_later_command(name: &[u8], arguments: &[u8]) -> Result<Command, LineFault>
-    ensures { Answers instruction_of result (later_meaning name.now (words arguments.now)) }
+    ensures command { IfOk result (λ command. (buffer : List ℕ) → later_meaning name.now (words arguments.now) ≡ Ok (instruction_of buffer command)) }
+    ensures fault { IfErr result (λ fault. later_meaning name.now (words arguments.now) ≡ Err fault) }
 {
     if is_word(name, b"down") {
         let port = port_number(arguments)?;
@@ -217,18 +220,19 @@ fn read_later_command(name: &[u8], arguments: &[u8]) -> Result<Command, LineFaul
 
 /// Reads a line of `replay`'s script, without its line feed and the carriage return before that.
 ///
-/// A line that is skipped gives no command. Of several faults the first in the order above is told.
+/// A line that is skipped gives no command. Of several faults the first in the order above is told. The bytes of a packet go
+/// into the buffer.
 pub(crate) fn read_line(
-    alloc: Global,
+    buffer: &mut Vec<u8>,
     line: &[u8],
     stage: Stage,
-) -> Result<Option<Command>, Refusal>
-    ensures command { IfOk result (λ command. line_meaning stage line.now ≡ Ok (option_map instruction_of command)) }
-    ensures refused { IfErr result (IsRefusal (line_meaning stage line.now)) }
-    ensures memory { IsErrOf result Refusal.Memory → IsTrue (brings_bytes (words line.now)) }
+) -> Result<Option<Command>, Halt>
+    ensures command { IfOk result (λ command. line_meaning stage line.now ≡ Ok (option_map (instruction_of buffer.new.items) command)) }
+    ensures refused { IfErr result (Stops (line_meaning stage line.now)) }
+    ensures memory { IsErrOf result (Halt.Run RunFault.Memory) → IsTrue (brings_bytes (words line.now)) }
 {
     match line_words(line)? {
-        Some((name, arguments)) => Ok(Some(read_command(alloc, stage, name, arguments)?)),
+        Some((name, arguments)) => Ok(Some(read_command(buffer, stage, name, arguments)?)),
         None => Ok(None),
     }
 }

@@ -4,15 +4,19 @@
 mod chosen;
 mod command;
 mod ended;
+mod event_text;
 mod fault;
+mod halt;
 pub mod laws;
 mod line;
 mod machine;
+mod making;
 mod output;
 mod play;
 mod player;
-mod refusal;
+mod said;
 mod show;
+mod table_text;
 mod why_word;
 mod words;
 

@@ -6,10 +6,8 @@ ghost use Rattle.ipx_cmd.specs.Line.{or_fault, line_words, no_more, AnswersInMem
 ghost use Rattle.ipx_cmd.specs.Words.{words, bytes_of};
 
 use crate::fault::LineFault;
-use crate::refusal::Refusal;
+use crate::halt::Halt;
 use crate::words::{first_word, has_no_words, is_text, is_word};
-use hex::FromHexError;
-use std::alloc::Global;
 
 /// Whether a line's first byte is `#`.
 fn is_comment(line: &[u8]) -> bool
@@ -44,19 +42,20 @@ pub(crate) fn no_more(arguments: &[u8]) -> Result<(), LineFault>
     }
 }
 
-/// The bytes of a word: `-` for none, or hexadecimal digits.
-pub(crate) fn read_bytes(alloc: Global, word: &[u8]) -> Result<Vec<u8>, Refusal>
-    ensures { AnswersInMemory (λ bytes. bytes.items) result (or_fault Hex (bytes_of word.now)) }
+/// Reads the bytes of a word into a buffer: `-` for none, or hexadecimal digits.
+pub(crate) fn read_bytes(buffer: &mut Vec<u8>, word: &[u8]) -> Result<(), Halt>
+    ensures { AnswersInMemory (λ read. buffer.new.items) result (or_fault Hex (bytes_of word.now)) }
 {
     if is_word(word, b"-") {
-        return Ok(Vec::new(alloc));
+        buffer.clear();
+        return Ok(());
     }
     if word.is_empty() {
-        return Err(Refusal::Line(LineFault::Hex));
+        return Err(Halt::Line(LineFault::Hex));
     }
-    match hex::decode(alloc, word) {
-        Ok(bytes) => Ok(bytes),
-        Err(FromHexError::OutOfMemory) => Err(Refusal::Memory),
-        Err(_) => Err(Refusal::Line(LineFault::Hex)),
+    buffer.resize(word.len() / 2, 0)?;
+    match hex::decode_to_slice(word, buffer) {
+        Ok(()) => Ok(()),
+        Err(_) => Err(Halt::Line(LineFault::Hex)),
     }
 }

@@ -1,214 +1,218 @@
 //! What the lines of a script act on: the ports named so far, and then the router that they make.
-ghost use Rattle.std.specs.Prelude.{◌≡◌, ◌<◌, length};
-ghost use Rattle.ipx_router.specs.Happened.{happened};
-ghost use Rattle.ipx_router.specs.History.{IsOnPort};
-ghost use Rattle.ipx_cmd.specs.PortWord.{port_fault, ports_fault};
+ghost use Rattle.std.specs.Prelude.{◌≡◌, ◌<◌, ◌++◌, ◌∷◌, [], ℕ, List, false, length, IsSome, IsTrue, IfErr, IfOk, OnOk, Ok, Err, Some, option_map, string_bytes};
+ghost use Rattle.ipx_router.specs.History.{History};
+ghost use Rattle.ipx_router.specs.Port.{Port as PortValues};
+ghost use Rattle.ipx_router.specs.Stands.{StandsFor};
+ghost use Rattle.ipx_cmd.specs.Acted.{Halted};
+ghost use Rattle.ipx_cmd.specs.Instruction.{instruction_of};
+ghost use Rattle.ipx_cmd.specs.Line.{Stops};
+ghost use Rattle.ipx_cmd.specs.Machine.{Standing, events_of, has_ports, instruction_text, nothing_yet, obeys, past_of};
+ghost use Rattle.ipx_cmd.specs.MachineStands.{IsSame, IsStanding, Leads, Makes, reached};
+ghost use Rattle.ipx_cmd.specs.Making.{named_port, values_of};
+ghost use Rattle.ipx_cmd.specs.Said.{Says};
+ghost use Rattle.ipx_cmd.specs.Script.{line_meaning};
 
 use crate::command::{Command, MOST_PORTS, NamedPort, Stage, read_line};
+use crate::ended::RunFault;
+use crate::event_text::{happen, pass};
 use crate::fault::LineFault;
-use crate::output::{drop_line, out_line, route_line, service_line};
-use crate::refusal::Refusal;
-use crate::why_word::WhyWord;
+use crate::halt::Halt;
+use crate::making::{MOST_ROUTES, MOST_SERVICES, ScriptRouter, port_of, router_of};
+use crate::player::Act;
+use crate::table_text::{show_routes, show_services};
 use arrayvec::ArrayVec;
-use ipx_router::{Event, Outbox, Outcome, Port, PortFault, PortsFault, Router};
+use ipx_router::{Event, Outbox, Port};
+use ipx_wire::Outlet;
 use std::alloc::Global;
-
-/// How many routes the router of the program has at most.
-const MOST_ROUTES: usize = 256;
-
-/// How many services it has at most.
-const MOST_SERVICES: usize = 128;
-
-type ScriptRouter = Router<MOST_PORTS, MOST_ROUTES, MOST_SERVICES>;
+use std::io::Write;
+use std::marker::Model;
 
 /// The ports of a script, its router once that is made, and what the router sends.
 #[derive(Debug, Drop)]
 pub(crate) struct Machine {
-    alloc: Global,
     ports: ArrayVec<Port, MOST_PORTS>,
     router: Option<ScriptRouter>,
     outbox: Outbox,
+    /// For the bytes of the packet that comes in.
+    buffer: Vec<u8>,
+}
+
+impl Model for Machine {
+    ghost use Rattle.ipx_cmd.specs.MachineStands.{Machine};
+
+    ghost Value = { Machine };
+
+    ghost view = { λ m. record { ports = m.ports.items; router = m.router; buffer = m.buffer.items } };
 }
 
 impl Machine {
-    pub fn new(alloc: Global) -> Machine {
+    pub fn new(alloc: Global) -> Machine
+        ensures { IsStanding result nothing_yet }
+    {
         Machine {
-            alloc,
             ports: ArrayVec::new(),
             router: None,
             outbox: Outbox::new(alloc),
+            buffer: Vec::new(alloc),
         }
     }
+}
 
-    /// Acts on a line without its end, and appends its text.
-    pub fn act(&mut self, line: &[u8], text: &mut String) -> Result<(), Refusal> {
+impl Act for Machine {
+    ghost use Rattle.ipx_cmd.specs.Machine.{Standing, acts};
+    ghost use Rattle.ipx_cmd.specs.MachineStands.{IsStanding};
+
+    ghost State = { Standing };
+
+    ghost acts = { acts };
+
+    ghost stands = { IsStanding };
+
+    fn act<W: Write>(
+        &mut self,
+        line: &[u8],
+        text: &mut String,
+        outlet: &mut Outlet<W>,
+    ) -> Result<(), Halt> {
+        let Some(command) = self.read(line)? else {
+            return Ok(());
+        };
+        if let Command::Port(named) = command {
+            self.name_port(named)?;
+            return Ok(());
+        }
+        self.make_router()?;
+        self.obey(command, text, outlet)
+    }
+}
+
+impl Machine {
+    /// Reads a line; the bytes of a packet go into the buffer.
+    fn read(&mut self, line: &[u8]) -> Result<Option<Command>, Halt>
+        ensures command { IfOk result (λ command. line_meaning (reached self.old) line.now ≡ Ok (option_map (instruction_of self.new.buffer) command)) }
+        ensures refused { IfErr result (Stops (line_meaning (reached self.old) line.now)) }
+        ensures same { IsSame self.old self.new }
+    {
         let stage = Stage {
             made: self.router.is_some(),
             ports: self.ports.len(),
         };
-        let Some(command) = read_line(self.alloc, line, stage)? else {
-            return Ok(());
-        };
-        if let Command::Port(named) = command {
-            return self.name_port(named);
-        }
-        self.make_router()?;
-        match &mut self.router {
-            Some(router) => act_on(router, &mut self.outbox, command, text),
-            None => Ok(()),
-        }
+        read_line(&mut self.buffer, line, stage)
     }
 
     /// Keeps the next port.
-    fn name_port(&mut self, named: NamedPort) -> Result<(), Refusal> {
+    fn name_port(&mut self, named: NamedPort) -> Result<(), LineFault>
+        requires { length self.old.ports < 8 }
+        ensures named { OnOk result (named_port (values_of named) ≡ Ok (values_of named)) }
+        ensures ports { OnOk result (self.new.ports ≡ self.old.ports ++ values_of named ∷ []) }
+        ensures router { self.new.router ≡ self.old.router }
+        ensures refused { IfErr result (λ fault. named_port (values_of named) ≡ Err fault) }
+    {
         let port = port_of(named)?;
-        match self.ports.try_push(port) {
-            Ok(()) => Ok(()),
-            Err(_) => Err(Refusal::Line(LineFault::Many)),
-        }
+        self.ports.push(port);
+        Ok(())
     }
 
     /// Makes the router of the ports named so far, where it isn't made yet.
-    fn make_router(&mut self) -> Result<(), Refusal> {
-        if self.router.is_none() {
-            let router = Router::new(&self.ports).map_err(ports_fault)?;
-            self.router = Some(router);
+    fn make_router(&mut self) -> Result<(), LineFault>
+        ensures made { OnOk result (IsSome self.new.router) }
+        ensures stands { OnOk result ((standing : Standing) → IsStanding self.old standing → Makes self.new standing) }
+        ensures buffer { self.new.buffer ≡ self.old.buffer }
+        ensures refused { IfErr result (λ fault. (standing : Standing) → IsStanding self.old standing → past_of standing ≡ Err fault) }
+    {
+        if self.router.is_some() {
+            return Ok(());
         }
-        Ok(())
+        match router_of(&self.ports) {
+            Ok(router) => {
+                self.router = Some(router);
+                Ok(())
+            }
+            Err(fault) => Err(fault),
+        }
+    }
+
+    /// Acts on a command once the router is made.
+    fn obey<W: Write>(
+        &mut self,
+        command: Command,
+        text: &mut String,
+        outlet: &mut Outlet<W>,
+    ) -> Result<(), Halt>
+        requires outlet { outlet.old.failed ≡ false }
+        requires made { IsSome self.old.router }
+        ensures fine { OnOk result (outlet.new.failed ≡ false) }
+        ensures acted { OnOk result ((ports : List PortValues) (history : History) → IsStanding self.old (record { ports = ports; past = Some history })
+            → Leads self.new (obeys ports history (instruction_of self.old.buffer command)) outlet.old outlet.new (string_bytes text.old) (string_bytes text.new)) }
+        ensures halted { IfErr result (λ halt. (ports : List PortValues) (history : History) → IsStanding self.old (record { ports = ports; past = Some history })
+            → Halted (obeys ports history (instruction_of self.old.buffer command)) outlet.old outlet.new (string_bytes text.old) (string_bytes text.new) halt) }
+    {
+        match &mut self.router {
+            Some(router) => {
+                if !has_ports(router, command) {
+                    return Err(Halt::Line(LineFault::Port));
+                }
+                match run(
+                    router,
+                    &mut self.outbox,
+                    &self.buffer,
+                    command,
+                    text,
+                    outlet,
+                ) {
+                    Ok(()) => Ok(()),
+                    Err(fault) => Err(Halt::Run(fault)),
+                }
+            }
+            None => Ok(()),
+        }
     }
 }
 
-/// The port that a line names.
-fn port_of(named: NamedPort) -> Result<Port, LineFault> {
-    let port = Port::new(named.network, named.node, named.cost, named.longest).map_err(port_fault)?;
-    Ok(port.with_shares(named.routes, named.services))
-}
-
-/// The word of a port's fault.
-fn port_fault(fault: PortFault) -> LineFault
-    ensures { result ≡ port_fault fault }
+/// Whether the router has the port that a command names, if it names one.
+fn has_ports(router: &ScriptRouter, command: Command) -> bool
+    ensures { (buffer : List ℕ) → result ≡ has_ports (length router.now.ports) (instruction_of buffer command) }
 {
-    match fault {
-        PortFault::Longest => LineFault::Longest,
-        PortFault::Cost => LineFault::Cost,
-        PortFault::Network => LineFault::Network,
-        PortFault::Node => LineFault::Node,
+    match command {
+        Command::In { port } | Command::Down { port } | Command::Up { port } => router.has_port(
+            port,
+        ),
+        _ => true,
     }
 }
 
-/// The word of a fault of ports that make no router.
-fn ports_fault(fault: PortsFault) -> LineFault
-    ensures { result ≡ ports_fault fault }
-{
-    match fault {
-        PortsFault::NoPort => LineFault::None,
-        PortsFault::TooMany => LineFault::Many,
-        PortsFault::SameNetwork => LineFault::Same,
-    }
-}
-
-/// Acts on a command once the router is made.
-fn act_on(
+/// Acts on a command whose port the router has.
+fn run<W: Write>(
     router: &mut ScriptRouter,
     outbox: &mut Outbox,
+    buffer: &[u8],
     command: Command,
     text: &mut String,
-) -> Result<(), Refusal> {
+    outlet: &mut Outlet<W>,
+) -> Result<(), RunFault>
+    requires port { IsTrue (has_ports (length router.old.ports) (instruction_of buffer.now command)) }
+    requires outlet { outlet.old.failed ≡ false }
+    ensures ports { router.new.ports ≡ router.old.ports }
+    ensures fine { OnOk result (outlet.new.failed ≡ false) }
+    ensures stands { OnOk result ((h : History) → StandsFor MOST_ROUTES MOST_SERVICES router.old h → StandsFor MOST_ROUTES MOST_SERVICES router.new (h ++ events_of (instruction_of buffer.now command))) }
+    ensures says { (h : History) → StandsFor MOST_ROUTES MOST_SERVICES router.old h
+        → Says outlet.old outlet.new (string_bytes text.old) (string_bytes text.new) (instruction_text router.old.ports h (instruction_of buffer.now command)) result }
+{
     match command {
         Command::Port(_) => Ok(()),
-        Command::Start => happen(router, outbox, Event::Start, text),
-        Command::Stop => happen(router, outbox, Event::Stop, text),
-        Command::Second { count } => pass(router, outbox, count, text),
-        Command::In { port, bytes } => {
-            happen_on(
-                router,
-                outbox,
+        Command::Start => happen(router, outbox, Event::Start, text, outlet),
+        Command::Stop => happen(router, outbox, Event::Stop, text, outlet),
+        Command::Second { count } => pass(router, outbox, count, text, outlet),
+        Command::In { port } => {
+            let event = Event::Packet {
                 port,
-                Event::Packet {
-                    port,
-                    bytes: &bytes,
-                },
-                text,
-            )
+                bytes: buffer,
+            };
+            happen(router, outbox, event, text, outlet)
         }
-        Command::Down { port } => happen_on(router, outbox, port, Event::PortDown { port }, text),
-        Command::Up { port } => happen_on(router, outbox, port, Event::PortUp { port }, text),
-        Command::Routes => write_routes(router, text),
-        Command::Services => write_services(router, text),
+        Command::Down { port } => happen(router, outbox, Event::PortDown { port }, text, outlet),
+        Command::Up { port } => happen(router, outbox, Event::PortUp { port }, text, outlet),
+        Command::Routes => show_routes(router, text, outlet),
+        Command::Services => show_services(router, text, outlet),
     }
-}
-
-/// This many seconds, one after the other.
-fn pass(
-    router: &mut ScriptRouter,
-    outbox: &mut Outbox,
-    count: u32,
-    text: &mut String,
-) -> Result<(), Refusal> {
-    for _ in 0..count {
-        happen(router, outbox, Event::Second, text)?;
-    }
-    Ok(())
-}
-
-/// An event of a port, if the router has it.
-fn happen_on(
-    router: &mut ScriptRouter,
-    outbox: &mut Outbox,
-    port: u8,
-    event: Event<'_>,
-    text: &mut String,
-) -> Result<(), Refusal>
-    requires { port < length router.old.ports → IsOnPort router.old.ports (happened event) }
-{
-    if !router.has_port(port) {
-        return Err(Refusal::Line(LineFault::Port));
-    }
-    happen(router, outbox, event, text)
-}
-
-/// One event with an emptied outbox: a line for each packet sent, or one for a drop.
-fn happen(
-    router: &mut ScriptRouter,
-    outbox: &mut Outbox,
-    event: Event<'_>,
-    text: &mut String,
-) -> Result<(), Refusal>
-    requires { IsOnPort router.old.ports (happened event) }
-{
-    outbox.clear();
-    match router.step(event, outbox)? {
-        Outcome::Dropped(why) => drop_line(text, &WhyWord(why))?,
-        _ => write_sent(outbox, text)?,
-    }
-    Ok(())
-}
-
-/// A line for each packet of an outbox.
-fn write_sent(outbox: &Outbox, text: &mut String) -> Result<(), Refusal> {
-    for place in 0..outbox.len() {
-        let sent = outbox.get(place);
-        out_line(text, sent.port, sent.link, sent.bytes)?;
-    }
-    Ok(())
-}
-
-/// A line for each route in the table, by network.
-fn write_routes(router: &ScriptRouter, text: &mut String) -> Result<(), Refusal> {
-    for place in 0..router.routes() {
-        if let Some(held) = router.route_at(place) {
-            route_line(text, &held.offer, held.age)?;
-        }
-    }
-    Ok(())
-}
-
-/// A line for each service in the table, by type and name.
-fn write_services(router: &ScriptRouter, text: &mut String) -> Result<(), Refusal> {
-    for place in 0..router.services() {
-        if let Some(held) = router.service_at(place) {
-            service_line(text, &held.offer, held.age)?;
-        }
-    }
-    Ok(())
 }

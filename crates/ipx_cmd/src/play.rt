@@ -1,15 +1,22 @@
 //! A run of `replay`: the script is read in pieces, and the text of the lines that a piece ends is
 //! written before the next piece is asked for.
-ghost use Rattle.std.specs.Prelude.{◌≡◌, ◌+◌, ◌*◌, ◌^◌, ◌<◌, ◌≤◌, false, [], length, string_bytes, Err, IfErr, IfOk, OnOk, OnErr};
-ghost use Rattle.ipx_cmd.specs.Replayed.{IsFaultOf, WroteAll, WroteFront};
-ghost use Rattle.ipx_cmd.specs.declared.ended.Ended.TheVariants.{Done, BadInput};
+ghost use Rattle.std.specs.Prelude.{◌≡◌, ◌+◌, ◌*◌, ◌^◌, ◌<◌, ◌≤◌, ◌++◌, false, [], length, string_bytes, Err, IfErr, IfOk, OnOk, OnErr};
 ghost use Rattle.std.specs.Io.KnownBytes.{IsAtEnd};
+ghost use Rattle.ipx_cmd.specs.Acted.{StaysFine};
+ghost use Rattle.ipx_cmd.specs.Leads.{IsPending};
+ghost use Rattle.ipx_cmd.specs.Output.{fault_text};
+ghost use Rattle.ipx_cmd.specs.Played.{GivenUp, Played, PlayedSoFar};
+ghost use Rattle.ipx_cmd.specs.Replayed.{ReplayGivenUp, Replayed, ReplayedSoFar};
+ghost use Rattle.ipx_cmd.specs.Stretch.{Answered, Completed, Flushed, GaveUp, Passed, Unfinished};
+ghost use Rattle.ipx_cmd.specs.WroteFront.{IsFaultOf, WroteAll, WroteFront};
+ghost use Rattle.ipx_cmd.specs.declared.ended.Ended.TheVariants.{Done, BadInput};
 
 use crate::ended::{Ended, RunFault};
 use crate::fault::LineFault;
+use crate::halt::Halt;
+use crate::machine::Machine;
 use crate::output::fault_line;
-use crate::player::Player;
-use crate::refusal::Refusal;
+use crate::player::{Act, Player};
 use ipx_wire::{Intake, Outlet};
 use std::alloc::Global;
 use std::io::{Read, Write};
@@ -31,12 +38,36 @@ pub fn replay<R: Read, W: Write>(
 ) -> Result<Ended, RunFault>
     requires intake { intake.old.failed ≡ false }
     requires outlet { outlet.old.failed ≡ false }
+    ensures ok { IfOk result (Replayed intake.old intake.new outlet.old outlet.new) }
+    ensures err { OnErr result (ReplayGivenUp intake.old intake.new outlet.old outlet.new) }
+    ensures read { result ≡ Err RunFault.Read → ReplayedSoFar intake.old intake.new outlet.old outlet.new }
     ensures fault { IfErr result (IsFaultOf intake.new.failed outlet.new.failed) }
     ensures fine_intake { OnOk result (intake.new.failed ≡ false) }
     ensures fine_outlet { OnOk result (outlet.new.failed ≡ false) }
     ensures whole { IfOk result (λ e. e ≡ Done → IsAtEnd intake.new.left) }
 {
-    let mut player = Player::new(alloc);
+    play_script(Machine::new(alloc), alloc, intake, outlet)
+}
+
+/// Plays a script on a machine that has acted on no line of it yet.
+fn play_script<M: Act + Drop, R: Read, W: Write>(
+    machine: M,
+    alloc: Global,
+    intake: &mut Intake<R>,
+    outlet: &mut Outlet<W>,
+) -> Result<Ended, RunFault>
+    requires known { (state : M.State) × M.stands machine state }
+    requires intake { intake.old.failed ≡ false }
+    requires outlet { outlet.old.failed ≡ false }
+    ensures ok { IfOk result (λ ended. (state : M.State) → M.stands machine state → Played M.acts state intake.old intake.new outlet.old outlet.new ended) }
+    ensures err { OnErr result ((state : M.State) → M.stands machine state → GivenUp M.acts state intake.old intake.new outlet.old outlet.new) }
+    ensures read { result ≡ Err RunFault.Read → (state : M.State) → M.stands machine state → PlayedSoFar M.acts state intake.old intake.new outlet.old outlet.new }
+    ensures fault { IfErr result (λ why. (state : M.State) → M.stands machine state → IsFaultOf intake.new.failed outlet.new.failed why) }
+    ensures fine_intake { OnOk result (intake.new.failed ≡ false) }
+    ensures fine_outlet { OnOk result (outlet.new.failed ≡ false) }
+    ensures whole { IfOk result (λ ended. ended ≡ Done → IsAtEnd intake.new.left) }
+{
+    let mut player = Player::new(machine, alloc);
     let mut text = String::new(alloc);
     let mut piece = [0; PIECE];
     loop {
@@ -44,75 +75,80 @@ pub fn replay<R: Read, W: Write>(
             return Err(RunFault::Read);
         };
         if count == 0 {
-            return end(&mut player, &mut text, outlet);
+            return play_end(&mut player, &mut text, outlet);
         }
-        if let Ended::BadInput = play_piece(&mut player, &mut text, outlet, &piece[..count])? {
+        if let Ended::BadInput = play_piece(&mut player, &piece[..count], &mut text, outlet)? {
             return Ok(Ended::BadInput);
         }
     }
 }
 
 /// Plays one piece and writes the text of the lines that it ends; bad input ends the run.
-fn play_piece<W: Write>(
-    player: &mut Player,
+fn play_piece<M: Act + Drop, W: Write>(
+    player: &mut Player<M>,
+    piece: &[u8],
     text: &mut String,
     outlet: &mut Outlet<W>,
-    piece: &[u8],
 ) -> Result<Ended, RunFault>
-    requires number { player.old + length piece.now < 2 ^ 64 }
+    requires line { IsPending player.old.pending.items }
+    requires known { (state : M.State) × M.stands player.old.machine state }
+    requires number { player.old.number + length piece.now < 2 ^ 64 }
     requires outlet { outlet.old.failed ≡ false }
-    ensures number { player.new ≤ player.old + length piece.now }
+    ensures number { player.new.number ≤ player.old.number + length piece.now }
+    ensures line { IfOk result (λ ended. ended ≡ Done → IsPending player.new.pending.items) }
+    ensures emptied { OnOk result (string_bytes text.new ≡ []) }
     ensures fine { OnOk result (outlet.new.failed ≡ false) }
-    ensures fault { IfErr result (IsFaultOf false outlet.new.failed) }
+    ensures passed { IfOk result (λ ended. (state : M.State) → M.stands player.old.machine state → Passed M.acts (M.stands player.new.machine) state player.old.number (player.old.pending.items ++ piece.now) outlet.old outlet.new (string_bytes text.old) (string_bytes text.new) player.new.number player.new.pending.items ended) }
+    ensures gave_up { IfErr result (λ why. (state : M.State) → M.stands player.old.machine state → GaveUp M.acts state player.old.number (player.old.pending.items ++ piece.now) outlet.old outlet.new (string_bytes text.old) why) }
 {
-    for byte in piece {
-        if let Err(refusal) = player.feed(*byte, text) {
-            return refused(player, text, outlet, refusal);
-        }
-        if text.len() >= LARGE {
-            flush(text, outlet)?;
-        }
-    }
-    flush(text, outlet)?;
-    Ok(Ended::Done)
+    let played = player.play(piece, text, outlet);
+    answer(played, player.number(), text, outlet)
 }
 
 /// Plays the last line, and writes what is left of the text.
-fn end<W: Write>(
-    player: &mut Player,
+fn play_end<M: Act + Drop, W: Write>(
+    player: &mut Player<M>,
     text: &mut String,
     outlet: &mut Outlet<W>,
 ) -> Result<Ended, RunFault>
-    requires { outlet.old.failed ≡ false }
+    requires line { IsPending player.old.pending.items }
+    requires known { (state : M.State) × M.stands player.old.machine state }
+    requires outlet { outlet.old.failed ≡ false }
     ensures fine { OnOk result (outlet.new.failed ≡ false) }
-    ensures fault { IfErr result (IsFaultOf false outlet.new.failed) }
+    ensures completed { IfOk result (λ ended. (state : M.State) → M.stands player.old.machine state → Completed M.acts state player.old.number player.old.pending.items outlet.old outlet.new (string_bytes text.old) ended) }
+    ensures unfinished { IfErr result (λ why. (state : M.State) → M.stands player.old.machine state → Unfinished M.acts state player.old.number player.old.pending.items outlet.old outlet.new (string_bytes text.old) why) }
 {
-    if let Err(refusal) = player.finish(text) {
-        return refused(player, text, outlet, refusal);
+    let played = player.finish(text, outlet);
+    answer(played, player.number(), text, outlet)
+}
+
+/// Writes the text of lines that acted, or of those before the line of this number, which did not.
+fn answer<W: Write>(
+    played: Result<(), Halt>,
+    number: u64,
+    text: &mut String,
+    outlet: &mut Outlet<W>,
+) -> Result<Ended, RunFault>
+    requires { StaysFine played outlet.old }
+    ensures { Answered played number outlet.old outlet.new (string_bytes text.old) (string_bytes text.new) result }
+{
+    match played {
+        Ok(()) => complete(text, outlet),
+        Err(Halt::Line(fault)) => tell(number, fault, text, outlet),
+        Err(Halt::Run(fault)) => Err(fault),
     }
+}
+
+/// Writes the text of lines that acted.
+fn complete<W: Write>(text: &mut String, outlet: &mut Outlet<W>) -> Result<Ended, RunFault>
+    requires { outlet.old.failed ≡ false }
+    ensures { Flushed Done outlet.old outlet.new (string_bytes text.old) (string_bytes text.new) result }
+{
     flush(text, outlet)?;
     Ok(Ended::Done)
 }
 
-/// Tells what is wrong with the pending line, as the last line of the text.
-fn refused<W: Write>(
-    player: &Player,
-    text: &mut String,
-    outlet: &mut Outlet<W>,
-    refusal: Refusal,
-) -> Result<Ended, RunFault>
-    requires { outlet.old.failed ≡ false }
-    ensures told { IfOk result (λ ended. ended ≡ BadInput) }
-    ensures memory { refusal ≡ Refusal.Memory → result ≡ Err RunFault.Memory }
-    ensures fine { OnOk result (outlet.new.failed ≡ false) }
-    ensures fault { IfErr result (IsFaultOf false outlet.new.failed) }
-{
-    match refusal {
-        Refusal::Memory => Err(RunFault::Memory),
-        Refusal::Line(fault) => tell(player.number(), fault, text, outlet),
-    }
-}
-
+/// Writes the text and the line that tells what is wrong behind it.
 fn tell<W: Write>(
     number: u64,
     fault: LineFault,
@@ -120,15 +156,12 @@ fn tell<W: Write>(
     outlet: &mut Outlet<W>,
 ) -> Result<Ended, RunFault>
     requires { outlet.old.failed ≡ false }
-    ensures told { IfOk result (λ ended. ended ≡ BadInput) }
-    ensures fine { OnOk result (outlet.new.failed ≡ false) }
-    ensures fault { IfErr result (IsFaultOf false outlet.new.failed) }
+    ensures { Flushed BadInput outlet.old outlet.new (string_bytes text.old ++ fault_text number fault) (string_bytes text.new) result }
 {
     fault_line(text, number, fault)?;
     flush(text, outlet)?;
     Ok(Ended::BadInput)
 }
-
 /// Writes the text and empties it.
 pub(crate) fn flush<W: Write>(text: &mut String, outlet: &mut Outlet<W>) -> Result<(), RunFault>
     requires { outlet.old.failed ≡ false }

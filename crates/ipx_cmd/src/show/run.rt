@@ -5,7 +5,7 @@ ghost use Rattle.ipx_wire.specs.Ends.{Input};
 ghost use Rattle.ipx_capture.specs.Place.{Opened, keeps, place};
 ghost use Rattle.ipx_cmd.specs.Decoded.{CutOff, Decoded};
 ghost use Rattle.ipx_cmd.specs.Moved.{Moved, Refuses, Tells};
-ghost use Rattle.ipx_cmd.specs.Replayed.{IsFaultOf, WroteFront};
+ghost use Rattle.ipx_cmd.specs.WroteFront.{IsFaultOf, WroteFront};
 
 use crate::ended::{Ended, RunFault};
 use crate::play::{LARGE, flush};

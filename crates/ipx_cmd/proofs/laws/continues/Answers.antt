@@ -1,5 +1,9 @@
 use Rattle.ipx_cmd.proofs.Further.{continues}
+use Rattle.ipx_cmd.proofs.FurtherLines.{script_continues}
 use Rattle.ipx_cmd.proofs.laws.continues.Goals as goal
 
-pub returns : goal.returns
-returns c = continues
+pub returns-clause-capture : goal.returns-clause-capture
+returns-clause-capture c = continues
+
+pub returns-clause-script : goal.returns-clause-script
+returns-clause-script c = script_continues

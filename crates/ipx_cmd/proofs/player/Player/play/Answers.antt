@@ -1,0 +1,80 @@
+use Rattle.std.proofs.Common.{ℕ, List, ◌≡◌, ◌+◌, ◌++◌, ◌∷◌, subst, arith, length, length-append, string_bytes, ap, sym}
+use Rattle.std.proofs.lemmas.List.Elements.{All-append}
+use Rattle.ipx_cmd.specs.Lines.{line_feed}
+use Rattle.ipx_cmd.proofs.Cuts.{not_feed}
+use Rattle.ipx_cmd.proofs.Midpiece.{Midpiece}
+use Rattle.ipx_cmd.proofs.Reached.{none_pending}
+use Rattle.ipx_cmd.proofs.Offs.{on_ok_always, mid_end, mid_kept, mid_line, mid_off, mid_start, off_by}
+use Rattle.ipx_cmd.proofs.player.Player.play.Goals as goal
+
+pub loop-front-init : goal.loop-front-init
+loop-front-init g c = mid_start g.M.Act.acts g.M.Act.stands c.args.self.now.machine c.args.self.now.number c.args.self.now.pending.items c.args.piece.now c.args.outlet.now
+    (string_bytes c.args.text.now) c.requires.line c.requires.outlet
+
+pub end_line-requires-clause-line : goal.end_line-requires-clause-line
+end_line-requires-clause-line g c = c.loop-front.invariant.line
+
+-- a line and its line feed are at the front of what is left
+abbrev taken : (rest front behind : List ℕ) → rest ≡ front ++ line_feed ∷ behind → length rest ≡ length front + 1 + length behind
+taken rest front behind split = omega (arith, ap length split, length-append front (line_feed ∷ behind))
+
+pub end_line-requires-clause-number : goal.end_line-requires-clause-number
+end_line-requires-clause-number g c = omega (arith, c.loop-front.invariant.bound, c.requires.number, taken c.loop-front.rest.now c.in-Some.front.now c.in-Some.behind.now c.in-Some.ensures.1)
+
+pub end_line-requires-clause-outlet : goal.end_line-requires-clause-outlet
+end_line-requires-clause-outlet g c = c.loop-front.invariant.fine
+
+pub returns-in_err-end_line-clause-number : goal.returns-in_err-end_line-clause-number
+returns-in_err-end_line-clause-number g c =
+    omega (arith, c.loop-front.invariant.bound, c.end_line.ensures.number, taken c.loop-front.rest.now c.in-Some.front.now c.in-Some.behind.now c.in-Some.ensures.1)
+
+pub returns-in_err-end_line-clause-off : goal.returns-in_err-end_line-clause-off
+returns-in_err-end_line-clause-off g c =
+    let s = c.args.self.now in
+    let l = c.loop-front in
+    let new = c.end_line.new in
+    off_by g.M.Act.acts g.M.Act.stands s.machine s.number (s.pending.items ++ c.args.piece.now) c.args.outlet.now new.outlet (string_bytes c.args.text.now) (string_bytes new.text)
+    new.self.number c.in_err-end_line.field-0.0 c.from_residual.result c.from_residual.ensures.1
+    (mid_off g.M.Act.acts g.M.Act.stands s.machine l.self.machine s.number l.self.number new.self.number s.pending.items l.self.pending.items c.args.piece.now l.rest.now
+    c.in-Some.front.now c.in-Some.behind.now c.args.outlet.now l.outlet new.outlet (string_bytes c.args.text.now) (string_bytes l.text) (string_bytes new.text) c.in_err-end_line.field-0.0
+    l.invariant c.in-Some.ensures.1 c.in_err-end_line.ensures.off)
+
+pub loop-front-smaller : goal.loop-front-smaller
+loop-front-smaller g c = omega (arith, taken c.loop-front.rest.now c.in-Some.front.now c.in-Some.behind.now c.in-Some.ensures.1)
+
+pub loop-front-preserved : goal.loop-front-preserved
+loop-front-preserved g c =
+    let s = c.args.self.now in
+    let l = c.loop-front in
+    let new = c.end_line.new in
+    subst (λ (p : List ℕ). Midpiece g.M.Act.acts g.M.Act.stands s.machine new.self.machine s.number new.self.number s.pending.items p c.args.piece.now c.in-Some.behind.now
+    c.args.outlet.now new.outlet (string_bytes c.args.text.now) (string_bytes new.text)) (sym c.in_ok-end_line.ensures.line)
+    (mid_line g.M.Act.acts g.M.Act.stands s.machine l.self.machine new.self.machine s.number l.self.number new.self.number s.pending.items l.self.pending.items c.args.piece.now l.rest.now
+    c.in-Some.front.now c.in-Some.behind.now c.args.outlet.now l.outlet new.outlet (string_bytes c.args.text.now) (string_bytes l.text) (string_bytes new.text)
+    l.invariant c.in-Some.ensures.1 c.in_ok-end_line.ensures.went none_pending c.end_line.ensures.number c.in_ok-end_line.ensures.fine)
+
+pub keep-requires-clause-line : goal.keep-requires-clause-line
+keep-requires-clause-line g c = c.loop-front.invariant.line
+
+pub returns-clause-number : goal.returns-clause-number
+returns-clause-number g c = omega (arith, c.keep.ensures.number, c.loop-front.invariant.bound)
+
+pub returns-clause-fine : goal.returns-clause-fine
+returns-clause-fine g c = on_ok_always c.keep.result c.loop-front.invariant.fine
+
+pub returns-clause-went : goal.returns-clause-went
+returns-clause-went g c =
+    let s = c.args.self.now in
+    let l = c.loop-front in
+    let new = c.keep.new.self in
+    mid_end g.M.Act.acts g.M.Act.stands s.machine l.self.machine new.machine s.number l.self.number new.number s.pending.items l.self.pending.items c.args.piece.now l.rest.now
+    new.pending.items c.args.outlet.now l.outlet (string_bytes c.args.text.now) (string_bytes l.text) c.keep.result l.invariant c.keep.ensures.machine c.keep.ensures.number
+    c.keep.ensures.kept c.keep.ensures.line
+
+pub returns-clause-off : goal.returns-clause-off
+returns-clause-off g c =
+    let s = c.args.self.now in
+    let l = c.loop-front in
+    mid_kept g.M.Act.acts g.M.Act.stands s.machine l.self.machine s.number l.self.number c.keep.new.self.number s.pending.items l.self.pending.items c.args.piece.now l.rest.now
+    c.args.outlet.now l.outlet (string_bytes c.args.text.now) (string_bytes l.text) c.keep.result l.invariant
+    (All-append not_feed l.self.pending.items l.rest.now l.invariant.line.one c.in_default.ensures) c.keep.ensures.number c.keep.ensures.refused

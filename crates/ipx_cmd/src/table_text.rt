@@ -1,0 +1,69 @@
+//! The lines of the tables of a script's router.
+ghost use Rattle.std.specs.Prelude.{◌≡◌, ◌++◌, false, OnOk, string_bytes};
+ghost use Rattle.std.specs.List.{flat_map};
+ghost use Rattle.ipx_router.specs.History.{History};
+ghost use Rattle.ipx_router.specs.Stands.{StandsFor};
+ghost use Rattle.ipx_cmd.specs.Said.{Says};
+ghost use Rattle.ipx_cmd.specs.TableText.{route_held, routes_text, service_held, services_text};
+
+use crate::ended::RunFault;
+use crate::making::{MOST_ROUTES, MOST_SERVICES, ScriptRouter};
+use crate::output::{route_line, service_line};
+use crate::said::write_much;
+use ipx_wire::Outlet;
+use std::alloc::AllocError;
+use std::io::Write;
+
+/// Adds the lines of the routes in the table.
+pub(crate) fn show_routes<W: Write>(
+    router: &ScriptRouter,
+    text: &mut String,
+    outlet: &mut Outlet<W>,
+) -> Result<(), RunFault>
+    requires { outlet.old.failed ≡ false }
+    ensures fine { OnOk result (outlet.new.failed ≡ false) }
+    ensures says { (h : History) → StandsFor MOST_ROUTES MOST_SERVICES router.now h
+        → Says outlet.old outlet.new (string_bytes text.old) (string_bytes text.new) (routes_text router.now.ports h) result }
+{
+    write_routes(router, text)?;
+    write_much(text, outlet)
+}
+
+/// A line for each route in the table, by network.
+fn write_routes(router: &ScriptRouter, text: &mut String) -> Result<(), AllocError>
+    ensures { OnOk result (string_bytes text.new ≡ string_bytes text.old ++ flat_map route_held router.now.routes) }
+{
+    for place in 0..router.routes() {
+        if let Some(held) = router.route_at(place) {
+            route_line(text, &held.offer, held.age)?;
+        }
+    }
+    Ok(())
+}
+
+/// Adds the lines of the services in the table.
+pub(crate) fn show_services<W: Write>(
+    router: &ScriptRouter,
+    text: &mut String,
+    outlet: &mut Outlet<W>,
+) -> Result<(), RunFault>
+    requires { outlet.old.failed ≡ false }
+    ensures fine { OnOk result (outlet.new.failed ≡ false) }
+    ensures says { (h : History) → StandsFor MOST_ROUTES MOST_SERVICES router.now h
+        → Says outlet.old outlet.new (string_bytes text.old) (string_bytes text.new) (services_text router.now.ports h) result }
+{
+    write_services(router, text)?;
+    write_much(text, outlet)
+}
+
+/// A line for each service in the table, by type and name.
+fn write_services(router: &ScriptRouter, text: &mut String) -> Result<(), AllocError>
+    ensures { OnOk result (string_bytes text.new ≡ string_bytes text.old ++ flat_map service_held router.now.services) }
+{
+    for place in 0..router.services() {
+        if let Some(held) = router.service_at(place) {
+            service_line(text, &held.offer, held.age)?;
+        }
+    }
+    Ok(())
+}
