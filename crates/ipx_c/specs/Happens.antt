@@ -1,0 +1,51 @@
+-- What an event does to what a handle has.
+use Rattle.std.specs.Prelude.{◌≡◌, ℤ, [], ◌∷◌, ◌++◌, Option, None, Some, Result, Ok, Err}
+use Rattle.ipx_router.specs.History.{Event, History, IsOnPort}
+use Rattle.ipx_router.specs.Needs.{HasRoomFor}
+use Rattle.ipx_router.specs.Outcomes.{outcome}
+use Rattle.ipx_router.specs.Sends.{sends}
+use Rattle.ipx_router.specs.Stands.{StandsFor}
+use Rattle.ipx_router.specs.declared.outcome.Outcome.{Outcome}
+use Rattle.ipx_c.specs.Codes.{fault_code, code_of}
+use Rattle.ipx_c.specs.Sizes.{most_routes, most_services}
+use Rattle.ipx_c.specs.declared.fault.Fault.{Fault}
+use Rattle.ipx_c.specs.declared.fault.Fault.TheVariants.{NoRouter, NoPort, OutOfMemory}
+use Rattle.ipx_c.specs.declared.machine.Machine.{Machine}
+
+-- the router of the machine stands for that history
+abbrev pub Stands : Machine → History → Type 0
+Stands machine history = StandsFor most_routes most_services machine.router history
+
+-- the router took the event: whatever history it stood for, it stands for that history with the event, what the event sends is
+-- appended to what is to be sent, and the outcome is the event's. Its ports are the same
+pub record Took (m n : Machine) (event : Event) (became : Outcome) : Type 0 where
+  pub on_port : IsOnPort m.router.ports event
+  pub ports : n.router.ports ≡ m.router.ports
+  pub stands : (history : History) → Stands m history → Stands n (history ++ event ∷ [])
+  pub sends : (history : History) → Stands m history
+      → n.outbox.sent ≡ m.outbox.sent ++ sends m.router.ports most_routes most_services history event
+  pub outcome : (history : History) → Stands m history → became ≡ outcome m.router.ports most_routes history event
+
+-- the router and what is to be sent are as they were
+pub record IsSame (m n : Machine) : Type 0 where
+  pub router : n.router ≡ m.router
+  pub sent : n.outbox.sent ≡ m.outbox.sent
+
+-- why the router didn't take the event: it names a port that there is not, or the room for what it may send was missing
+-- and memory for it was refused
+abbrev pub IsRefused : Machine → Event → Fault → Type 0
+IsRefused machine event NoPort = IsOnPort machine.router.ports event → ⊥
+IsRefused machine event OutOfMemory = HasRoomFor machine.router event machine.outbox → ⊥
+IsRefused machine event fault = ⊥
+
+-- the event was taken, or refused and nothing happened
+abbrev pub Meets : Machine → Machine → Event → Result Outcome Fault → Type 0
+Meets m n event (Ok became) = Took m n event became
+Meets m n event (Err fault) = IsSame m n × IsRefused m event fault
+
+-- what a handle has before an event and after it, and the number that C hears: with no router there is none afterwards; with one
+-- the event is taken, or refused and nothing happened
+abbrev pub Happens : Option Machine → Option Machine → Event → ℤ → Type 0
+Happens None after event answer = (after ≡ None) × (answer ≡ fault_code NoRouter)
+Happens (Some m) after event answer =
+    (n : Machine) × (became : Result Outcome Fault) × (after ≡ Some n) × (answer ≡ code_of became) × Meets m n event became

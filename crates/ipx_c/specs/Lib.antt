@@ -1,0 +1,9 @@
+pub mod Sizes
+pub mod Codes
+pub mod Values
+pub mod Holds
+pub mod Happens
+pub mod Makes
+pub mod Copies
+pub mod Reads
+pub mod Words

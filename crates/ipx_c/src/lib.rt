@@ -1,0 +1,36 @@
+//! The router for C, and for whatever can call C: a static library, whose header is `include/ipxr.h`.
+//!
+//! - C holds a router by a `Handle`: a flag and a pointer. All bytes 0 are a handle without a router.
+//! - Each export answers a number (`specs/Codes`), and its clause says what it did, by the definitions of `ipx_router`: an event
+//!   was taken (`Happens`), a router was made (`Makes`), a packet was copied out (`Copies`), a record was read (`Reads`). Below 0
+//!   nothing happened.
+//! - How many ports, routes and services a router can have stands in `machine`, and in `specs/Sizes`.
+//! - `parts` and `cell` are the only places with a raw pointer; their proofs, and those alone, are walks by hand.
+#![tactic(auto)]
+
+mod cell;
+mod code;
+mod events;
+mod fault;
+mod handle;
+mod machine;
+mod making;
+mod parts;
+mod reading;
+mod sending;
+mod values;
+mod words;
+
+pub use crate::events::{
+    ipxr_packet, ipxr_port_down, ipxr_port_up, ipxr_second, ipxr_start, ipxr_stop,
+};
+pub use crate::fault::Fault;
+pub use crate::handle::Handle;
+pub use crate::machine::Machine;
+pub use crate::making::{ipxr_free, ipxr_make, ipxr_version};
+pub use crate::reading::{
+    ipxr_is_running, ipxr_is_up, ipxr_route, ipxr_routes, ipxr_service, ipxr_services,
+};
+pub use crate::sending::{ipxr_clear, ipxr_get, ipxr_sent};
+pub use crate::values::{PacketSent, PortValues, RouteRecord, ServiceRecord};
+pub use crate::words::ipxr_word;

@@ -1,0 +1,150 @@
+/* An allocator of the embedder's own in the place of include/heap.c: it refuses one request of many.
+ *
+ * The same events are played again and again; the first time the first allocation is refused, then the second, and so on until
+ * none is. A call that was refused says so, changes nothing, and does its work when it is made again. Run it under the
+ * sanitizers: they see what is lost or used wrongly. */
+#include <stdbool.h>
+#include <stdio.h>
+#include <stdlib.h>
+#include <string.h>
+
+#include "ipxr.h"
+
+/* Blocks as the library asks for them; include/heap.c says what each does. */
+struct block {
+    bool there;
+    unsigned char *at;
+};
+
+static unsigned char nowhere[1];
+static long until_refused; /* allocations until the one that is refused */
+static long in_use;        /* blocks that weren't freed */
+
+static bool is_refused(void)
+{
+    return --until_refused == 0;
+}
+
+struct block rattle_alloc(size_t size, size_t alignment)
+{
+    struct block block = {false, nowhere};
+    if (!is_refused()) {
+        block.there = true;
+        block.at = malloc(size == 0 ? alignment : size);
+        in_use++;
+    }
+    return block;
+}
+
+struct block rattle_realloc(unsigned char *old, size_t kept, size_t size, size_t alignment)
+{
+    struct block block = {false, nowhere};
+    (void)kept;
+    if (!is_refused()) {
+        block.there = true;
+        block.at = realloc(old, size == 0 ? alignment : size);
+    }
+    return block;
+}
+
+void rattle_dealloc(unsigned char *at)
+{
+    in_use--;
+    free(at);
+}
+
+static int refusals;
+static int changed; /* refused calls that changed something: there are none */
+
+/* What a refused call must leave as it was. */
+struct seen {
+    int32_t running;
+    size_t sent, routes, services;
+};
+
+static struct seen look(ipxr *router)
+{
+    struct seen seen = {ipxr_is_running(router), ipxr_sent(router), ipxr_routes(router), ipxr_services(router)};
+    return seen;
+}
+
+static bool is_same(struct seen a, struct seen b)
+{
+    return a.running == b.running && a.sent == b.sent && a.routes == b.routes && a.services == b.services;
+}
+
+typedef int32_t event(ipxr *router);
+
+static int32_t make(ipxr *router)
+{
+    const ipxr_port ports[] = {
+        {0x10, {0, 0, 0, 0, 0, 1}, 1, 576, IPXR_NO_LIMIT, IPXR_NO_LIMIT},
+        {0x20, {0, 0, 0, 0, 0, 2}, 1, 576, IPXR_NO_LIMIT, IPXR_NO_LIMIT},
+    };
+    return ipxr_make(router, ports, 2);
+}
+
+/* BB on network 20 advertises network 30. */
+static int32_t learn(ipxr *router)
+{
+    static const uint8_t bytes[] = {
+        0xFF, 0xFF, 0, 40, 0, 1, 0, 0, 0, 0x20, 0xFF, 0xFF, 0xFF, 0xFF, 0xFF, 0xFF, 0x04, 0x53,
+        0, 0, 0, 0x20, 0, 0, 0, 0, 0, 0xBB, 0x04, 0x53, 0, 2, 0, 0, 0, 0x30, 0, 1, 0, 2,
+    };
+    return ipxr_packet(router, 1, bytes, sizeof bytes);
+}
+
+/* AA on network 10 sends CC on network 20 as much as fits. */
+static int32_t forward(ipxr *router)
+{
+    static const uint8_t header[] = {
+        0xFF, 0xFF, 0x02, 0x40, 0, 0, 0, 0, 0, 0x20, 0, 0, 0, 0, 0, 0xCC, 0x40, 0x03,
+        0, 0, 0, 0x10, 0, 0, 0, 0, 0, 0xAA, 0x40, 0x03,
+    };
+    uint8_t bytes[576] = {0};
+    memcpy(bytes, header, sizeof header);
+    return ipxr_packet(router, 0, bytes, sizeof bytes);
+}
+
+static int32_t port_1_down(ipxr *router)
+{
+    return ipxr_port_down(router, 1);
+}
+
+static int32_t port_1_up(ipxr *router)
+{
+    return ipxr_port_up(router, 1);
+}
+
+static event *const EVENTS[] = {make, ipxr_start, learn, forward, ipxr_second, port_1_down, port_1_up, ipxr_stop};
+
+/* Makes a call, and where memory was refused makes it again. */
+static void insist(ipxr *router, event *call)
+{
+    struct seen before = look(router);
+    if (call(router) != IPXR_OUT_OF_MEMORY)
+        return;
+    refusals++;
+    if (!is_same(before, look(router)))
+        changed++;
+    if (call(router) < 0)
+        changed++;
+}
+
+int main(void)
+{
+    int rounds = 0;
+    int refused;
+    do {
+        ipxr router = {0};
+        refused = refusals;
+        until_refused = ++rounds;
+        for (size_t k = 0; k < sizeof EVENTS / sizeof *EVENTS; k++)
+            insist(&router, EVENTS[k]);
+        ipxr_free(&router);
+    } while (refusals > refused);
+    printf("each allocation was refused once: %s\n", refusals == rounds - 1 && refusals > 1 ? "yes" : "no");
+    printf("refused calls that changed something: %d\n", changed);
+    printf("blocks that weren't freed: %ld\n", in_use);
+    return 0;
+}

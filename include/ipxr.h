@@ -1,0 +1,254 @@
+/* ipxr.h: an IPX router as a value, for C and for whatever can call C.
+ *
+ * A router takes events (a start, seconds, packets that came in) and says which packets it sends. It has no socket, no
+ * clock, no thread and no memory but its own. What each call does is proved from its code; docs/EMBED.md says how far.
+ *
+ *     ipxr router = {0};
+ *     ipxr_port ports[2] = {
+ *         {0x10, {0, 0, 0, 0, 0, 1}, 1, 576, IPXR_NO_LIMIT, IPXR_NO_LIMIT},
+ *         {0x20, {0, 0, 0, 0, 0, 2}, 1, 1500, IPXR_NO_LIMIT, IPXR_NO_LIMIT},
+ *     };
+ *     if (ipxr_make(&router, ports, 2) < 0) ...;
+ *     ipxr_start(&router);
+ *     send_all(&router);           -- ipxr_sent, ipxr_get for each, ipxr_clear
+ *     ...
+ *     ipxr_free(&router);
+ *
+ * All numbers are in the machine's own byte order; packets and nodes are bytes as they lie on the wire.
+ *
+ * WHAT C HAS TO PROMISE. Nothing checks it; where it is broken, anything may happen, unless another thing is said.
+ *
+ *  1. A handle begins with all bytes 0, and is changed by these calls alone. Junk in it is taken for a pointer.
+ *  2. A handle is never copied. Two copies are one router: freed by both, it is freed twice.
+ *  3. A handle that has a router is freed before it is forgotten. Otherwise its memory is lost.
+ *  4. One call at a time for one handle. It may go from one thread to another between calls; that is ordered by a lock, or
+ *     by what starts or joins the threads. Different handles have nothing in common.
+ *  5. No pointer is NULL, not even with a length of 0. A NULL handle is read.
+ *  6. Each pointer leads to as many values as its length says, aligned for their type. A buffer that is shorter than the
+ *     length says is written past its end.
+ *  7. No two arguments of one call overlap, and no other code writes there during the call.
+ *  8. malloc, realloc and free belong to one allocator (include/heap.c), and are not changed while a router is there.
+ *  9. No call from a signal handler, nor in the child of a fork of a process with threads.
+ * 10. The stack has room for a call: docs/EMBED.md says how much. A call without it runs over the stack's end.
+ *
+ * Everything else is answered with a number: a handle without a router, a second free, a port, a packet or a record that
+ * there is not, a buffer too short for a packet, ports that make no router, memory that is refused.
+ */
+#ifndef IPXR_H
+#define IPXR_H
+
+#include <stdbool.h>
+#include <stddef.h>
+#include <stdint.h>
+
+#ifdef __cplusplus
+extern "C" {
+#endif
+
+/* How much one router can have. What comes when a table is full is not learned. */
+#define IPXR_MOST_PORTS 32
+#define IPXR_MOST_ROUTES 2048
+#define IPXR_MOST_SERVICES 1024
+
+/* The broadcast node is six bytes of this. */
+#define IPXR_BROADCAST_BYTE 0xFF
+
+/* A share that limits nothing. */
+#define IPXR_NO_LIMIT 65535
+
+/* Room for the words of any answer, with the 0 behind them. */
+#define IPXR_MOST_WORD 32
+
+/* ---- What became of an event: 0 and above. ipxr_word tells the word of each. ---- */
+
+#define IPXR_STARTED 0          /* the router runs from now on */
+#define IPXR_ALREADY_RUNNING 1  /* it was running; nothing was done */
+#define IPXR_STOPPED 2          /* it is stopped, and forgot what it learned */
+#define IPXR_TICKED 3           /* a second passed */
+#define IPXR_LEARNED 4          /* a response was taken */
+#define IPXR_ANSWERED 5         /* a request or a query was heard; also where nothing is sent */
+#define IPXR_FORWARDED 6        /* the packet goes on towards its network */
+#define IPXR_PROPAGATED 7       /* the packet goes on to the other networks; also where there is none */
+#define IPXR_WENT_DOWN 8        /* the port is down from now on */
+#define IPXR_CAME_UP 9          /* the port is up from now on */
+#define IPXR_ALREADY_DOWN 10    /* the port was down; nothing was done */
+#define IPXR_ALREADY_UP 11      /* the port was up; nothing was done */
+
+/* ---- Why an event was dropped: nothing was done, nothing is sent. The hundreds are the number of the check in
+ * docs/ROUTER.md, what is left over tells what was wrong with the bytes. ---- */
+
+#define IPXR_DROPPED(answer) ((answer) >= 100)
+
+#define IPXR_NOT_RUNNING 100          /* the router is stopped */
+#define IPXR_MALFORMED_SHORT 201      /* under 30 bytes */
+#define IPXR_MALFORMED_LENGTH_SMALL 202  /* a length under 30 */
+#define IPXR_MALFORMED_LENGTH_BEYOND 203 /* a length beyond the bytes */
+#define IPXR_OWN_ECHO 300             /* from the port itself */
+#define IPXR_BAD_SOURCE 400           /* from the broadcast node */
+#define IPXR_CROSSED_SHORT 500        /* propagated, no room for the networks crossed */
+#define IPXR_CROSSED_FULL 600         /* propagated, has crossed eight networks */
+#define IPXR_CROSSED_SEEN 700         /* propagated, has crossed the port's network */
+#define IPXR_ELSEWHERE 800            /* for another node of the port's network */
+#define IPXR_OTHER_SOCKET 900         /* for a socket that the router doesn't serve */
+#define IPXR_NOT_NEIGHBOUR 1000       /* for the router, from another network */
+#define IPXR_BAD_RIP_SHORT 1101       /* RIP: under 2 bytes */
+#define IPXR_BAD_RIP_OPERATION 1102   /* RIP: neither a request nor a response */
+#define IPXR_BAD_RIP_NO_ENTRY 1103    /* RIP: no entry */
+#define IPXR_BAD_RIP_TOO_MANY 1104    /* RIP: over 50 entries */
+#define IPXR_BAD_SAP_SHORT 1201       /* SAP: under 2 bytes, or a query under 4 */
+#define IPXR_BAD_SAP_OPERATION 1202   /* SAP: neither a query nor a response */
+#define IPXR_BAD_SAP_NO_ENTRY 1203    /* SAP: no entry */
+#define IPXR_BAD_SAP_TOO_MANY 1204    /* SAP: over 7 entries */
+#define IPXR_NEAREST_REPLY 1300       /* an answer to a query for the nearest service, which routers don't ask */
+#define IPXR_TOO_MANY_ROUTERS 1400    /* came through sixteen routers */
+#define IPXR_FAR_SIDE 1500            /* for another port of this router */
+#define IPXR_NO_ROUTE 1600            /* for a network to which there is no route */
+#define IPXR_TOO_LONG 1700            /* longer than the outgoing port allows */
+#define IPXR_DOWN_PORT 1800           /* came on a port that is down */
+
+/* ---- Faults: below 0. The call did nothing. ---- */
+
+#define IPXR_NO_ROUTER (-1)     /* the handle has no router */
+#define IPXR_NO_PORT (-2)       /* there is no port of that number */
+#define IPXR_NO_PACKET (-3)     /* there is no packet of that number */
+#define IPXR_NO_RECORD (-4)     /* there is no route or service of that number */
+#define IPXR_SHORT_BUFFER (-5)  /* the packet is longer than the buffer; its length is told */
+#define IPXR_OUT_OF_MEMORY (-6) /* the allocator refused; the call can be made again */
+/* of ipxr_make alone: */
+#define IPXR_BAD_LONGEST (-11)  /* a port's longest packet is under 576 bytes */
+#define IPXR_BAD_COST (-12)     /* a port's cost is 0 */
+#define IPXR_BAD_NETWORK (-13)  /* a port's network is 0, FFFFFFFEh or FFFFFFFFh */
+#define IPXR_BAD_NODE (-14)     /* a port's node is the broadcast */
+#define IPXR_NO_PORTS (-15)     /* there are no ports */
+#define IPXR_MANY_PORTS (-16)   /* there are more than IPXR_MOST_PORTS */
+#define IPXR_SAME_NETWORK (-17) /* two ports are on one network */
+
+/* ---- Values ---- */
+
+/* A router, or none. Make it with all bytes 0, hand its address to the calls, and look at nothing in it. */
+typedef struct ipxr {
+    bool made;
+    void *at;
+} ipxr;
+
+/* A port, as it is given to ipxr_make. */
+typedef struct ipxr_port {
+    uint32_t network;  /* the number of its network: not 0, not FFFFFFFEh, not FFFFFFFFh */
+    uint8_t node[6];   /* its node there: not the broadcast */
+    uint16_t cost;     /* ticks (eighteenths of a second) that a packet takes to cross the network: at least 1 */
+    uint16_t longest;  /* bytes of the longest packet that may leave there, its 30 header bytes included: at least 576 */
+    uint16_t routes;   /* how many routes may have come by it: IPXR_NO_LIMIT for any number. 0 learns none */
+    uint16_t services; /* how many services may have come by it, alike */
+} ipxr_port;
+
+/* A packet that is to be sent, without its bytes. */
+typedef struct ipxr_packet_sent {
+    size_t length;   /* how many bytes it has */
+    uint8_t port;    /* the number of the port on which it leaves, from 0 */
+    uint8_t node[6]; /* the node of the next hop on that port's network, or the broadcast */
+} ipxr_packet_sent;
+
+/* A route that was learned. */
+typedef struct ipxr_route_record {
+    uint32_t network; /* where it leads */
+    uint16_t hops;    /* routers on the way, as the neighbour advertised it: under 16 */
+    uint16_t ticks;   /* ticks for the way, alike */
+    uint8_t node[6];  /* the neighbour that advertised it */
+    uint8_t port;     /* the port by which it came */
+    uint8_t age;      /* seconds since it was advertised last: under 180 */
+} ipxr_route_record;
+
+/* A service that was learned. */
+typedef struct ipxr_service_record {
+    uint8_t name[48];  /* its name, 1 to 47 bytes, and zeros behind */
+    uint32_t network;  /* where it is offered: network, node and socket */
+    uint8_t node[6];
+    uint16_t socket;
+    uint16_t type;     /* its type, as 4 for a file server */
+    uint16_t hops;     /* routers on the way, as the neighbour advertised it: under 16 */
+    uint8_t neighbour[6]; /* the neighbour that advertised it */
+    uint8_t port;      /* the port by which it came */
+    uint8_t age;       /* seconds since it was advertised last: under 180 */
+} ipxr_service_record;
+
+/* ---- Making and freeing ---- */
+
+/* Makes a router of `count` ports, which are numbered from 0. It is stopped, its tables are empty, and nothing is to be
+ * sent. The ports are copied. A router that the handle had is freed, but only where the new one could be made.
+ * Returns 0, or the first fault: IPXR_NO_PORTS, IPXR_MANY_PORTS; of the first port that is none IPXR_BAD_LONGEST, IPXR_BAD_COST,
+ * IPXR_BAD_NETWORK or IPXR_BAD_NODE, in this order; IPXR_SAME_NETWORK; IPXR_OUT_OF_MEMORY. Then the handle is as it was. */
+int32_t ipxr_make(ipxr *router, const ipxr_port *ports, size_t count);
+
+/* Frees the router, if there is one; the handle then has none. What it would have sent is forgotten. */
+void ipxr_free(ipxr *router);
+
+/* ---- Events ----
+ * Each returns what became of it. Packets that it sends are appended to those that are to be sent already: take them out with
+ * ipxr_sent, ipxr_get and ipxr_clear. IPXR_OUT_OF_MEMORY: there was no memory for the packets that it may send, and nothing
+ * happened; the same event can be given again. */
+
+/* Starts it: IPXR_STARTED or IPXR_ALREADY_RUNNING. All ports are up. */
+int32_t ipxr_start(ipxr *router);
+
+/* Stops it: IPXR_STOPPED or IPXR_NOT_RUNNING. What it learned is forgotten, and advertised as unreachable. */
+int32_t ipxr_stop(ipxr *router);
+
+/* A second has passed: IPXR_TICKED or IPXR_NOT_RUNNING. Call it once for each second of your clock, late ones too. */
+int32_t ipxr_second(ipxr *router);
+
+/* A packet came in on a port. `bytes` is the IPX packet from its checksum on, any bytes at all, without what carried it;
+ * they are only read, and only during the call. */
+int32_t ipxr_packet(ipxr *router, uint8_t port, const uint8_t *bytes, size_t length);
+
+/* A port lost its link, or has it again: IPXR_WENT_DOWN or IPXR_ALREADY_DOWN, IPXR_CAME_UP or IPXR_ALREADY_UP; IPXR_NOT_RUNNING. */
+int32_t ipxr_port_down(ipxr *router, uint8_t port);
+int32_t ipxr_port_up(ipxr *router, uint8_t port);
+
+/* ---- Packets to be sent ---- */
+
+/* How many there are; 0 without a router. */
+size_t ipxr_sent(ipxr *router);
+
+/* Copies the packet with exactly `index` others before it: `sent` tells its length, port and next hop, and its bytes come
+ * first in `buffer`, which has room for `room` bytes; the rest of it stays as it was. Returns 0. With IPXR_SHORT_BUFFER
+ * `sent` is told all the same and no byte is copied; with IPXR_NO_ROUTER and IPXR_NO_PACKET both stay as they were.
+ * A buffer as long as the longest port allows, and no shorter than 576, is always long enough. */
+int32_t ipxr_get(ipxr *router, size_t index, ipxr_packet_sent *sent, uint8_t *buffer, size_t room);
+
+/* Takes all packets out. Their memory is kept for the next ones. */
+void ipxr_clear(ipxr *router);
+
+/* ---- What it knows ---- */
+
+/* 1 if it runs, 0 if it is stopped; IPXR_NO_ROUTER. */
+int32_t ipxr_is_running(ipxr *router);
+
+/* 1 if the router runs and the port is up, 0 if not; IPXR_NO_ROUTER, IPXR_NO_PORT. */
+int32_t ipxr_is_up(ipxr *router, uint8_t port);
+
+/* How many routes and services it has; 0 without a router. */
+size_t ipxr_routes(ipxr *router);
+size_t ipxr_services(ipxr *router);
+
+/* Copies the route with exactly `index` routes to smaller networks, or the service with exactly `index` before it by type and
+ * name. Returns 0; with IPXR_NO_ROUTER and IPXR_NO_RECORD `record` stays as it was. */
+int32_t ipxr_route(ipxr *router, size_t index, ipxr_route_record *record);
+int32_t ipxr_service(ipxr *router, size_t index, ipxr_service_record *record);
+
+/* ---- Words ---- */
+
+/* Copies the words of an answer into `buffer`, which has room for `room` bytes, with a 0 behind them: of an event its outcome, as
+ * "forwarded"; of a drop what `ipxr replay` prints, as "drop NoRoute" or "drop Malformed:Short"; of a fault what it is, as
+ * "no such port". Returns their length without the 0. Where words and 0 don't fit, nothing is copied. An answer that is no
+ * number of this page has no words: 0 is returned. IPXR_MOST_WORD bytes are always enough. */
+size_t ipxr_word(int32_t answer, uint8_t *buffer, size_t room);
+
+/* The version of this interface: its major number times 65536, plus its minor number. This header is of IPXR_VERSION. */
+#define IPXR_VERSION 65536
+uint32_t ipxr_version(void);
+
+#ifdef __cplusplus
+}
+#endif
+
+#endif
