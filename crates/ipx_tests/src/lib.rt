@@ -1,8 +1,9 @@
-//! Worked examples: tests alone, each seen from outside, by public calls of the crates below.
+//! Tests alone, each seen from outside, by public calls of the crates below.
 //!
 //! Nothing stands on this crate. It is one of its own because a crate with tests is proved twice: here only the tests
 //! are, over what the crates below promise. What a script can show needs no test: see `tests/replay`.
 //!
+//! - `own_offer`: an offer type of one's own, which the documentation of `Offer` quotes.
 //! - `wire`, `table`, `ports`, `router`: packets and devices, offers, what a router is made of, and what it does.
 //! - `devices`: runs of `replay` and `decode` on devices that give or take few bytes, or fail.
 //! - `program_words`, `exit_statuses`: the words of the command line, the end of a run.
@@ -13,6 +14,8 @@ mod devices;
 #[cfg(test)]
 mod exit_statuses;
 #[cfg(test)]
+mod own_offer;
+#[cfg(test)]
 mod ports;
 #[cfg(test)]
 mod program_words;
@@ -22,3 +25,5 @@ mod router;
 mod table;
 #[cfg(test)]
 mod wire;
+#[cfg(test)]
+mod wire_edges;

@@ -1,5 +1,12 @@
 //! The router: which ports make one, what it learns and advertises, and room in an outbox.
 
+mod changes;
+mod full_table;
+mod memory;
+mod needs;
+mod shares;
+mod watched;
+
 use ipx_router::{
     Event, Need, Outbox, Outcome, Port, PortFault, PortsFault, RouteOffer, Router, Why,
 };
@@ -27,7 +34,7 @@ fn the_first_fault_of_ports_is_reported(rt: HostRuntime) -> Result<(), Fail> {
         (&[two], None),
     ];
     for (ports, fault) in table {
-        match Router::<2, 2, 2>::new(ports) {
+        match Router::<2, 50, 8>::new(ports) {
             Ok(router) => {
                 assert_eq!(rt; fault, None);
                 assert!(rt; router.has_port(0) && !router.has_port(2) && !router.has_port(255));
