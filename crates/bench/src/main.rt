@@ -1,18 +1,23 @@
 //! How fast packets are read and written, beside copying the same bytes in the same run; and how fast a
-//! full table is called, beside reading its records in the same run; and how fast a capture is shown, beside copying its file.
+//! full table is called, beside reading its records in the same run; and how fast a router with full tables takes its events,
+//! beside copying what it sends; and how fast a capture is shown, beside copying its file.
 //!
-//! With no word it prints what it can measure; with the word `run` it measures. A copy is what any
+//! With no word it prints what it can measure; with the word `run` it measures, all or the part that a second word names:
+//! packets, tables, events or captures. A copy is what any
 //! program must at least do with a packet, and a reading with records that age, so the ratios hold on
 //! any machine.
 #![tactic(auto)]
 
 mod captures;
+mod events;
 mod kinds;
 mod packets;
 mod tables;
+mod traffic;
 mod work;
 
 use crate::captures::measure_decode;
+use crate::events::{Kind as EventKind, measure_event};
 use crate::kinds::Kind;
 use crate::packets::Packets;
 use crate::tables::{CALLS, Call, RECORDS};
@@ -25,7 +30,7 @@ const TURNS: u32 = 1_000_000;
 fn main(rt: HostRuntime) -> io::Result<()> {
     let mut words = env::args(&rt)?.skip(1);
     match words.next() {
-        Some(word) if word.as_str() == "run" => measure(&rt),
+        Some(word) if word.as_str() == "run" => measure(&rt, &words.next()),
         _ => list(&rt),
     }
 }
@@ -40,19 +45,43 @@ fn list(rt: &HostRuntime) -> io::Result<()> {
         let name = call.name();
         println!(rt; "{name}: {RECORDS} records")?;
     }
+    for kind in EventKind::ALL {
+        let name = kind.name();
+        println!(rt; "{name}: 8 ports, {RECORDS} routes")?;
+    }
     let records = captures::RECORDS;
     println!(rt; "show a capture: {records} records")
 }
 
-fn measure(rt: &HostRuntime) -> io::Result<()> {
+/// Measures the part of that name, or all parts where none is named.
+fn measure(rt: &HostRuntime, part: &Option<String>) -> io::Result<()> {
     let packets = Packets::new();
-    for kind in Kind::ALL {
-        report(rt, kind, &packets)?;
+    if is_wanted(part, "packets") {
+        for kind in Kind::ALL {
+            report(rt, kind, &packets)?;
+        }
     }
-    for call in Call::ALL {
-        report_call(rt, call)?;
+    if is_wanted(part, "tables") {
+        for call in Call::ALL {
+            report_call(rt, call)?;
+        }
     }
-    report_capture(rt, &packets)
+    if is_wanted(part, "events") {
+        for kind in EventKind::ALL {
+            report_event(rt, kind)?;
+        }
+    }
+    if is_wanted(part, "captures") {
+        report_capture(rt, &packets)?;
+    }
+    Ok(())
+}
+
+fn is_wanted(part: &Option<String>, name: &str) -> bool {
+    match part {
+        Some(part) => part.as_str() == name,
+        None => true,
+    }
 }
 
 fn report(rt: &HostRuntime, kind: Kind, packets: &Packets) -> io::Result<()> {
@@ -77,6 +106,20 @@ fn report_call(rt: &HostRuntime, call: Call) -> io::Result<()> {
     let readings = Tenths(timed.calls.wrapping_mul(10) / timed.readings.max(1));
     let mark = timed.seen % 10;
     println!(rt; "{name}: {each} ns a call, {readings} readings of {RECORDS} records ({mark})")
+}
+
+fn report_event(rt: &HostRuntime, kind: EventKind) -> io::Result<()> {
+    let timed = measure_event(rt, kind)?;
+    let name = kind.name();
+    let each = Tenths(timed.events.wrapping_mul(10) / u128::from(timed.count.max(1)));
+    let ratio = Tenths(timed.events.wrapping_mul(10) / timed.beside.max(1));
+    let mark = timed.seen % 10;
+    let bytes = timed.bytes;
+    if bytes == 0 {
+        println!(rt; "{name}: {each} ns, {ratio} readings of {RECORDS} records ({mark})")
+    } else {
+        println!(rt; "{name}: {each} ns, {ratio} copies of the {bytes} bytes sent ({mark})")
+    }
 }
 
 fn report_capture(rt: &HostRuntime, packets: &Packets) -> io::Result<()> {

@@ -9,7 +9,7 @@ use std::time::Instant;
 
 /// A way to a network; fewer ticks are better, then fewer hops.
 #[derive(Clone, Copy, Debug, Default, PartialEq, Eq)]
-struct Way {
+pub struct Way {
     network: Network,
     hops: u16,
     ticks: u16,
@@ -138,7 +138,7 @@ fn read(records: &mut [Held<Way>; RECORDS]) -> u64 {
 }
 
 /// The ages and the ticks of the records.
-fn sum_of(records: &[Held<Way>; RECORDS]) -> u64 {
+pub fn sum_of(records: &[Held<Way>; RECORDS]) -> u64 {
     let mut sum = 0u64;
     for place in 0..RECORDS {
         let held = &records[place];
@@ -234,7 +234,7 @@ fn fill(table: &mut Table<Way, RECORDS>) {
 }
 
 /// The records of a full table, as a plain list.
-fn full_list() -> [Held<Way>; RECORDS] {
+pub fn full_list() -> [Held<Way>; RECORDS] {
     let mut records = [Held::default(); RECORDS];
     for number in 0..=u8::MAX {
         records[usize::from(number)].offer = way_to(number);
