@@ -2,15 +2,27 @@
 PREFIX ?= /usr/local
 PROGRAM = crates/ipxr/out/ipxr
 
-.PHONY: run build test edits bench install
+.PHONY: run try show build embed test edits bench install
 
 # Proves and builds all, then plays the worked script and prints what the router sent and learned.
 run: build
 	@$(PROGRAM) replay crates/ipxr/stdin
 
+# Plays the worked script by the toolchain's quick run: about a minute, and nothing is proved.
+try:
+	@cd crates/ipxr && rt try -- replay <stdin
+
+# Proves ipx_show, the first program to read, and shows two packets with it.
+show:
+	@tools/show
+
 # Proves every crate and builds the program.
 build:
 	@tools/build
+
+# Proves the library for C, and puts build/libipxr.a and its header there. Needs a C compiler.
+embed:
+	@tools/embed
 
 # The gate, then every example and transcript. The last line is 'N passed, M failed'.
 test:
@@ -24,8 +36,9 @@ edits:
 bench:
 	@tools/bench
 
-# Puts the proved program into PREFIX/bin, and its manual page beside.
+# Puts the proved program into PREFIX/bin with its manual page, and the library for C with its header and its pkg-config file.
 install: build
 	install -d $(PREFIX)/bin $(PREFIX)/share/man/man1
 	install -m 755 $(PROGRAM) $(PREFIX)/bin/ipxr
 	install -m 644 docs/ipxr.1 $(PREFIX)/share/man/man1/ipxr.1
+	@tools/embed install $(PREFIX)
