@@ -1,5 +1,5 @@
 -- What is sent on, over the bytes that came.
-use Rattle.std.proofs.Common.{◌≡◌, ℕ, ◌+◌, ◌*◌, ◌≤◌, ◌<◌, List, ◌∷◌, ◌++◌, length, take, drop, replicate, refl, sym, ap, ◌∙◌, arith, append_assoc, length-append, take-add, take-take}
+use Rattle.std.proofs.Common.{◌≡◌, ℕ, ◌+◌, ◌*◌, ◌≤◌, ◌<◌, List, [], ◌∷◌, ◌++◌, length, take, drop, replicate, refl, sym, ap, ◌∙◌, arith, append_assoc, length-append, take-add, take-take}
 use Rattle.std.proofs.lemmas.List.{take_at, drop_at, drop-drop}
 use Rattle.std.specs.Int.{to_be_bytes, w16}
 use Rattle.ipx_wire.specs.Address.{IsAddress, address_bytes}
@@ -23,7 +23,7 @@ packet_front bytes p is =
     sym (ap (take p.header.length) is.layout ∙ take_at (packet_bytes p) is.padding p.header.length whole)
 
 -- one byte of a packet's own bytes is another
-forwarded_whole : (p : Parts) → packet_bytes (forwarded p) ≡ take 4 (packet_bytes p) ++ (p.header.control + 1) ∷ drop 5 (packet_bytes p)
+pub forwarded_whole : (p : Parts) → packet_bytes (forwarded p) ≡ take 4 (packet_bytes p) ++ (p.header.control + 1) ∷ drop 5 (packet_bytes p)
 unfolding header_bytes
 forwarded_whole p = refl
 
@@ -68,13 +68,21 @@ length-between to from to_is from_is =
     )
 
 -- what a propagated packet is, over the bytes of the packet that came
-abbrev changed : ℕ → Network → Network → List ℕ → List ℕ
+abbrev pub changed : ℕ → Network → Network → List ℕ → List ℕ
 changed control arrived outgoing whole =
     replicate 2 0xff ++ piece whole 2 2 ++ (control + 1) ∷ piece whole 5 1 ++ network_bytes outgoing
     ++ piece whole 10 (20 + 4 * control) ++ network_bytes arrived ++ drop (34 + 4 * control) whole
 
+-- the same, where the transport control was written by itself
+pub changed_whole : (control : ℕ) (arrived outgoing : Network) (whole : List ℕ)
+    → replicate 2 0xff ++ piece whole 2 2 ++ ((control + 1) ∷ []) ++ piece whole 5 1 ++ network_bytes outgoing
+    ++ piece whole 10 (20 + 4 * control) ++ network_bytes arrived ++ drop (34 + 4 * control) whole ≡ changed control arrived outgoing whole
+changed_whole control arrived outgoing whole =
+    ap (λ (x : List ℕ). x ++ network_bytes outgoing ++ piece whole 10 (20 + 4 * control) ++ network_bytes arrived ++ drop (34 + 4 * control) whole)
+    (append_assoc (replicate 2 0xff ++ piece whole 2 2) ((control + 1) ∷ []) (piece whole 5 1))
+
 -- the changed places of a packet's own bytes
-propagated_whole : (p : Parts) (arrived outgoing : Network) → IsAddress p.header.destination → IsAddress p.header.source
+pub propagated_whole : (p : Parts) (arrived outgoing : Network) → IsAddress p.header.destination → IsAddress p.header.source
     → packet_bytes (propagated arrived outgoing p) ≡ changed p.header.control arrived outgoing (packet_bytes p)
 unfolding header_bytes address_bytes network_bytes
 propagated_whole p arrived outgoing to from =

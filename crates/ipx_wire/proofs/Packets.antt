@@ -139,3 +139,14 @@ kept_is h whole kept =
           ∙ take-append-drop 30 whole);
       counted = omega (arith, length-drop 30 whole);
     }
+
+-- a header is read again from the bytes that begin with its own
+header_of_front : (h : Header) (whole : List ℕ) → IsHeader h → header_bytes h ≡ take 30 whole → header_at whole ≡ h
+header_of_front h whole ranges front =
+    sym (ap header_at (ap (λ (x : List ℕ). x ++ drop 30 whole) front ∙ take-append-drop 30 whole)) ∙ header_again h (drop 30 whole) ranges
+
+-- without padding the header is the same
+pub front_header : (n : ℕ) (bytes : List ℕ) → IsBytes bytes → Counts bytes → n ≡ length_field bytes → header_at (take n bytes) ≡ header_at bytes
+front_header n bytes are counts field =
+    let kept = is_kept (header_at bytes) n bytes are counts refl field in
+    header_of_front (header_at bytes) (take n bytes) kept.ranges kept.front

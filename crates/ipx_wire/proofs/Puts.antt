@@ -1,7 +1,9 @@
-use Rattle.std.proofs.Common.{◌≡◌, ℕ, ◌+◌, ◌≤◌, ◌<◌, List, [], ◌++◌, length, take, drop, sym, ap, ◌∙◌, arith, append_assoc, length-append, length-drop, length-take, subst, get_or, append-nil}
+use Rattle.std.proofs.Common.{◌≡◌, ℕ, ◌+◌, ◌≤◌, ◌<◌, List, [], ◌++◌, length, take, drop, sym, ap, ◌∙◌, arith, append_assoc, length-append, length-drop, length-take, subst, get_or, append-nil, take-add}
 use Rattle.std.proofs.lemmas.List.{drop-drop, take_at, drop_at, take-append-drop, flat_map_more, take_more}
 use Rattle.std.specs.List.{flat_map}
+use Rattle.ipx_wire.specs.Piece.{piece}
 use Rattle.ipx_wire.specs.Put.{PutsAt}
+use Rattle.ipx_wire.proofs.Pieces.{length-piece}
 
 -- how long the written front is
 length_front : (old x : List ℕ) (place : ℕ) → place + length x ≤ length old → length (take place old ++ x) ≡ place + length x
@@ -77,3 +79,47 @@ puts_front old x new n size room e = record {
   room = omega arith;
   after = e ∙ ap (λ (k : ℕ). x ++ drop k old) (let whole : n ≡ 0 + length x = omega arith in whole);
 }
+
+-- what stands there is as if it were written
+stays : (old : List ℕ) (place n : ℕ) → place + n ≤ length old → PutsAt old place (piece old place n) old
+stays old place n room =
+    let long = length-piece old place n room in
+    record {
+      room = omega (arith, long);
+      after =
+          sym (ap (λ (k : ℕ). take place old ++ piece old place n ++ drop (place + k) old) long
+          ∙ ap (λ (x : List ℕ). x ++ drop (place + n) old) (sym (take-add place n old))
+          ∙ take-append-drop (place + n) old);
+    }
+
+-- writes from the front on, and how many bytes they reach
+pub record Reaches (old : List ℕ) (n : ℕ) (x new : List ℕ) : Type 0 where
+  pub puts : PutsAt old 0 x new
+  pub size : length x ≡ n
+
+-- behind them all is as before
+pub untouched : {old x new : List ℕ} {n : ℕ} → Reaches old n x new → drop n new ≡ drop n old
+untouched {old} {x} {new} {n} front =
+    let size = front.size in
+    let here : 0 + length x + 0 ≡ n = omega (arith, size) in
+    subst (λ (k : ℕ). drop k new ≡ drop k old) here (behind old x new 0 0 front.puts)
+
+-- a write some bytes behind them, which stay
+pub skip : {old mid new x y : List ℕ} {n place : ℕ} (k m : ℕ) → Reaches old n x mid → PutsAt mid place y new → place ≡ n + k
+    → m ≡ place + length y → Reaches old m (x ++ piece old n k ++ y) new
+skip {old} {mid} {new} {x} {y} {n} {place} k m front puts here there =
+    let same = length_after old x mid 0 front.puts in
+    let room = puts.room in
+    let size = front.size in
+    let long = length-piece old n k (omega (arith, same, room, here)) in
+    let kept : PutsAt mid n (piece old n k) mid =
+    subst (λ (z : List ℕ). PutsAt mid n z mid) (ap (take k) (untouched front)) (stays mid n k (omega (arith, room, here))) in
+    let whole = length-append x (piece old n k) in
+    record {
+      puts = then (then front.puts kept (omega (arith, size))) puts (omega (arith, whole, long, size, here));
+      size = omega (arith, length-append (x ++ piece old n k) y, whole, long, size, here, there);
+    }
+
+-- all of what writes from the front on left
+pub reached : {old x new : List ℕ} {n : ℕ} → Reaches old n x new → new ≡ x ++ drop n old
+reached {old} {x} {new} {n} front = whole_put old x new n front.puts front.size

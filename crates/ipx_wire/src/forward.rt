@@ -1,16 +1,23 @@
 //! Packets sent on: each field as it came, but for those that a router changes.
-ghost use Rattle.std.specs.Prelude.{◌≡◌, ◌+◌, ◌*◌, ◌<◌, ◌≤◌, ◌++◌, length, drop};
-ghost use Rattle.ipx_wire.specs.Forward.{forwarded, propagated, crossing};
+ghost use Rattle.std.specs.Prelude.{◌≡◌, ◌<◌, ◌≤◌, ◌++◌, length, drop};
+ghost use Rattle.ipx_wire.specs.Forward.{forwarded, propagated};
 ghost use Rattle.ipx_wire.specs.Packet.{IsPacket};
-ghost use Rattle.ipx_wire.specs.Put.{PutsAt};
 ghost use Rattle.ipx_wire.specs.Write.{packet_bytes};
 
-use crate::address::Address;
 use crate::crossed::Crossed;
-use crate::fields::{put_bytes, put_u32};
+use crate::fields::{put_bytes, put_u8, put_u16, put_u32};
 use crate::header::Header;
 use crate::network::Network;
 use crate::packet::Packet;
+
+/// Where the checksum stands in a packet.
+const CHECKSUM: usize = 0;
+
+/// Where the transport control stands.
+const CONTROL: usize = 4;
+
+/// Where the destination's network stands.
+const NETWORK: usize = 6;
 
 /// Writes a packet with its transport control one higher to the beginning of `out`, and returns its number of bytes, which is
 /// the packet's length.
@@ -26,12 +33,22 @@ pub fn write_forwarded(packet: &Packet<'_>, out: &mut [u8]) -> usize
     // What was written is a packet.
     ensures packet { IsPacket (packet_bytes (forwarded packet.now)) (forwarded packet.now) }
 {
-    let header = packet.header();
-    let payload = packet.payload();
-    let count = packet.bytes().len();
-    raised(header).write(out);
-    put_bytes(out, Header::SIZE, payload);
+    let bytes = packet.bytes();
+    let count = bytes.len();
+    put_bytes(out, 0, bytes);
+    change_to_forwarded(packet, &mut out[..count]);
     count
+}
+
+/// Changes a packet's own bytes, header and data, to those of the packet as it goes on: the transport control is one higher.
+/// It is under 255.
+pub fn change_to_forwarded(packet: &Packet<'_>, bytes: &mut [u8])
+    requires control { packet.now.header.control < 255 }
+    requires own { bytes.old ≡ packet_bytes packet.now }
+    ensures { bytes.new ≡ packet_bytes (forwarded packet.now) }
+{
+    packet.bytes();
+    put_u8(bytes, CONTROL, packet.header().control + 1);
 }
 
 /// Writes a packet of type 20 as it leaves for the network `outgoing` to the beginning of `out`, and returns its number of bytes,
@@ -59,46 +76,27 @@ pub fn write_crossed(
     // What was written is a packet.
     ensures packet { IsPacket (packet_bytes (propagated arrived outgoing packet.now)) (propagated arrived outgoing packet.now) }
 {
-    let header = packet.header();
-    let payload = packet.payload();
-    let count = packet.bytes().len();
-    let destination = Address {
-        network: outgoing,
-        ..header.destination
-    };
-    let changed = Header {
-        checksum: 0xFFFF,
-        destination,
-        ..raised(header)
-    };
-    changed.write(out);
-    put_crossing(out, Header::SIZE, header.control, arrived, payload);
+    let bytes = packet.bytes();
+    let count = bytes.len();
+    put_bytes(out, 0, bytes);
+    change_to_crossed(packet, arrived, outgoing, &mut out[..count]);
     count
 }
 
-/// The header of a packet that has crossed one router more.
-fn raised(header: Header) -> Header
-    requires { header.control < 255 }
-    ensures { result ≡ record header { control = header.control + 1 } }
+/// Changes a packet's own bytes, header and data, to those of the packet of type 20 as it leaves for the network `outgoing`.
+///
+/// Its transport control is under 8 and it has 32 bytes of data or more, as for [`write_crossed`], which says what changes.
+pub fn change_to_crossed(packet: &Packet<'_>, arrived: Network, outgoing: Network, bytes: &mut [u8])
+    requires free { packet.now.header.control < 8 }
+    requires eight { 32 ≤ length packet.now.payload }
+    requires own { bytes.old ≡ packet_bytes packet.now }
+    ensures { bytes.new ≡ packet_bytes (propagated arrived outgoing packet.now) }
 {
-    Header {
-        control: header.control + 1,
-        ..header
-    }
-}
-
-/// Writes data with a network in the place that comes after `control` others.
-#[tactic(auto, unfolding(crate::specs::Crossed::network_bytes))]
-fn put_crossing(out: &mut [u8], place: usize, control: u8, network: Network, payload: &[u8])
-    requires eight { 4 * control + 4 ≤ length payload.now }
-    requires room { place + length payload.now ≤ length out.old }
-    ensures bytes { PutsAt out.old place (crossing control network payload.now) out.new }
-    ensures size { length (crossing control network payload.now) ≡ length payload.now }
-{
-    let before = Crossed::PLACE * usize::from(control);
-    let (listed, rest) = payload.split_at(before);
-    let (_, behind) = rest.split_at(Crossed::PLACE);
-    put_bytes(out, place, listed);
-    put_u32(out, place + before, network.0);
-    put_bytes(out, place + before + Crossed::PLACE, behind);
+    packet.bytes();
+    let control = packet.header().control;
+    put_u16(bytes, CHECKSUM, 0xFFFF);
+    put_u8(bytes, CONTROL, control + 1);
+    put_u32(bytes, NETWORK, outgoing.0);
+    let place = Header::SIZE + Crossed::PLACE * usize::from(control);
+    put_u32(bytes, place, arrived.0);
 }

@@ -1,10 +1,9 @@
 //! Bytes as upper-case hexadecimal text, two digits a byte.
-ghost use Rattle.std.specs.Prelude.{◌≡◌, ◌*◌, ◌<◌, [], ◌∷◌, length, slice_index, Some};
+ghost use Rattle.std.specs.Prelude.{◌≡◌, ◌*◌, ◌<◌, ◌≤◌, length, slice_index, Some};
 ghost use Rattle.std.specs.Fmt.{WritesOnOk};
 ghost use Rattle.std.specs.Str.{IsAscii};
 ghost use Rattle.hex.specs.Hex.{encode_upper, upper_digits};
 
-use crate::fields::put_bytes;
 use std::fmt;
 
 /// Bytes that are shown as upper-case hexadecimal digits.
@@ -23,18 +22,20 @@ impl<'a> fmt::Display for Hex<'a> {
     }
 }
 
+/// How many bytes have their digits written in one piece.
+const PIECE: usize = 64;
+
+/// Worked out and not looked up, so that the digits of many bytes are made side by side.
 fn digit(value: u8) -> u8
     requires { value < 16 }
     ensures value { result ≡ slice_index upper_digits value }
     ensures ascii { result < 128 }
 {
-    b"0123456789ABCDEF"[value as usize]
-}
-
-fn byte_digits(byte: u8) -> [u8; 2]
-    ensures { result ≡ encode_upper (byte ∷ []) }
-{
-    [digit(byte / 16), digit(byte % 16)]
+    if value < 10 {
+        b'0' + value
+    } else {
+        b'A' - 10 + value
+    }
 }
 
 /// Writes the digits of each byte into a slice of twice as many.
@@ -42,10 +43,10 @@ pub fn put_digits(out: &mut [u8], bytes: &[u8])
     requires { length out.old ≡ 2 * length bytes.now }
     ensures { out.new ≡ encode_upper bytes.now }
 {
-    let mut place = 0;
-    for byte in bytes {
-        put_bytes(out, place, &byte_digits(*byte));
-        place += 2;
+    for i in 0..bytes.len() {
+        let byte = bytes[i];
+        out[2 * i] = digit(byte / 16);
+        out[2 * i + 1] = digit(byte % 16);
     }
 }
 
@@ -60,12 +61,26 @@ pub fn write_ascii<W: fmt::Write>(f: &mut fmt::Formatter<W>, digits: &[u8]) -> f
     }
 }
 
+/// Writes the digits of a few bytes at once.
+fn write_piece<W: fmt::Write>(f: &mut fmt::Formatter<W>, bytes: &[u8]) -> fmt::Result
+    requires { length bytes.now ≤ PIECE }
+    ensures { WritesOnOk W.write_str_gives f.old result (encode_upper bytes.now) f.new }
+{
+    let mut room = [0; 2 * PIECE];
+    let digits = &mut room[..2 * bytes.len()];
+    put_digits(digits, bytes);
+    write_ascii(f, digits)
+}
+
 /// Writes the digits of each byte, the high four bits first.
 pub fn write_hex<W: fmt::Write>(f: &mut fmt::Formatter<W>, bytes: &[u8]) -> fmt::Result
     ensures { WritesOnOk W.write_str_gives f.old result (encode_upper bytes.now) f.new }
 {
-    for byte in bytes {
-        write_ascii(f, &byte_digits(*byte))?;
+    let mut rest = bytes;
+    while !rest.is_empty() {
+        let (piece, behind) = rest.split_at(rest.len().min(PIECE));
+        write_piece(f, piece)?;
+        rest = behind;
     }
     Ok(())
 }

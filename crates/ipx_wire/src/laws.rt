@@ -49,7 +49,7 @@ pub fn readings()
     ensures one_crossed { (control : ℕ) (payload : List ℕ) (ms ns : List Network) → IsCrossed control payload ms → IsCrossed control payload ns → ms ≡ ns }
 {}
 
-/// What was written is read again, whatever bytes follow, by the layouts alone.
+/// What was written is read again, whatever bytes follow; this follows from the layouts, with no reader in it.
 ///
 /// A header by itself is a packet where its length is 30 or more, and as many bytes are there. The data of routes bear
 /// fewer than eight further bytes, those of services fewer than 64, those of a query any. The networks that a propagated packet has crossed are the old ones

@@ -47,7 +47,7 @@ pub use crate::address::Address;
 pub use crate::crossed::{Crossed, CrossedFault};
 pub use crate::crossed_iter::CrossedIter;
 pub use crate::failed::Failed;
-pub use crate::forward::{write_crossed, write_forwarded};
+pub use crate::forward::{change_to_crossed, change_to_forwarded, write_crossed, write_forwarded};
 pub use crate::header::Header;
 pub use crate::hex_text::Hex;
 pub use crate::intake::{Intake, MOST_CALLS};

@@ -19,23 +19,24 @@ pub enum PacketFault {
     LengthBeyond,
 }
 
-/// A packet whose length has been checked; its data are lent from the bytes that it was read from.
+/// A packet whose length has been checked, lent from the bytes that it was read from. Its fields are read where they are
+/// asked for.
 #[derive(Debug, Drop)]
 pub struct Packet<'a> {
-    head: Header,
     whole: &'a [u8],
 }
 
 impl<'a> Model for Packet<'a> {
     ghost use Rattle.std.specs.Prelude.{drop};
+    ghost use Rattle.ipx_wire.specs.Header.{header_at};
     ghost use Rattle.ipx_wire.specs.Packet.{Parts};
     ghost use Rattle.ipx_wire.specs.Kept.{IsKept};
 
     ghost Value = { Parts };
 
-    ghost view = { λ p. record { header = p.head; payload = drop 30 p.whole.now } };
+    ghost view = { λ p. record { header = header_at p.whole.now; payload = drop 30 p.whole.now } };
 
-    ghost invariant = { λ p. IsKept p.head p.whole.now };
+    ghost invariant = { λ p. IsKept (header_at p.whole.now) p.whole.now };
 }
 
 impl<'a> Packet<'a> {
@@ -64,16 +65,15 @@ impl<'a> Packet<'a> {
         if bytes.len() < length {
             return Err(PacketFault::LengthBeyond);
         }
-        let head = Header::at_front(bytes);
         let whole = &bytes[..length];
-        Ok(Packet { head, whole })
+        Ok(Packet { whole })
     }
 
     /// The header, each field as it came.
     pub fn header(&self) -> Header
         ensures { result ≡ self.now.header }
     {
-        self.head
+        Header::at_front(self.whole)
     }
 
     /// The data behind the header, without padding.

@@ -1,14 +1,12 @@
-use Rattle.std.proofs.Common.{List, ℕ, ◌+◌, ap, ◌∙◌, arith, subst}
+use Rattle.std.proofs.Common.{◌++◌, List, ℕ, length, drop, ap, ◌∙◌, refl}
 use Rattle.ipx_wire.specs.Forward.{forwarded}
-use Rattle.ipx_wire.specs.Put.{PutsAt}
-use Rattle.ipx_wire.specs.declared.header.Header.{Header}
-use Rattle.ipx_wire.proofs.Written.{own_written}
+use Rattle.ipx_wire.specs.Write.{packet_bytes}
+use Rattle.ipx_wire.proofs.Puts.{untouched}
 use Rattle.ipx_wire.proofs.forward.write_forwarded.Goals as goal
 
 pub returns-clause-bytes : goal.returns-clause-bytes
 returns-clause-bytes c =
-    let payload = subst (λ (x : List ℕ). PutsAt c.write.new.out 30 x c.put_bytes.new.out) c.payload-payload.ensures c.put_bytes.ensures in
-    own_written (forwarded c.args.packet.now) c.raised.result
-    c.args.out.now c.write.new.out c.put_bytes.new.out c.args.packet.now.header.length
-    (c.raised.ensures ∙ ap (λ (h : Header). record h { control = h.control + 1 }) c.header-header.ensures)
-    c.write.ensures.size (omega (arith, c.bytes-count.ensures.packet.counted)) c.write.ensures.bytes payload c.bytes-count.ensures.packet.counted
+    let sent = packet_bytes (forwarded c.args.packet.now) in
+    ap (λ (x : List ℕ). x ++ drop (length c.bytes-bytes.result.now) c.put_bytes.new.out) c.change_to_forwarded.ensures
+    ∙ ap (λ (x : List ℕ). sent ++ x) (untouched (record { puts = c.put_bytes.ensures; size = refl }))
+    ∙ ap (λ (k : ℕ). sent ++ drop k c.args.out.now) c.bytes-bytes.ensures.counted

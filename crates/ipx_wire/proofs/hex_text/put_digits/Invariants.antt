@@ -1,10 +1,7 @@
-use Rattle.std.proofs.Common.{◌≡◌, ◌*◌, take}
+use Rattle.std.proofs.Common.{◌≡◌, ◌*◌, ◌++◌, take, drop}
 use Rattle.hex.specs.Hex.{encode_upper}
-use Rattle.ipx_wire.specs.Put.{PutsAt}
 use Rattle.ipx_wire.proofs.hex_text.put_digits.Given as goal
 
-abbrev pub invariant-loop-byte : goal.invariant-loop-byte
-invariant-loop-byte l = record {
-  written : PutsAt l.initial.out 0 (encode_upper (take l.byte-index l.bytes)) l.out;
-  next : l.place ≡ 2 * l.byte-index;
-}
+abbrev pub invariant-loop-i : goal.invariant-loop-i
+invariant-loop-i l =
+    take (2 * l.i) l.out ++ encode_upper (drop l.i l.bytes) ≡ encode_upper l.bytes

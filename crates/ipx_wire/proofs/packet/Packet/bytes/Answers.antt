@@ -1,6 +1,6 @@
 use Rattle.std.proofs.Common.{List, ℕ, ◌++◌, drop, sym, ap, ◌∙◌, subst}
 use Rattle.std.proofs.lemmas.List.{take-append-drop}
-use Rattle.ipx_wire.specs.Header.{header_bytes}
+use Rattle.ipx_wire.specs.Header.{header_bytes, header_at}
 use Rattle.ipx_wire.specs.Packet.{Parts, IsPacket}
 use Rattle.ipx_wire.proofs.Packets.{kept_is}
 use Rattle.ipx_wire.proofs.packet.Packet.bytes.Goals as goal
@@ -18,4 +18,4 @@ returns-clause-counted c = sym c.self.invariant.counted ∙ ap (λ (p : Parts). 
 pub returns-clause-packet : goal.returns-clause-packet
 returns-clause-packet c =
     let whole = c.self.inside.whole.now in
-    subst (IsPacket whole) c.self.view_is (kept_is c.self.inside.head whole c.self.invariant)
+    subst (IsPacket whole) c.self.view_is (kept_is (header_at whole) whole c.self.invariant)
