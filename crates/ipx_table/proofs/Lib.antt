@@ -1,4 +1,5 @@
 pub mod Clocks
+pub mod Exchanging
 pub mod Following
 pub mod History
 pub mod Living

@@ -51,7 +51,7 @@ module _ {O : Type 0} (rules : Rules O) (total : IsTotalOrder rules.by_key) wher
         size,
       ) refl
 
-  apart_from : (offer : O) (held : List (Held O)) → NonePass (of_key offer) (uncut rules offer true held)
+  pub apart_from : (offer : O) (held : List (Held O)) → NonePass (of_key offer) (uncut rules offer true held)
   apart_from offer held = filter-passes (λ x. of_key offer x ≡ false) (λ h. not (cuts rules offer true h.offer)) (λ x e. means (of_key offer x) (rules.same_source x.offer offer) e) held
     where
       means : (k s : Bool) → not (k && (s || true)) ≡ true → k ≡ false
@@ -227,7 +227,7 @@ module _ {O : Type 0} (rules : Rules O) (total : IsTotalOrder rules.by_key) wher
       all-kept (λ h. not (cuts rules offer a h.offer)) xs
       (all_then (λ h. of_key offer h ≡ false) (λ h. not (cuts rules offer a h.offer) ≡ true) (λ h e. rw e refl) xs none)
 
-  held-uncut : (a : Bool) (held : List (Held O)) (place : ℕ) (it : Held O) (offer : O) → HeldAt held place it offer
+  pub held-uncut : (a : Bool) (held : List (Held O)) (place : ℕ) (it : Held O) (offer : O) → HeldAt held place it offer
       → uncut rules offer a held ≡ take place held ++ ((if rules.same_source it.offer offer || a then [] else it ∷ []) ++ drop (suc place) held)
   held-uncut a held place it offer h =
       let p = λ (x : Held O). not (cuts rules offer a x.offer) in

@@ -3,7 +3,7 @@ use Rattle.std.proofs.Common.{◌≡◌, refl, sym, ap, ◌∙◌, ℕ, ◌<◌,
 use Rattle.std.specs.List.{AllByRecursion, list_any}
 use Rattle.std.specs.Cmp.{IsTotalOrder}
 use Rattle.std.proofs.lemmas.Bool.{cases_Bool, ltb-true, ltb-false, lt-ltb, le-ltb, eqb-true, eqb-false, eq-eqb, ne_eqb}
-use Rattle.ipx_table.specs.Answers.{places, answer_at}
+use Rattle.ipx_table.specs.Answers.{Answers, places, answer_at}
 use Rattle.ipx_table.specs.Sought.{answers_to}
 use Rattle.ipx_table.specs.Stands.{Ascends, IsAscending, put}
 use Rattle.ipx_table.specs.declared.held.Held.{Held}
@@ -131,6 +131,19 @@ module _ {X : Type 0} (by_key : X → X → Ordering) (compare : X → Ordering)
               let none : false ≡ true = rw (greater, held-above xs all) at held in absurd (true≢false (sym none))
         ]
       ]
+
+-- a place that answers that it is the sought one
+pub equal_at : (answers : Answers) (k : ℕ) → answer_at answers k ≡ Equal → (k ≡ answers.below) × (true ≡ answers.held)
+equal_at answers k e = elim (cases_Bool (nat_lt k answers.below)) [
+  | inl less ↦ let no : Less ≡ Equal = rw less at e in absurd (true≢false (ap is_lt no))
+  | inr more ↦ elim (cases_Bool answers.held) [
+    | inl held ↦ elim (cases_Bool (k == answers.below)) [
+      | inl same ↦ (eqb-true k answers.below same, sym held)
+      | inr other ↦ let no : Greater ≡ Equal = rw (more, held, other) at e in absurd (true≢false (sym (ap is_eq no)))
+    ]
+    | inr free ↦ let no : Greater ≡ Equal = rw (more, free) at e in absurd (true≢false (sym (ap is_eq no)))
+  ]
+]
 
 -- ---- the comparison with a key
 

@@ -9,6 +9,20 @@ use Rattle.ipx_table.specs.declared.held.Held.{Held}
 use Rattle.ipx_table.specs.declared.taken.Taken.{Taken}
 use Rattle.ipx_table.specs.declared.taken.Taken.TheVariants.{Withdrawn, Nothing, Refreshed, Replaced, Worse, Admitted, Full}
 
+-- the alive offer of an offer's key
+abbrev pub known_of : {O : Type 0} → Rules O → List (Held O) → O → Option (Held O)
+known_of rules held offer = find (λ h. same_key rules.by_key h.offer offer) held
+
+-- the offer that a key is left with by that answer to an offer of it, by the one that it had before
+abbrev pub offer_left : {O : Type 0} → Taken → Option O → O → Option O
+offer_left Withdrawn before offer = None
+offer_left Nothing before offer = before
+offer_left (Refreshed changed) before offer = Some offer
+offer_left Replaced before offer = Some offer
+offer_left Worse before offer = before
+offer_left Admitted before offer = Some offer
+offer_left Full before offer = before
+
 module _ {O : Type 0} (rules : Rules O) (same_offer : O → O → Bool) where
   -- to an offer that is down: only the source of the alive offer withdraws it
   abbrev pub taken_down : O → Option (Held O) → Taken
@@ -30,7 +44,7 @@ module _ {O : Type 0} (rules : Rules O) (same_offer : O → O → Bool) where
 
   -- to an offer, where those are alive
   abbrev pub taken_over : List (Held O) → O → Taken
-  taken_over held offer = taken_beside held offer (find (λ h. same_key rules.by_key h.offer offer) held)
+  taken_over held offer = taken_beside held offer (known_of rules held offer)
 
   -- to an offer, after the facts
   abbrev pub taken : List (Fact O) → O → Taken

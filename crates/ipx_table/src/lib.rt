@@ -18,6 +18,7 @@
 mod asking;
 mod clock;
 mod ending;
+mod exchanged;
 mod held;
 pub mod laws;
 mod offer;
@@ -31,6 +32,7 @@ mod taken;
 mod taking;
 
 pub use crate::asking::{Asked, Found, find};
+pub use crate::exchanged::Exchanged;
 pub use crate::held::Held;
 pub use crate::offer::Offer;
 pub use crate::table::Table;

@@ -1,5 +1,5 @@
 //! The search for a key among offers that ascend by their keys.
-ghost use Rattle.std.specs.Prelude.{◌≡◌, ℕ, ◌<◌, length, get_or, map};
+ghost use Rattle.std.specs.Prelude.{◌≡◌, ℕ, ◌<◌, length, get_or, map, true};
 ghost use Rattle.ipx_table.specs.Answers.{places, answer_at};
 ghost use Rattle.ipx_table.specs.Reading.{rules_of};
 ghost use Rattle.ipx_table.specs.Sought.{answers_to};
@@ -37,6 +37,34 @@ impl<'a, O: Offer> Asked for Sought<'a, O> {
     fn asks(&self) -> u64 {
         self.asks
     }
+}
+
+/// Where a key stands among offers that ascend by their keys. The place `near` is asked before the others.
+pub(crate) fn place_near<O: Offer>(offers: &[O], near: usize, key: O::Key) -> Found
+    requires { Ascends (λ a b. O.Key.cmp (O.reading.key a) (O.reading.key b)) offers.now }
+    ensures below { result.below ≡ (answers_to (λ o. O.Key.cmp (O.reading.key o) key) offers.now).below }
+    ensures held { result.held ≡ (answers_to (λ o. O.Key.cmp (O.reading.key o) key) offers.now).held }
+{
+    if is_at(offers, near, key) {
+        return Found {
+            below: near,
+            held: true,
+        };
+    }
+    place_in(offers, key)
+}
+
+/// Whether a key stands at that place.
+fn is_at<O: Offer>(offers: &[O], place: usize, key: O::Key) -> bool
+    requires { Ascends (λ a b. O.Key.cmp (O.reading.key a) (O.reading.key b)) offers.now }
+    ensures below { result ≡ true → place ≡ (answers_to (λ o. O.Key.cmp (O.reading.key o) key) offers.now).below }
+    ensures held { result ≡ true → true ≡ (answers_to (λ o. O.Key.cmp (O.reading.key o) key) offers.now).held }
+{
+    if place >= offers.len() {
+        return false;
+    }
+    let one = [offers[place]];
+    place_in(&one, key).held
 }
 
 /// Where a key stands among offers that ascend by their keys.

@@ -1,5 +1,5 @@
 //! The table.
-ghost use Rattle.std.specs.Prelude.{◌≡◌, ◌↔◌, ℕ, ◌<◌, ◌≤◌, ◌==◌, List, [], ◌∷◌, ◌++◌, length, slice_get, IfSome, false, true};
+ghost use Rattle.std.specs.Prelude.{◌≡◌, ◌↔◌, ℕ, ◌<◌, ◌≤◌, ◌==◌, List, [], ◌∷◌, ◌++◌, length, slice_get, option_map, IfSome, false, true};
 ghost use Rattle.std.specs.List.{AllByRecursion, list_any};
 ghost use Rattle.std.specs.Ordering.{is_eq};
 ghost use Rattle.ipx_table.specs.Reading.{rules_of, port_of, count_by};
@@ -11,11 +11,12 @@ ghost use Rattle.ipx_table.specs.Stands.{Stands, Ascends, IsAscending, IsDistinc
 
 use crate::clock::{next_slot, with_age};
 use crate::ending::Ending;
+use crate::exchanged::Exchanged;
 use crate::held::Held;
 use crate::offer::Offer;
 use crate::sharing::count_by as counted_by;
 use crate::slotted::Slotted;
-use crate::sought::place_in;
+use crate::sought::{place_in, place_near};
 use crate::table_entries::TableEntries;
 use crate::taken::Taken;
 use crate::taking::{record_found, take_offer};
@@ -32,6 +33,9 @@ pub struct Table<O: Offer, const CAP: usize> {
     records: Slotted<O, CAP>,
     clock: u8,
     shares: ArrayVec<u16, MOST_SHARES>,
+    /// The place behind the key that was offered last. Who offers many offers them by key as a rule, so the next one is sought
+    /// there first. It may be any number.
+    next: usize,
 }
 
 impl<O: Offer, const CAP: usize> Model for Table<O, CAP> {
@@ -56,6 +60,7 @@ impl<O: Offer, const CAP: usize> Table<O, CAP> {
             records: Slotted::new(),
             clock: 0,
             shares: ArrayVec::new(),
+            next: 0,
         }
     }
 
@@ -72,6 +77,7 @@ impl<O: Offer, const CAP: usize> Table<O, CAP> {
             records: Slotted::new(),
             clock: 0,
             shares: kept,
+            next: 0,
         }
     }
 
@@ -86,7 +92,26 @@ impl<O: Offer, const CAP: usize> Table<O, CAP> {
             → record_of O.reading.key O.Key.cmp key self.new.records ≡ record_of O.reading.key O.Key.cmp key self.old.records }
         ensures shares { self.new.shares ≡ self.old.shares }
     {
-        take_offer(&mut self.records, &self.shares, self.clock, offer)
+        self.exchange(offer).taken
+    }
+
+    /// Takes an offer, as `offer` does. Returns also the offer that its key had before and the one that it has now, found by
+    /// the same search.
+    pub fn exchange(&mut self, offer: O) -> Exchanged<O>
+        ensures stands { (facts : List (Fact O)) → Stands (rules_of O.reading O.Key.cmp CAP self.old.shares) self.old.records facts
+            → Stands (rules_of O.reading O.Key.cmp CAP self.old.shares) self.new.records (facts ++ Offered offer ∷ []) }
+        ensures answer { (facts : List (Fact O)) → Stands (rules_of O.reading O.Key.cmp CAP self.old.shares) self.old.records facts
+            → result.taken ≡ taken (rules_of O.reading O.Key.cmp CAP self.old.shares) O.eq facts offer }
+        // The records of other keys stay as they are.
+        ensures others { (key : O.Key) → is_eq (O.Key.cmp (O.reading.key offer) key) ≡ false
+            → record_of O.reading.key O.Key.cmp key self.new.records ≡ record_of O.reading.key O.Key.cmp key self.old.records }
+        ensures shares { self.new.shares ≡ self.old.shares }
+        ensures before { result.before ≡ option_map (λ h. h.offer) (record_of O.reading.key O.Key.cmp (O.reading.key offer) self.old.records) }
+        ensures after { result.after ≡ option_map (λ h. h.offer) (record_of O.reading.key O.Key.cmp (O.reading.key offer) self.new.records) }
+    {
+        let found = place_near(self.records.offers(), self.next, offer.key());
+        self.next = found.below.wrapping_add(1);
+        take_offer(&mut self.records, &self.shares, self.clock, found, offer)
     }
 
     /// Lets a second pass: each record is a second older, and those that are 180 seconds old expire.

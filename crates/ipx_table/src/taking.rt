@@ -1,5 +1,5 @@
 //! What one offer does to the records.
-ghost use Rattle.std.specs.Prelude.{◌≡◌, ℕ, ◌<◌, if◌then◌else◌, length, false, true, None, Some, slice_get};
+ghost use Rattle.std.specs.Prelude.{◌≡◌, ℕ, ◌<◌, if◌then◌else◌, length, false, true, None, Some, slice_get, option_map, map};
 ghost use Rattle.std.specs.List.{AllByRecursion, list_any, filter};
 ghost use Rattle.std.specs.Ordering.{is_lt};
 ghost use Rattle.ipx_table.specs.Accepted.{may_replace as allows_replacement};
@@ -7,34 +7,46 @@ ghost use Rattle.ipx_table.specs.AfterOffer.{after_offer};
 ghost use Rattle.ipx_table.specs.Alive.{lifetime};
 ghost use Rattle.ipx_table.specs.Reading.{rules_of, same_key};
 ghost use Rattle.ipx_table.specs.Slots.{seen, seen_at, IsSorted};
+ghost use Rattle.ipx_table.specs.Sought.{answers_to};
 ghost use Rattle.ipx_table.specs.Stands.{in_order};
-ghost use Rattle.ipx_table.specs.Taken.{taken_over, taken_beside};
+ghost use Rattle.ipx_table.specs.Taken.{known_of, offer_left, taken_over, taken_beside};
 
 use crate::asking::Found;
+use crate::exchanged::{Exchanged, exchange_of};
 use crate::offer::Offer;
 use crate::ranking::{is_of_one_source, is_worse};
 use crate::sharing::has_share;
 use crate::slotted::Slotted;
-use crate::sought::place_in;
 use crate::taken::Taken;
 
-/// Takes an offer at that slot of the clock, from ports with those shares. Returns what became of it.
+/// Takes an offer, whose key was found there, at that slot of the clock, from ports with those shares. Returns what became of it, and the offer of its
+/// key before and after.
 pub(crate) fn take_offer<O: Offer, const CAP: usize>(
     records: &mut Slotted<O, CAP>,
     shares: &[u16],
     clock: u8,
+    found: Found,
     offer: O,
-) -> Taken
+) -> Exchanged<O>
     requires sorted { IsSorted (rules_of O.reading O.Key.cmp CAP shares.now).by_key records.old clock }
+    requires below { found.below ≡ (answers_to (λ o. O.Key.cmp (O.reading.key o) (O.reading.key offer)) (map (λ p. p.0) records.old)).below }
+    requires held { found.held ≡ (answers_to (λ o. O.Key.cmp (O.reading.key o) (O.reading.key offer)) (map (λ p. p.0) records.old)).held }
     ensures records { let rules = rules_of O.reading O.Key.cmp CAP shares.now in
         seen clock records.new ≡ in_order rules.by_key (after_offer rules (seen clock records.old) offer) }
     ensures slots { AllByRecursion (λ p. p.1 < lifetime) records.new }
-    ensures answer { result ≡ taken_over (rules_of O.reading O.Key.cmp CAP shares.now) O.eq (seen clock records.old) offer }
+    ensures answer { result.taken ≡ taken_over (rules_of O.reading O.Key.cmp CAP shares.now) O.eq (seen clock records.old) offer }
+    ensures before { result.before ≡ option_map (λ h. h.offer) (known_of (rules_of O.reading O.Key.cmp CAP shares.now) (seen clock records.old) offer) }
+    ensures after { result.after ≡ offer_left result.taken result.before offer }
 {
-    let found = place_in(records.offers(), offer.key());
     match record_found(records, found) {
-        Some(known) => take_known(records, shares, clock, found.below, known, offer),
-        None => take_new(records, shares, clock, found.below, offer),
+        Some(known) => {
+            let taken = take_known(records, shares, clock, found.below, known, offer);
+            exchange_of(taken, Some(known.0), offer)
+        }
+        None => {
+            let taken = take_new(records, shares, clock, found.below, offer);
+            exchange_of(taken, None, offer)
+        }
     }
 }
 

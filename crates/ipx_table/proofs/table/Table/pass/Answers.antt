@@ -1,4 +1,4 @@
-use Rattle.std.proofs.Common.{◌≡◌, ◌∙◌, sym, ap, subst, ℕ}
+use Rattle.std.proofs.Common.{◌∙◌, sym, ap, subst, ℕ}
 use Rattle.std.specs.List.{list_any}
 use Rattle.std.proofs.lemmas.Cmp.{on_total}
 use Rattle.ipx_table.specs.Reading.{rules_of}
