@@ -20,6 +20,7 @@ pub mod Endings
 pub mod Entries
 pub mod EntriesRead
 pub mod Every
+pub mod Exactness
 pub mod Fitting
 pub mod Found
 pub mod HeardCounts
@@ -56,6 +57,7 @@ pub mod Relations
 pub mod RelayCalls
 pub mod Relayed
 pub mod RelayedAlone
+pub mod Renoting
 pub mod Rising
 pub mod Rooms
 pub mod RouterOf

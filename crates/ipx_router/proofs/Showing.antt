@@ -1,5 +1,5 @@
 -- What is sent of all that is told: all, all as unreachable, or what was asked for.
-use Rattle.std.proofs.Common.{◌≡◌, refl, ap, ◌∙◌, ℕ, ◌+◌, Bool, true, false, List, [], ◌∷◌, map, take, get_or, slice_get, Some, inl, inr, true≢false, if◌then◌else◌}
+use Rattle.std.proofs.Common.{◌≡◌, refl, sym, ap, ◌∙◌, ℕ, ◌+◌, Bool, true, false, List, [], ◌∷◌, map, take, get_or, slice_get, Some, inl, inr, true≢false, if◌then◌else◌}
 use Rattle.std.specs.List.{flat_map, list_any}
 use Rattle.std.proofs.lemmas.Bool.{cases_Bool}
 use Rattle.std.proofs.lemmas.List.Folds.{list_any_at, list_any_more}
@@ -8,10 +8,12 @@ use Rattle.ipx_wire.specs.declared.address.Address.{Address}
 use Rattle.ipx_wire.specs.declared.rip.Operation.TheVariants.{Response}
 use Rattle.ipx_wire.specs.declared.rip.RipEntry.{RipEntry}
 use Rattle.ipx_wire.specs.declared.service.Service.{Service}
+use Rattle.ipx_router.specs.Numbers.{all_routes}
 use Rattle.ipx_router.specs.Port.{Port}
 use Rattle.ipx_router.specs.Sends.{asked, nearest_of, of_kind, rip_sends, sap_sends}
-use Rattle.ipx_router.specs.Shown.{is_asked, shown_as, is_of_kind, service_shown_as}
+use Rattle.ipx_router.specs.Shown.{asks_for, is_asked, shown_as, is_of_kind, service_shown_as}
 use Rattle.ipx_router.specs.Told.{dead, dead_service}
+use Rattle.ipx_router.specs.declared.shown.Shown.{Shown}
 use Rattle.ipx_router.specs.declared.shown.Shown.TheVariants.{All, Dead, Asked}
 use Rattle.ipx_router.specs.declared.shown.ShownServices.TheVariants.{All as AllServices, Dead as DeadServices, OfKind}
 
@@ -43,6 +45,19 @@ shown_asked rip (e ∷ es) = elim (cases_Bool (is_asked rip.now.entries e)) [
   | inr other ↦ rw other (shown_asked rip es)
 ]
 
+-- an entry that asks for all asks for each
+asked_all : (wanted : List RipEntry) (k : ℕ) (w : RipEntry) → slice_get wanted k ≡ Some w → w.network.0 ≡ all_routes
+    → (es : List RipEntry) → asked wanted es ≡ es
+asked_all wanted k w at all [] = refl
+asked_all wanted k w at all (e ∷ es) =
+    let here : asks_for w e ≡ true = rw all refl in
+    rw (passes_there (λ x. asks_for x e) wanted k w at here) (ap (λ (l : List RipEntry). e ∷ l) (asked_all wanted k w at all es))
+
+-- so all is shown
+pub shown_to_all : (wanted : List RipEntry) (k : ℕ) (w : RipEntry) → slice_get wanted k ≡ Some w → w.network.0 ≡ all_routes
+    → (es : List RipEntry) → flat_map (shown_as All) es ≡ asked wanted es
+shown_to_all wanted k w at all es = shown_all es ∙ sym (asked_all wanted k w at all es)
+
 -- ---- services
 
 pub services_shown_all : (ss : List Service) → flat_map (service_shown_as AllServices) ss ≡ ss
@@ -63,11 +78,12 @@ services_shown_of_kind kind (s ∷ ss) = elim (cases_Bool (is_of_kind kind s)) [
 -- ---- answers
 
 -- to the same address, what is shown of all that is told is the answer to a request
-pub request_answered : (ports : List Port) (number : ℕ) (to to' : Address) (rip : _) (es : List RipEntry) → to' ≡ to
-    → rip_sends ports number to' Response (flat_map (shown_as (Asked rip)) es) ≡ rip_sends ports number to Response (asked rip.now.entries es)
-request_answered ports number to to' rip es same =
-    ap (λ (a : Address). rip_sends ports number a Response (flat_map (shown_as (Asked rip)) es)) same
-    ∙ ap (rip_sends ports number to Response) (shown_asked rip es)
+pub request_answered : (ports : List Port) (number : ℕ) (to to' : Address) (shown : Shown) (wanted es : List RipEntry) → to' ≡ to
+    → flat_map (shown_as shown) es ≡ asked wanted es
+    → rip_sends ports number to' Response (flat_map (shown_as shown) es) ≡ rip_sends ports number to Response (asked wanted es)
+request_answered ports number to to' shown wanted es same all =
+    ap (λ (a : Address). rip_sends ports number a Response (flat_map (shown_as shown) es)) same
+    ∙ ap (rip_sends ports number to Response) all
 
 -- and to a query that isn't for the nearest
 pub query_answered : (ports : List Port) (number : ℕ) (to to' : Address) (nearest : Bool) (kind : ℕ) (ss : List Service) → to' ≡ to → nearest ≡ false

@@ -5,10 +5,11 @@ use Rattle.std.specs.Cmp.{IsTotalOrder}
 use Rattle.std.proofs.lemmas.Bool.{cases_Bool}
 use Rattle.ipx_table.specs.Stands.{Ascends}
 use Rattle.ipx_router.specs.Changes.{Change, offer_of, same_or_none, put_key, put_keys, change_at, differs, changes}
-use Rattle.ipx_router.specs.Touched.{Touches, touched_key, is_touched, change_since, changes_since}
+use Rattle.ipx_router.specs.Touched.{Touches, touched_key, is_touched, noted_change, changes_noted}
 use Rattle.ipx_router.specs.declared.touched.Touched.{Touched}
 use Rattle.ipx_router.proofs.Every.{all_then, all-map, all_passed}
 use Rattle.ipx_router.proofs.Keys.{Rises, rises-puts, neither, alike}
+use Rattle.ipx_router.proofs.Noting.{offer_alike}
 use Rattle.ipx_router.proofs.Members.{any_same, any-put, eq_sym, alike_right, is_in, ascends-filter, in-filter, same_members}
 
 filter-of_map : {X Y : Type 0} (p : Y → Bool) (f : X → Y) (xs : List X) → filter p (map f xs) ≡ map f (filter (λ x. p (f x)) xs)
@@ -67,16 +68,6 @@ module _ {O K : Type 0} (key_of : O → K) (order : K → K → Ordering) (same 
 
   -- ---- keys of offers
 
-  -- equal keys have the same offer
-  offer_alike : (a b : K) → is_eq (order a b) ≡ true → (offers : List O) → offer_of key_of order same a offers ≡ offer_of key_of order same b offers
-  offer_alike a b e [] = refl
-  offer_alike a b e (o ∷ offers) =
-      let here = ap is_eq (alike_right order total a b (key_of o) e) in
-      elim (cases_Bool (is_eq (order (key_of o) b))) [
-        | inl f ↦ let one = here ∙ f in rw (one, f) refl
-        | inr f ↦ let other = here ∙ f in rw (other, f) (offer_alike a b e offers)
-      ]
-
   -- who isn't there when a key is put in its place is another key, and wasn't there before
   not_put : (key x : K) (keys : List K) → is_known key (put_key key_of order same x keys) ≡ false → (is_eq (order x key) ≡ false) × (is_known key keys ≡ false)
   not_put key x keys none = elim (cases_Bool (list_any (λ other. is_eq (order x other)) keys)) [
@@ -118,8 +109,8 @@ module _ {O K : Type 0} (key_of : O → K) (order : K → K → Ordering) (same 
 
     at_alike : (a b : K) → is_eq (order a b) ≡ true → at a ≡ at b
     at_alike a b e =
-        ap (λ o. record { before = o; after = offer_of key_of order same a now }) (offer_alike a b e before)
-        ∙ ap (λ o. record { before = offer_of key_of order same b before; after = o }) (offer_alike a b e now)
+        ap (λ o. record { before = o; after = offer_of key_of order same a now }) (offer_alike key_of order total a b e before)
+        ∙ ap (λ o. record { before = offer_of key_of order same b before; after = o }) (offer_alike key_of order total a b e now)
 
     -- what changed is the key of an offer
     known_changed : (key : K) → is_changed key ≡ true → is_known key all_keys ≡ true
@@ -150,20 +141,21 @@ module _ {O K : Type 0} (key_of : O → K) (order : K → K → Ordering) (same 
           (λ key passed. in-filter order total is_changed (λ a b e. ap (differs key_of order same) (at_alike a b e)) key others passed.1 (there key passed.1))
           (filter is_changed keys) (all_passed (λ key. Unit {0}) is_changed keys (all_of (λ key. Unit {0}) (λ key. tt) keys))
 
-      -- what was recorded is what the keys had before
+      -- what was recorded is what the keys had before and have now
       since : (ts : List (Touched O)) → AllByRecursion (λ t. t.before ≡ offer_of key_of order same (key_of t.offer) before) ts
-          → map (change_since key_of order now) ts ≡ map at (keys_of ts)
-      since [] recorded = refl
-      since (t ∷ ts) recorded =
-          ap (λ o. record { before = o; after = offer_of key_of order same (key_of t.offer) now } ∷ map (change_since key_of order now) ts) recorded.0
-          ∙ ap (λ cs. at (key_of t.offer) ∷ cs) (since ts recorded.1)
+          → AllByRecursion (λ t. t.after ≡ offer_of key_of order same (key_of t.offer) now) ts → map noted_change ts ≡ map at (keys_of ts)
+      since [] recorded current = refl
+      since (t ∷ ts) recorded current =
+          ap (λ o. record { before = o; after = t.after } ∷ map noted_change ts) recorded.0
+          ∙ ap (λ o. record { before = offer_of key_of order same (key_of t.offer) before; after = o } ∷ map noted_change ts) current.0
+          ∙ ap (λ cs. at (key_of t.offer) ∷ cs) (since ts recorded.1 current.1)
 
       -- comparing what was touched gives all that changed
-      pub changes_touched : changes_since key_of order same now all ≡ changes key_of order same before now
+      pub changes_touched : changes_noted key_of order same all ≡ changes key_of order same before now
       changes_touched =
           let rising = rises-ascends all_keys
           (rises-puts key_of order same total before (put_keys key_of order same now []) (rises-puts key_of order same total now [] tt)) in
-          ap (filter (differs key_of order same)) (since all touches.recorded)
+          ap (filter (differs key_of order same)) (since all touches.recorded touches.current)
           ∙ filter-of_map (differs key_of order same) at (keys_of all)
           ∙ same_members order total at at_alike (filter is_changed (keys_of all)) (filter is_changed all_keys)
           (ascends-filter order total is_changed (keys_of all) (ascends_keys all touches.by_key))

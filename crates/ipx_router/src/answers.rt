@@ -1,11 +1,13 @@
 //! What a router answers to a request for routes and to a query for services, on the port where it was heard.
-ghost use Rattle.std.specs.Prelude.{◌<◌, ◌≤◌, if◌then◌else◌, length};
-ghost use Rattle.std.specs.List.{AllByRecursion};
+ghost use Rattle.std.specs.Prelude.{◌≡◌, ◌<◌, ◌≤◌, if◌then◌else◌, List, length};
+ghost use Rattle.std.specs.List.{AllByRecursion, flat_map};
+ghost use Rattle.ipx_wire.specs.declared.rip.RipEntry.{RipEntry};
 ghost use Rattle.ipx_wire.specs.declared.rip.Operation.TheVariants.{Response};
 ghost use Rattle.ipx_router.specs.Facts.{offers};
 ghost use Rattle.ipx_router.specs.Outbox.{Fits, Appends};
 ghost use Rattle.ipx_router.specs.Port.{port_at, reply_to};
 ghost use Rattle.ipx_router.specs.Sends.{asked, nearest_of, of_kind, rip_sends, sap_sends};
+ghost use Rattle.ipx_router.specs.Shown.{shown_as};
 ghost use Rattle.ipx_router.specs.Told.{told, told_services};
 
 use crate::addresses::{port_of, reply_to};
@@ -17,7 +19,7 @@ use crate::service_offer::ServiceOffer;
 use crate::shown::{Shown, ShownServices};
 use crate::told::{advertise_routes, advertise_services};
 use ipx_table::Table;
-use ipx_wire::{Address, Rip};
+use ipx_wire::{Address, Network, Rip};
 
 /// Sends the routes that a request asks for to the one that asked.
 pub(crate) fn answer_request<const R: usize>(
@@ -38,7 +40,19 @@ pub(crate) fn answer_request<const R: usize>(
         (asked request.now.entries (told ports.now up.now (offers routes.now.records) number))) }
 {
     let to = reply_to(port_of(ports, number), source);
-    advertise_routes(outbox, ports, up, routes, number, to, Shown::Asked(request));
+    advertise_routes(outbox, ports, up, routes, number, to, shown_to(request));
+}
+
+/// Which routes answer a request: all, where it asks for all, so that no route is compared with its entries.
+fn shown_to<'a>(request: &'a Rip<'a>) -> Shown<'a>
+    ensures { (entries : List RipEntry) → flat_map (shown_as result) entries ≡ asked request.now.entries entries }
+{
+    for k in 0..request.len() {
+        if request.entry(k).network.0 == Network::ALL_ROUTES.0 {
+            return Shown::All;
+        }
+    }
+    Shown::Asked(request)
 }
 
 /// Sends the services of a type to the one that asked, or the nearest of them.

@@ -41,7 +41,7 @@ pub(crate) fn hear_routes<const R: usize>(
         (record { up = up.now; routes = offers table.new.records; services = services })) up.now) }
 {
     let touched = learn_routes(table, ports, number, node, rip);
-    let changes = changed_routes(table, &touched);
+    let changes = changed_routes(&touched);
     advertise_route_changes(outbox, ports, up, &changes);
 }
 
@@ -66,6 +66,6 @@ pub(crate) fn hear_services<const S: usize>(
         (record { up = up.now; routes = routes; services = offers table.new.records })) up.now) }
 {
     let touched = learn_services(table, number, node, entries);
-    let changes = changed_services(table, &touched);
+    let changes = changed_services(&touched);
     advertise_service_changes(outbox, ports, up, &changes);
 }

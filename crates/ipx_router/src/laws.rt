@@ -154,8 +154,8 @@ pub fn relaying()
 
 /// Each packet that an event sends has the layout of its kind and leaves on a port that is up. A packet that came is sent
 /// on if nothing was heard of it. All others are the router's own, with nothing behind the last entry: broadcasts, also for a
-/// response that was heard; for a request or a query routing information or service advertising to the one that asked. What
-/// is sent are bytes.
+/// response that was heard; for a request or a query routing information or service advertising to the one that asked. A
+/// packet has only numbers under 256.
 pub fn packets()
     ensures layouts { (ports : List Port) (most_routes most_services : ℕ) (history : History) (event : Event)
         → AllByRecursion IsPort ports → AllByRecursion (IsOnPort ports) (history ++ event ∷ []) → AllByRecursion IsOfBytes (history ++ event ∷ [])

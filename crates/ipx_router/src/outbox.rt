@@ -11,7 +11,7 @@ ghost use Rattle.ipx_router.specs.Relays.{Sent};
 
 use ipx_wire::{
     Address, Network, Node, Operation, OutOfMemory, Packet, RipEntry, SapEntry, Service,
-    write_crossed, write_forwarded, write_query, write_rip, write_sap,
+    change_to_crossed, change_to_forwarded, write_query, write_rip, write_sap,
 };
 use std::alloc::Global;
 use std::marker::Model;
@@ -274,8 +274,8 @@ fn put_forwarded(bytes: &mut Vec<u8>, packet: &Packet<'_>)
 {
     ipx_wire::laws::sizes();
     let start = bytes.len();
-    widen(bytes, packet.bytes().len());
-    write_forwarded(packet, &mut bytes[start..]);
+    copy(bytes, packet.bytes());
+    change_to_forwarded(packet, &mut bytes[start..]);
 }
 
 fn put_crossed(bytes: &mut Vec<u8>, packet: &Packet<'_>, arrived: Network, outgoing: Network)
@@ -288,8 +288,18 @@ fn put_crossed(bytes: &mut Vec<u8>, packet: &Packet<'_>, arrived: Network, outgo
 {
     ipx_wire::laws::sizes();
     let start = bytes.len();
-    widen(bytes, packet.bytes().len());
-    write_crossed(packet, arrived, outgoing, &mut bytes[start..]);
+    copy(bytes, packet.bytes());
+    change_to_crossed(packet, arrived, outgoing, &mut bytes[start..]);
+}
+
+/// Copies bytes into the room, for what changes some of them.
+fn copy(bytes: &mut Vec<u8>, more: &[u8])
+    requires { vec_len bytes.old + length more.now ≤ vec_capacity bytes.old }
+    ensures items { bytes.new.items ≡ bytes.old.items ++ more.now }
+    ensures len { vec_len bytes.new ≡ vec_len bytes.old + length more.now }
+    ensures capacity { vec_capacity bytes.old ≤ vec_capacity bytes.new }
+{
+    bytes.extend_from_slice(more).unwrap();
 }
 
 /// Makes that many bytes more of the room, for a writer.

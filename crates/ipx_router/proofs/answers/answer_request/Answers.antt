@@ -8,17 +8,16 @@ use Rattle.ipx_router.specs.Relays.{Sent}
 use Rattle.ipx_router.specs.Sends.{rip_sends}
 use Rattle.ipx_router.specs.Shown.{shown_as}
 use Rattle.ipx_router.specs.Told.{told}
-use Rattle.ipx_router.specs.declared.shown.Shown.TheVariants.{Asked}
 use Rattle.ipx_router.proofs.Showing.{request_answered}
 use Rattle.ipx_router.proofs.answers.answer_request.Goals as goal
 
 pub advertise_routes-requires : goal.advertise_routes-requires
 advertise_routes-requires g c =
     let all = told c.args.ports.now c.args.up.now (offers c.args.routes.now.records) c.args.number in
-    let room : Fits c.args.outbox.now (rip_sends c.args.ports.now c.args.number c.reply_to-to.result Response (flat_map (shown_as (Asked c.args.request)) all)) =
+    let room : Fits c.args.outbox.now (rip_sends c.args.ports.now c.args.number c.reply_to-to.result Response (flat_map (shown_as c.shown_to.result) all)) =
     subst (λ (ps : List Sent). Fits c.args.outbox.now ps)
-    (sym (request_answered c.args.ports.now c.args.number (reply_to (port_at c.args.ports.now c.args.number) c.args.source) c.reply_to-to.result c.args.request all
-    (c.reply_to-to.ensures ∙ ap (λ (p : Port). reply_to p c.args.source) c.port_of.ensures)))
+    (sym (request_answered c.args.ports.now c.args.number (reply_to (port_at c.args.ports.now c.args.number) c.args.source) c.reply_to-to.result c.shown_to.result c.args.request.now.entries all
+    (c.reply_to-to.ensures ∙ ap (λ (p : Port). reply_to p c.args.source) c.port_of.ensures) (c.shown_to.ensures all)))
     c.requires.room in
     search (rules, room)
 
@@ -26,6 +25,6 @@ pub returns : goal.returns
 returns g c =
     let all = told c.args.ports.now c.args.up.now (offers c.args.routes.now.records) c.args.number in
     subst (λ (ps : List Sent). Appends c.args.outbox.now c.advertise_routes.new.outbox ps)
-    (request_answered c.args.ports.now c.args.number (reply_to (port_at c.args.ports.now c.args.number) c.args.source) c.reply_to-to.result c.args.request all
-    (c.reply_to-to.ensures ∙ ap (λ (p : Port). reply_to p c.args.source) c.port_of.ensures))
+    (request_answered c.args.ports.now c.args.number (reply_to (port_at c.args.ports.now c.args.number) c.args.source) c.reply_to-to.result c.shown_to.result c.args.request.now.entries all
+    (c.reply_to-to.ensures ∙ ap (λ (p : Port). reply_to p c.args.source) c.port_of.ensures) (c.shown_to.ensures all))
     c.advertise_routes.ensures

@@ -5,6 +5,6 @@ use Rattle.ipx_router.proofs.Touching.{one_by_one}
 use Rattle.ipx_router.proofs.changed.changed_routes.Goals as goal
 
 pub returns : goal.returns
-returns g c = λ before touches.
+returns c = λ before now touches.
     c.changes.ensures same_route
-    (λ a b. one_by_one (a.network.0 == b.network.0) (a.hops == b.hops) (a.ticks == b.ticks) (a.port == b.port) (same_node a.node b.node)) before touches
+    (λ a b. one_by_one (a.network.0 == b.network.0) (a.hops == b.hops) (a.ticks == b.ticks) (a.port == b.port) (same_node a.node b.node)) before now touches

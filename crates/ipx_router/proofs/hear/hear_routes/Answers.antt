@@ -10,6 +10,6 @@ pub returns-clause-sent : goal.returns-clause-sent
 returns-clause-sent g c = λ services.
     let before = offers c.args.table.now.records in
     let after = offers c.learn_routes-touched.new.table.records in
-    let changed = ap (map change_of) c.deref.ensures.0 ∙ c.changed_routes-changes.ensures before c.learn_routes-touched.ensures.touches in
+    let changed = ap (map change_of) c.deref.ensures.0 ∙ c.changed_routes-changes.ensures before after c.learn_routes-touched.ensures.touches in
     subst (λ (ps : List Sent). Appends c.args.outbox.now c.advertise_route_changes.new.outbox ps)
     (route_news c.args.ports.now c.args.up.now before after services (map change_of c.deref.result.now) changed) c.advertise_route_changes.ensures

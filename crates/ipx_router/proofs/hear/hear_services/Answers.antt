@@ -10,6 +10,6 @@ pub returns-clause-sent : goal.returns-clause-sent
 returns-clause-sent g c = λ routes.
     let before = offers c.args.table.now.records in
     let after = offers c.learn_services-touched.new.table.records in
-    let changed = ap (map change_of) c.deref.ensures.0 ∙ c.changed_services-changes.ensures before c.learn_services-touched.ensures.touches in
+    let changed = ap (map change_of) c.deref.ensures.0 ∙ c.changed_services-changes.ensures before after c.learn_services-touched.ensures.touches in
     subst (λ (ps : List Sent). Appends c.args.outbox.now c.advertise_service_changes.new.outbox ps)
     (service_news c.args.ports.now c.args.up.now routes before after (map change_of c.deref.result.now) changed) c.advertise_service_changes.ensures

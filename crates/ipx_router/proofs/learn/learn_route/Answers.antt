@@ -5,6 +5,7 @@ use Rattle.ipx_table.specs.Stands.{Stands}
 use Rattle.ipx_router.specs.Port.{takes_no_route}
 use Rattle.ipx_router.specs.Routes.{route_reading, network_order, route_rules}
 use Rattle.ipx_router.specs.declared.route_offer.RouteOffer.{RouteOffer}
+use Rattle.ipx_router.proofs.Exactness.{route_exact}
 use Rattle.ipx_router.proofs.learn.learn_route.Goals as goal
 
 pub returns-clause-stands : goal.returns-clause-stands
@@ -17,4 +18,4 @@ returns-clause-stands g c = λ facts stands.
     c.route_offer.ensures (step stands))
 
 pub returns-clause-touches : goal.returns-clause-touches
-returns-clause-touches g c = λ before old. c.take.ensures.touches before old
+returns-clause-touches g c = λ before old. c.take.ensures.touches route_exact before old

@@ -1,5 +1,6 @@
 use Rattle.ipx_table.specs.Reading.{rules_of}
 use Rattle.ipx_router.specs.Services.{service_reading, service_order}
+use Rattle.ipx_router.proofs.Exactness.{service_exact}
 use Rattle.ipx_router.proofs.Learning.{named_stands}
 use Rattle.ipx_router.proofs.learn.learn_service.Goals as goal
 
@@ -9,4 +10,4 @@ returns-in-Some-clause-stands g c = λ facts stands.
     c.in-Some.name c.in-Some.is facts (c.take.ensures.stands facts stands)
 
 pub returns-in-Some-clause-touches : goal.returns-in-Some-clause-touches
-returns-in-Some-clause-touches g c = λ before old. c.take.ensures.touches before old
+returns-in-Some-clause-touches g c = λ before old. c.take.ensures.touches service_exact before old

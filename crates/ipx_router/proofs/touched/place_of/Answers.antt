@@ -1,6 +1,6 @@
-use Rattle.std.proofs.Common.{rules}
+use Rattle.std.proofs.Common.{rules, refl, length}
 use Rattle.std.proofs.lemmas.List.Sorted.{answers_always}
-use Rattle.ipx_router.proofs.Noting.{held_key, gap_found}
+use Rattle.ipx_router.proofs.Noting.{held_key, gap_behind, gap_found}
 use Rattle.ipx_router.proofs.touched.place_of.Goals as goal
 
 pub returns-clause-known : goal.returns-clause-known
@@ -14,3 +14,8 @@ returns-clause-gap g c = λ t is up.
     let facts = c.binary_search_by_key.ensures in
     let found = facts.position (λ t. g.O.Offer.reading.key t.offer) (answers_always _ _ _ (λ f a r h called. search rules)) in
     gap_found g.O.Offer.reading.key g.O.Key.Ord.cmp g.met.O.Key.Ord.total c.args.key t is c.args.touched.now up c.binary_search_by_key.result facts.bound found
+
+pub returns-then-is_behind-clause-gap : goal.returns-then-is_behind-clause-gap
+returns-then-is_behind-clause-gap g c = λ t is up.
+    gap_behind g.O.Offer.reading.key g.O.Key.Ord.cmp g.met.O.Key.Ord.total t c.args.key is c.args.touched.now (length c.args.touched.now) refl up
+    (c.is_behind.ensures c.if-is_behind.true t)

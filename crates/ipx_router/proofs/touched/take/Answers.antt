@@ -1,13 +1,35 @@
+use Rattle.std.proofs.Common.{◌∙◌, sym, is_eq}
 use Rattle.ipx_router.specs.Facts.{offers}
-use Rattle.ipx_router.proofs.Noting.{offers_stay, touches_offered}
+use Rattle.ipx_router.proofs.Differences.{found}
+use Rattle.ipx_router.proofs.Exactness.{exact_or_none}
+use Rattle.ipx_router.proofs.Noting.{all_stay, offers_stay, touches_same}
 use Rattle.ipx_router.proofs.touched.take.Goals as goal
 
-pub returns-clause-touches : goal.returns-clause-touches
-returns-clause-touches g c = λ before old.
+pub returns-then-is_same-clause-touches : goal.returns-then-is_same-clause-touches
+returns-then-is_same-clause-touches g c = λ exact before old.
     let key_of = g.O.Offer.reading.key in
     let order = g.O.Key.Ord.cmp in
+    let total = g.met.O.Key.Ord.total in
     let now = c.args.table.now.records in
-    let new = c.offer-taken.new.self.records in
-    touches_offered key_of order g.met.O.Key.Ord.total before (offers now) (offers new) c.note.new.touched.items c.args.offer
-    (c.note.ensures.touches before old) c.note.ensures.noted
-    (λ key other. offers_stay key_of order g.met.O.Key.Ord.total now new key (c.offer-taken.ensures.others key other))
+    let new = c.exchange-exchanged.new.self.records in
+    let key = key_of c.args.offer in
+    let was = c.exchange-exchanged.ensures.before ∙ sym (found (λ o. is_eq (order (key_of o) key)) now) in
+    let is = c.exchange-exchanged.ensures.after ∙ sym (found (λ o. is_eq (order (key_of o) key)) new) in
+    let one = exact_or_none key_of order g.O.PartialEq.eq exact c.exchange-exchanged.result.before c.exchange-exchanged.result.after
+    (sym c.is_same.ensures ∙ c.if-is_same.true) in
+    touches_same key_of order total before (offers now) (offers new) c.args.touched.now.items
+    (all_stay key_of order total key (offers now) (offers new)
+    (λ other apart. offers_stay key_of order total now new other (c.exchange-exchanged.ensures.others other apart)) (sym was ∙ one ∙ is)) old
+
+pub returns-clause-touches : goal.returns-clause-touches
+returns-clause-touches g c = λ exact before old.
+    let key_of = g.O.Offer.reading.key in
+    let order = g.O.Key.Ord.cmp in
+    let total = g.met.O.Key.Ord.total in
+    let now = c.args.table.now.records in
+    let new = c.exchange-exchanged.new.self.records in
+    let key = key_of c.args.offer in
+    let was = c.exchange-exchanged.ensures.before ∙ sym (found (λ o. is_eq (order (key_of o) key)) now) in
+    let is = c.exchange-exchanged.ensures.after ∙ sym (found (λ o. is_eq (order (key_of o) key)) new) in
+    c.note.ensures.touches before (offers now) (offers new) old was is
+    (λ other apart. offers_stay key_of order total now new other (c.exchange-exchanged.ensures.others other apart))
