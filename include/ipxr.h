@@ -24,7 +24,7 @@
  *  4. One call at a time for one handle. It may go from one thread to another between calls; that is ordered by a lock, or
  *     by what starts or joins the threads. Different handles have nothing in common.
  *  5. No pointer is NULL, not even with a length of 0. A NULL handle is read.
- *  6. Each pointer leads to as many values as its length says, aligned for their type. A buffer that is shorter than the
+ *  6. Each pointer leads to as many values as its length says, aligned for their type. A buffer that is shorter than its
  *     length says is written past its end.
  *  7. No two arguments of one call overlap, and no other code writes there during the call.
  *  8. malloc, realloc and free belong to one allocator (include/heap.c), and are not changed while a router is there.
@@ -215,7 +215,7 @@ size_t ipxr_sent(ipxr *router);
  * A buffer as long as the longest port allows, and no shorter than 576, is always long enough. */
 int32_t ipxr_get(ipxr *router, size_t index, ipxr_packet_sent *sent, uint8_t *buffer, size_t room);
 
-/* Takes all packets out. Their memory is kept for the next ones. */
+/* Clears them: none is to be sent any more. Their memory is kept for the next ones. */
 void ipxr_clear(ipxr *router);
 
 /* ---- What it knows ---- */
@@ -230,8 +230,8 @@ int32_t ipxr_is_up(ipxr *router, uint8_t port);
 size_t ipxr_routes(ipxr *router);
 size_t ipxr_services(ipxr *router);
 
-/* Copies the route with exactly `index` routes to smaller networks, or the service with exactly `index` before it by type and
- * name. Returns 0; with IPXR_NO_ROUTER and IPXR_NO_RECORD `record` stays as it was. */
+/* Copies the route with exactly `index` routes to smaller networks, or the service with exactly `index` services before it by
+ * type and name. Returns 0; with IPXR_NO_ROUTER and IPXR_NO_RECORD `record` stays as it was. */
 int32_t ipxr_route(ipxr *router, size_t index, ipxr_route_record *record);
 int32_t ipxr_service(ipxr *router, size_t index, ipxr_service_record *record);
 

@@ -1,5 +1,5 @@
 /* How long it takes to forward a packet through the calls of ipxr.h: packet, sent, get and clear. Prints nanoseconds a packet,
- * for a router of two ports with as many routes as the crate `bench` has in its measurement of the same.
+ * for a router of two ports with a few routes. `crates/embed_bench` does the same in Rattle.
  *
  * It makes TURNS rounds of a few packets for different networks, and tells the fastest of several runs, since other programs may
  * run on the machine. */
