@@ -3,6 +3,7 @@ pub mod Allowed
 pub mod CommandLine
 pub mod Continued
 pub mod Cuts
+pub mod DigitPairs
 pub mod EventTexts
 pub mod Exits
 pub mod Finishes
@@ -14,7 +15,6 @@ pub mod Made
 pub mod MidScript
 pub mod Midpiece
 pub mod Midway
-pub mod NameWords
 pub mod NumberLemmas
 pub mod Offs
 pub mod Pieces
@@ -22,6 +22,7 @@ pub mod Reached
 pub mod Rows
 pub mod Saying
 pub mod ScriptExits
+pub mod Searches
 pub mod Seconds
 pub mod Stretches
 pub mod TableTexts

@@ -11,7 +11,7 @@ use Rattle.ipx_capture.specs.Header.{header_of}
 use Rattle.ipx_capture.specs.Records.{first_record}
 use Rattle.ipx_capture.proofs.examples.OneRecord.{big}
 use Rattle.ipx_capture.proofs.examples.Words.{zeros, little, little_magic, little_header, little_fields}
-use Rattle.ipx_cmd.specs.AddressWord.{address_word}
+use Rattle.ipx_wire.specs.AddressWord.{address_word}
 use Rattle.ipx_cmd.specs.PacketText.{packet_text, header_text, ends_text, counts_text, data_text}
 use Rattle.ipx_cmd.specs.RecordText.{record_text, frame_text}
 use Rattle.ipx_cmd.specs.RipText.{rip_text, route_entry_text}

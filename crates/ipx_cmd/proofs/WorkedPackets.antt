@@ -13,13 +13,14 @@ use Rattle.ipx_wire.specs.Sap.{sap_of}
 use Rattle.ipx_wire.specs.SapEntries.{sap_entry_at}
 use Rattle.ipx_wire.proofs.examples.Words.{hex}
 use Rattle.ipx_capture.proofs.examples.Words.{addresses, typed}
-use Rattle.ipx_cmd.specs.AddressWord.{address_word}
+use Rattle.ipx_wire.specs.AddressWord.{address_word}
 use Rattle.ipx_cmd.specs.CrossedText.{crossed_text, network_after}
-use Rattle.ipx_cmd.specs.NameWord.{name_word}
+use Rattle.ipx_wire.specs.NameWord.{name_word}
 use Rattle.ipx_cmd.specs.PacketText.{packet_text, header_text, ends_text, counts_text, data_text}
 use Rattle.ipx_cmd.specs.RecordText.{record_text, frame_text}
 use Rattle.ipx_cmd.specs.RipText.{rip_text, route_entry_text}
-use Rattle.ipx_cmd.specs.SapText.{sap_text, service_entry_text, service_text, offered_text}
+use Rattle.ipx_cmd.specs.SapText.{sap_text, service_entry_text}
+use Rattle.ipx_cmd.specs.ServiceWords.{service_words, offered_words}
 
 -- the text of a record of these bytes, the third of its file
 abbrev pub text_of : List ℕ → List ℕ
@@ -46,7 +47,7 @@ pub an_answer : text_of (addresses ++ hex (codes "0063E0E003") ++ hex (codes "FF
     ≡ codes "record 3 Llc 00000010.000000000001.0452 00000010.00000000000A.4003 tc 0 type 4 length 96\n"
     ++ codes "sap nearest-response\n"
     ++ codes "service 0004 S\\208 00000030 000000000001 0451 2\n"
-unfolding decode_pairs encode_with digits record_text frame_text packet_of header_at address_at packet_text header_text ends_text counts_text address_word data_text sap_of items sap_entry_at name_of sap_text service_entry_text service_text offered_text name_word
+unfolding decode_pairs encode_with digits record_text frame_text packet_of header_at address_at packet_text header_text ends_text counts_text address_word data_text sap_of items sap_entry_at name_of sap_text service_entry_text service_words offered_words name_word
 an_answer = refl
 
 -- a packet of type 20 that has crossed two networks, to the socket of routing information

@@ -10,7 +10,7 @@ use Rattle.ipx_router.specs.declared.outcome.Outcome.{Outcome}
 use Rattle.ipx_router.specs.declared.outcome.Outcome.TheVariants.{Dropped}
 use Rattle.ipx_router.specs.declared.why.Why.{Why}
 use Rattle.ipx_cmd.specs.Output.{out_text, drop_text}
-use Rattle.ipx_cmd.specs.WhyWord.{why_word}
+use Rattle.ipx_router.specs.WhyWord.{why_word}
 
 -- the most routes and the most services in the tables of the program's router
 abbrev pub most_routes : ℕ

@@ -1,5 +1,4 @@
 pub mod Acted
-pub mod AddressWord
 pub mod CaptureWord
 pub mod Chosen
 pub mod Continues
@@ -18,7 +17,6 @@ pub mod Machine
 pub mod MachineStands
 pub mod Making
 pub mod Moved
-pub mod NameWord
 pub mod Output
 pub mod PacketText
 pub mod Played
@@ -30,9 +28,9 @@ pub mod RipText
 pub mod Said
 pub mod SapText
 pub mod Script
+pub mod ServiceWords
 pub mod Shown
 pub mod Stretch
 pub mod TableText
-pub mod WhyWord
 pub mod Words
 pub mod WroteFront

@@ -1,13 +1,12 @@
 -- The lines that a run writes, each with its line feed.
 use Rattle.std.specs.Prelude.{ℕ, ◌==◌, if◌then◌else◌, List, ◌++◌, length, codes, decimal}
-use Rattle.std.specs.Int.{to_be_bytes, w16, w32}
+use Rattle.std.specs.Int.{to_be_bytes, w32}
 use Rattle.hex.specs.Hex.{encode_upper}
 use Rattle.ipx_cmd.specs.declared.fault.LineFault.{LineFault}
 use Rattle.ipx_cmd.specs.Fault.{fault_word}
-use Rattle.ipx_wire.specs.declared.address.Address.{Address}
 use Rattle.ipx_router.specs.declared.route_offer.RouteOffer.{RouteOffer}
 use Rattle.ipx_router.specs.declared.service_offer.ServiceOffer.{ServiceOffer}
-use Rattle.ipx_cmd.specs.NameWord.{name_word}
+use Rattle.ipx_cmd.specs.ServiceWords.{service_words}
 
 -- bytes as a word: two upper-case digits a byte, or `-` for none
 abbrev pub hex_word : List ℕ → List ℕ
@@ -32,21 +31,9 @@ route_text route age =
     codes "route " ++ network_word route.network.0 ++ codes " " ++ decimal route.hops ++ codes " " ++ decimal route.ticks ++ codes " "
     ++ decimal route.port ++ codes " " ++ encode_upper route.node.0 ++ codes " " ++ decimal age ++ codes "\n"
 
--- ` NET NODE SOCKET HOPS`
-unfoldable pub offered_words : Address → ℕ → List ℕ
-offered_words a hops =
-    codes " " ++ encode_upper (to_be_bytes w32 a.network.0) ++ codes " " ++ encode_upper a.node.0 ++ codes " "
-    ++ encode_upper (to_be_bytes w16 a.socket.0) ++ codes " " ++ decimal hops
-
--- ` PORT AGE`, and the end of the line
-unfoldable pub held_words : ℕ → ℕ → List ℕ
-held_words port age = codes " " ++ decimal port ++ codes " " ++ decimal age ++ codes "\n"
-
 -- a service that is held: `service TYPE NAME NET NODE SOCKET HOPS PORT AGE`
 unfoldable pub service_text : ServiceOffer → ℕ → List ℕ
-service_text offer age =
-    codes "service " ++ encode_upper (to_be_bytes w16 offer.service.kind) ++ codes " " ++ name_word offer.service.name
-    ++ offered_words offer.service.address offer.service.hops ++ held_words offer.port age
+service_text offer age = service_words offer.service ++ codes " " ++ decimal offer.port ++ codes " " ++ decimal age ++ codes "\n"
 
 -- the line of a script that ended the run, and what is wrong with it
 abbrev pub fault_text : ℕ → LineFault → List ℕ

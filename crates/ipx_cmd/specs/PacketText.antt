@@ -6,21 +6,12 @@ use Rattle.ipx_wire.specs.Rip.{rip_of}
 use Rattle.ipx_wire.specs.Sap.{sap_of}
 use Rattle.ipx_wire.specs.declared.header.Header.{Header}
 use Rattle.ipx_wire.specs.declared.packet.PacketFault.{PacketFault}
-use Rattle.ipx_cmd.specs.AddressWord.{address_word}
+use Rattle.ipx_wire.specs.AddressWord.{address_word}
 use Rattle.ipx_cmd.specs.CrossedText.{crossed_text}
 use Rattle.ipx_cmd.specs.RipText.{rip_text}
 use Rattle.ipx_cmd.specs.SapText.{sap_text}
-use Rattle.ipx_cmd.specs.WhyWord.{packet_word}
-
--- the type of a propagated packet, and the sockets of the two protocols
-abbrev pub propagated_type : ℕ
-propagated_type = 20
-
-abbrev pub rip_socket : ℕ
-rip_socket = 0x453
-
-abbrev pub sap_socket : ℕ
-sap_socket = 0x452
+use Rattle.ipx_router.specs.Numbers.{propagated_type, rip_socket, sap_socket}
+use Rattle.ipx_router.specs.WhyWord.{packet_word}
 
 -- `SOURCE DESTINATION`
 unfoldable pub ends_text : Header → List ℕ

@@ -11,7 +11,6 @@ use crate::ended::RunFault;
 use crate::making::{MOST_ROUTES, MOST_SERVICES, ScriptRouter};
 use crate::output::{drop_line, out_line};
 use crate::said::write_much;
-use crate::why_word::WhyWord;
 use ipx_router::{Event, Outbox, Outcome};
 use ipx_wire::Outlet;
 use std::alloc::AllocError;
@@ -67,7 +66,7 @@ fn write_event(outcome: Outcome, outbox: &Outbox, text: &mut String) -> Result<(
     ensures { OnOk result (string_bytes text.new ≡ string_bytes text.old ++ event_lines (reason outcome) outbox.now.sent) }
 {
     match outcome {
-        Outcome::Dropped(why) => drop_line(text, &WhyWord(why)),
+        Outcome::Dropped(why) => drop_line(text, &why),
         _ => write_sent(outbox, text),
     }
 }

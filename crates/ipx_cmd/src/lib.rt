@@ -3,6 +3,7 @@
 
 mod chosen;
 mod command;
+mod digits;
 mod ended;
 mod event_text;
 mod fault;
@@ -15,9 +16,9 @@ mod output;
 mod play;
 mod player;
 mod said;
+mod service_words;
 mod show;
 mod table_text;
-mod why_word;
 mod words;
 
 pub use crate::chosen::{ChooseFault, Chosen, Run, choose};

@@ -5,6 +5,7 @@ ghost use Rattle.ipx_cmd.specs.declared.fault.LineFault.TheVariants.{Hex};
 ghost use Rattle.ipx_cmd.specs.Line.{or_fault, line_words, no_more, AnswersInMemory};
 ghost use Rattle.ipx_cmd.specs.Words.{words, bytes_of};
 
+use crate::digits::read_digits;
 use crate::fault::LineFault;
 use crate::halt::Halt;
 use crate::words::{first_word, has_no_words, is_text, is_word};
@@ -50,12 +51,13 @@ pub(crate) fn read_bytes(buffer: &mut Vec<u8>, word: &[u8]) -> Result<(), Halt>
         buffer.clear();
         return Ok(());
     }
-    if word.is_empty() {
+    if word.is_empty() || word.len() % 2 == 1 {
         return Err(Halt::Line(LineFault::Hex));
     }
     buffer.resize(word.len() / 2, 0)?;
-    match hex::decode_to_slice(word, buffer) {
-        Ok(()) => Ok(()),
-        Err(_) => Err(Halt::Line(LineFault::Hex)),
+    if read_digits(word, buffer) {
+        Ok(())
+    } else {
+        Err(Halt::Line(LineFault::Hex))
     }
 }

@@ -1,5 +1,5 @@
 //! What the lines of a script act on: the ports named so far, and then the router that they make.
-ghost use Rattle.std.specs.Prelude.{◌≡◌, ◌<◌, ◌++◌, ◌∷◌, [], ℕ, List, false, length, IsSome, IsTrue, IfErr, IfOk, OnOk, Ok, Err, Some, option_map, string_bytes};
+ghost use Rattle.std.specs.Prelude.{◌≡◌, ◌<◌, ◌++◌, ◌∷◌, [], ℕ, List, false, length, IsSome, IsTrue, IfErr, IfOk, OnOk, Ok, Err, Some, None, option_map, string_bytes};
 ghost use Rattle.ipx_router.specs.History.{History};
 ghost use Rattle.ipx_router.specs.Port.{Port as PortValues};
 ghost use Rattle.ipx_router.specs.Stands.{StandsFor};
@@ -123,6 +123,18 @@ impl Machine {
         if self.router.is_some() {
             return Ok(());
         }
+        self.make()
+    }
+
+    /// Makes the router. A router is large, so each other line would pay for the place of a new one, were this inlined.
+    #[inline(never)]
+    fn make(&mut self) -> Result<(), LineFault>
+        requires { self.old.router ≡ None }
+        ensures made { OnOk result (IsSome self.new.router) }
+        ensures stands { OnOk result ((standing : Standing) → IsStanding self.old standing → Makes self.new standing) }
+        ensures buffer { self.new.buffer ≡ self.old.buffer }
+        ensures refused { IfErr result (λ fault. (standing : Standing) → IsStanding self.old standing → past_of standing ≡ Err fault) }
+    {
         match router_of(&self.ports) {
             Ok(router) => {
                 self.router = Some(router);

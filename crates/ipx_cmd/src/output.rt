@@ -1,11 +1,11 @@
 //! The lines that a run writes, each with its line feed.
 ghost use Rattle.std.specs.Prelude.{◌≡◌, ◌++◌, IfSome, OnOk, Some, string_bytes};
-ghost use Rattle.ipx_cmd.specs.Output.{hex_word, out_text, drop_text, route_text, offered_words, held_words, service_text, fault_text};
+ghost use Rattle.ipx_cmd.specs.Output.{hex_word, out_text, drop_text, route_text, service_text, fault_text};
 
 use crate::fault::LineFault;
-use crate::show::name_word::NameWord;
+use crate::service_words::add_service;
 use ipx_router::{RouteOffer, ServiceOffer};
-use ipx_wire::{Address, Hex, Node};
+use ipx_wire::{Hex, Node};
 use std::alloc::AllocError;
 use std::fmt;
 use std::fmt::Display;
@@ -78,33 +78,8 @@ pub(crate) fn service_line(
 ) -> Result<(), AllocError>
     ensures { OnOk result (string_bytes text.new ≡ string_bytes text.old ++ service_text offer.now age) }
 {
-    let service = offer.service;
-    let kind = service.kind.to_be_bytes();
-    let kind = Hex(&kind);
-    let name = NameWord(service.name.bytes());
-    write!(text, "service {kind} {name}")?;
-    add_offered(text, service.address, service.hops)?;
-    add_held(text, offer.port, age)
-}
-
-/// Appends where a service is offered, and how far away.
-#[tactic(auto, unfolding(crate::specs::Output::offered_words))]
-fn add_offered(text: &mut String, address: Address, hops: u16) -> Result<(), AllocError>
-    ensures { OnOk result (string_bytes text.new ≡ string_bytes text.old ++ offered_words address hops) }
-{
-    let Address {
-        network,
-        node,
-        socket,
-    } = address;
-    write!(text, " {network} {node} {socket} {hops}")
-}
-
-/// Appends by which port a record came, and its age, and ends the line.
-#[tactic(auto, unfolding(crate::specs::Output::held_words))]
-fn add_held(text: &mut String, port: u8, age: u8) -> Result<(), AllocError>
-    ensures { OnOk result (string_bytes text.new ≡ string_bytes text.old ++ held_words port age) }
-{
+    add_service(text, &offer.service)?;
+    let port = offer.port;
     writeln!(text, " {port} {age}")
 }
 

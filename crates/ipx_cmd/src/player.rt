@@ -13,6 +13,7 @@ use crate::ended::RunFault;
 use crate::fault::LineFault;
 use crate::halt::Halt;
 use ipx_wire::Outlet;
+use memchr::memchr;
 use std::alloc::Global;
 use std::io::Write;
 
@@ -210,9 +211,13 @@ fn act_on_last<M: Act, W: Write>(
 fn first_line(bytes: &[u8]) -> Option<(&[u8], &[u8])>
     ensures { MatchOption result (IsOneLine bytes.now) (λ parts. IsOneLine parts.0.now × (bytes.now ≡ parts.0.now ++ line_feed ∷ parts.1.now)) }
 {
-    let place = bytes.iter().position(|byte| *byte == b'\n')?;
-    let (line, behind) = bytes.split_at(place);
-    Some((line, &behind[1..]))
+    match memchr(b'\n', bytes) {
+        Some(place) => {
+            let (line, behind) = bytes.split_at(place);
+            Some((line, &behind[1..]))
+        }
+        None => None,
+    }
 }
 
 /// The line without a carriage return at its end.

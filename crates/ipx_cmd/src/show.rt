@@ -1,8 +1,6 @@
 //! The text of captures: each record in its own lines, and the fault that ends the file.
-mod address_word;
 mod capture_word;
 mod crossed_line;
-pub(crate) mod name_word;
 mod packet_lines;
 mod record_lines;
 mod rip_lines;

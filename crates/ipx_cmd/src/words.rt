@@ -9,6 +9,7 @@ ghost use Rattle.ipx_cmd.specs.Words.{is_blank, is_text_byte, words, only_one, o
 ghost use Rattle.ipx_wire.specs.Digits.{network_of, node_of};
 
 use ipx_wire::{Network, Node};
+use memchr::memchr2;
 use std::str;
 
 /// The words that name a port.
@@ -29,12 +30,24 @@ fn is_blank(byte: u8) -> bool
     byte == b' ' || byte == b'\t'
 }
 
+/// Whether a line may have this byte.
+fn is_text_byte(byte: u8) -> bool
+    ensures { result ≡ is_text_byte byte }
+{
+    byte == b'\t' || (b' ' <= byte && byte <= b'~')
+}
+
 /// Whether a line has only tabs and printable ASCII characters.
+///
+/// Another byte doesn't end the loop, so that many are judged side by side.
 pub(crate) fn is_text(line: &[u8]) -> bool
     ensures { result ≡ list_all is_text_byte line.now }
 {
-    line.iter()
-        .all(|byte| *byte == b'\t' || (b' ' <= *byte && *byte <= b'~'))
+    let mut fine = true;
+    for byte in line {
+        fine = fine & is_text_byte(*byte);
+    }
+    fine
 }
 
 /// Where the first word of a line begins.
@@ -48,7 +61,7 @@ fn word_start(line: &[u8]) -> Option<usize>
 fn word_end(text: &[u8]) -> Option<usize>
     ensures { result ≡ position is_blank text.now }
 {
-    text.iter().position(|byte| is_blank(*byte))
+    memchr2(b' ', b'\t', text)
 }
 
 /// What stands before the first blank, and what follows it with the blank.

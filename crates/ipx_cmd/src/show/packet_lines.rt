@@ -1,17 +1,13 @@
 ghost use Rattle.std.specs.Prelude.{◌≡◌, ◌++◌, OnOk, string_bytes};
 ghost use Rattle.ipx_wire.specs.Packet.{packet_of};
 ghost use Rattle.ipx_cmd.specs.PacketText.{counts_text, data_text, ends_text, header_text, packet_text};
-ghost use Rattle.ipx_cmd.specs.WhyWord.{packet_word};
+ghost use Rattle.ipx_router.specs.WhyWord.{packet_word};
 
-use crate::show::address_word::AddressWord;
 use crate::show::crossed_line::crossed_line;
 use crate::show::rip_lines::rip_lines;
 use crate::show::sap_lines::sap_lines;
 use ipx_wire::{Header, Packet, PacketFault, Socket};
 use std::alloc::AllocError;
-
-/// The type of a packet that is propagated.
-const PROPAGATED: u8 = 20;
 
 /// Appends the lines of the packet that the bytes are, behind the words of its record; or why they are none.
 ///
@@ -46,8 +42,11 @@ fn header_line(text: &mut String, header: &Header) -> Result<(), AllocError>
 fn add_ends(text: &mut String, header: &Header) -> Result<(), AllocError>
     ensures { OnOk result (string_bytes text.new ≡ string_bytes text.old ++ ends_text header.now) }
 {
-    let source = AddressWord(header.source);
-    let destination = AddressWord(header.destination);
+    let Header {
+        source,
+        destination,
+        ..
+    } = *header;
     write!(text, "{source} {destination}")
 }
 
@@ -70,7 +69,7 @@ fn add_counts(text: &mut String, header: &Header) -> Result<(), AllocError>
 fn data_lines(text: &mut String, header: &Header, payload: &[u8]) -> Result<(), AllocError>
     ensures { OnOk result (string_bytes text.new ≡ string_bytes text.old ++ data_text header.now payload.now) }
 {
-    if header.kind == PROPAGATED {
+    if header.kind == Header::PROPAGATED {
         return crossed_line(text, header.control, payload);
     }
     if header.destination.socket == Socket::RIP {

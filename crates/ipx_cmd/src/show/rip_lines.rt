@@ -1,10 +1,10 @@
 ghost use Rattle.std.specs.Prelude.{◌≡◌, ◌++◌, OnOk, string_bytes, Ok};
 ghost use Rattle.std.specs.List.{flat_map};
 ghost use Rattle.ipx_wire.specs.Rip.{rip_of};
-ghost use Rattle.ipx_cmd.specs.RipText.{operation_word, rip_text, route_entry_text};
-ghost use Rattle.ipx_cmd.specs.WhyWord.{rip_word};
+ghost use Rattle.ipx_cmd.specs.RipText.{rip_text, route_entry_text};
+ghost use Rattle.ipx_router.specs.WhyWord.{rip_word};
 
-use ipx_wire::{Operation, Rip, RipEntry, RipFault};
+use ipx_wire::{Rip, RipEntry, RipFault};
 use std::alloc::AllocError;
 
 /// Appends the lines of routing information, or the one that says why the data are none.
@@ -27,8 +27,8 @@ pub(crate) fn rip_lines(text: &mut String, payload: &[u8]) -> Result<(), AllocEr
 fn routes(text: &mut String, rip: &Rip<'_>) -> Result<(), AllocError>
     ensures { OnOk result (string_bytes text.new ≡ string_bytes text.old ++ rip_text (Ok rip.now)) }
 {
-    let word = word(rip.operation());
-    writeln!(text, "rip {word}")?;
+    let operation = rip.operation();
+    writeln!(text, "rip {operation}")?;
     add_entries(text, rip)
 }
 
@@ -51,15 +51,6 @@ fn add_entry(text: &mut String, entry: RipEntry) -> Result<(), AllocError>
         ticks,
     } = entry;
     writeln!(text, "net {network} hops {hops} ticks {ticks}")
-}
-
-fn word(operation: Operation) -> &'static str
-    ensures { result.now ≡ operation_word operation }
-{
-    match operation {
-        Operation::Request => "request",
-        Operation::Response => "response",
-    }
 }
 
 fn fault_word(fault: RipFault) -> &'static str

@@ -2,11 +2,11 @@ ghost use Rattle.std.specs.Prelude.{◌≡◌, ◌++◌, OnOk, string_bytes, Ok}
 ghost use Rattle.std.specs.List.{flat_map};
 ghost use Rattle.ipx_wire.specs.Sap.{sap_of};
 ghost use Rattle.ipx_wire.specs.declared.sap.Sap.TheVariants.{Query, Response};
-ghost use Rattle.ipx_cmd.specs.SapText.{offered_text, sap_text, scope_word, service_entry_text, service_text};
-ghost use Rattle.ipx_cmd.specs.WhyWord.{sap_word};
+ghost use Rattle.ipx_cmd.specs.SapText.{sap_text, scope_word, service_entry_text};
+ghost use Rattle.ipx_router.specs.WhyWord.{sap_word};
 
-use crate::show::name_word::NameWord;
-use ipx_wire::{Address, Hex, Sap, SapEntries, SapEntry, SapFault, ServiceName};
+use crate::service_words::add_service;
+use ipx_wire::{Hex, Sap, SapEntries, SapEntry, SapFault, Service};
 use std::alloc::AllocError;
 
 /// Appends the lines of service advertising, or the one that says why the data are none.
@@ -59,39 +59,18 @@ fn add_entry(text: &mut String, entry: &SapEntry) -> Result<(), AllocError>
     ensures { OnOk result (string_bytes text.new ≡ string_bytes text.old ++ service_entry_text entry.now) }
 {
     match entry.name {
-        Some(name) => service_line(text, entry.kind, &name, entry.address, entry.hops),
+        Some(name) => {
+            let service = Service {
+                kind: entry.kind,
+                name,
+                address: entry.address,
+                hops: entry.hops,
+            };
+            add_service(text, &service)?;
+            text.push_str("\n")
+        }
         None => text.push_str("service bad\n"),
     }
-}
-
-#[tactic(auto, unfolding(crate::specs::SapText::service_text))]
-fn service_line(
-    text: &mut String,
-    kind: u16,
-    name: &ServiceName,
-    address: Address,
-    hops: u16,
-) -> Result<(), AllocError>
-    ensures { OnOk result (string_bytes text.new ≡ string_bytes text.old ++ service_text kind name.now address hops) }
-{
-    let kind = kind.to_be_bytes();
-    let kind = Hex(&kind);
-    let name = NameWord(name.bytes());
-    write!(text, "service {kind} {name}")?;
-    add_offered(text, address, hops)
-}
-
-/// Appends where a service is offered, and ends the line.
-#[tactic(auto, unfolding(crate::specs::SapText::offered_text))]
-fn add_offered(text: &mut String, address: Address, hops: u16) -> Result<(), AllocError>
-    ensures { OnOk result (string_bytes text.new ≡ string_bytes text.old ++ offered_text address hops) }
-{
-    let Address {
-        network,
-        node,
-        socket,
-    } = address;
-    writeln!(text, " {network} {node} {socket} {hops}")
 }
 
 fn scope(nearest: bool) -> &'static str
