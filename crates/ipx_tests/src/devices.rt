@@ -1,6 +1,7 @@
 //! Runs of `replay` and `decode` on devices that give or take few bytes a call, or fail. Whole scripts stand in `tests/replay`,
 //! captures in `tests/decode`.
 
+use crate::same::same;
 use ipx_cmd::{Ended, RunFault, decode, replay};
 use ipx_wire::{Intake, Outlet};
 use std::alloc::Global;
@@ -95,7 +96,7 @@ impl Read for Endless<'_> {
 fn a_byte_at_a_time_changes_nothing(rt: HostRuntime) {
     let heap = rt.alloc();
     let (answer, wanted) = play(heap, SCRIPT);
-    assert_eq!(rt; answer, Ok(Ended::Done));
+    same(&rt, answer, Ok(Ended::Done));
     for (given, taken) in [(1, 1), (1, 9999), (9999, 1), (7, 50), (36, 2)] {
         let mut text = Vec::new(heap);
         let mut intake = Intake::new(Slow {
@@ -183,10 +184,10 @@ fn a_line_too_long_asks_for_no_more(rt: HostRuntime) {
     let answer = replay(heap, &mut intake, &mut outlet);
     drop(intake);
     drop(outlet);
-    assert_eq!(rt; answer, Ok(Ended::BadInput));
-    assert_eq!(rt; text.as_slice(), b"line 1: long\n".as_slice());
+    same(&rt, answer, Ok(Ended::BadInput));
+    same(&rt, text.as_slice(), b"line 1: long\n".as_slice());
     // 17 pieces of 8,192 bytes: the 131,201st byte is in the last one.
-    assert_eq!(rt; calls, 17);
+    same(&rt, calls, 17);
 }
 
 /// A capture of two records, each a frame that carries no IPX, of 14 bytes.
@@ -215,7 +216,7 @@ fn a_failed_read_of_a_capture_leaves_its_records(rt: HostRuntime) {
         let answer = decode(heap, &mut intake, &mut outlet);
         drop(outlet);
         let records = (last - 1).saturating_sub(24) / 30;
-        assert_eq!(rt; answer, Err(RunFault::Read));
+        same(&rt, answer, Err(RunFault::Read));
         assert_eq!(rt;
             text.as_slice(),
             &LINES[..LINES.len().min(15 * records)],
@@ -240,7 +241,7 @@ fn a_failed_write_of_a_capture_leaves_a_prefix(rt: HostRuntime) {
             });
             let answer = decode(heap, &mut intake, &mut outlet);
             drop(outlet);
-            assert_eq!(rt; answer, Err(RunFault::Write));
+            same(&rt, answer, Err(RunFault::Write));
             assert_eq!(rt;
                 text.as_slice(),
                 &LINES[..LINES.len().min(7 * (last - 1))],
@@ -260,7 +261,7 @@ fn a_capture_without_end_is_refused_at_once(rt: HostRuntime) {
     let answer = decode(heap, &mut intake, &mut outlet);
     drop(outlet);
     drop(intake);
-    assert_eq!(rt; answer, Ok(Ended::BadInput));
-    assert_eq!(rt; text.as_slice(), b"record 0: Magic\n".as_slice());
-    assert_eq!(rt; calls, 1);
+    same(&rt, answer, Ok(Ended::BadInput));
+    same(&rt, text.as_slice(), b"record 0: Magic\n".as_slice());
+    same(&rt, calls, 1);
 }

@@ -1,5 +1,6 @@
 //! The exit status of each end of a run, and the name of each fault.
 
+use crate::same::same;
 use ipx_cmd::{Ended, RunFault, status};
 use ipx_wire::OutOfMemory;
 use std::alloc::AllocError;
@@ -7,11 +8,11 @@ use std::test::Fail;
 
 #[test]
 fn tells_each_end(rt: HostRuntime) {
-    assert_eq!(rt; status(&Ok(Ended::Done)), 0);
-    assert_eq!(rt; status(&Ok(Ended::BadInput)), 2);
-    assert_eq!(rt; status(&Err(RunFault::Read)), 1);
-    assert_eq!(rt; status(&Err(RunFault::Write)), 1);
-    assert_eq!(rt; status(&Err(RunFault::Memory)), 3);
+    same(&rt, status(&Ok(Ended::Done)), 0);
+    same(&rt, status(&Ok(Ended::BadInput)), 2);
+    same(&rt, status(&Err(RunFault::Read)), 1);
+    same(&rt, status(&Err(RunFault::Write)), 1);
+    same(&rt, status(&Err(RunFault::Memory)), 3);
 }
 
 #[test]
@@ -24,7 +25,7 @@ fn names_each_fault(rt: HostRuntime) -> Result<(), Fail> {
     ];
     for (fault, name) in faults {
         let text = format!(in rt.alloc(); "{fault}")?;
-        assert_eq!(rt; text.as_str(), name);
+        same(&rt, text.as_str(), name);
     }
     Ok(())
 }

@@ -22,6 +22,8 @@ mod program_words;
 #[cfg(test)]
 mod router;
 #[cfg(test)]
+mod same;
+#[cfg(test)]
 mod table;
 #[cfg(test)]
 mod wire;

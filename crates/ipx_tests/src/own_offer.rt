@@ -1,5 +1,6 @@
 //! An offer type of one's own. The documentation of `ipx_table::Offer` quotes it: change both.
 
+use crate::same::same;
 use ipx_table::{Held, Offer, Table, Taken};
 use ipx_wire::Node;
 use std::test::Fail;
@@ -58,18 +59,18 @@ fn server(number: u32, steps: u16, last: u8) -> TimeServer {
 #[test]
 fn keeps_the_nearest_server_of_a_number(rt: HostRuntime) -> Result<(), Fail> {
     let mut table: Table<TimeServer, 2> = Table::new();
-    assert_eq!(rt; table.offer(server(7, 3, 1)), Taken::Admitted);
-    assert_eq!(rt; table.offer(server(7, 4, 2)), Taken::Worse);
-    assert_eq!(rt; table.offer(server(5, 9, 2)), Taken::Admitted);
-    assert_eq!(rt; table.offer(server(6, 1, 2)), Taken::Full);
+    same(&rt, table.offer(server(7, 3, 1)), Taken::Admitted);
+    same(&rt, table.offer(server(7, 4, 2)), Taken::Worse);
+    same(&rt, table.offer(server(5, 9, 2)), Taken::Admitted);
+    same(&rt, table.offer(server(6, 1, 2)), Taken::Full);
     let mut place = 0usize;
     for held in table.entries() {
-        assert_eq!(rt; table.get_at(place), Some(held));
+        same(&rt, table.get_at(place), Some(held));
         place = place.wrapping_add(1);
     }
-    assert_eq!(rt; place, 2);
+    same(&rt, place, 2);
     let offer = server(5, 9, 2);
-    assert_eq!(rt; table.entries().next(), Some(Held { offer, age: 0 }));
+    same(&rt, table.entries().next(), Some(Held { offer, age: 0 }));
     Ok(())
 }
 
@@ -89,7 +90,7 @@ fn says_what_a_table_did(rt: HostRuntime) -> Result<(), Fail> {
     for (offer, word) in offers {
         let taken = table.offer(offer);
         let shown = format!(in rt.alloc(); "{taken}")?;
-        assert_eq!(rt; shown.as_str(), word);
+        same(&rt, shown.as_str(), word);
     }
     assert!(rt; table.entries().next().is_none());
     Ok(())

@@ -1,5 +1,6 @@
 //! Which words of the command line choose a run.
 
+use crate::same::same;
 use ipx_cmd::{ChooseFault, Run, choose};
 
 #[test]
@@ -17,8 +18,8 @@ fn runs_on_standard_input_or_a_file(rt: HostRuntime) {
     ];
     for (words, run, file) in table {
         let chosen = choose(rt.alloc(), words).expect(&rt, "a run");
-        assert_eq!(rt; chosen.run, run);
-        assert_eq!(rt; chosen.file.as_ref().map(|name| name.as_str()), file);
+        same(&rt, chosen.run, run);
+        same(&rt, chosen.file.as_ref().map(|name| name.as_str()), file);
     }
 }
 
@@ -45,6 +46,6 @@ fn refuses_all_other_words(rt: HostRuntime) {
     ];
     for words in table {
         let refused = choose(rt.alloc(), words).err();
-        assert_eq!(rt; refused, Some(ChooseFault::Usage));
+        same(&rt, refused, Some(ChooseFault::Usage));
     }
 }

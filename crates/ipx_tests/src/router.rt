@@ -7,9 +7,8 @@ mod needs;
 mod shares;
 mod watched;
 
-use ipx_router::{
-    Event, Need, Outbox, Outcome, Port, PortFault, PortsFault, RouteOffer, Router, Why,
-};
+use crate::same::same;
+use ipx_router::{Event, Outbox, Outcome, Port, PortFault, PortsFault, RouteOffer, Router, Why};
 use ipx_table::Held;
 use ipx_wire::{Network, Node};
 use std::test::Fail;
@@ -36,12 +35,12 @@ fn the_first_fault_of_ports_is_reported(rt: HostRuntime) -> Result<(), Fail> {
     for (ports, fault) in table {
         match Router::<2, 50, 8>::new(ports) {
             Ok(router) => {
-                assert_eq!(rt; fault, None);
+                same(&rt, fault, None);
                 assert!(rt; router.has_port(0) && !router.has_port(2) && !router.has_port(255));
-                assert_eq!(rt; router.has_port(1), ports.len() == 2);
-                assert_eq!(rt; router.routes(), 0);
+                same(&rt, router.has_port(1), ports.len() == 2);
+                same(&rt, router.routes(), 0);
             }
-            Err(found) => assert_eq!(rt; Some(found), fault),
+            Err(found) => same(&rt, Some(found), fault),
         }
     }
     Ok(())
@@ -54,43 +53,55 @@ const RESPONSE: [u8; 72] = [
     4, 0, 0, 0, 0x30, 0, 1, 0, 2, 0, 0, 0, 0x30, 0, 5, 0, 6, 0, 0, 0, 0x32, 0, 7, 0, 8,
 ];
 
-#[test]
-fn what_a_neighbour_advertises_is_kept_and_passed_on(rt: HostRuntime) -> Result<(), Fail> {
-    let heap = rt.alloc();
-    let ports = [port(0x10)?, port(0x20)?];
-    let mut router = Router::<2, 2, 2>::new(&ports)?;
-    let mut outbox = Outbox::new(heap);
+/// A router of two ports with room for two routes, before its start.
+fn small() -> Result<Router<2, 2, 2>, Fail> {
+    Ok(Router::new(&[port(0x10)?, port(0x20)?])?)
+}
+
+/// What becomes of that response on port 0.
+fn hear(router: &mut Router<2, 2, 2>, outbox: &mut Outbox) -> Result<Outcome, Fail> {
+    if !router.has_port(0) {
+        return Err(Fail::new("no such port"));
+    }
     let response = Event::Packet {
         port: 0,
         bytes: &RESPONSE,
     };
-    assert!(rt; router.has_port(0));
+    Ok(router.step(response, outbox)?)
+}
+
+#[test]
+fn a_stopped_router_hears_nothing_and_starts_once(rt: HostRuntime) -> Result<(), Fail> {
+    let mut router = small()?;
+    let mut outbox = Outbox::new(rt.alloc());
     assert!(rt; outbox.is_empty());
-    assert_eq!(rt;
-        router.step(response, &mut outbox)?,
-        Outcome::Dropped(Why::NotRunning)
-    );
-    assert_eq!(rt; router.step(Event::Start, &mut outbox)?, Outcome::Started);
-    assert_eq!(rt; outbox.len(), 6);
-    assert_eq!(rt;
-        router.step(Event::Start, &mut outbox)?,
-        Outcome::AlreadyRunning
-    );
-    assert_eq!(rt; outbox.len(), 6);
-    assert_eq!(rt; router.step(response, &mut outbox)?, Outcome::Learned);
-    assert_eq!(rt; outbox.len(), 7);
+    let heard = hear(&mut router, &mut outbox)?;
+    same(&rt, heard, Outcome::Dropped(Why::NotRunning));
+    for outcome in [Outcome::Started, Outcome::AlreadyRunning] {
+        same(&rt, router.step(Event::Start, &mut outbox)?, outcome);
+        same(&rt, outbox.len(), 6);
+    }
+    Ok(())
+}
+
+#[test]
+fn what_a_neighbour_advertises_is_kept_and_passed_on(rt: HostRuntime) -> Result<(), Fail> {
+    let mut router = small()?;
+    let mut outbox = Outbox::new(rt.alloc());
+    hear(&mut router, &mut outbox)?;
+    router.step(Event::Start, &mut outbox)?;
+    same(&rt, hear(&mut router, &mut outbox)?, Outcome::Learned);
+    assert!(rt; outbox.len() == 7);
     let sent = outbox.get(6);
-    assert_eq!(rt;
-        (sent.port, sent.link, sent.bytes.len()),
-        (1, Node::BROADCAST, 48)
-    );
+    same(&rt, (sent.port, sent.link), (1, Node::BROADCAST));
+    assert!(rt; sent.bytes.len() == 48);
     let entries = [0, 0, 0, 0x30, 0, 6, 0, 7, 0, 0, 0, 0x31, 0, 4, 0, 5];
-    assert_eq!(rt; &sent.bytes[32..], entries.as_slice());
+    same(&rt, &sent.bytes[32..], entries.as_slice());
     outbox.clear();
-    assert_eq!(rt; outbox.len(), 0);
-    assert_eq!(rt; router.step(response, &mut outbox)?, Outcome::Learned);
+    same(&rt, outbox.len(), 0);
+    same(&rt, hear(&mut router, &mut outbox)?, Outcome::Learned);
     assert!(rt; outbox.is_empty());
-    assert_eq!(rt; router.routes(), 2);
+    same(&rt, router.routes(), 2);
     let held = Held {
         offer: RouteOffer {
             network: Network(0x31),
@@ -101,8 +112,8 @@ fn what_a_neighbour_advertises_is_kept_and_passed_on(rt: HostRuntime) -> Result<
         },
         age: 0,
     };
-    assert_eq!(rt; router.route_at(1), Some(held));
-    assert_eq!(rt; router.route_at(2), None);
+    same(&rt, router.route_at(1), Some(held));
+    same(&rt, router.route_at(2), None);
     Ok(())
 }
 
@@ -112,25 +123,15 @@ fn an_event_needs_room_for_the_most_that_it_may_send(rt: HostRuntime) -> Result<
     let mut router = Router::<2, 50, 8>::new(&ports)?;
     let mut outbox = Outbox::new(rt.alloc());
     let start = router.need(&Event::Start);
-    assert_eq!(rt;
-        start,
-        Need {
-            packets: 6,
-            bytes: 2880
-        }
-    );
+    same(&rt, (start.packets, start.bytes), (6, 2880));
     assert!(rt; !outbox.has_room(start));
     outbox.reserve(start)?;
     assert!(rt; outbox.has_room(start));
-    assert_eq!(rt; router.handle(Event::Start, &mut outbox), Outcome::Started);
-    assert_eq!(rt; outbox.len(), 6);
-    assert_eq!(rt;
-        router.need(&Event::Second),
-        Need {
-            packets: 2,
-            bytes: 960
-        }
-    );
+    let started = router.handle(Event::Start, &mut outbox);
+    same(&rt, started, Outcome::Started);
+    same(&rt, outbox.len(), 6);
+    let second = router.need(&Event::Second);
+    same(&rt, (second.packets, second.bytes), (2, 960));
     outbox.clear();
     assert!(rt; outbox.has_room(start));
     Ok(())

@@ -1,5 +1,6 @@
 //! What a table takes, keeps and ends, for two kinds of offers; and how often a search asks.
 
+use crate::same::same;
 use ipx_table::{Asked, Found, Held, Offer, Table, Taken, find};
 use ipx_wire::{Network, Node};
 use std::cmp::Ordering;
@@ -171,25 +172,24 @@ fn neighbours_compete_for_a_network(rt: HostRuntime) {
     let d = way_to(0x30, 0xDD, 9, 4);
     let far = way_to(0x30, 0xDD, 15, 60);
     let key = Network(0x30);
-    assert_eq!(rt; table.offer(b), Taken::Admitted);
-    assert_eq!(rt; table.get(&key), Some(Held { offer: b, age: 0 }));
-    assert_eq!(rt; table.offer(c), Taken::Replaced);
-    assert_eq!(rt; table.get(&key), Some(Held { offer: c, age: 0 }));
-    assert_eq!(rt; table.offer(d), Taken::Replaced);
-    assert_eq!(rt; table.get(&key), Some(Held { offer: d, age: 0 }));
+    same(&rt, table.offer(b), Taken::Admitted);
+    same(&rt, table.get(&key), Some(Held { offer: b, age: 0 }));
+    same(&rt, table.offer(c), Taken::Replaced);
+    same(&rt, table.get(&key), Some(Held { offer: c, age: 0 }));
+    same(&rt, table.offer(d), Taken::Replaced);
+    same(&rt, table.get(&key), Some(Held { offer: d, age: 0 }));
     table.second();
-    assert_eq!(rt; table.offer(way_to(0x30, 0xEE, 9, 4)), Taken::Worse);
-    assert_eq!(rt; table.get(&key), Some(Held { offer: d, age: 1 }));
-    assert_eq!(rt; table.offer(far), Taken::Refreshed { changed: true });
-    assert_eq!(rt; table.get(&key), Some(Held { offer: far, age: 0 }));
-    assert_eq!(rt; table.offer(way_to(0x30, 0xEE, 16, 0xFFFF)), Taken::Nothing);
-    assert_eq!(rt; table.get(&key), Some(Held { offer: far, age: 0 }));
-    assert_eq!(rt;
-        table.offer(way_to(0x30, 0xDD, 16, 0xFFFF)),
-        Taken::Withdrawn
-    );
-    assert_eq!(rt; table.get(&key), None);
-    assert_eq!(rt; table.len(), 0);
+    same(&rt, table.offer(way_to(0x30, 0xEE, 9, 4)), Taken::Worse);
+    same(&rt, table.get(&key), Some(Held { offer: d, age: 1 }));
+    same(&rt, table.offer(far), Taken::Refreshed { changed: true });
+    same(&rt, table.get(&key), Some(Held { offer: far, age: 0 }));
+    let of_another = way_to(0x30, 0xEE, 16, 0xFFFF);
+    same(&rt, table.offer(of_another), Taken::Nothing);
+    same(&rt, table.get(&key), Some(Held { offer: far, age: 0 }));
+    let of_its_own = way_to(0x30, 0xDD, 16, 0xFFFF);
+    same(&rt, table.offer(of_its_own), Taken::Withdrawn);
+    same(&rt, table.get(&key), None);
+    same(&rt, table.len(), 0);
 }
 
 #[test]
@@ -198,33 +198,29 @@ fn a_full_table_waits_for_an_end(rt: HostRuntime) {
     let first = way_to(1, 0xAA, 1, 1);
     let second = way_to(2, 0xAA, 1, 1);
     let third = way_to(3, 0xAA, 1, 1);
-    assert_eq!(rt; table.offer(second), Taken::Admitted);
+    same(&rt, table.offer(second), Taken::Admitted);
     assert!(rt; !table.is_full());
-    assert_eq!(rt; table.offer(first), Taken::Admitted);
+    same(&rt, table.offer(first), Taken::Admitted);
     assert!(rt; table.is_full());
-    assert_eq!(rt; table.offer(third), Taken::Full);
+    same(&rt, table.offer(third), Taken::Full);
     for _ in 0..179 {
         assert!(rt; table.second().is_empty());
     }
-    assert_eq!(rt;
-        table.get(&Network(2)),
-        Some(Held {
-            offer: second,
-            age: 179
-        })
-    );
-    assert_eq!(rt; table.offer(first), Taken::Refreshed { changed: false });
-    assert_eq!(rt; table.second().as_slice(), [second].as_slice());
-    assert_eq!(rt; table.len(), 1);
-    assert_eq!(rt;
-        table.get_at(0),
-        Some(Held {
-            offer: first,
-            age: 1
-        })
-    );
-    assert_eq!(rt; table.get_at(1), None);
-    assert_eq!(rt; table.offer(third), Taken::Admitted);
+    let held = Held {
+        offer: second,
+        age: 179,
+    };
+    same(&rt, table.get(&Network(2)), Some(held));
+    same(&rt, table.offer(first), Taken::Refreshed { changed: false });
+    same(&rt, table.second().as_slice(), [second].as_slice());
+    same(&rt, table.len(), 1);
+    let held = Held {
+        offer: first,
+        age: 1,
+    };
+    same(&rt, table.get_at(0), Some(held));
+    same(&rt, table.get_at(1), None);
+    same(&rt, table.offer(third), Taken::Admitted);
     table.clear();
     assert!(rt; table.is_empty());
 }
@@ -233,36 +229,35 @@ fn a_full_table_waits_for_an_end(rt: HostRuntime) {
 fn ended_offers_come_by_key(rt: HostRuntime) {
     let mut table: Table<Way, 4> = Table::new();
     for number in [7, 3, 9, 5] {
-        assert_eq!(rt; table.offer(way_to(number, 0xAA, 1, 1)), Taken::Admitted);
+        let way = way_to(number, 0xAA, 1, 1);
+        same(&rt, table.offer(way), Taken::Admitted);
     }
     for _ in 0..179 {
         table.second();
     }
-    assert_eq!(rt;
-        table.offer(way_to(5, 0xAA, 2, 1)),
-        Taken::Refreshed { changed: true }
-    );
+    let again = table.offer(way_to(5, 0xAA, 2, 1));
+    same(&rt, again, Taken::Refreshed { changed: true });
     let ended = [
         way_to(3, 0xAA, 1, 1),
         way_to(7, 0xAA, 1, 1),
         way_to(9, 0xAA, 1, 1),
     ];
-    assert_eq!(rt; table.second().as_slice(), ended.as_slice());
-    assert_eq!(rt; table.len(), 1);
+    same(&rt, table.second().as_slice(), ended.as_slice());
+    same(&rt, table.len(), 1);
 }
 
 #[test]
 fn no_place_and_one_place(rt: HostRuntime) {
     let mut none: Table<Way, 0> = Table::new();
     assert!(rt; none.is_full());
-    assert_eq!(rt; none.offer(way_to(1, 0xAA, 1, 1)), Taken::Full);
+    same(&rt, none.offer(way_to(1, 0xAA, 1, 1)), Taken::Full);
     assert!(rt; none.second().is_empty());
     let mut one: Table<Way, 1> = Table::new();
-    assert_eq!(rt; one.offer(way_to(1, 0xAA, 1, 1)), Taken::Admitted);
-    assert_eq!(rt; one.offer(way_to(2, 0xAA, 1, 1)), Taken::Full);
-    assert_eq!(rt; one.offer(way_to(1, 0xBB, 0, 1)), Taken::Replaced);
-    assert_eq!(rt; one.offer(way_to(1, 0xBB, 16, 1)), Taken::Withdrawn);
-    assert_eq!(rt; one.offer(way_to(2, 0xAA, 1, 1)), Taken::Admitted);
+    same(&rt, one.offer(way_to(1, 0xAA, 1, 1)), Taken::Admitted);
+    same(&rt, one.offer(way_to(2, 0xAA, 1, 1)), Taken::Full);
+    same(&rt, one.offer(way_to(1, 0xBB, 0, 1)), Taken::Replaced);
+    same(&rt, one.offer(way_to(1, 0xBB, 16, 1)), Taken::Withdrawn);
+    same(&rt, one.offer(way_to(2, 0xAA, 1, 1)), Taken::Admitted);
 }
 
 #[test]
@@ -272,38 +267,19 @@ fn things_stand_by_kind_then_letters(rt: HostRuntime) {
     let mail = thing_called(4, *b"abd", 1);
     let clock = thing_called(3, *b"zzz", 5);
     for offer in [mail, files, clock] {
-        assert_eq!(rt; table.offer(offer), Taken::Admitted);
+        same(&rt, table.offer(offer), Taken::Admitted);
     }
-    assert_eq!(rt;
-        table.get_at(0),
-        Some(Held {
-            offer: clock,
-            age: 0
-        })
-    );
-    assert_eq!(rt;
-        table.get_at(1),
-        Some(Held {
-            offer: files,
-            age: 0
-        })
-    );
-    assert_eq!(rt;
-        table.get_at(2),
-        Some(Held {
-            offer: mail,
-            age: 0
-        })
-    );
-    assert_eq!(rt; table.offer(thing_called(4, *b"abc", 99)), Taken::Withdrawn);
-    assert_eq!(rt; table.get(&files.label), None);
-    assert_eq!(rt;
-        table.get(&mail.label),
-        Some(Held {
-            offer: mail,
-            age: 0
-        })
-    );
+    for (k, offer) in [clock, files, mail].into_iter().enumerate() {
+        same(&rt, table.get_at(k), Some(Held { offer, age: 0 }));
+    }
+    let gone = thing_called(4, *b"abc", 99);
+    same(&rt, table.offer(gone), Taken::Withdrawn);
+    same(&rt, table.get(&files.label), None);
+    let kept = Held {
+        offer: mail,
+        age: 0,
+    };
+    same(&rt, table.get(&mail.label), Some(kept));
 }
 
 #[test]
@@ -312,27 +288,26 @@ fn a_port_keeps_to_its_share(rt: HostRuntime) {
     for number in 0x101..0x133 {
         table.offer(way_by(0, number, 0xAA, 1, 2));
     }
-    assert_eq!(rt; table.count(0), 30);
-    assert_eq!(rt; table.get(&Network(0x11F)), None);
+    same(&rt, table.count(0), 30);
+    same(&rt, table.get(&Network(0x11F)), None);
     for number in 0x201..0x215 {
         table.offer(way_by(1, number, 0xBB, 1, 2));
     }
-    assert_eq!(rt; table.count(1), 20);
+    same(&rt, table.count(1), 20);
     for _ in 0..10 {
         table.second();
     }
     let key = Network(0x101);
-    assert_eq!(rt; table.offer(way_by(1, 0x101, 0xBB, 1, 1)), Taken::Full);
-    assert_eq!(rt;
-        table.get(&key),
-        Some(Held {
-            offer: way_by(0, 0x101, 0xAA, 1, 2),
-            age: 10
-        })
-    );
-    assert_eq!(rt; table.offer(way_by(1, 0x101, 0xBB, 1, 2)), Taken::Worse);
-    assert_eq!(rt; table.offer(way_by(1, 0x201, 0xCC, 1, 1)), Taken::Replaced);
-    assert_eq!(rt; table.count(1), 20);
+    same(&rt, table.offer(way_by(1, 0x101, 0xBB, 1, 1)), Taken::Full);
+    let held = Held {
+        offer: way_by(0, 0x101, 0xAA, 1, 2),
+        age: 10,
+    };
+    same(&rt, table.get(&key), Some(held));
+    same(&rt, table.offer(way_by(1, 0x101, 0xBB, 1, 2)), Taken::Worse);
+    let nearer = way_by(1, 0x201, 0xCC, 1, 1);
+    same(&rt, table.offer(nearer), Taken::Replaced);
+    same(&rt, table.count(1), 20);
 }
 
 #[test]
@@ -345,29 +320,28 @@ fn the_end_of_a_port_leaves_the_others(rt: HostRuntime) {
         way_by(2, 3, 0xAA, 1, 1),
         way_by(3, 9, 0xCC, 1, 1),
     ] {
-        assert_eq!(rt; table.offer(offer), Taken::Admitted);
+        same(&rt, table.offer(offer), Taken::Admitted);
     }
     table.second();
     let ended = [way_by(2, 3, 0xAA, 1, 1), way_by(2, 7, 0xAA, 1, 1)];
-    assert_eq!(rt; table.end_port(2).as_slice(), ended.as_slice());
-    assert_eq!(rt; (table.count(1), table.count(2), table.count(3)), (1, 0, 1));
-    assert_eq!(rt;
-        table.get_at(0),
-        Some(Held {
-            offer: stays,
-            age: 1
-        })
-    );
+    same(&rt, table.end_port(2).as_slice(), ended.as_slice());
+    let counts = (table.count(1), table.count(2), table.count(3));
+    same(&rt, counts, (1, 0, 1));
+    let held = Held {
+        offer: stays,
+        age: 1,
+    };
+    same(&rt, table.get_at(0), Some(held));
     assert!(rt; table.end_port(2).is_empty());
 }
 
 #[test]
 fn a_search_asks_seldom(rt: HostRuntime) {
-    assert_eq!(rt; asks_in_vain(0, 0), 0);
-    assert_eq!(rt; asks_in_vain(0, 1), 1);
-    assert_eq!(rt; asks_in_vain(2, 1), 2);
-    assert_eq!(rt; asks_in_vain(0, 50), 6);
-    assert_eq!(rt; asks_in_vain(65535, 0), 16);
+    same(&rt, asks_in_vain(0, 0), 0);
+    same(&rt, asks_in_vain(0, 1), 1);
+    same(&rt, asks_in_vain(2, 1), 2);
+    same(&rt, asks_in_vain(0, 50), 6);
+    same(&rt, asks_in_vain(65535, 0), 16);
     let mut numbers = Numbers {
         smaller: 20,
         held: true,
@@ -378,6 +352,6 @@ fn a_search_asks_seldom(rt: HostRuntime) {
         below: 20,
         held: true,
     };
-    assert_eq!(rt; find(&mut numbers), found);
+    same(&rt, find(&mut numbers), found);
     assert!(rt; numbers.asks() <= 6);
 }

@@ -1,6 +1,7 @@
 //! Packets and devices at their edges: the least and the greatest number of each type as text, entries by place and in order,
 //! a writer that recovers, an intake at its limit.
 
+use crate::same::same;
 use ipx_wire::{
     Address, Crossed, Failed, Header, Intake, MOST_CALLS, Network, Node, NotHex, Operation, Outlet,
     Rip, Sap, ServiceName, Socket,
@@ -34,44 +35,44 @@ fn texts<T: Display + Debug + Drop>(alloc: Global, value: T) -> Result<(String, 
 #[test]
 fn shows_zeros(rt: HostRuntime) -> Result<(), Fail> {
     let (shown, debug) = texts(rt.alloc(), ZEROS.network)?;
-    assert_eq!(rt; shown.as_str(), "00000000");
-    assert_eq!(rt; debug.as_str(), "Network(00000000)");
+    same(&rt, shown.as_str(), "00000000");
+    same(&rt, debug.as_str(), "Network(00000000)");
     let (shown, debug) = texts(rt.alloc(), ZEROS.node)?;
-    assert_eq!(rt; shown.as_str(), "000000000000");
-    assert_eq!(rt; debug.as_str(), "Node(000000000000)");
+    same(&rt, shown.as_str(), "000000000000");
+    same(&rt, debug.as_str(), "Node(000000000000)");
     let (shown, debug) = texts(rt.alloc(), ZEROS.socket)?;
-    assert_eq!(rt; shown.as_str(), "0000");
-    assert_eq!(rt; debug.as_str(), "Socket(0000)");
+    same(&rt, shown.as_str(), "0000");
+    same(&rt, debug.as_str(), "Socket(0000)");
     let shown = format!(in rt.alloc(); "{ZEROS}")?;
-    assert_eq!(rt; shown.as_str(), "00000000.000000000000.0000");
+    same(&rt, shown.as_str(), "00000000.000000000000.0000");
     Ok(())
 }
 
 #[test]
 fn shows_all_ones(rt: HostRuntime) -> Result<(), Fail> {
     let (shown, debug) = texts(rt.alloc(), ONES.network)?;
-    assert_eq!(rt; shown.as_str(), "FFFFFFFF");
-    assert_eq!(rt; debug.as_str(), "Network(FFFFFFFF)");
+    same(&rt, shown.as_str(), "FFFFFFFF");
+    same(&rt, debug.as_str(), "Network(FFFFFFFF)");
     let (shown, debug) = texts(rt.alloc(), ONES.node)?;
-    assert_eq!(rt; shown.as_str(), "FFFFFFFFFFFF");
-    assert_eq!(rt; debug.as_str(), "Node(FFFFFFFFFFFF)");
+    same(&rt, shown.as_str(), "FFFFFFFFFFFF");
+    same(&rt, debug.as_str(), "Node(FFFFFFFFFFFF)");
     let (shown, debug) = texts(rt.alloc(), ONES.socket)?;
-    assert_eq!(rt; shown.as_str(), "FFFF");
-    assert_eq!(rt; debug.as_str(), "Socket(FFFF)");
+    same(&rt, shown.as_str(), "FFFF");
+    same(&rt, debug.as_str(), "Socket(FFFF)");
     let shown = format!(in rt.alloc(); "{ONES}")?;
-    assert_eq!(rt; shown.as_str(), "FFFFFFFF.FFFFFFFFFFFF.FFFF");
+    same(&rt, shown.as_str(), "FFFFFFFF.FFFFFFFFFFFF.FFFF");
     Ok(())
 }
 
 #[test]
 fn gives_the_digits(rt: HostRuntime) {
-    assert_eq!(rt; ZEROS.network.digits(), *b"00000000");
-    assert_eq!(rt; ZEROS.node.digits(), *b"000000000000");
-    assert_eq!(rt; ZEROS.socket.digits(), *b"0000");
-    assert_eq!(rt; ONES.network.digits(), *b"FFFFFFFF");
-    assert_eq!(rt; ONES.node.digits(), *b"FFFFFFFFFFFF");
-    assert_eq!(rt; ONES.socket.digits(), *b"FFFF");
-    assert_eq!(rt; Network(0x0123_ABCD).digits(), *b"0123ABCD");
+    same(&rt, ZEROS.network.digits(), *b"00000000");
+    same(&rt, ZEROS.node.digits(), *b"000000000000");
+    same(&rt, ZEROS.socket.digits(), *b"0000");
+    same(&rt, ONES.network.digits(), *b"FFFFFFFF");
+    same(&rt, ONES.node.digits(), *b"FFFFFFFFFFFF");
+    same(&rt, ONES.socket.digits(), *b"FFFF");
+    same(&rt, Network(0x0123_ABCD).digits(), *b"0123ABCD");
 }
 
 /// The name in a field that begins with these bytes, and has zeros behind them.
@@ -87,11 +88,11 @@ fn named(bytes: &[u8]) -> Option<ServiceName> {
 fn shows_a_name_as_one_word(rt: HostRuntime) -> Result<(), Fail> {
     let name = named(b"A~! \\\x01\xFF").expect(&rt, "a name");
     let (shown, debug) = texts(rt.alloc(), name)?;
-    assert_eq!(rt; shown.as_str(), "A~!\\20\\5C\\01\\FF");
-    assert_eq!(rt; debug.as_str(), "ServiceName(A~!\\20\\5C\\01\\FF)");
+    same(&rt, shown.as_str(), "A~!\\20\\5C\\01\\FF");
+    same(&rt, debug.as_str(), "ServiceName(A~!\\20\\5C\\01\\FF)");
     let long = named(&[b'x'; 47]).expect(&rt, "a name");
     let shown = format!(in rt.alloc(); "{long}")?;
-    assert_eq!(rt; shown.len(), 47);
+    same(&rt, shown.len(), 47);
     Ok(())
 }
 
@@ -99,29 +100,29 @@ fn shows_a_name_as_one_word(rt: HostRuntime) -> Result<(), Fail> {
 fn shows_an_operation(rt: HostRuntime) -> Result<(), Fail> {
     let (request, response) = (Operation::Request, Operation::Response);
     let shown = format!(in rt.alloc(); "{request} {response}")?;
-    assert_eq!(rt; shown.as_str(), "request response");
+    same(&rt, shown.as_str(), "request response");
     Ok(())
 }
 
 #[test]
 fn parses_texts(rt: HostRuntime) -> Result<(), Fail> {
-    assert_eq!(rt; "00000000".parse::<Network>(), Ok(Network::LOCAL));
-    assert_eq!(rt; "ffffffff".parse::<Network>(), Ok(Network::ALL_ROUTES));
-    assert_eq!(rt; "fffffffe".parse::<Network>(), Ok(Network::DEFAULT_ROUTE));
-    assert_eq!(rt; "0000000".parse::<Network>(), Err(NotHex));
-    assert_eq!(rt; "FFFFFFFFFFFF".parse::<Node>(), Ok(Node::BROADCAST));
-    assert_eq!(rt; "00000000000G".parse::<Node>(), Err(NotHex));
+    same(&rt, "00000000".parse::<Network>(), Ok(Network::LOCAL));
+    same(&rt, "ffffffff".parse::<Network>(), Ok(Network::ALL_ROUTES));
+    let default_route = "fffffffe".parse::<Network>();
+    same(&rt, default_route, Ok(Network::DEFAULT_ROUTE));
+    same(&rt, "0000000".parse::<Network>(), Err(NotHex));
+    same(&rt, "FFFFFFFFFFFF".parse::<Node>(), Ok(Node::BROADCAST));
+    same(&rt, "00000000000G".parse::<Node>(), Err(NotHex));
     let shown = format!(in rt.alloc(); "{NotHex}")?;
-    assert_eq!(rt;
-        shown.as_str(),
-        "not the hexadecimal digits of a network or a node"
-    );
+    let wanted = "not the hexadecimal digits of a network or a node";
+    same(&rt, shown.as_str(), wanted);
     Ok(())
 }
 
 #[test]
 fn numbers_the_packet_types(rt: HostRuntime) {
-    assert_eq!(rt; (Header::RIP, Header::SAP, Header::PROPAGATED), (1, 4, 20));
+    let types = (Header::RIP, Header::SAP, Header::PROPAGATED);
+    same(&rt, types, (1, 4, 20));
 }
 
 #[test]
@@ -130,13 +131,13 @@ fn gives_routes_in_order(rt: HostRuntime) -> Result<(), Fail> {
     let rip = Rip::read(&data)?;
     let mut place = 0usize;
     for entry in rip.entries() {
-        assert_eq!(rt; rip.get(place), Some(entry));
+        same(&rt, rip.get(place), Some(entry));
         place = place.wrapping_add(1);
     }
-    assert_eq!(rt; place, 2);
-    assert_eq!(rt; rip.get(1).map(|entry| entry.network), Some(Network(7)));
-    assert_eq!(rt; rip.get(2), None);
-    assert_eq!(rt; rip.get(usize::MAX), None);
+    same(&rt, place, 2);
+    same(&rt, rip.get(1).map(|entry| entry.network), Some(Network(7)));
+    same(&rt, rip.get(2), None);
+    same(&rt, rip.get(usize::MAX), None);
     Ok(())
 }
 
@@ -149,12 +150,12 @@ fn gives_services_in_order(rt: HostRuntime) -> Result<(), Fail> {
         Sap::Response { entries, .. } => {
             let mut place = 0usize;
             for entry in entries.entries() {
-                assert_eq!(rt; entries.get(place), Some(entry));
+                same(&rt, entries.get(place), Some(entry));
                 place = place.wrapping_add(1);
             }
-            assert_eq!(rt; place, 2);
-            assert_eq!(rt; entries.get(1).map(|entry| entry.kind), Some(9));
-            assert_eq!(rt; entries.get(2), None);
+            same(&rt, place, 2);
+            same(&rt, entries.get(1).map(|entry| entry.kind), Some(9));
+            same(&rt, entries.get(2), None);
             Ok(())
         }
         Sap::Query { .. } => panic!(rt; "a query"),
@@ -168,8 +169,8 @@ fn gives_networks_in_order(rt: HostRuntime) -> Result<(), Fail> {
     data[7] = 0x20;
     let crossed = Crossed::read(2, &data)?;
     let mut networks = crossed.entries();
-    assert_eq!(rt; networks.next(), Some(Network(0x10)));
-    assert_eq!(rt; networks.next(), Some(Network(0x20)));
+    same(&rt, networks.next(), Some(Network(0x10)));
+    same(&rt, networks.next(), Some(Network(0x20)));
     assert!(rt; networks.next().is_none());
     assert!(rt; Crossed::read(0, &data)?.entries().next().is_none());
     Ok(())
@@ -206,14 +207,14 @@ fn hands_bytes_on_after_a_failure(rt: HostRuntime) {
         taken: &mut taken,
         calls: 0,
     });
-    assert_eq!(rt; outlet.write(b"ab"), Ok(2));
+    same(&rt, outlet.write(b"ab"), Ok(2));
     assert!(rt; !outlet.failed());
-    assert_eq!(rt; outlet.write(b"cd"), Err(Failed));
+    same(&rt, outlet.write(b"cd"), Err(Failed));
     assert!(rt; outlet.failed());
-    assert_eq!(rt; outlet.write(b"ef"), Ok(2));
+    same(&rt, outlet.write(b"ef"), Ok(2));
     assert!(rt; outlet.failed());
     drop(outlet);
-    assert_eq!(rt; taken.as_slice(), b"abef".as_slice());
+    same(&rt, taken.as_slice(), b"abef".as_slice());
 }
 
 /// Gives one byte a call without end, the call's number modulo 256.
@@ -240,12 +241,12 @@ fn reads_up_to_the_limit(rt: HostRuntime) {
     for _ in 0..MOST_CALLS - 2 {
         assert!(rt; intake.read(&mut buf).is_ok());
     }
-    assert_eq!(rt; intake.read(&mut buf), Ok(1));
-    assert_eq!(rt; buf[0], 0xFF);
-    assert_eq!(rt; intake.read(&mut buf), Ok(1));
-    assert_eq!(rt; buf[0], 0);
+    same(&rt, intake.read(&mut buf), Ok(1));
+    same(&rt, buf[0], 0xFF);
+    same(&rt, intake.read(&mut buf), Ok(1));
+    same(&rt, buf[0], 0);
     assert!(rt; !intake.failed());
-    assert_eq!(rt; intake.read(&mut buf), Err(Failed));
+    same(&rt, intake.read(&mut buf), Err(Failed));
     assert!(rt; intake.failed());
-    assert_eq!(rt; intake.calls(), MOST_CALLS);
+    same(&rt, intake.calls(), MOST_CALLS);
 }

@@ -1,6 +1,7 @@
 //! Changes of the route table, and what is advertised of them.
 
 use crate::router::watched::{A, B, C, Watched, entry, fifty};
+use crate::same::same;
 use ipx_router::Outcome;
 use std::test::Fail;
 
@@ -22,14 +23,14 @@ fn a_full_table_admits_behind_a_withdrawal_alone(rt: HostRuntime) -> Result<(), 
     ] {
         let mut watched = Watched::started(rt.alloc())?;
         watched.hear(0, A, &fifty(0x101))?;
-        assert_eq!(rt; watched.hear(0, A, &entries)?, Outcome::Learned);
-        assert_eq!(rt; watched.router.routes(), routes);
-        assert_eq!(rt; watched.route(0x101), None);
-        assert_eq!(rt; watched.outbox.len(), 1);
-        assert_eq!(rt; watched.sent(0).map(|(port, _)| port), Some(1));
-        assert_eq!(rt; watched.advertised(0, 0), Some((0x101, GONE.0, GONE.1)));
-        assert_eq!(rt; watched.advertised(0, 1), second);
-        assert_eq!(rt; watched.advertised(0, 2), None);
+        same(&rt, watched.hear(0, A, &entries)?, Outcome::Learned);
+        same(&rt, watched.router.routes(), routes);
+        same(&rt, watched.route(0x101), None);
+        same(&rt, watched.outbox.len(), 1);
+        same(&rt, watched.sent(0).map(|(port, _)| port), Some(1));
+        same(&rt, watched.advertised(0, 0), Some((0x101, GONE.0, GONE.1)));
+        same(&rt, watched.advertised(0, 1), second);
+        same(&rt, watched.advertised(0, 2), None);
     }
     Ok(())
 }
@@ -44,12 +45,12 @@ fn one_response_sends_on_the_port_that_it_came_by_too(rt: HostRuntime) -> Result
         entry(0x30, GONE.0, GONE.1),
         entry(0x77, 1, 2),
     ];
-    assert_eq!(rt; watched.hear(0, A, &entries)?, Outcome::Learned);
-    assert_eq!(rt; watched.outbox.len(), 2);
-    assert_eq!(rt; watched.sent(0), Some((0, 40)));
-    assert_eq!(rt; watched.advertised(0, 0), Some((0x30, GONE.0, GONE.1)));
-    assert_eq!(rt; watched.sent(1), Some((1, 40)));
-    assert_eq!(rt; watched.advertised(1, 0), Some((0x77, 2, 3)));
+    same(&rt, watched.hear(0, A, &entries)?, Outcome::Learned);
+    same(&rt, watched.outbox.len(), 2);
+    same(&rt, watched.sent(0), Some((0, 40)));
+    same(&rt, watched.advertised(0, 0), Some((0x30, GONE.0, GONE.1)));
+    same(&rt, watched.sent(1), Some((1, 40)));
+    same(&rt, watched.advertised(1, 0), Some((0x77, 2, 3)));
     Ok(())
 }
 
@@ -62,12 +63,12 @@ fn a_network_offered_fifty_times_is_advertised_once(rt: HostRuntime) -> Result<(
         hops = hops % 15 + 1;
     }
     let mut watched = Watched::started(rt.alloc())?;
-    assert_eq!(rt; watched.hear(0, A, &entries)?, Outcome::Learned);
-    assert_eq!(rt; watched.router.routes(), 1);
-    assert_eq!(rt; watched.route(0x200), Some((5, 2, A, 0)));
-    assert_eq!(rt; watched.outbox.len(), 1);
-    assert_eq!(rt; watched.sent(0), Some((1, 40)));
-    assert_eq!(rt; watched.advertised(0, 0), Some((0x200, 6, 3)));
+    same(&rt, watched.hear(0, A, &entries)?, Outcome::Learned);
+    same(&rt, watched.router.routes(), 1);
+    same(&rt, watched.route(0x200), Some((5, 2, A, 0)));
+    same(&rt, watched.outbox.len(), 1);
+    same(&rt, watched.sent(0), Some((1, 40)));
+    same(&rt, watched.advertised(0, 0), Some((0x200, 6, 3)));
     Ok(())
 }
 
@@ -85,7 +86,7 @@ fn neighbours_compete_for_a_route(rt: HostRuntime) -> Result<(), Fail> {
         (D, GONE.0, GONE.1, None),
     ] {
         let offer = [entry(0x30, hops, ticks)];
-        assert_eq!(rt; watched.hear(1, neighbour, &offer)?, Outcome::Learned);
+        same(&rt, watched.hear(1, neighbour, &offer)?, Outcome::Learned);
         assert_eq!(rt;
             watched.route(0x30),
             route,

@@ -1,6 +1,7 @@
 //! A table of fifty routes: what fills it, and what a full one does.
 
 use crate::router::watched::{A, Watched, entry, fifty, response};
+use crate::same::same;
 use ipx_router::{Outcome, Why};
 use ipx_wire::RipFault;
 use std::test::Fail;
@@ -8,10 +9,10 @@ use std::test::Fail;
 #[test]
 fn fifty_networks_are_learned_and_advertised_in_one_packet(rt: HostRuntime) -> Result<(), Fail> {
     let mut watched = Watched::started(rt.alloc())?;
-    assert_eq!(rt; watched.hear(0, A, &fifty(0x101))?, Outcome::Learned);
-    assert_eq!(rt; watched.router.routes(), 50);
-    assert_eq!(rt; watched.outbox.len(), 1);
-    assert_eq!(rt; watched.sent(0), Some((1, 432)));
+    same(&rt, watched.hear(0, A, &fifty(0x101))?, Outcome::Learned);
+    same(&rt, watched.router.routes(), 50);
+    same(&rt, watched.outbox.len(), 1);
+    same(&rt, watched.sent(0), Some((1, 432)));
     for (k, network) in (0x101..0x133).enumerate() {
         assert_eq!(rt;
             watched.advertised(0, k),
@@ -35,9 +36,9 @@ fn of_fifty_one_networks_none_is_learned(rt: HostRuntime) -> Result<(), Fail> {
     let mut watched = Watched::started(rt.alloc())?;
     let bytes = fifty_one().ok_or("no response")?;
     let too_many = Outcome::Dropped(Why::BadRip(RipFault::TooMany));
-    assert_eq!(rt; watched.packet(0, &bytes)?, too_many);
-    assert_eq!(rt; watched.router.routes(), 0);
-    assert_eq!(rt; watched.outbox.len(), 0);
+    same(&rt, watched.packet(0, &bytes)?, too_many);
+    same(&rt, watched.router.routes(), 0);
+    same(&rt, watched.outbox.len(), 0);
     Ok(())
 }
 
@@ -49,16 +50,14 @@ fn a_full_table_refreshes_and_neither_admits_nor_evicts(rt: HostRuntime) -> Resu
         watched.second()?;
     }
     for network in [0x133, 0x101] {
-        assert_eq!(rt;
-            watched.hear(0, A, &[entry(network, 1, 2)])?,
-            Outcome::Learned
-        );
-        assert_eq!(rt; watched.outbox.len(), 0);
+        let heard = watched.hear(0, A, &[entry(network, 1, 2)])?;
+        same(&rt, heard, Outcome::Learned);
+        same(&rt, watched.outbox.len(), 0);
     }
-    assert_eq!(rt; watched.router.routes(), 50);
-    assert_eq!(rt; watched.route(0x133), None);
-    assert_eq!(rt; watched.route(0x101), Some((1, 2, A, 0)));
-    assert_eq!(rt; watched.route(0x102), Some((1, 2, A, 10)));
+    same(&rt, watched.router.routes(), 50);
+    same(&rt, watched.route(0x133), None);
+    same(&rt, watched.route(0x101), Some((1, 2, A, 0)));
+    same(&rt, watched.route(0x102), Some((1, 2, A, 10)));
     Ok(())
 }
 
@@ -67,7 +66,7 @@ fn a_full_table_refreshes_and_neither_admits_nor_evicts(rt: HostRuntime) -> Resu
 fn a_flood_leaves_fifty_routes_until_they_expire(rt: HostRuntime) -> Result<(), Fail> {
     let mut watched = Watched::started(rt.alloc())?;
     for (turn, first) in (0x1000..0x3710).step_by(50).enumerate() {
-        assert_eq!(rt; watched.hear(0, A, &fifty(first))?, Outcome::Learned);
+        same(&rt, watched.hear(0, A, &fifty(first))?, Outcome::Learned);
         assert_eq!(rt;
             watched.outbox.len(),
             usize::from(turn == 0),
@@ -76,7 +75,7 @@ fn a_flood_leaves_fifty_routes_until_they_expire(rt: HostRuntime) -> Result<(), 
         assert_eq!(rt; watched.router.routes(), 50, "response {turn}");
     }
     for second in 1..=180 {
-        assert_eq!(rt; watched.second()?, Outcome::Ticked);
+        same(&rt, watched.second()?, Outcome::Ticked);
         let sent = [watched.sent(0), watched.sent(1), watched.sent(2)];
         if second % 60 == 0 {
             assert_eq!(rt;
@@ -87,8 +86,9 @@ fn a_flood_leaves_fifty_routes_until_they_expire(rt: HostRuntime) -> Result<(), 
         } else {
             assert_eq!(rt; sent, [None; 3], "{second}");
         }
-        assert_eq!(rt; watched.sent(3), None);
-        assert_eq!(rt; watched.router.routes(), if second < 180 { 50 } else { 0 });
+        same(&rt, watched.sent(3), None);
+        let routes = if second < 180 { 50 } else { 0 };
+        same(&rt, watched.router.routes(), routes);
     }
     Ok(())
 }

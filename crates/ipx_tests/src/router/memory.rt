@@ -4,9 +4,11 @@ ghost use Rattle.ipx_router.specs.Happened.{happened};
 ghost use Rattle.ipx_router.specs.History.{IsOnPort};
 
 use crate::router::watched::{A, B, entry, node, on, ports, response, sent};
+use crate::same::same;
 use ipx_router::{Event, Need, Outbox, Outcome, RouteOffer, Router};
 use ipx_table::Held;
 use ipx_wire::{Network, Node, OutOfMemory, Service, ServiceName, Socket, write_query, write_sap};
+use std::alloc::Global;
 use std::test::Fail;
 
 /// More than any memory has.
@@ -20,18 +22,19 @@ fn a_refused_reservation_can_be_made_again(rt: HostRuntime) -> Result<(), Fail> 
     for (packets, bytes) in [(TOO_MUCH, 1), (1, TOO_MUCH)] {
         let need = Need { packets, bytes };
         assert!(rt; !outbox.has_room(need));
-        assert_eq!(rt; outbox.reserve(need), Err(OutOfMemory));
-        assert_eq!(rt; outbox.len(), 6);
-        assert_eq!(rt; sent(&outbox, 0), Some((0, 40)));
-        assert_eq!(rt; sent(&outbox, 5), Some((1, 34)));
+        same(&rt, outbox.reserve(need), Err(OutOfMemory));
+        same(&rt, outbox.len(), 6);
+        same(&rt, sent(&outbox, 0), Some((0, 40)));
+        same(&rt, sent(&outbox, 5), Some((1, 34)));
     }
     let need = router.need(&Event::Stop);
     outbox.reserve(need)?;
     assert!(rt; outbox.has_room(need));
-    assert_eq!(rt; router.handle(Event::Stop, &mut outbox), Outcome::Stopped);
-    assert_eq!(rt; outbox.len(), 8);
-    assert_eq!(rt; sent(&outbox, 0), Some((0, 40)));
-    assert_eq!(rt; sent(&outbox, 7), Some((1, 40)));
+    let stopped = router.handle(Event::Stop, &mut outbox);
+    same(&rt, stopped, Outcome::Stopped);
+    same(&rt, outbox.len(), 8);
+    same(&rt, sent(&outbox, 0), Some((0, 40)));
+    same(&rt, sent(&outbox, 7), Some((1, 40)));
     Ok(())
 }
 
@@ -76,16 +79,16 @@ fn a_step_without_memory_can_be_taken_again(rt: HostRuntime) -> Result<(), Fail>
         bytes: &bytes,
     };
     let started = stepped(&mut router, &mut outbox, Event::Start)?;
-    assert_eq!(rt; (started, outbox.len()), (Outcome::Started, 6));
+    same(&rt, (started, outbox.len()), (Outcome::Started, 6));
     assert!(rt; router.has_port(1));
     let learned = stepped(&mut router, &mut outbox, heard)?;
-    assert_eq!(rt; (learned, outbox.len()), (Outcome::Learned, 7));
+    same(&rt, (learned, outbox.len()), (Outcome::Learned, 7));
     let ticked = stepped(&mut router, &mut outbox, Event::Second)?;
-    assert_eq!(rt; (ticked, outbox.len()), (Outcome::Ticked, 7));
+    same(&rt, (ticked, outbox.len()), (Outcome::Ticked, 7));
     let stopped = stepped(&mut router, &mut outbox, Event::Stop)?;
-    assert_eq!(rt; (stopped, outbox.len()), (Outcome::Stopped, 9));
-    assert_eq!(rt; sent(&outbox, 6), Some((0, 40)));
-    assert_eq!(rt; sent(&outbox, 7), Some((0, 48)));
+    same(&rt, (stopped, outbox.len()), (Outcome::Stopped, 9));
+    same(&rt, sent(&outbox, 6), Some((0, 40)));
+    same(&rt, sent(&outbox, 7), Some((0, 48)));
     Ok(())
 }
 
@@ -125,46 +128,38 @@ fn lengths(outbox: &Outbox) -> [Option<(u8, usize)>; 6] {
     lengths
 }
 
+/// A router that was started in room that was reserved for it, and its outbox.
+fn started(heap: Global) -> Result<(Router<2, 50, 8>, Outbox), Fail> {
+    let mut router = Router::new(&ports()?)?;
+    let mut outbox = Outbox::new(heap);
+    outbox.reserve(router.need(&Event::Start))?;
+    match handled(&mut router, &mut outbox, Event::Start) {
+        Some(Outcome::Started) => Ok((router, outbox)),
+        _ => Err(Fail::new("not started")),
+    }
+}
+
 /// The room for a start is enough for the seconds of a route's life.
 #[test]
 fn a_route_lives_and_expires_in_room_that_was_reserved(rt: HostRuntime) -> Result<(), Fail> {
-    let mut router = Router::<2, 50, 8>::new(&ports()?)?;
-    let mut outbox = Outbox::new(rt.alloc());
-    outbox.reserve(router.need(&Event::Start))?;
-    assert_eq!(rt;
-        handled(&mut router, &mut outbox, Event::Start),
-        Some(Outcome::Started)
-    );
+    let (mut router, mut outbox) = started(rt.alloc())?;
     let of_start = [(0, 40), (0, 40), (0, 34), (1, 40), (1, 40), (1, 34)];
-    assert_eq!(rt; lengths(&outbox), of_start.map(Some));
+    same(&rt, lengths(&outbox), of_start.map(Some));
     let bytes = response(1, B, &[entry(0x30, 1, 2)]).ok_or("no response")?;
-    let heard = Event::Packet {
-        port: 1,
-        bytes: &bytes,
-    };
-    assert!(rt; router.has_port(1));
-    assert_eq!(rt;
-        handled(&mut router, &mut outbox, heard),
-        Some(Outcome::Learned)
-    );
-    assert_eq!(rt;
-        lengths(&outbox),
-        [Some((0, 40)), None, None, None, None, None]
-    );
+    let learned = handled_packet(&mut router, &mut outbox, 1, &bytes);
+    same(&rt, learned, Some(Outcome::Learned));
+    let of_news = [Some((0, 40)), None, None, None, None, None];
+    same(&rt, lengths(&outbox), of_news);
     for second in 1..=180 {
-        assert_eq!(rt;
-            handled(&mut router, &mut outbox, Event::Second),
-            Some(Outcome::Ticked)
-        );
-        if second % 60 == 0 {
-            assert_eq!(rt;
-                lengths(&outbox),
-                [Some((0, 48)), Some((1, 40)), None, None, None, None]
-            );
+        let ticked = handled(&mut router, &mut outbox, Event::Second);
+        same(&rt, ticked, Some(Outcome::Ticked));
+        let of_second = if second % 60 == 0 {
+            [Some((0, 48)), Some((1, 40)), None, None, None, None]
         } else {
-            assert_eq!(rt; outbox.len(), 0);
-        }
-        assert_eq!(rt; router.routes(), usize::from(second < 180));
+            [None; 6]
+        };
+        same(&rt, lengths(&outbox), of_second);
+        same(&rt, router.routes(), usize::from(second < 180));
     }
     Ok(())
 }
@@ -196,58 +191,37 @@ fn advertised(services: &[Service]) -> Option<[u8; 480]> {
     Some(bytes)
 }
 
+/// Neighbour A's query for services of every type.
+fn query() -> [u8; 34] {
+    let mut bytes = [0; 34];
+    let from = on(0, node(A), Socket(0x4003));
+    let to = on(0, node(1), Socket::SAP);
+    write_query(from, to, false, 0xFFFF, &mut bytes);
+    bytes
+}
+
 /// The room for a start is enough for eight services in two pages, when they are learned, asked for and withdrawn.
 #[test]
 fn services_are_paged_in_room_that_was_reserved(rt: HostRuntime) -> Result<(), Fail> {
-    let mut router = Router::<2, 50, 8>::new(&ports()?)?;
-    let mut outbox = Outbox::new(rt.alloc());
-    outbox.reserve(router.need(&Event::Start))?;
-    assert_eq!(rt;
-        handled(&mut router, &mut outbox, Event::Start),
-        Some(Outcome::Started)
-    );
+    let (mut router, mut outbox) = started(rt.alloc())?;
     let eight = services().ok_or("no name")?;
     let (seven, one) = eight.split_at(7);
     let seven = advertised(seven).ok_or("no response")?;
     let one = advertised(one).ok_or("no response")?;
-    let mut query = [0; 34];
-    let asker = on(0, node(A), Socket(0x4003));
-    write_query(
-        asker,
-        on(0, node(1), Socket::SAP),
-        false,
-        0xFFFF,
-        &mut query,
-    );
+    let (whole, rest) = (Some((0, 480)), Some((0, 96)));
     for (port, bytes, outcome, packets) in [
-        (1, &seven as &[u8], Outcome::Learned, [Some((0, 480)), None]),
-        (1, &one, Outcome::Learned, [Some((0, 96)), None]),
-        (
-            0,
-            &query,
-            Outcome::Answered,
-            [Some((0, 480)), Some((0, 96))],
-        ),
+        (1, &seven as &[u8], Outcome::Learned, [whole, None, None]),
+        (1, &one, Outcome::Learned, [rest, None, None]),
+        (0, &query(), Outcome::Answered, [whole, rest, None]),
     ] {
-        assert_eq!(rt;
-            handled_packet(&mut router, &mut outbox, port, bytes),
-            Some(outcome)
-        );
-        assert_eq!(rt; [sent(&outbox, 0), sent(&outbox, 1)], packets);
-        assert_eq!(rt; sent(&outbox, 2), None);
+        let became = handled_packet(&mut router, &mut outbox, port, bytes);
+        same(&rt, became, Some(outcome));
+        let sent = [sent(&outbox, 0), sent(&outbox, 1), sent(&outbox, 2)];
+        same(&rt, sent, packets);
     }
-    assert_eq!(rt;
-        handled(&mut router, &mut outbox, Event::Stop),
-        Some(Outcome::Stopped)
-    );
-    let of_stop = [
-        Some((0, 40)),
-        Some((0, 480)),
-        Some((0, 96)),
-        Some((1, 40)),
-        None,
-        None,
-    ];
-    assert_eq!(rt; lengths(&outbox), of_stop);
+    let stopped = handled(&mut router, &mut outbox, Event::Stop);
+    same(&rt, stopped, Some(Outcome::Stopped));
+    let of_stop = [Some((0, 40)), whole, rest, Some((1, 40)), None, None];
+    same(&rt, lengths(&outbox), of_stop);
     Ok(())
 }

@@ -1,6 +1,7 @@
 //! The room that an event may take, and packets that are only sent on.
 
 use crate::router::watched::{A, B, Watched, entry, node, on};
+use crate::same::same;
 use ipx_router::{Event, Need, Outcome};
 use ipx_wire::{Network, Node, Operation, Packet, RipEntry, Socket, write_rip};
 use std::test::Fail;
@@ -40,14 +41,14 @@ fn one_route_needs_one_page(rt: HostRuntime) -> Result<(), Fail> {
         packets: 2,
         bytes: 960,
     };
-    assert_eq!(rt; watched.router.need(&request), two);
+    same(&rt, watched.router.need(&request), two);
     watched.hear(1, B, &[entry(0x30, 1, 2)])?;
-    assert_eq!(rt; watched.router.need(&request), two);
-    assert_eq!(rt; watched.router.need(&Event::Second), two);
+    same(&rt, watched.router.need(&request), two);
+    same(&rt, watched.router.need(&Event::Second), two);
     let up = watched.router.need(&Event::PortUp { port: 1 });
-    assert_eq!(rt; (up.packets, up.bytes), (4, 1920));
+    same(&rt, (up.packets, up.bytes), (4, 1920));
     let down = watched.router.need(&Event::PortDown { port: 1 });
-    assert_eq!(rt; (down.packets, down.bytes), (1, 480));
+    same(&rt, (down.packets, down.bytes), (1, 480));
     Ok(())
 }
 
@@ -61,14 +62,12 @@ fn relaying_alone_hears_nothing(rt: HostRuntime) -> Result<(), Fail> {
     ] {
         let packet = Packet::read(bytes)?;
         let need = watched.router.relay_need(&packet);
-        assert_eq!(rt; (need.packets, need.bytes), (1, bytes.len()));
+        same(&rt, (need.packets, need.bytes), (1, bytes.len()));
         watched.outbox.reserve(need)?;
         assert!(rt; watched.router.has_port(0));
-        assert_eq!(rt;
-            watched.router.relay(0, &packet, &mut watched.outbox),
-            outcome
-        );
-        assert_eq!(rt; watched.sent(0), sent);
+        let relayed = watched.router.relay(0, &packet, &mut watched.outbox);
+        same(&rt, relayed, outcome);
+        same(&rt, watched.sent(0), sent);
     }
     Ok(())
 }

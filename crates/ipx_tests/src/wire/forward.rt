@@ -1,5 +1,6 @@
 //! What a packet is when it is sent on.
 
+use crate::same::same;
 use ipx_wire::{Crossed, Network, Packet, write_crossed, write_forwarded};
 use std::test::Fail;
 
@@ -26,8 +27,8 @@ fn sends_a_packet_on_without_its_padding(rt: HostRuntime) -> Result<(), Fail> {
     wanted[4] = 16;
     let packet = Packet::read(&padded)?;
     assert!(rt; packet.header().control < 255 && packet.bytes().len() <= 32);
-    assert_eq!(rt; write_forwarded(&packet, &mut out), 30);
-    assert_eq!(rt; out, wanted);
+    same(&rt, write_forwarded(&packet, &mut out), 30);
+    same(&rt, out, wanted);
     Ok(())
 }
 
@@ -46,11 +47,9 @@ fn propagates_a_packet_with_seven_networks_crossed(rt: HostRuntime) -> Result<()
     assert!(rt;
         packet.header().control == 7 && packet.payload().len() >= 32 && packet.bytes().len() <= 65
     );
-    assert_eq!(rt;
-        write_crossed(&packet, Network(0x10), Network(0x20), &mut out),
-        63
-    );
-    assert_eq!(rt; out, wanted);
+    let count = write_crossed(&packet, Network(0x10), Network(0x20), &mut out);
+    same(&rt, count, 63);
+    same(&rt, out, wanted);
     Ok(())
 }
 
@@ -64,13 +63,11 @@ fn lists_the_network_of_arrival_for_the_next_router(rt: HostRuntime) -> Result<(
     assert!(rt;
         packet.header().control == 0 && packet.payload().len() >= 32 && packet.bytes().len() <= 63
     );
-    assert_eq!(rt;
-        write_crossed(&packet, Network(0x10), Network(0x20), &mut out),
-        63
-    );
+    let count = write_crossed(&packet, Network(0x10), Network(0x20), &mut out);
+    same(&rt, count, 63);
     let sent = Packet::read(&out)?;
     let crossed = Crossed::read(sent.header().control, sent.payload())?;
-    assert_eq!(rt; crossed.len(), 1);
-    assert_eq!(rt; crossed.get(0), Network(0x10));
+    assert!(rt; crossed.len() == 1);
+    same(&rt, crossed.get(0), Network(0x10));
     Ok(())
 }

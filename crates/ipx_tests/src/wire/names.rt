@@ -1,5 +1,6 @@
 //! Names of services, and their order.
 
+use crate::same::same;
 use ipx_wire::ServiceName;
 use std::cmp::Ordering;
 
@@ -13,21 +14,21 @@ fn field_of(front: [u8; 4]) -> [u8; 48] {
 #[test]
 fn reads_the_bytes_before_the_first_zero(rt: HostRuntime) {
     let name = ServiceName::read(&field_of(*b"S\0XX")).expect(&rt, "a name");
-    assert_eq!(rt; name.bytes(), b"S".as_slice());
-    assert_eq!(rt; name.field(), field_of(*b"S\0\0\0"));
-    assert_eq!(rt; ServiceName::read(&name.field()), Some(name));
+    same(&rt, name.bytes(), b"S".as_slice());
+    same(&rt, name.field(), field_of(*b"S\0\0\0"));
+    same(&rt, ServiceName::read(&name.field()), Some(name));
 }
 
 #[test]
 fn refuses_an_empty_name_and_one_of_48_bytes(rt: HostRuntime) {
     let mut field = [b'A'; 48];
-    assert_eq!(rt; ServiceName::read(&field), None);
+    same(&rt, ServiceName::read(&field), None);
     field[47] = 0;
     let longest = ServiceName::read(&field).expect(&rt, "a name");
-    assert_eq!(rt; longest.bytes(), [b'A'; 47].as_slice());
-    assert_eq!(rt; longest.field(), field);
+    same(&rt, longest.bytes(), [b'A'; 47].as_slice());
+    same(&rt, longest.field(), field);
     field[0] = 0;
-    assert_eq!(rt; ServiceName::read(&field), None);
+    same(&rt, ServiceName::read(&field), None);
 }
 
 #[test]
@@ -35,9 +36,9 @@ fn orders_names_by_their_bytes(rt: HostRuntime) {
     let short = ServiceName::read(&field_of(*b"S1\0\0")).expect(&rt, "a name");
     let long = ServiceName::read(&field_of(*b"S10\0")).expect(&rt, "a name");
     let later = ServiceName::read(&field_of(*b"S2\0\0")).expect(&rt, "a name");
-    assert_eq!(rt; short.cmp(&long), Ordering::Less);
-    assert_eq!(rt; later.cmp(&long), Ordering::Greater);
-    assert_eq!(rt; short.cmp(&short), Ordering::Equal);
+    same(&rt, short.cmp(&long), Ordering::Less);
+    same(&rt, later.cmp(&long), Ordering::Greater);
+    same(&rt, short.cmp(&short), Ordering::Equal);
     assert!(rt; short < later);
-    assert_eq!(rt; ServiceName::default().bytes(), b"?".as_slice());
+    same(&rt, ServiceName::default().bytes(), b"?".as_slice());
 }

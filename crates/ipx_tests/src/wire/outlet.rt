@@ -1,5 +1,6 @@
 //! What a writer takes, and that its failures are remembered.
 
+use crate::same::same;
 use ipx_wire::{Failed, Outlet};
 use std::io;
 use std::io::{ErrorKind, Write};
@@ -30,12 +31,12 @@ impl Write for Narrow<'_> {
 fn takes_what_the_writer_takes(rt: HostRuntime) {
     let mut held = Vec::new(rt.alloc());
     let mut outlet = Outlet::new(&mut held);
-    assert_eq!(rt; outlet.write(b"ab"), Ok(2));
-    assert_eq!(rt; outlet.write(b""), Ok(0));
-    assert_eq!(rt; outlet.write(b"c"), Ok(1));
+    same(&rt, outlet.write(b"ab"), Ok(2));
+    same(&rt, outlet.write(b""), Ok(0));
+    same(&rt, outlet.write(b"c"), Ok(1));
     assert!(rt; !outlet.failed());
     drop(outlet);
-    assert_eq!(rt; held.as_slice(), b"abc".as_slice());
+    same(&rt, held.as_slice(), b"abc".as_slice());
 }
 
 #[test]
@@ -46,12 +47,12 @@ fn fails_where_the_writer_fails(rt: HostRuntime) {
         calls: &mut calls,
         last: 2,
     });
-    assert_eq!(rt; outlet.write(b"abc"), Ok(2));
+    same(&rt, outlet.write(b"abc"), Ok(2));
     assert!(rt; !outlet.failed());
-    assert_eq!(rt; outlet.write(b"c"), Err(Failed));
+    same(&rt, outlet.write(b"c"), Err(Failed));
     assert!(rt; outlet.failed());
     drop(outlet);
-    assert_eq!(rt; calls, 2);
+    same(&rt, calls, 2);
 }
 
 #[test]
@@ -62,10 +63,10 @@ fn fails_where_the_writer_takes_none(rt: HostRuntime) {
         calls: &mut calls,
         last: 9,
     });
-    assert_eq!(rt; outlet.write(b""), Ok(0));
+    same(&rt, outlet.write(b""), Ok(0));
     assert!(rt; !outlet.failed());
-    assert_eq!(rt; outlet.write(b"a"), Err(Failed));
+    same(&rt, outlet.write(b"a"), Err(Failed));
     assert!(rt; outlet.failed());
     drop(outlet);
-    assert_eq!(rt; calls, 2);
+    same(&rt, calls, 2);
 }

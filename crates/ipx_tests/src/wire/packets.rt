@@ -1,5 +1,6 @@
 //! Packets of the routing information protocol, read and written; and a written query.
 
+use crate::same::same;
 use ipx_wire::{
     Address, Header, Network, Node, Operation, Packet, PacketFault, Rip, RipEntry, RipFault,
     Socket, write_query, write_rip,
@@ -44,7 +45,7 @@ fn reads_a_request_and_ignores_padding(rt: HostRuntime) -> Result<(), Fail> {
     let mut padded = [0; 60];
     padded[..40].copy_from_slice(&GENERAL_REQUEST);
     let packet = Packet::read(&padded)?;
-    assert_eq!(rt; packet.bytes(), GENERAL_REQUEST.as_slice());
+    same(&rt, packet.bytes(), GENERAL_REQUEST.as_slice());
     let header = Header {
         checksum: 0xFFFF,
         length: 40,
@@ -53,27 +54,30 @@ fn reads_a_request_and_ignores_padding(rt: HostRuntime) -> Result<(), Fail> {
         destination: on_network_ten(Node::BROADCAST, Socket::RIP),
         source: on_network_ten(NODE, Socket::RIP),
     };
-    assert_eq!(rt; packet.header(), header);
+    same(&rt, packet.header(), header);
     let rip = Rip::read(packet.payload())?;
-    assert_eq!(rt; rip.operation(), Operation::Request);
-    assert_eq!(rt; rip.len(), 1);
+    same(&rt, rip.operation(), Operation::Request);
+    same(&rt, rip.len(), 1);
     let every = RipEntry {
         network: Network::ALL_ROUTES,
         hops: 0xFFFF,
         ticks: 0xFFFF,
     };
-    assert_eq!(rt; rip.entry(0), every);
+    same(&rt, rip.entry(0), every);
     Ok(())
 }
 
 #[test]
 fn refuses_damaged_packets(rt: HostRuntime) {
     let mut bytes = [0; 30];
-    assert_eq!(rt; Packet::read(&bytes[..29]).err(), Some(PacketFault::Short));
+    let fault = Packet::read(&bytes[..29]).err();
+    same(&rt, fault, Some(PacketFault::Short));
     bytes[3] = 29;
-    assert_eq!(rt; Packet::read(&bytes).err(), Some(PacketFault::LengthSmall));
+    let fault = Packet::read(&bytes).err();
+    same(&rt, fault, Some(PacketFault::LengthSmall));
     bytes[3] = 31;
-    assert_eq!(rt; Packet::read(&bytes).err(), Some(PacketFault::LengthBeyond));
+    let fault = Packet::read(&bytes).err();
+    same(&rt, fault, Some(PacketFault::LengthBeyond));
     bytes[3] = 30;
     assert!(rt; Packet::read(&bytes).is_ok());
 }
@@ -82,23 +86,24 @@ fn refuses_damaged_packets(rt: HostRuntime) {
 fn reads_one_to_fifty_entries(rt: HostRuntime) -> Result<(), Fail> {
     let mut data = [0; 410];
     data[1] = 3;
-    assert_eq!(rt; Rip::read(&data[..1]).err(), Some(RipFault::Short));
-    assert_eq!(rt; Rip::read(&data[..2]).err(), Some(RipFault::Operation(3)));
+    same(&rt, Rip::read(&data[..1]).err(), Some(RipFault::Short));
+    let fault = Rip::read(&data[..2]).err();
+    same(&rt, fault, Some(RipFault::Operation(3)));
     data[1] = 1;
-    assert_eq!(rt; Rip::read(&data[..9]).err(), Some(RipFault::NoEntry));
+    same(&rt, Rip::read(&data[..9]).err(), Some(RipFault::NoEntry));
     data[1] = 2;
-    assert_eq!(rt; Rip::read(&data).err(), Some(RipFault::TooMany));
+    same(&rt, Rip::read(&data).err(), Some(RipFault::TooMany));
     data[397] = 0x77;
     let rip = Rip::read(&data[..409])?;
-    assert_eq!(rt; rip.len(), 50);
+    assert!(rt; rip.len() == 50);
     let mut k = 0;
     for entry in rip.entries() {
         assert!(rt; k < rip.len());
-        assert_eq!(rt; entry, rip.entry(k));
+        same(&rt, entry, rip.entry(k));
         k += 1;
     }
-    assert_eq!(rt; k, 50);
-    assert_eq!(rt; rip.entry(49).network, Network(0x77));
+    same(&rt, k, 50);
+    same(&rt, rip.entry(49).network, Network(0x77));
     Ok(())
 }
 
@@ -115,8 +120,8 @@ fn writes_routes_and_leaves_the_rest(rt: HostRuntime) {
     let from = on_network_ten(ROUTER, Socket::RIP);
     let to = on_network_ten(Node::BROADCAST, Socket::RIP);
     let count = write_rip(from, to, Operation::Response, &[entry], &mut out);
-    assert_eq!(rt; count, 40);
-    assert_eq!(rt; out, wanted);
+    same(&rt, count, 40);
+    same(&rt, out, wanted);
 }
 
 #[test]
@@ -127,6 +132,6 @@ fn writes_a_query_and_leaves_the_rest(rt: HostRuntime) {
     let from = on_network_ten(ROUTER, Socket::SAP);
     let to = on_network_ten(Node::BROADCAST, Socket::SAP);
     let count = write_query(from, to, false, 0xFFFF, &mut out);
-    assert_eq!(rt; count, 34);
-    assert_eq!(rt; out, wanted);
+    same(&rt, count, 34);
+    same(&rt, out, wanted);
 }

@@ -1,5 +1,6 @@
 //! Numbers as text, there and back, and the texts of failures.
 
+use crate::same::same;
 use ipx_wire::{Failed, Hex, Network, Node, OutOfMemory, Socket};
 use std::alloc::{AllocError, Global};
 use std::test::Fail;
@@ -13,15 +14,15 @@ fn shows_upper_case_digits(rt: HostRuntime) -> Result<(), Fail> {
     let socket = Socket(0x0F5E);
     let hex = Hex(&[0x00, 0x7F, 0xC0]);
     let text = format!(in alloc; "{network} {NODE} {socket} {hex}")?;
-    assert_eq!(rt; text.as_str(), "0123ABCD 0000000000AA 0F5E 007FC0");
+    same(&rt, text.as_str(), "0123ABCD 0000000000AA 0F5E 007FC0");
     Ok(())
 }
 
 #[test]
 fn reads_digits_of_both_cases(rt: HostRuntime) {
     let network = Some(Network(0x0123_ABCD));
-    assert_eq!(rt; Network::from_hex("0123ABCD"), network);
-    assert_eq!(rt; Network::from_hex("0123abCd"), network);
+    same(&rt, Network::from_hex("0123ABCD"), network);
+    same(&rt, Network::from_hex("0123abCd"), network);
     for text in [
         "",
         "0123ABC",
@@ -33,7 +34,7 @@ fn reads_digits_of_both_cases(rt: HostRuntime) {
     ] {
         assert_eq!(rt; Network::from_hex(text), None, "{text}");
     }
-    assert_eq!(rt; Node::from_hex("0000000000aA"), Some(NODE));
+    same(&rt, Node::from_hex("0000000000aA"), Some(NODE));
     for text in [
         "0000000000A",
         "0000000000AA0",
@@ -47,9 +48,9 @@ fn reads_digits_of_both_cases(rt: HostRuntime) {
 #[test]
 fn says_what_failed(rt: HostRuntime) -> Result<(), Fail> {
     let memory = format!(in rt.alloc(); "{}", OutOfMemory::from(AllocError))?;
-    assert_eq!(rt; memory.as_str(), "memory");
+    same(&rt, memory.as_str(), "memory");
     let failed = format!(in rt.alloc(); "{}", Failed)?;
-    assert_eq!(rt; failed.as_str(), "the device failed");
+    same(&rt, failed.as_str(), "the device failed");
     Ok(())
 }
 
@@ -61,5 +62,5 @@ fn kept(alloc: Global) -> Result<Vec<u8>, OutOfMemory> {
 
 #[test]
 fn comes_from_each_refusal(rt: HostRuntime) {
-    assert_eq!(rt; kept(rt.alloc()).map(|bytes| bytes.len()), Ok(1));
+    same(&rt, kept(rt.alloc()).map(|bytes| bytes.len()), Ok(1));
 }
