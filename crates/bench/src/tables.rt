@@ -69,15 +69,17 @@ pub const CALLS: u32 = BLOCKS * BLOCK;
 pub enum Call {
     Second,
     Refresh,
+    InOrder,
     LookUp,
     Exchange,
     ReadAll,
 }
 
 impl Call {
-    pub const ALL: [Call; 5] = [
+    pub const ALL: [Call; 6] = [
         Call::Second,
         Call::Refresh,
+        Call::InOrder,
         Call::LookUp,
         Call::Exchange,
         Call::ReadAll,
@@ -87,6 +89,7 @@ impl Call {
         match self {
             Call::Second => "let a second pass",
             Call::Refresh => "refresh a record",
+            Call::InOrder => "refresh the next record by key",
             Call::LookUp => "look up a record",
             Call::Exchange => "withdraw a record in the middle and admit it again",
             Call::ReadAll => "get every record, place by place",
@@ -152,6 +155,7 @@ fn done(call: Call, table: &mut Table<Way, RECORDS>, first: u32) -> u64 {
     match call {
         Call::Second => let_pass(table),
         Call::Refresh => refresh(table, first),
+        Call::InOrder => refresh_in_order(table, first),
         Call::LookUp => look_up(table, first),
         Call::Exchange => exchange(table),
         Call::ReadAll => read_all(table),
@@ -173,6 +177,16 @@ fn refresh(table: &mut Table<Way, RECORDS>, first: u32) -> u64 {
     for turn in 0..BLOCK {
         let taken = table.offer(way_to(number_at(first.wrapping_add(turn))));
         seen = seen.wrapping_add(u64::from(taken == Taken::Refreshed { changed: false }));
+    }
+    seen
+}
+
+/// Offers again what is held, by network, as a neighbour does.
+fn refresh_in_order(table: &mut Table<Way, RECORDS>, first: u32) -> u64 {
+    let mut seen = 0u64;
+    for turn in 0..BLOCK {
+        let exchanged = table.exchange(way_to((first.wrapping_add(turn) % 256) as u8));
+        seen = seen.wrapping_add(u64::from(exchanged.before == exchanged.after));
     }
     seen
 }
