@@ -1,5 +1,5 @@
 -- Which offer a key is left with by an offer of it.
-use Rattle.std.proofs.Common.{◌≡◌, refl, sym, ap, ◌∙◌, ◌&&◌, nat_lt, Bool, true, false, List, [], ◌∷◌, ◌++◌, find, length, drop, take, suc, ℕ, Option, None, Some, option_map, inl, inr, append-nil, Ordering, Less, Equal, Greater, is_eq, is_lt}
+use Rattle.std.proofs.Common.{◌≡◌, refl, sym, ap, ◌∙◌, ◌&&◌, nat_lt, Bool, true, false, List, [], ◌∷◌, ◌++◌, find, length, drop, take, suc, ℕ, Option, None, Some, option_map, inl, inr, true≢false, append-nil, Ordering, Less, Equal, Greater, is_eq, is_lt}
 use Rattle.std.specs.List.{list_any}
 use Rattle.std.specs.Ordering.{ordering_reverse}
 use Rattle.std.specs.Cmp.{IsTotalOrder}
@@ -10,7 +10,7 @@ use Rattle.ipx_table.specs.Facts.{Offered}
 use Rattle.ipx_table.specs.Accepted.{is_accepted, has_share, may_replace}
 use Rattle.ipx_table.specs.AfterOffer.{fresh, uncut, after_offer}
 use Rattle.ipx_table.specs.Stands.{IsDistinct}
-use Rattle.ipx_table.specs.Taken.{known_of, offer_left, taken_over, taken_beside}
+use Rattle.ipx_table.specs.Taken.{is_change, known_of, offer_left, same_left, taken_over, taken_beside}
 use Rattle.ipx_table.specs.declared.held.Held.{Held}
 use Rattle.ipx_table.proofs.Offers.{of_key, apart_from, HeldAt, held_at, held-accepted, held-uncut, not_held-accepted, not_held-left, unchanged}
 use Rattle.ipx_table.proofs.Refused.{found_place, found_none}
@@ -87,3 +87,34 @@ module _ {O : Type 0} (rules : Rules O) (total : IsTotalOrder rules.by_key) (sam
       by_find (Some it) e =
           let found = found_place (of_key rules total offer) held it e in
           left_held held found.0 it offer (held_at rules total held found.0 it offer found.1 found.2 distinct) e
+
+  -- what isn't told as a change leaves a key with what it had
+  pub same_beside : ((o : O) → same_offer o o ≡ true) → (held : List (Held O)) (offer : O) (known : Option (Held O))
+      → is_change (taken_beside rules same_offer held offer known) ≡ false
+      → same_left same_offer (offer_of known) (offer_left (taken_beside rules same_offer held offer known) (offer_of known) offer) ≡ true
+  same_beside alike held offer None e = elim (cases_Bool (rules.is_down offer)) [
+    | inl down ↦ rw down refl
+    | inr up ↦ elim (cases_Bool (nat_lt (length held) rules.capacity && has_share rules offer held)) [
+      | inl room ↦ let no : true ≡ false = rw (up, room) at e in absurd (true≢false no)
+      | inr full ↦ rw (up, full) refl
+    ]
+  ]
+  same_beside alike held offer (Some it) e = elim (cases_Bool (rules.same_source it.offer offer)) [
+    | inl own ↦ elim (cases_Bool (rules.is_down offer)) [
+      | inl down ↦ let no : true ≡ false = rw (down, own) at e in absurd (true≢false no)
+      | inr up ↦ elim (cases_Bool (same_offer it.offer offer)) [
+        | inl same ↦ rw (up, own) same
+        | inr differ ↦ let no : true ≡ false = rw (up, own, differ) at e in absurd (true≢false no)
+      ]
+    ]
+    | inr other ↦ elim (cases_Bool (rules.is_down offer)) [
+      | inl down ↦ rw (down, other) (alike it.offer)
+      | inr up ↦ elim (cases_Bool (rules.is_worse it.offer offer)) [
+        | inl worse ↦ elim (cases_Bool (may_replace rules offer held it)) [
+          | inl may ↦ let no : true ≡ false = rw (up, other, worse, may) at e in absurd (true≢false no)
+          | inr may ↦ rw (up, other, worse, may) (alike it.offer)
+        ]
+        | inr better ↦ rw (up, other, better) (alike it.offer)
+      ]
+    ]
+  ]

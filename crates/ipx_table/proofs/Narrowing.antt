@@ -1,18 +1,21 @@
--- The search's loop: what is sought stands from `low` on and before `high`, and so many asks suffice to find it.
-use Rattle.std.proofs.Common.{◌≡◌, sym, ap, ℕ, ◌+◌, ◌-◌, ◌/◌, ◌^◌, ◌<◌, ◌≤◌, ◌==◌, zero, suc, nat_lt, true, false, ◌&&◌, if◌then◌else◌, inl, inr, arith, true≢false, Less, Equal, Greater, is_lt, is_eq, is_gt}
-use Rattle.std.proofs.lemmas.Bool.{cases_Bool, ltb-true, ltb-false, eqb-true, eqb-false, and_parts}
+-- The search's loop: what is sought stands among the `size` places from `low` on, and this many asks suffice to find it.
+use Rattle.std.proofs.Common.{◌≡◌, refl, sym, ap, ◌∙◌, ℕ, ◌||◌, Bool, Ordering, ◌+◌, ◌-◌, ◌/◌, ◌^◌, ◌<◌, ◌≤◌, ◌==◌, zero, suc, nat_lt, true, false, ◌&&◌, if◌then◌else◌, inl, inr, arith, true≢false, Less, Equal, Greater, is_lt, is_eq, is_gt}
+use Rattle.std.proofs.lemmas.Bool.{cases_Bool, ltb-true, ltb-false, eqb-true, eqb-false, and_parts, or_right}
 use Rattle.std.proofs.Math.Nat.{two-pow-succ}
+use Rattle.std.specs.Ordering.{ordering_index}
 use Rattle.ipx_table.specs.Answers.{Answers, places, answer_at}
 
--- of a number of asks, some are spare: enough for what lies between
-abbrev pub Spare : ℕ → ℕ → ℕ → ℕ → Type 0
-Spare digits low high asks = (spare : ℕ) × (spare + asks ≡ digits) × (high < low + 2 ^ spare)
+-- of a number of asks, some are spare: enough for what is left
+abbrev pub Spare : ℕ → ℕ → ℕ → Type 0
+Spare digits size asks = (spare : ℕ) × (spare + asks ≡ digits) × (size < 2 ^ spare)
 
-pub record Narrowed (answers : Answers) (low high asks : ℕ) : Type 0 where
+-- what is sought stands among the `size` places from `low` on, or was asked already
+pub record Narrowed (answers : Answers) (low size : ℕ) (held : Bool) (asks : ℕ) : Type 0 where
   pub from : low ≤ answers.below
-  pub upto : answers.below + (if answers.held then 1 else 0) ≤ high
-  pub within : high ≤ places answers
-  pub spare : (digits : ℕ) → places answers < 2 ^ digits → Spare digits low high asks
+  pub upto : answers.below + (if held then 0 else if answers.held then 1 else 0) ≤ low + size
+  pub asked : held ≡ true → answers.held ≡ true
+  pub within : low + size ≤ places answers
+  pub spare : (digits : ℕ) → places answers < 2 ^ digits → Spare digits size asks
 
 -- ---- what an answer means
 
@@ -48,58 +51,67 @@ when_greater a k e = elim (cases_Bool (nat_lt k a.below)) [
 
 -- ---- one ask
 
--- one ask fewer is spare, and half as much lies between
-spare_above : (digits low high asks spare : ℕ) → spare + asks ≡ digits → high < low + 2 ^ spare → low < high
-    → Spare digits (low + (high - low) / 2 + 1) high (asks + 1)
-spare_above digits low high asks zero sum near apart = absurd (omega (arith, near, apart))
-spare_above digits low high asks (suc n) sum near apart = (n, omega (arith, sum), omega (arith, near, apart, two-pow-succ n))
+-- one ask fewer is spare, and half as much is left
+spare_less : (digits size asks spare : ℕ) → spare + asks ≡ digits → size < 2 ^ spare → 0 < size → Spare digits (size / 2) (asks + 1)
+spare_less digits size asks zero sum near some = absurd (omega (arith, near, some))
+spare_less digits size asks (suc n) sum near some = (n, omega (arith, sum), omega (arith, near, some, two-pow-succ n))
 
-spare_below : (digits low high asks spare : ℕ) → spare + asks ≡ digits → high < low + 2 ^ spare → low < high
-    → Spare digits low (low + (high - low) / 2) (asks + 1)
-spare_below digits low high asks zero sum near apart = absurd (omega (arith, near, apart))
-spare_below digits low high asks (suc n) sum near apart = (n, omega (arith, sum), omega (arith, near, apart, two-pow-succ n))
-
-pub narrow_start : (a : Answers) → Narrowed a 0 (places a) 0
+pub narrow_start : (a : Answers) → Narrowed a 0 (places a) false 0
 narrow_start a = record {
   from = omega arith;
   upto = omega arith;
+  asked = λ e. absurd (true≢false (sym e));
   within = omega arith;
-  spare = λ digits fits. (digits, omega arith, omega (arith, fits));
+  spare = λ digits fits. (digits, omega arith, fits);
 }
 
-pub narrow_above : (a : Answers) (low high asks : ℕ) → Narrowed a low high asks → low < high → answer_at a (low + (high - low) / 2) ≡ Less
-    → Narrowed a (low + (high - low) / 2 + 1) high (asks + 1)
-narrow_above a low high asks n apart less = record {
-  from = let below = when_less a (low + (high - low) / 2) less in omega (arith, below);
-  upto = n.upto;
-  within = n.within;
-  spare = λ digits fits. let s = n.spare digits fits in spare_above digits low high asks s.0 s.1 s.2 apart;
-}
+or_false : (b : Bool) → (b || false) ≡ b
+or_false true = refl
+or_false false = refl
 
-pub narrow_below : (a : Answers) (low high asks : ℕ) → Narrowed a low high asks → low < high → answer_at a (low + (high - low) / 2) ≡ Greater
-    → Narrowed a low (low + (high - low) / 2) (asks + 1)
-narrow_below a low high asks n apart greater = record {
-  from = n.from;
-  upto = when_greater a (low + (high - low) / 2) greater;
-  within = omega (arith, n.within, apart);
-  spare = λ digits fits. let s = n.spare digits fits in spare_below digits low high asks s.0 s.1 s.2 apart;
-}
+-- a bound that holds of both counts that may be left out
+less_counted : (a : Answers) (held : Bool) (n : ℕ) → a.below + (if a.held then 1 else 0) ≤ n → a.below + (if held then 0 else if a.held then 1 else 0) ≤ n
+less_counted a true n all = omega (arith, all)
+less_counted a false n all = all
+
+module _ (a : Answers) (low size : ℕ) (held : Bool) (asks : ℕ) (n : Narrowed a low size held asks) (some : 0 < size) where
+  less_left : (answer : Ordering) → answer_at a (low + (size - 1) / 2) ≡ answer
+      → Narrowed a (if is_lt answer then low + (size - 1) / 2 + 1 else low) (size / 2) (held || (ordering_index answer == 1)) (asks + 1)
+  less_left Less e = record {
+    from = let below = when_less a (low + (size - 1) / 2) e in omega (arith, below);
+    upto = rw (or_false held) (omega (arith, n.upto, some));
+    asked = λ found. n.asked (sym (or_false held) ∙ found);
+    within = omega (arith, n.within, some);
+    spare = λ digits fits. let s = n.spare digits fits in spare_less digits size asks s.0 s.1 s.2 some;
+  }
+  less_left Equal e = record {
+    from = n.from;
+    upto = let here = (when_equal a (low + (size - 1) / 2) e).1 in rw (or_right held true refl) (omega (arith, here));
+    asked = λ found. (when_equal a (low + (size - 1) / 2) e).0;
+    within = omega (arith, n.within, some);
+    spare = λ digits fits. let s = n.spare digits fits in spare_less digits size asks s.0 s.1 s.2 some;
+  }
+  less_left Greater e = record {
+    from = n.from;
+    upto = let above = when_greater a (low + (size - 1) / 2) e in rw (or_false held) (less_counted a held (low + size / 2) (omega (arith, above)));
+    asked = λ found. n.asked (sym (or_false held) ∙ found);
+    within = omega (arith, n.within, some);
+    spare = λ digits fits. let s = n.spare digits fits in spare_less digits size asks s.0 s.1 s.2 some;
+  }
+
+  -- an ask narrows it, whatever its answer
+  pub narrow : (answer : Ordering) → answer ≡ answer_at a (low + (size - 1) / 2)
+      → Narrowed a (if is_lt answer then low + (size - 1) / 2 + 1 else low) (size / 2) (held || (ordering_index answer == 1)) (asks + 1)
+  narrow answer e = less_left answer (sym e)
 
 -- ---- the answer
 
-pub found_nothing : (a : Answers) (low high asks : ℕ) → Narrowed a low high asks → high ≤ low → (low ≡ a.below) × (false ≡ a.held)
-found_nothing a low high asks n closed = elim (cases_Bool a.held) [
-  | inl held ↦ let upto : a.below + 1 ≤ high = rw held at n.upto in absurd (omega (arith, upto, n.from, closed))
-  | inr free ↦ let upto : a.below + 0 ≤ high = rw free at n.upto in (omega (arith, upto, n.from, closed), sym free)
+pub found : (a : Answers) (low : ℕ) (held : Bool) (asks : ℕ) → Narrowed a low 0 held asks → (low ≡ a.below) × (held ≡ a.held)
+found a low true asks n = (let upto = n.upto in omega (arith, upto, n.from), sym (n.asked refl))
+found a low false asks n = elim (cases_Bool a.held) [
+  | inl held ↦ let upto : a.below + 1 ≤ low + 0 = rw held at n.upto in absurd (omega (arith, upto, n.from))
+  | inr free ↦ let upto : a.below + 0 ≤ low + 0 = rw free at n.upto in (omega (arith, upto, n.from), sym free)
 ]
 
-pub few_asks : (a : Answers) (low high asks : ℕ) → Narrowed a low high asks → (digits : ℕ) → places a < 2 ^ digits → asks ≤ digits
-few_asks a low high asks n digits fits = let s = n.spare digits fits in omega (arith, s.1)
-
--- where something lies between, one ask more was spare
-pub asked_once : (digits asks more low high : ℕ) → Spare digits low high asks → low < high → more ≡ asks + 1 → more ≤ digits
-asked_once digits asks more low high s apart once = once_more s.0 s.1 s.2
-  where
-    once_more : (spare : ℕ) → spare + asks ≡ digits → high < low + 2 ^ spare → more ≤ digits
-    once_more zero sum near = absurd (omega (arith, near, apart))
-    once_more (suc n) sum near = omega (arith, sum, once)
+pub few_asks : (a : Answers) (low size : ℕ) (held : Bool) (asks : ℕ) → Narrowed a low size held asks → (digits : ℕ) → places a < 2 ^ digits → asks ≤ digits
+few_asks a low size held asks n digits fits = let s = n.spare digits fits in omega (arith, s.1)

@@ -1,5 +1,5 @@
 -- What a table answers to an offer.
-use Rattle.std.specs.Prelude.{nat_lt, Bool, not, ◌&&◌, if◌then◌else◌, List, length, Option, None, Some}
+use Rattle.std.specs.Prelude.{nat_lt, Bool, true, false, not, ◌&&◌, if◌then◌else◌, List, length, Option, None, Some}
 use Rattle.std.specs.List.{find}
 use Rattle.ipx_table.specs.Reading.{Rules, same_key}
 use Rattle.ipx_table.specs.Facts.{Fact}
@@ -22,6 +22,23 @@ offer_left Replaced before offer = Some offer
 offer_left Worse before offer = before
 offer_left Admitted before offer = Some offer
 offer_left Full before offer = before
+
+-- the answer says that the key has another offer than before
+abbrev pub is_change : Taken → Bool
+is_change Withdrawn = true
+is_change Nothing = false
+is_change (Refreshed changed) = changed
+is_change Replaced = true
+is_change Worse = false
+is_change Admitted = true
+is_change Full = false
+
+-- a key has no offer before and after, or two that its type takes for the same
+abbrev pub same_left : {O : Type 0} → (O → O → Bool) → Option O → Option O → Bool
+same_left same None None = true
+same_left same None (Some after) = false
+same_left same (Some before) None = false
+same_left same (Some before) (Some after) = same before after
 
 module _ {O : Type 0} (rules : Rules O) (same_offer : O → O → Bool) where
   -- to an offer that is down: only the source of the alive offer withdraws it

@@ -1,5 +1,6 @@
 //! Search in what is sorted, by asking alone.
-ghost use Rattle.std.specs.Prelude.{◌≡◌, ℕ, ◌+◌, ◌^◌, ◌<◌, ◌≤◌};
+ghost use Rattle.std.specs.Prelude.{◌≡◌, ℕ, ◌+◌, ◌*◌, ◌^◌, ◌<◌, ◌≤◌, if◌then◌else◌};
+ghost use Rattle.std.specs.Ordering.{is_lt};
 ghost use Rattle.ipx_table.specs.Answers.{Answers, places, answer_at, most_asks};
 
 use std::cmp::Ordering;
@@ -50,22 +51,25 @@ pub fn find<A: Asked>(asked: &mut A) -> Found
     ensures few { (digits : ℕ) → places (A.answers asked.old) < 2 ^ digits → A.asks asked.new ≤ digits }
 {
     let mut low = 0;
-    let mut high = asked.len();
-    while low < high {
-        let middle = low + (high - low) / 2;
-        match asked.ask(middle) {
-            Ordering::Less => low = middle + 1,
-            Ordering::Equal => {
-                return Found {
-                    below: middle,
-                    held: true,
-                };
-            }
-            Ordering::Greater => high = middle,
-        }
+    let mut size = asked.len();
+    let mut held = false;
+    while size > 0 {
+        let before = (size - 1) / 2;
+        let answer = asked.ask(low + before);
+        low = first_left(low, before, answer);
+        held |= answer == Ordering::Equal;
+        size /= 2;
     }
-    Found {
-        below: low,
-        held: false,
-    }
+    Found { below: low, held }
+}
+
+/// Where a search goes on after it asked about the place `low + before`: behind that place, if its key is smaller, otherwise
+/// still at `low`. No branch may depend on the answer, since a processor can't guess it; the compiler turns anything plainer
+/// than this shift into a branch.
+fn first_left(low: usize, before: usize, answer: Ordering) -> usize
+    requires { low + 2 * before + 1 < 2 ^ 64 }
+    ensures { result ≡ (if is_lt answer then low + before + 1 else low) }
+{
+    let more = usize::from(answer == Ordering::Less);
+    low + (before << more) + more - before
 }

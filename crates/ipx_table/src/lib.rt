@@ -10,8 +10,7 @@
 //!   cleared.
 //! - It takes no memory and reads no clock: a second passes where the caller says so.
 //!
-//! It stands on `ipx_wire`, for the nodes that offers come from. How the records lie in memory, and how they
-//! age, is no promise; that a search asks few
+//! It stands on `ipx_wire`, for the nodes that offers come from. How ages are kept is no promise; that a search asks few
 //! questions is one: `find` searches anything sorted, with as many questions as its length has binary digits, at most.
 #![tactic(auto)]
 

@@ -1,12 +1,12 @@
 //! The table.
-ghost use Rattle.std.specs.Prelude.{◌≡◌, ◌↔◌, ℕ, ◌<◌, ◌≤◌, ◌==◌, List, [], ◌∷◌, ◌++◌, length, slice_get, option_map, IfSome, false, true};
+ghost use Rattle.std.specs.Prelude.{◌≡◌, ◌↔◌, ℕ, ◌<◌, ◌≤◌, ◌==◌, List, [], ◌∷◌, ◌++◌, length, map, slice_get, option_map, IfSome, false, true};
 ghost use Rattle.std.specs.List.{AllByRecursion, list_any};
 ghost use Rattle.std.specs.Ordering.{is_eq};
 ghost use Rattle.ipx_table.specs.Reading.{rules_of, port_of, count_by};
 ghost use Rattle.ipx_table.specs.Shares.{most_shares};
 ghost use Rattle.ipx_table.specs.Facts.{Fact, Offered, Second, PortEnd, End};
 ghost use Rattle.ipx_table.specs.Alive.{lifetime};
-ghost use Rattle.ipx_table.specs.Taken.{taken};
+ghost use Rattle.ipx_table.specs.Taken.{is_change, same_left, taken};
 ghost use Rattle.ipx_table.specs.Stands.{Stands, Ascends, IsAscending, IsDistinct, record_of, smaller_than, second_later, is_last, ended as ended_of, without_port, ended_with_port};
 
 use crate::clock::{next_slot, with_age};
@@ -27,7 +27,8 @@ use std::marker::Model;
 const MOST_SHARES: usize = 32;
 
 /// At most `CAP` offers with their ages, one of a key, and the shares of the ports. A clause sees the list of its records
-/// by key, and the shares; how they lie in memory, and how `Debug` shows them, is no promise.
+/// by key, and the shares. Its offers lie in one slice, by key, which `offers` lends; how their ages are kept, and how `Debug` shows
+/// all this, is no promise.
 #[derive(Debug, Drop)]
 pub struct Table<O: Offer, const CAP: usize> {
     records: Slotted<O, CAP>,
@@ -108,6 +109,8 @@ impl<O: Offer, const CAP: usize> Table<O, CAP> {
         ensures shares { self.new.shares ≡ self.old.shares }
         ensures before { result.before ≡ option_map (λ h. h.offer) (record_of O.reading.key O.Key.cmp (O.reading.key offer) self.old.records) }
         ensures after { result.after ≡ option_map (λ h. h.offer) (record_of O.reading.key O.Key.cmp (O.reading.key offer) self.new.records) }
+        // Where the answer tells no change, the type takes the offers before and after for the same.
+        ensures unchanged { is_change result.taken ≡ false → same_left O.eq result.before result.after ≡ true }
     {
         let found = place_near(self.records.offers(), self.next, offer.key());
         self.next = found.below.wrapping_add(1);
@@ -192,6 +195,14 @@ impl<O: Offer, const CAP: usize> Table<O, CAP> {
         ensures { result ≡ self.now.records }
     {
         self.records.entries(self.clock)
+    }
+
+    /// The offers, by key.
+    pub fn offers(&self) -> &[O]
+        ensures value { result.now ≡ map (λ h. h.offer) self.now.records }
+        ensures ascending { Ascends (rules_of O.reading O.Key.cmp CAP self.now.shares).by_key result.now }
+    {
+        self.records.offers()
     }
 
     /// How many records there are, at most `CAP`.

@@ -29,6 +29,21 @@ pub enum Taken {
     Full,
 }
 
+impl Taken {
+    ghost use Rattle.ipx_table.specs.Taken.{is_change};
+
+    /// Whether it tells that the key has another offer than before. A refresh is judged by the type's own `==`.
+    pub fn is_change(self) -> bool
+        ensures { result ≡ is_change self }
+    {
+        match self {
+            Taken::Withdrawn | Taken::Replaced | Taken::Admitted => true,
+            Taken::Refreshed { changed } => changed,
+            Taken::Nothing | Taken::Worse | Taken::Full => false,
+        }
+    }
+}
+
 /// One word: `withdrawn`, `nothing`, `changed` or `refreshed` (as `Refreshed::changed` says), `replaced`, `worse`, `admitted`,
 /// `full`.
 impl fmt::Display for Taken {

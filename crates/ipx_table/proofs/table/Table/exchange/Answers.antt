@@ -5,8 +5,8 @@ use Rattle.ipx_table.specs.Reading.{rules_of}
 use Rattle.ipx_table.specs.Slots.{seen}
 use Rattle.ipx_table.specs.Sought.{answers_to}
 use Rattle.ipx_table.specs.Stands.{Ascends, Stands, in_order, record_of}
-use Rattle.ipx_table.specs.Taken.{known_of, offer_left, taken_over}
-use Rattle.ipx_table.proofs.Exchanging.{left}
+use Rattle.ipx_table.specs.Taken.{is_change, known_of, offer_left, same_left, taken_over}
+use Rattle.ipx_table.proofs.Exchanging.{left, same_beside}
 use Rattle.ipx_table.proofs.Following.{stands_offered, taken_standing, sorted_offered, others_stay}
 use Rattle.ipx_table.proofs.OneOffer.{offers-seen}
 use Rattle.ipx_table.proofs.Placing.{distinct-ascending}
@@ -83,3 +83,17 @@ returns-clause-after g c =
     ∙ ap (λ b. offer_left (taken_over r g.O.PartialEq.eq old c.args.offer) b c.args.offer) c.take_offer.ensures.before
     ∙ sym (left r total g.O.PartialEq.eq old c.args.offer (distinct-ascending r.by_key total old c.self.invariant.ascending))
     ∙ sym (ap (option_map (λ h. h.offer)) told)
+
+pub returns-clause-unchanged : goal.returns-clause-unchanged
+returns-clause-unchanged g c = λ none.
+    let r = rules_of g.O.Offer.reading g.O.Key.Ord.cmp g.row.CAP c.deref.result.now in
+    let total = on_total g.O.Offer.reading.key g.met.O.Key.Ord.total in
+    let eq = g.O.PartialEq.eq in
+    let old = seen c.self.inside.clock c.self.inside.records in
+    let known = known_of r old c.args.offer in
+    let answer = taken_over r eq old c.args.offer in
+    let was = c.take_offer.result.before in
+    ap (same_left eq was) c.take_offer.ensures.after
+    ∙ ap (λ t. same_left eq was (offer_left t was c.args.offer)) c.take_offer.ensures.answer
+    ∙ ap (λ b. same_left eq b (offer_left answer b c.args.offer)) c.take_offer.ensures.before
+    ∙ same_beside r total eq g.met.O.Eq.laws.refl old c.args.offer known (sym (ap is_change c.take_offer.ensures.answer) ∙ none)
