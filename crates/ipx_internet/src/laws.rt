@@ -10,7 +10,7 @@ ghost use Rattle.ipx_wire.specs.declared.node.Node.{Node};
 ghost use Rattle.ipx_router.specs.Bounds.{most_packets};
 ghost use Rattle.ipx_router.specs.Facts.{routes_held, services_held};
 ghost use Rattle.ipx_router.specs.History.{Event, History, IsOnPort, IsOfBytes};
-ghost use Rattle.ipx_router.specs.Numbers.{most_routers};
+ghost use Rattle.ipx_router.specs.Numbers.{most_routers, most_ports};
 ghost use Rattle.ipx_router.specs.Packets.{IsRelayed};
 ghost use Rattle.ipx_router.specs.Port.{Port};
 ghost use Rattle.ipx_router.specs.Relays.{Sent};
@@ -129,7 +129,7 @@ pub fn trees()
 pub fn deliveries()
     ensures one_packet { (net : Internet) (from : Place) (link : Node) → IsPlace net from → length (delivered net from link) ≤ most_on_network net - 1 }
     ensures one_event { (net : Internet) (router most_routes most_services : ℕ) (history : History) (event : Event)
-        → IsInternet net → length (ports_of net router) ≤ 32
+        → IsInternet net → length (ports_of net router) ≤ most_ports
         → AllByRecursion (IsOnPort (ports_of net router)) (history ++ event ∷ []) → AllByRecursion IsOfBytes (history ++ event ∷ [])
         → length (flat_map (deliveries_of net router) (sends (ports_of net router) most_routes most_services history event))
         ≤ most_packets (length (ports_of net router)) (length (routes_held (ports_of net router) most_routes history))

@@ -18,12 +18,16 @@ use Rattle.ipx_router.specs.Relays.{Sent}
 use Rattle.ipx_router.specs.Routes.{network_order}
 use Rattle.ipx_router.specs.Sends.{news_on, rip_broadcast, sap_broadcast}
 use Rattle.ipx_router.specs.Services.{service_order}
+use Rattle.ipx_router.specs.Touched.{Touches, changes_noted}
 use Rattle.ipx_router.specs.declared.route_offer.RouteOffer.{RouteOffer}
 use Rattle.ipx_router.specs.declared.service_offer.ServiceOffer.{ServiceOffer}
+use Rattle.ipx_router.specs.declared.touched.Touched.{Touched}
+use Rattle.ipx_router.proofs.Counting.{network_total, service_total}
 use Rattle.ipx_router.proofs.PageCounts.{room_left}
 use Rattle.ipx_router.proofs.Paying.{appends_then}
 use Rattle.ipx_router.proofs.SentLengths.{packet_length}
-use Rattle.ipx_router.proofs.Telling.{no_route_news, no_service_news}
+use Rattle.ipx_router.proofs.Telling.{no_route_news, no_service_news, route-same, service-same}
+use Rattle.ipx_router.proofs.Touching.{changes_touched}
 
 -- a list that was found empty
 pub no_items : {X : Type 0} (xs : List X) {empty : Bool} → empty ≡ (length xs == 0) → empty ≡ true → xs ≡ []
@@ -130,6 +134,21 @@ module _ (ports : List Port) (up : List ℕ) (routes : List RouteOffer) (before 
       (news_on ports (record { up = up; routes = routes; services = before }) (record { up = up; routes = routes; services = after }))
       (λ j. ap (λ cs. sap_broadcast ports j (flat_map (service_told j) cs)) is
       ∙ ap (λ es. rip_broadcast ports j es ++ sap_broadcast ports j (news_services before after j)) (sym (no_route_news ports routes j))) up
+
+-- ---- nothing was touched
+
+pub no_route_change : (before after : List RouteOffer) (touched : List (Touched RouteOffer)) → touched ≡ []
+    → Touches (λ r. r.network) network_order before after touched → [] ≡ changes (λ r. r.network) network_order same_route before after
+no_route_change before after touched none touches =
+    sym (ap (changes_noted (λ r. r.network) network_order same_route) none)
+    ∙ changes_touched (λ r. r.network) network_order same_route network_total before after route-same touched touches
+
+pub no_service_change : (before after : List ServiceOffer) (touched : List (Touched ServiceOffer)) → touched ≡ []
+    → Touches (λ s. (s.service.kind, s.service.name)) service_order before after touched
+    → [] ≡ changes (λ s. (s.service.kind, s.service.name)) service_order same_service before after
+no_service_change before after touched none touches =
+    sym (ap (changes_noted (λ s. (s.service.kind, s.service.name)) service_order same_service) none)
+    ∙ changes_touched (λ s. (s.service.kind, s.service.name)) service_order same_service service_total before after service-same touched touches
 
 -- ---- the room that a packet's event has
 

@@ -5,7 +5,7 @@ use Rattle.std.specs.Option.{option_to_list}
 use Rattle.ipx_router.specs.Outbox.{Contents, Fits, Appends}
 use Rattle.ipx_router.specs.Owed.{Pays, owed}
 use Rattle.ipx_router.specs.Relays.{Sent}
-use Rattle.ipx_router.proofs.Paying.{appends_then, pays_then, still_fits, page_fits}
+use Rattle.ipx_router.proofs.Paying.{pays_none, appends_then, pays_then, still_fits, page_fits}
 
 -- the last packets are sent too
 pub pays_rest : {a b c : Contents} {ps qs : List Sent} → Pays a b ps qs → Appends b c qs → Appends a c ps
@@ -20,6 +20,12 @@ module _ {X : Type 0} (n : ℕ) (packet : List X → Sent) (shown : X → List X
   module _ (all : List X) where
     abbrev pub owed_all : List Sent
     owed_all = owed_of [] all
+
+    -- before the first item
+    pub owed_begin : {a : Contents} (page left : List X) → page ≡ [] → left ≡ all → Pays a a owed_all (owed_of page left)
+    owed_begin {a} page left empty whole =
+        subst (λ (p : List X). Pays a a owed_all (owed_of p left)) (sym empty)
+        (subst (λ (l : List X). Pays a a owed_all (owed_of [] l)) (sym whole) (pays_none a owed_all))
 
     -- an item was yielded, and is sent as that, or not at all
     module _ (page left later : List X) (x : X) (sent : Option X) (yielded : left ≡ x ∷ later) (seen : option_to_list sent ≡ shown x) where

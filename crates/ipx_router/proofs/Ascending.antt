@@ -1,9 +1,7 @@
--- Records of a table from a place on: they ascend by key, and so does what is told of them.
-use Rattle.std.proofs.Common.{◌≡◌, refl, sym, ap, ◌∙◌, ℕ, zero, suc, ◌+◌, ◌==◌, nat_lt, Bool, true, false, List, [], ◌∷◌, drop, map, filter, slice_get, Some, inl, inr, arith, true≢false, drop-cons, Ordering, is_lt}
+-- Offers that ascend by key: what is told of them rises.
+use Rattle.std.proofs.Common.{◌≡◌, sym, ℕ, zero, suc, ◌==◌, nat_lt, Bool, true, false, List, [], ◌∷◌, drop, map, filter, inl, inr, arith, true≢false, Ordering, is_lt}
 use Rattle.std.specs.List.{AllByRecursion}
 use Rattle.std.specs.Ordering.{nat_cmp}
-use Rattle.std.proofs.lemmas.List.{drop-map}
-use Rattle.std.proofs.lemmas.Option.{slice_get_within, get_or_from_slice_get}
 use Rattle.std.proofs.lemmas.Bool.{cases_Bool, ltb-true, ltb-false, le-ltb}
 use Rattle.ipx_table.specs.Stands.{IsAscending, Ascends}
 use Rattle.ipx_table.specs.declared.held.Held.{Held}
@@ -17,29 +15,6 @@ use Rattle.ipx_router.specs.declared.service_offer.ServiceOffer.{ServiceOffer}
 use Rattle.ipx_router.proofs.Counting.{service_total}
 use Rattle.ipx_router.proofs.Every.{all-filter}
 use Rattle.ipx_router.proofs.Merging.{IsOrder, IsFirst, Rises, rises-map}
-
--- ---- a place
-
--- the record at a place is the first from there on
-pub from_place : {O : Type 0} (records : List (Held O)) (k : ℕ) (h : Held O) → slice_get records k ≡ Some h
-    → drop k (offers records) ≡ h.offer ∷ drop (k + 1) (offers records)
-from_place {O} records k h at =
-    let below = slice_get_within records k h at in
-    let next : suc k ≡ k + 1 = omega arith in
-    drop-map (λ h. h.offer) k records
-    ∙ ap (map (λ h. h.offer)) (drop-cons records k h below)
-    ∙ ap (λ (x : Held O). x.offer ∷ map (λ h. h.offer) (drop (suc k) records)) (get_or_from_slice_get records k h h at)
-    ∙ ap (λ (l : List O). h.offer ∷ l) (sym (drop-map (λ h. h.offer) (suc k) records))
-    ∙ ap (λ (n : ℕ). h.offer ∷ drop n (offers records)) next
-
-module _ {O X : Type 0} (f : O → X) (chosen : O → Bool) (records : List (Held O)) (k : ℕ) (h : Held O) (at : slice_get records k ≡ Some h) where
-  -- a record that is chosen is the first of those from there on
-  pub taken_at : chosen h.offer ≡ true → map f (filter chosen (drop k (offers records))) ≡ f h.offer ∷ map f (filter chosen (drop (k + 1) (offers records)))
-  taken_at e = ap (λ (l : List O). map f (filter chosen l)) (from_place records k h at) ∙ rw e refl
-
-  -- one that isn't leaves the first to those behind it
-  pub passed_at : chosen h.offer ≡ false → map f (filter chosen (drop k (offers records))) ≡ map f (filter chosen (drop (k + 1) (offers records)))
-  passed_at e = ap (λ (l : List O). map f (filter chosen l)) (from_place records k h at) ∙ rw e refl
 
 -- ---- the two orders
 
@@ -104,18 +79,15 @@ by_route a b = network_order a.network b.network
 abbrev pub by_service : ServiceOffer → ServiceOffer → Ordering
 by_service a b = service_order (a.service.kind, a.service.name) (b.service.kind, b.service.name)
 
--- routes from a place on rise as they are told
-pub rises_from : (cost number place : ℕ) (records : List (Held RouteOffer)) → IsAscending by_route records
-    → Rises network_before (map (told_at cost) (learned (drop place (offers records)) number))
-rises_from cost number place records up =
-    rises-map network_before network_before (told_at cost) (λ a b e. e) (learned (drop place (offers records)) number)
-    (rises-chosen by_route network_before entry_of (is_route_told number) (λ a b less. not_greater a.network.0 b.network.0 less)
-    (drop place (offers records)) (ascends-drop by_route place (offers records) (ascends-offers by_route records up)))
+-- routes rise as they are told
+pub rises_told : (cost number : ℕ) (routes : List RouteOffer) → Ascends by_route routes → Rises network_before (map (told_at cost) (learned routes number))
+rises_told cost number routes up =
+    rises-map network_before network_before (told_at cost) (λ a b e. e) (learned routes number)
+    (rises-chosen by_route network_before entry_of (is_route_told number) (λ a b less. not_greater a.network.0 b.network.0 less) routes up)
 
 -- and so do services
-pub services_rise_from : (number place : ℕ) (records : List (Held ServiceOffer)) → IsAscending by_service records
-    → Rises name_before (map (λ s. farther s.service) (filter (is_service_told number) (drop place (offers records))))
-services_rise_from number place records up =
+pub services_rise : (number : ℕ) (services : List ServiceOffer) → Ascends by_service services
+    → Rises name_before (map (λ s. farther s.service) (filter (is_service_told number) services))
+services_rise number services up =
     rises-chosen by_service name_before (λ s. farther s.service) (is_service_told number)
-    (λ a b less. name_orders.one_way (farther a.service) (farther b.service) less)
-    (drop place (offers records)) (ascends-drop by_service place (offers records) (ascends-offers by_service records up))
+    (λ a b less. name_orders.one_way (farther a.service) (farther b.service) less) services up

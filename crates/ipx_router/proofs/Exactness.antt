@@ -3,19 +3,18 @@ use Rattle.std.proofs.Common.{◌≡◌, refl, sym, ap, ◌∙◌, ℕ, ◌==◌
 use Rattle.std.specs.Cmp.Lexicographic.{same_text}
 use Rattle.std.proofs.lemmas.Bool.{eqb-true}
 use Rattle.ipx_wire.specs.Name.{same_name}
-use Rattle.ipx_router.specs.Changes.{same_or_none}
+use Rattle.ipx_table.specs.Taken.{same_left}
 use Rattle.ipx_router.specs.Port.{same_node}
 use Rattle.ipx_router.specs.Touched.{IsExact}
 use Rattle.ipx_router.specs.declared.route_offer.RouteOffer.{RouteOffer}
 use Rattle.ipx_router.specs.declared.service_offer.ServiceOffer.{ServiceOffer}
 
 -- so are what a key had and has
-pub exact_or_none : {O K : Type 0} (key_of : O → K) (order : K → K → Ordering) (same : O → O → Bool) → IsExact same
-    → (a b : Option O) → same_or_none key_of order same a b ≡ true → a ≡ b
-exact_or_none key_of order same exact None None e = refl
-exact_or_none key_of order same exact None (Some b) e = absurd (true≢false (sym e))
-exact_or_none key_of order same exact (Some a) None e = absurd (true≢false (sym e))
-exact_or_none key_of order same exact (Some a) (Some b) e = ap Some (exact a b e)
+pub exact_left : {O : Type 0} (same : O → O → Bool) → IsExact same → (a b : Option O) → same_left same a b ≡ true → a ≡ b
+exact_left same exact None None e = refl
+exact_left same exact None (Some b) e = absurd (true≢false (sym e))
+exact_left same exact (Some a) None e = absurd (true≢false (sym e))
+exact_left same exact (Some a) (Some b) e = ap Some (exact a b e)
 
 both : (a b : Bool) → (a && b) ≡ true → (a ≡ true) × (b ≡ true)
 both true b e = (refl, e)

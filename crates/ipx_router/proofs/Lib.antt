@@ -23,6 +23,7 @@ pub mod Every
 pub mod Exactness
 pub mod Fitting
 pub mod Found
+pub mod FullPages
 pub mod HeardCounts
 pub mod Hearing
 pub mod HeldInOrder
@@ -45,6 +46,7 @@ pub mod Noting
 pub mod Offering
 pub mod Outlets
 pub mod Owned
+pub mod PacketLengths
 pub mod PacketSends
 pub mod PageCounts
 pub mod PageItems
@@ -60,9 +62,11 @@ pub mod RelayedAlone
 pub mod Renoting
 pub mod Rising
 pub mod Rooms
+pub mod Routed
 pub mod RouterOf
 pub mod Running
 pub mod SaidOnce
+pub mod Seeking
 pub mod Sendings
 pub mod SentBytes
 pub mod SentFor

@@ -36,7 +36,6 @@ pub mod Sources
 pub mod Stands
 pub mod Told
 pub mod ToldRoutes
-pub mod ToldServices
 pub mod Touched
 pub mod Why
 pub mod WhyWord

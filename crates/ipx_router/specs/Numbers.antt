@@ -83,6 +83,10 @@ all_ones = 0xFF
 
 -- ---- choices of this router
 
+-- the most ports that it has
+abbrev pub most_ports : ℕ
+most_ports = 32
+
 -- the most entries, and the most services, that it puts into one packet
 abbrev pub entries_a_page : ℕ
 entries_a_page = 50

@@ -2,7 +2,7 @@
 use Rattle.std.specs.Prelude.{◌≡◌, ℕ, ◌^◌, ◌<◌, ◌≤◌, false, List, [], length, map}
 use Rattle.std.specs.List.{AllByRecursion}
 use Rattle.ipx_router.specs.History.{History, IsOnPort, IsOfBytes}
-use Rattle.ipx_router.specs.Numbers.{period}
+use Rattle.ipx_router.specs.Numbers.{period, most_ports}
 use Rattle.ipx_router.specs.Port.{Port, IsPort, AreApart}
 use Rattle.ipx_router.specs.Stands.{State, StandsFor}
 use Rattle.ipx_router.specs.declared.ports_fault.PortsFault.{PortsFault}
@@ -23,7 +23,7 @@ pub record IsRouter (most_routes most_services : ℕ) (s : State) (route_shares 
   pub routes_fit : most_routes < 2 ^ 16
   pub services_fit : most_services < 2 ^ 16
   pub some : 1 ≤ length s.ports
-  pub few : length s.ports ≤ 32
+  pub few : length s.ports ≤ most_ports
   pub are : AllByRecursion IsPort s.ports
   pub apart : AreApart s.ports
   pub minute : s.seconds < period

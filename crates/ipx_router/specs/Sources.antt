@@ -1,7 +1,7 @@
--- Sources of items in an order: what a call yields of those that are left, and which of two sources is next.
+-- Items in an order from two sources: which is next.
 use Rattle.std.specs.Prelude.{Bool, false, not, List, [], ◌∷◌, Option, None, Some}
 
--- what was left before a call that yielded an item, or nothing where nothing was left
+-- the item that waits and those after it; none, where none waits
 abbrev pub first_then : {X : Type 0} → Option X → List X → List X
 first_then None rest = []
 first_then (Some x) rest = x ∷ rest

@@ -4,6 +4,7 @@ ghost use Rattle.std.specs.List.{AllByRecursion, flat_map};
 ghost use Rattle.ipx_wire.specs.declared.rip.RipEntry.{RipEntry};
 ghost use Rattle.ipx_wire.specs.declared.rip.Operation.TheVariants.{Response};
 ghost use Rattle.ipx_router.specs.Facts.{offers};
+ghost use Rattle.ipx_router.specs.Numbers.{most_ports};
 ghost use Rattle.ipx_router.specs.Outbox.{Fits, Appends};
 ghost use Rattle.ipx_router.specs.Port.{port_at, reply_to};
 ghost use Rattle.ipx_router.specs.Sends.{asked, nearest_of, of_kind, rip_sends, sap_sends};
@@ -33,7 +34,7 @@ pub(crate) fn answer_request<const R: usize>(
 )
     requires port { number < length ports.now }
     requires ports { AllByRecursion (λ j. j < length ports.now) up.now }
-    requires few { length up.now ≤ 32 }
+    requires few { length up.now ≤ most_ports }
     requires room { Fits outbox.old (rip_sends ports.now number (reply_to (port_at ports.now number) source) Response
         (asked request.now.entries (told ports.now up.now (offers routes.now.records) number))) }
     ensures { Appends outbox.old outbox.new (rip_sends ports.now number (reply_to (port_at ports.now number) source) Response

@@ -2,6 +2,7 @@
 ghost use Rattle.std.specs.Prelude.{◌≡◌, ◌<◌, ◌≤◌, length, map};
 ghost use Rattle.std.specs.List.{AllByRecursion};
 ghost use Rattle.ipx_router.specs.Facts.{offers};
+ghost use Rattle.ipx_router.specs.Numbers.{most_ports};
 ghost use Rattle.ipx_router.specs.Outbox.{Fits, Appends};
 ghost use Rattle.ipx_router.specs.Sends.{rip_broadcast, sap_broadcast};
 ghost use Rattle.ipx_router.specs.Told.{told, told_services, dead, dead_service};
@@ -25,7 +26,7 @@ pub(crate) fn broadcast_routes<const R: usize>(
 )
     requires port { number < length ports.now }
     requires ports { AllByRecursion (λ j. j < length ports.now) up.now }
-    requires few { length up.now ≤ 32 }
+    requires few { length up.now ≤ most_ports }
     requires room { Fits outbox.old (rip_broadcast ports.now number (told ports.now up.now (offers routes.now.records) number)) }
     ensures { Appends outbox.old outbox.new (rip_broadcast ports.now number (told ports.now up.now (offers routes.now.records) number)) }
 {
@@ -43,7 +44,7 @@ pub(crate) fn withdraw_routes<const R: usize>(
 )
     requires port { number < length ports.now }
     requires ports { AllByRecursion (λ j. j < length ports.now) up.now }
-    requires few { length up.now ≤ 32 }
+    requires few { length up.now ≤ most_ports }
     requires room { Fits outbox.old (rip_broadcast ports.now number (map dead (told ports.now up.now (offers routes.now.records) number))) }
     ensures { Appends outbox.old outbox.new (rip_broadcast ports.now number (map dead (told ports.now up.now (offers routes.now.records) number))) }
 {

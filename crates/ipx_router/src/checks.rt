@@ -4,18 +4,19 @@
 //! room for the networks crossed; eight were crossed; it has crossed the port's network. Of a near packet: it is for
 //! another node. Of a far packet: it came through sixteen routers or more; it is for a port of the router itself; there is
 //! no way to its network; it is longer than the port allows on which it would leave.
-ghost use Rattle.std.specs.Prelude.{◌≡◌, true, not, IfOk, IfErr, None, Some};
+ghost use Rattle.std.specs.Prelude.{◌≡◌, true, false, not, IfOk, IfErr, None, Some};
 ghost use Rattle.ipx_router.specs.Checks.{relay_checks, source_checks, propagated_checks, is_for_other, far_checks, IsListed, IsWay, IsPassed};
 ghost use Rattle.ipx_router.specs.Facts.{offers};
+ghost use Rattle.ipx_router.specs.Outgoing.{way_to, is_own_port};
 ghost use Rattle.ipx_router.specs.Port.{is_local};
 ghost use Rattle.ipx_router.specs.Why.{first_of, is_propagated};
 
-use crate::outgoing::{Way, is_own_port, longest_on, way_to};
+use crate::outgoing::{Way, is_own_port, longest_on, takes_no_route, way_by_route, way_to};
 use crate::port::Port;
 use crate::route_offer::RouteOffer;
 use crate::why::Why;
 use ipx_table::Table;
-use ipx_wire::{Crossed, CrossedFault, Header, Network, Node, Packet};
+use ipx_wire::{Address, Crossed, CrossedFault, Header, Network, Node, Packet};
 
 /// The type of packets that are propagated.
 pub(crate) const PROPAGATED: u8 = 20;
@@ -108,16 +109,33 @@ fn way_of<const R: usize>(
     if header.control >= MOST_ROUTERS {
         return Err(Why::TooManyRouters);
     }
-    if is_own_port(ports, header.destination) {
-        return Err(Why::FarSide);
-    }
-    let Some(way) = way_to(ports, up, routes, header.destination) else {
+    let Some(way) = way_beyond(ports, up, routes, header.destination)? else {
         return Err(Why::NoRoute);
     };
     if header.length > longest_on(ports, way.port) {
         return Err(Why::TooLong);
     }
     Ok(way)
+}
+
+/// The way to an address on another network, if there is one; an address of the router's own is refused. Most packets go to a
+/// network that is no port's, to which only a route leads, so that is asked first.
+fn way_beyond<const R: usize>(
+    ports: &[Port],
+    up: &[u8],
+    routes: &Table<RouteOffer, R>,
+    destination: Address,
+) -> Result<Option<Way>, Why>
+    ensures own { IfErr result (λ why. (why ≡ Why.FarSide) × (is_own_port ports.now destination ≡ true)) }
+    ensures way { IfOk result (λ way. (way ≡ way_to ports.now up.now (offers routes.now.records) destination) × (is_own_port ports.now destination ≡ false)) }
+{
+    if !takes_no_route(ports, destination.network) {
+        return Ok(way_by_route(ports, routes, destination.network));
+    }
+    if is_own_port(ports, destination) {
+        return Err(Why::FarSide);
+    }
+    Ok(way_to(ports, up, routes, destination))
 }
 
 /// Whether the packet is for all networks: of type 20 and to the broadcast, whatever the destination network.

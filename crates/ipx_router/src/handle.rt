@@ -14,7 +14,7 @@ use crate::router::Router;
 use crate::second::{end_port, pass_second};
 use crate::service_offer::ServiceOffer;
 use crate::stopping::send_stop;
-use crate::up_ports::{has_number, numbers_below, with_number, without_number};
+use crate::up_ports::{is_up, numbers_below, with_number, without_number};
 use crate::why::Why;
 
 /// The seconds from one broadcast of all that is advertised to the next.
@@ -129,7 +129,7 @@ impl<const P: usize, const R: usize, const S: usize> Router<P, R, S> {
         if !self.running {
             return Outcome::Dropped(Why::NotRunning);
         }
-        if !has_number(&self.up, port) {
+        if !is_up(&self.up, port) {
             return Outcome::AlreadyDown;
         }
         self.take_down(port, outbox);
@@ -171,7 +171,7 @@ impl<const P: usize, const R: usize, const S: usize> Router<P, R, S> {
         if !self.running {
             return Outcome::Dropped(Why::NotRunning);
         }
-        if has_number(&self.up, port) {
+        if is_up(&self.up, port) {
             return Outcome::AlreadyUp;
         }
         self.bring_up(port, outbox);

@@ -41,6 +41,9 @@ pub(crate) fn hear_routes<const R: usize>(
         (record { up = up.now; routes = offers table.new.records; services = services })) up.now) }
 {
     let touched = learn_routes(table, ports, number, node, rip);
+    if touched.is_empty() {
+        return;
+    }
     let changes = changed_routes(&touched);
     advertise_route_changes(outbox, ports, up, &changes);
 }
@@ -66,6 +69,9 @@ pub(crate) fn hear_services<const S: usize>(
         (record { up = up.now; routes = routes; services = offers table.new.records })) up.now) }
 {
     let touched = learn_services(table, number, node, entries);
+    if touched.is_empty() {
+        return;
+    }
     let changes = changed_services(&touched);
     advertise_service_changes(outbox, ports, up, &changes);
 }

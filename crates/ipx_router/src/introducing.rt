@@ -2,6 +2,7 @@
 ghost use Rattle.std.specs.Prelude.{◌≡◌, ◌<◌, ◌≤◌, [], ◌∷◌, ◌++◌, length};
 ghost use Rattle.std.specs.List.{AllByRecursion, flat_map};
 ghost use Rattle.ipx_router.specs.Facts.{offers};
+ghost use Rattle.ipx_router.specs.Numbers.{most_ports};
 ghost use Rattle.ipx_router.specs.Outbox.{Fits, Appends};
 ghost use Rattle.ipx_router.specs.Port.{port_at};
 ghost use Rattle.ipx_router.specs.Sends.{introduction, port_up_on, rip_broadcast};
@@ -30,7 +31,7 @@ pub(crate) fn introduce<const R: usize, const S: usize>(
 )
     requires port { number < length ports.now }
     requires ports { AllByRecursion (λ j. j < length ports.now) up.now }
-    requires few { length up.now ≤ 32 }
+    requires few { length up.now ≤ most_ports }
     requires room { Fits outbox.old (introduction ports.now up.now (offers routes.now.records) (offers services.now.records) number) }
     ensures { Appends outbox.old outbox.new (introduction ports.now up.now (offers routes.now.records) (offers services.now.records) number) }
 {
@@ -49,7 +50,7 @@ pub(crate) fn introduce_all<const R: usize, const S: usize>(
     services: &Table<ServiceOffer, S>,
 )
     requires ports { AllByRecursion (λ j. j < length ports.now) up.now }
-    requires few { length up.now ≤ 32 }
+    requires few { length up.now ≤ most_ports }
     requires room { Fits outbox.old (flat_map (introduction ports.now up.now (offers routes.now.records) (offers services.now.records)) up.now) }
     ensures { Appends outbox.old outbox.new (flat_map (introduction ports.now up.now (offers routes.now.records) (offers services.now.records)) up.now) }
 {
@@ -90,7 +91,7 @@ fn send_up_on<const R: usize, const S: usize>(
     requires port { port < length ports.now }
     requires number { number < length ports.now }
     requires ports { AllByRecursion (λ j. j < length ports.now) up.now }
-    requires few { length up.now ≤ 32 }
+    requires few { length up.now ≤ most_ports }
     requires room { Fits outbox.old (port_up_on ports.now (record { up = up.now; routes = offers routes.now.records; services = offers services.now.records }) port number) }
     ensures { Appends outbox.old outbox.new (port_up_on ports.now (record { up = up.now; routes = offers routes.now.records; services = offers services.now.records }) port number) }
 {
@@ -112,7 +113,7 @@ pub(crate) fn send_port_up<const R: usize, const S: usize>(
 )
     requires port { port < length ports.now }
     requires ports { AllByRecursion (λ j. j < length ports.now) up.now }
-    requires few { length up.now ≤ 32 }
+    requires few { length up.now ≤ most_ports }
     requires room { Fits outbox.old (flat_map (port_up_on ports.now (record { up = up.now; routes = offers routes.now.records; services = offers services.now.records }) port) up.now) }
     ensures { Appends outbox.old outbox.new (flat_map (port_up_on ports.now (record { up = up.now; routes = offers routes.now.records; services = offers services.now.records }) port) up.now) }
 {

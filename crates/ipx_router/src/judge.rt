@@ -14,9 +14,9 @@ ghost use Rattle.ipx_router.specs.Why.{checks, first_of, when, is_down_port};
 
 use crate::addresses::port_of;
 use crate::checks::{PROPAGATED, Passed, check, is_local};
-use crate::outgoing::is_up;
 use crate::port::Port;
 use crate::route_offer::RouteOffer;
+use crate::up_ports::is_up;
 use crate::why::Why;
 use ipx_table::Table;
 use ipx_wire::{Address, Crossed, Header, Node, Packet, Rip, Sap, Socket};

@@ -17,7 +17,7 @@ ghost use Rattle.ipx_router.specs.Facts.{route_facts, route_facts_of, routes_hel
 ghost use Rattle.ipx_router.specs.History.{Event, History, Start, Stop, Second, Packet, PortDown, PortUp, IsOnPort, IsOfBytes, running, seconds_run, ports_up};
 ghost use Rattle.ipx_router.specs.Horizon.{EachEntryReadIs, IsFromElsewhere};
 ghost use Rattle.ipx_router.specs.News.{news, news_services, same_address, same_route, same_service};
-ghost use Rattle.ipx_router.specs.Numbers.{unreachable};
+ghost use Rattle.ipx_router.specs.Numbers.{unreachable, most_ports};
 ghost use Rattle.ipx_router.specs.Outcomes.{outcome, changes_nothing};
 ghost use Rattle.ipx_router.specs.Packets.{EachEntryIs, IsSentFor, IsRelayed};
 ghost use Rattle.ipx_router.specs.Port.{Port, IsPort, IsNoPort, AreApart, port_at, is_up, same_node};
@@ -219,7 +219,7 @@ pub fn no_route_goes_back()
 
 /// An event sends no more packets than stated, where the router has at most 32 ports, and none longer than stated.
 pub fn bounds()
-    ensures few { (ports : List Port) (most_routes most_services : ℕ) (history : History) (event : Event) → length ports ≤ 32 → IsOnPort ports event
+    ensures few { (ports : List Port) (most_routes most_services : ℕ) (history : History) (event : Event) → length ports ≤ most_ports → IsOnPort ports event
         → length (sends ports most_routes most_services history event)
         ≤ most_packets (length ports) (length (routes_held ports most_routes history)) (length (services_held ports most_services history)) event }
     ensures short { (ports : List Port) (most_routes most_services : ℕ) (history : History) (event : Event)

@@ -1,23 +1,23 @@
-//! Learns a response: each entry is an offer to the table, in order, and what its key had before is noted.
-ghost use Rattle.std.specs.Prelude.{◌≡◌, ◌+◌, ◌<◌, ◌==◌, ◌≤◌, List, ◌++◌, ◌∷◌, [], length, map};
-ghost use Rattle.std.specs.List.{list_any};
+//! Learns a response: each entry is an offer to the table, in order, and what it changes is noted.
+ghost use Rattle.std.specs.Prelude.{◌≡◌, ◌+◌, ◌<◌, ◌≤◌, List, ◌++◌, ◌∷◌, [], length, map};
 ghost use Rattle.ipx_table.specs.Facts.{Fact};
 ghost use Rattle.ipx_table.specs.Reading.{rules_of};
 ghost use Rattle.ipx_table.specs.Stands.{Stands};
 ghost use Rattle.ipx_router.specs.Facts.{offers, route_offer as offer_as_heard, routes_offered, services_offered};
-ghost use Rattle.ipx_router.specs.Port.{Port as PortValue, takes_no_route};
+ghost use Rattle.ipx_router.specs.Port.{Port as PortValue};
 ghost use Rattle.ipx_router.specs.Routes.{network_order, route_rules};
 ghost use Rattle.ipx_router.specs.Services.{service_order, service_reading, service_rules};
 ghost use Rattle.ipx_wire.specs.Numbers.{most_entries, most_services};
 ghost use Rattle.ipx_router.specs.Touched.{Touches};
 
+use crate::outgoing::takes_no_route;
 use crate::port::Port;
 use crate::route_offer::RouteOffer;
 use crate::service_offer::ServiceOffer;
 use crate::touched::{Touched, take};
 use arrayvec::ArrayVec;
 use ipx_table::Table;
-use ipx_wire::{Network, Node, Rip, RipEntry, SapEntries, SapEntry, Service};
+use ipx_wire::{Node, Rip, RipEntry, SapEntries, SapEntry, Service};
 
 /// The routes that a response touches.
 pub(crate) type TouchedRoutes = ArrayVec<Touched<RouteOffer>, { RipEntry::MOST }>;
@@ -139,18 +139,4 @@ fn route_offer(number: u8, node: Node, entry: RipEntry) -> RouteOffer
         port: number,
         node,
     }
-}
-
-/// Whether no route leads to that network: to 0, to all routes, and to those of the ports.
-fn takes_no_route(ports: &[Port], network: Network) -> bool
-    ensures { result ≡ takes_no_route ports.now network }
-{
-    network == Network(0) || network == Network::ALL_ROUTES || is_direct(ports, network)
-}
-
-/// Whether a port is on that network.
-fn is_direct(ports: &[Port], network: Network) -> bool
-    ensures { result ≡ list_any (λ p. p.network.0 == network.0) ports.now }
-{
-    ports.iter().any(|port| port.network() == network)
 }

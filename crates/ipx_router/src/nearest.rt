@@ -43,8 +43,7 @@ fn nearest_told<const S: usize>(
     ensures { option_to_list result ≡ nearest_of (of_kind kind (told_services (offers table.now.records) number)) }
 {
     let mut best = None;
-    let mut left = ToldServices::new(number);
-    while let Some(service) = left.next(table) {
+    for service in ToldServices::new(table, number) {
         best = nearer_of(best, kind, service);
     }
     best

@@ -2,7 +2,7 @@
 ghost use Rattle.std.specs.Prelude.{◌≡◌, ◌^◌, ◌<◌, ◌≤◌, ◌*◌};
 ghost use Rattle.ipx_router.specs.Bounds.{most_packets, most_length, route_sheets, service_sheets};
 ghost use Rattle.ipx_router.specs.Happened.{happened};
-ghost use Rattle.ipx_router.specs.Numbers.{most_own_length};
+ghost use Rattle.ipx_router.specs.Numbers.{most_own_length, most_ports};
 
 use crate::event::Event;
 use crate::outbox::Need;
@@ -16,7 +16,7 @@ const MOST_OWN_LENGTH: usize = Header::SIZE + 2 + SERVICES_A_PAGE * SapEntry::SI
 /// The most packets that an event sends, and as many times the bytes of the longest.
 pub(crate) fn need_of(ports: usize, routes: usize, services: usize, event: Event<'_>) -> Need
     requires some { 1 ≤ ports }
-    requires few { ports ≤ 32 }
+    requires few { ports ≤ most_ports }
     requires few_routes { routes < 2 ^ 16 }
     requires few_services { services < 2 ^ 16 }
     ensures packets { result.packets ≡ most_packets ports routes services (happened event.entry) }
@@ -32,7 +32,7 @@ pub(crate) fn need_of(ports: usize, routes: usize, services: usize, event: Event
 /// The most packets that an event sends.
 fn packets_of(ports: usize, routes: usize, services: usize, event: Event<'_>) -> usize
     requires some { 1 ≤ ports }
-    requires few { ports ≤ 32 }
+    requires few { ports ≤ most_ports }
     requires few_routes { routes < 2 ^ 16 }
     requires few_services { services < 2 ^ 16 }
     ensures value { result ≡ most_packets ports routes services (happened event.entry) }
@@ -57,6 +57,11 @@ fn length_of(event: Event<'_>) -> usize
     let Event::Packet { bytes, .. } = event else {
         return MOST_OWN_LENGTH;
     };
+    // A packet is no longer than the bytes that came. So its header is read only where there are more than a packet of
+    // the router's own may have.
+    if bytes.len() <= MOST_OWN_LENGTH {
+        return MOST_OWN_LENGTH;
+    }
     match Packet::read(bytes) {
         Ok(packet) => MOST_OWN_LENGTH.max(usize::from(packet.header().length)),
         Err(_) => MOST_OWN_LENGTH,

@@ -2,11 +2,11 @@
 //!
 //! A port of that network which is up comes first; then the route in the table; then the default route, which serves
 //! every network that a route may lead to.
-ghost use Rattle.std.specs.Prelude.{◌≡◌, ◌==◌};
+ghost use Rattle.std.specs.Prelude.{◌≡◌, ◌==◌, option_map};
 ghost use Rattle.std.specs.List.{list_any};
 ghost use Rattle.ipx_router.specs.Facts.{offers};
 ghost use Rattle.ipx_router.specs.Outgoing.{port_to, route_to, serving, way_to, is_own_port};
-ghost use Rattle.ipx_router.specs.Port.{port_at, is_up, takes_no_route};
+ghost use Rattle.ipx_router.specs.Port.{port_at, takes_no_route};
 
 use crate::port::Port;
 use crate::route_offer::RouteOffer;
@@ -46,7 +46,18 @@ pub(crate) fn way_to<const R: usize>(
             link: destination.node,
         });
     }
-    let route = serving(ports, routes, destination.network)?;
+    way_by_route(ports, routes, destination.network)
+}
+
+/// The way to a network by the route that serves it, if there is one.
+pub(crate) fn way_by_route<const R: usize>(
+    ports: &[Port],
+    routes: &Table<RouteOffer, R>,
+    network: Network,
+) -> Option<Way>
+    ensures { result ≡ option_map (λ r. record { port = r.port; link = r.node }) (serving ports.now (offers routes.now.records) network) }
+{
+    let route = serving(ports, routes, network)?;
     Some(Way {
         port: route.port,
         link: route.node,
@@ -82,13 +93,6 @@ pub(crate) fn longest_on(ports: &[Port], number: u8) -> u16
     }
 }
 
-/// Whether the port of that number is up.
-pub(crate) fn is_up(up: &[u8], number: u8) -> bool
-    ensures { result ≡ is_up up.now number }
-{
-    up.iter().any(|other| *other == number)
-}
-
 /// The port of that network, if the router has one that is up.
 fn port_to(ports: &[Port], up: &[u8], network: Network) -> Option<u8>
     ensures { result ≡ port_to ports.now up.now network }
@@ -122,15 +126,20 @@ fn route_to<const R: usize>(routes: &Table<RouteOffer, R>, network: Network) -> 
 }
 
 /// Whether no route leads to that network: to the local one, to that of all routes, and to a port's own.
-fn takes_no_route(ports: &[Port], network: Network) -> bool
+pub(crate) fn takes_no_route(ports: &[Port], network: Network) -> bool
     ensures { result ≡ takes_no_route ports.now network }
 {
     network.0 == 0 || network.0 == Network::ALL_ROUTES.0 || is_direct(ports, network)
 }
 
-/// Whether a port, up or not, is on that network.
+/// Whether a port, up or not, is on that network. Every port is compared: usually none is, and a loop without an exit is
+/// faster.
 fn is_direct(ports: &[Port], network: Network) -> bool
     ensures { result ≡ list_any (λ p. p.network.0 == network.0) ports.now }
 {
-    ports.iter().any(|port| port.network() == network)
+    let mut any = false;
+    for port in ports {
+        any |= port.network() == network;
+    }
+    any
 }

@@ -3,6 +3,7 @@ ghost use Rattle.std.specs.Prelude.{◌≡◌, ◌+◌, ◌<◌, ◌≤◌, List
 ghost use Rattle.std.specs.List.{AllByRecursion, flat_map};
 ghost use Rattle.ipx_router.specs.Ended.{RoutesAscend, ServicesAscend, ended_on, lost_on};
 ghost use Rattle.ipx_router.specs.Facts.{offers};
+ghost use Rattle.ipx_router.specs.Numbers.{most_ports};
 ghost use Rattle.ipx_router.specs.Outbox.{Fits, Appends};
 ghost use Rattle.ipx_router.specs.Sends.{rip_broadcast, sap_broadcast};
 ghost use Rattle.ipx_router.specs.Told.{by_name, by_network, told, told_services};
@@ -16,7 +17,7 @@ use crate::port::Port;
 use crate::route_offer::RouteOffer;
 use crate::service_offer::ServiceOffer;
 use crate::service_pages::{add_service, send_service_rest};
-use crate::told_routes::ToldRoutes;
+use crate::told_routes::{ToldRoutes, told_direct};
 use crate::told_services::ToldServices;
 use arrayvec::ArrayVec;
 use ipx_table::Table;
@@ -32,18 +33,20 @@ pub(crate) fn broadcast_routes_with_ended<const R: usize>(
 )
     requires port { number < length ports.now }
     requires ports { AllByRecursion (λ j. j < length ports.now) up.now }
-    requires few { length up.now ≤ 32 }
+    requires few { length up.now ≤ most_ports }
     requires ascends { RoutesAscend ended.now }
     requires room { Fits outbox.old (rip_broadcast ports.now number
         (by_network (told ports.now up.now (offers table.now.records) number ++ flat_map (ended_on number) ended.now))) }
     ensures { Appends outbox.old outbox.new (rip_broadcast ports.now number
         (by_network (told ports.now up.now (offers table.now.records) number ++ flat_map (ended_on number) ended.now))) }
 {
-    let to = everyone(port_of(ports, number));
-    let mut source = ToldRoutes::new(ports, up, number);
+    let port = port_of(ports, number);
+    let to = everyone(port);
+    let cost = port.cost();
+    let direct = told_direct(ports, up, number, cost);
     let mut page = ArrayVec::new();
     let mut rest = ended;
-    while let Some(entry) = source.next(table) {
+    for entry in ToldRoutes::new(&direct, table, number, cost) {
         rest = add_ended_before(outbox, ports, number, to, &mut page, rest, Some(entry));
         add_entry(outbox, ports, number, to, &mut page, entry);
     }
@@ -67,10 +70,9 @@ pub(crate) fn broadcast_services_with_lost<const S: usize>(
         (by_name (told_services (offers table.now.records) number ++ flat_map (lost_on number) lost.now))) }
 {
     let to = every_server(port_of(ports, number));
-    let mut source = ToldServices::new(number);
     let mut page = ArrayVec::new();
     let mut rest = lost;
-    while let Some(service) = source.next(table) {
+    for service in ToldServices::new(table, number) {
         rest = add_lost_before(outbox, ports, number, to, &mut page, rest, Some(&service));
         add_service(outbox, ports, number, to, false, &mut page, service);
     }

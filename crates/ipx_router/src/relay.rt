@@ -6,6 +6,7 @@ ghost use Rattle.ipx_wire.specs.Write.{packet_bytes};
 ghost use Rattle.ipx_wire.specs.declared.network.Network.{Network};
 ghost use Rattle.ipx_router.specs.Checks.{IsListed, IsPassed};
 ghost use Rattle.ipx_router.specs.Facts.{offers};
+ghost use Rattle.ipx_router.specs.Numbers.{most_ports};
 ghost use Rattle.ipx_router.specs.Outbox.{HasRoom, Fits, Appends};
 ghost use Rattle.ipx_router.specs.Port.{port_at, is_up};
 ghost use Rattle.ipx_router.specs.Relay.{relay_why, relay_outcome, relay_sends, passed_outcome, relay_places};
@@ -15,16 +16,17 @@ use crate::addresses::port_of;
 use crate::checks::{Passed, check};
 use crate::outbox::{Need, Outbox};
 use crate::outcome::Outcome;
-use crate::outgoing::{is_up, longest_on, network_of};
+use crate::outgoing::{longest_on, network_of};
 use crate::port::Port;
 use crate::route_offer::RouteOffer;
+use crate::up_ports::is_up;
 use crate::why::Why;
 use ipx_table::Table;
 use ipx_wire::{Crossed, Packet};
 
 /// The room that sending a packet on takes at most.
 pub(crate) fn relay_need(ports: &[Port], packet: &Packet<'_>) -> Need
-    requires few { length ports.now ≤ 32 }
+    requires few { length ports.now ≤ most_ports }
     ensures packets { result.packets ≡ relay_places ports.now }
     ensures bytes { result.bytes ≡ relay_places ports.now * packet.now.header.length }
 {

@@ -2,6 +2,7 @@
 ghost use Rattle.std.specs.Prelude.{◌≡◌, ◌≤◌, ◌<◌, false, [], length, slice_get, nat_lt, IfOk, IfErr, IfSome};
 ghost use Rattle.ipx_table.specs.Alive.{lifetime};
 ghost use Rattle.ipx_table.specs.Stands.{record_of};
+ghost use Rattle.ipx_router.specs.Numbers.{most_ports};
 ghost use Rattle.ipx_router.specs.RouterOf.{IsNoRouter, made_of};
 ghost use Rattle.ipx_router.specs.Port.{AreApart, is_up};
 ghost use Rattle.ipx_router.specs.Routes.{network_order};
@@ -12,7 +13,7 @@ use crate::port::Port;
 use crate::ports_fault::PortsFault;
 use crate::route_offer::RouteOffer;
 use crate::service_offer::ServiceOffer;
-use crate::up_ports::{UpPorts, has_number};
+use crate::up_ports::{UpPorts, is_up};
 use arrayvec::ArrayVec;
 use ipx_table::{Held, Table};
 use ipx_wire::Network;
@@ -46,7 +47,7 @@ impl<const P: usize, const R: usize, const S: usize> Router<P, R, S> {
     /// A router with these ports, numbered from 0, and the shares that they have. It is stopped, and its tables are empty.
     pub fn new(ports: &[Port]) -> Result<Router<P, R, S>, PortsFault>
         requires some { 1 ≤ P }
-        requires few { P ≤ 32 }
+        requires few { P ≤ most_ports }
         requires some_routes { 1 ≤ R }
         requires few_routes { R ≤ 65535 }
         requires some_services { 1 ≤ S }
@@ -92,7 +93,7 @@ impl<const P: usize, const R: usize, const S: usize> Router<P, R, S> {
         ensures stopped { self.now.running ≡ false → result ≡ false }
         ensures missing { length self.now.ports ≤ port → result ≡ false }
     {
-        has_number(&self.up, port)
+        is_up(&self.up, port)
     }
 
     /// Whether it has a port of this number.
@@ -106,7 +107,7 @@ impl<const P: usize, const R: usize, const S: usize> Router<P, R, S> {
     pub fn ports(&self) -> usize
         ensures value { result ≡ length self.now.ports }
         ensures some { 1 ≤ result }
-        ensures few { result ≤ 32 }
+        ensures few { result ≤ most_ports }
         ensures apart { AreApart self.now.ports }
     {
         self.ports.len()

@@ -7,6 +7,7 @@ ghost use Rattle.ipx_table.specs.Stands.{Stands, IsAscending, second_later, is_l
 ghost use Rattle.ipx_router.specs.Ended.{RoutesAscend, ServicesAscend};
 ghost use Rattle.ipx_router.specs.EndedSends.{ended_sends, periodic_sends, down_sends, second_sends, port_down_sends};
 ghost use Rattle.ipx_router.specs.Facts.{offers};
+ghost use Rattle.ipx_router.specs.Numbers.{most_ports};
 ghost use Rattle.ipx_router.specs.Outbox.{Fits, Appends};
 ghost use Rattle.ipx_router.specs.Routes.{network_order, route_reading, route_rules};
 ghost use Rattle.ipx_router.specs.Services.{service_order, service_reading, service_rules};
@@ -32,7 +33,7 @@ pub(crate) fn pass_second<const R: usize, const S: usize>(
     periodic: bool,
 )
     requires ports { AllByRecursion (λ j. j < length ports.now) up.now }
-    requires few { length up.now ≤ 32 }
+    requires few { length up.now ≤ most_ports }
     requires room { Fits outbox.old (second_sends ports.now up.now routes.old.records services.old.records periodic) }
     ensures routes { routes.new.records ≡ second_later routes.old.records }
     ensures services { services.new.records ≡ second_later services.old.records }
@@ -132,7 +133,7 @@ fn broadcast_all<const R: usize, const S: usize>(
     lost: &[ServiceOffer],
 )
     requires ports { AllByRecursion (λ j. j < length ports.now) up.now }
-    requires few { length up.now ≤ 32 }
+    requires few { length up.now ≤ most_ports }
     requires routes_ascend { RoutesAscend ended.now }
     requires services_ascend { ServicesAscend lost.now }
     requires room { Fits outbox.old (flat_map (periodic_sends ports.now ended.now lost.now up.now (offers routes.now.records) (offers services.now.records)) up.now) }

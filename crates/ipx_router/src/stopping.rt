@@ -2,6 +2,7 @@
 ghost use Rattle.std.specs.Prelude.{◌≡◌, ◌<◌, ◌≤◌, length};
 ghost use Rattle.std.specs.List.{AllByRecursion, flat_map};
 ghost use Rattle.ipx_router.specs.Facts.{offers};
+ghost use Rattle.ipx_router.specs.Numbers.{most_ports};
 ghost use Rattle.ipx_router.specs.Outbox.{Fits, Appends};
 ghost use Rattle.ipx_router.specs.Sends.{stop_on};
 
@@ -23,7 +24,7 @@ fn send_stop_on<const R: usize, const S: usize>(
 )
     requires port { number < length ports.now }
     requires ports { AllByRecursion (λ j. j < length ports.now) up.now }
-    requires few { length up.now ≤ 32 }
+    requires few { length up.now ≤ most_ports }
     requires room { Fits outbox.old (stop_on ports.now (record { up = up.now; routes = offers routes.now.records; services = offers services.now.records }) number) }
     ensures { Appends outbox.old outbox.new (stop_on ports.now (record { up = up.now; routes = offers routes.now.records; services = offers services.now.records }) number) }
 {
@@ -40,7 +41,7 @@ pub(crate) fn send_stop<const R: usize, const S: usize>(
     services: &Table<ServiceOffer, S>,
 )
     requires ports { AllByRecursion (λ j. j < length ports.now) up.now }
-    requires few { length up.now ≤ 32 }
+    requires few { length up.now ≤ most_ports }
     requires room { Fits outbox.old (flat_map (stop_on ports.now (record { up = up.now; routes = offers routes.now.records; services = offers services.now.records })) up.now) }
     ensures { Appends outbox.old outbox.new (flat_map (stop_on ports.now (record { up = up.now; routes = offers routes.now.records; services = offers services.now.records })) up.now) }
 {

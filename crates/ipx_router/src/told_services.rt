@@ -1,62 +1,77 @@
-//! The services that a port advertises, one after the other by type and name: the records of the table, without a copy.
-ghost use Rattle.std.specs.Prelude.{◌≡◌, ◌+◌, ◌<◌, List, ◌++◌, length};
-ghost use Rattle.std.specs.Option.{option_to_list};
-ghost use Rattle.ipx_table.specs.declared.held.Held.{Held};
+//! The services that a port advertises, one after the other by type and name: those of the table, without a copy.
+ghost use Rattle.std.specs.Prelude.{◌≡◌, not, drop};
+ghost use Rattle.std.specs.List.{prefix_len};
 ghost use Rattle.ipx_router.specs.Facts.{offers};
-ghost use Rattle.ipx_router.specs.Sources.{first_then};
-ghost use Rattle.ipx_router.specs.Told.{told_services};
-ghost use Rattle.ipx_router.specs.ToldServices.{services_from, services_left};
+ghost use Rattle.ipx_router.specs.Told.{is_service_told, told_services};
 
 use crate::advertised::{farther, is_service_told};
 use crate::service_offer::ServiceOffer;
 use ipx_table::Table;
 use ipx_wire::Service;
+use std::marker::Model;
 
-/// What is left of the services that a port advertises.
+/// What is left of the services that a port advertises. A clause sees them as they are advertised, by type and name.
 #[derive(Debug, Drop)]
-pub(crate) struct ToldServices {
-    // the place in the table
-    place: usize,
+pub(crate) struct ToldServices<'a> {
+    // the services of the table, by type and name
+    services: &'a [ServiceOffer],
     number: u8,
 }
 
-impl ToldServices {
-    /// All services that the port advertises.
-    pub(crate) fn new(number: u8) -> ToldServices
-        ensures { (records : List (Held ServiceOffer)) → services_left result records ≡ told_services (offers records) number }
-    {
-        ToldServices { place: 0, number }
-    }
+impl<'a> Model for ToldServices<'a> {
+    ghost use Rattle.std.specs.Prelude.{List};
+    ghost use Rattle.ipx_wire.specs.declared.service.Service.{Service};
+    ghost use Rattle.ipx_router.specs.Ended.{ServicesAscend};
+    ghost use Rattle.ipx_router.specs.Told.{told_services};
 
-    /// The next service; `None` where none is left.
-    pub(crate) fn next<const S: usize>(&mut self, table: &Table<ServiceOffer, S>) -> Option<Service>
-        ensures { services_left self.old table.now.records ≡ first_then result (services_left self.new table.now.records) }
+    ghost Value = { List Service };
+
+    ghost view = { λ t. told_services t.services.now t.number };
+
+    ghost invariant = { λ t. ServicesAscend t.services.now };
+}
+
+impl<'a> ToldServices<'a> {
+    /// All services of the table that the port advertises.
+    pub(crate) fn new<const S: usize>(
+        table: &'a Table<ServiceOffer, S>,
+        number: u8,
+    ) -> ToldServices<'a>
+        ensures { result ≡ told_services (offers table.now.records) number }
     {
-        let len = table.len();
-        while self.place < len {
-            let place = self.place;
-            self.place += 1;
-            if let Some(service) = told_service(table, self.number, place) {
-                return Some(service);
-            }
+        ToldServices {
+            services: table.offers(),
+            number,
         }
-        None
     }
 }
 
-/// The record at a place as a service one hop farther away, if the port advertises it.
-fn told_service<const S: usize>(
-    table: &Table<ServiceOffer, S>,
-    number: u8,
-    place: usize,
-) -> Option<Service>
-    requires { place < length table.now.records }
-    ensures { services_from table.now.records number place ≡ option_to_list result ++ services_from table.now.records number (place + 1) }
-{
-    let held = table.get_at(place)?;
-    if is_service_told(number, &held.offer) {
-        Some(farther(held.offer.service))
-    } else {
-        None
+impl<'a> Iterator for ToldServices<'a> {
+    ghost use Rattle.std.specs.Iterator.{YieldsFirst, item_count};
+
+    type Item = Service;
+
+    ghost next_gives = { YieldsFirst (λ rest. rest) };
+
+    ghost remaining = { item_count (λ rest. rest) };
+
+    fn next(&mut self) -> Option<Service> {
+        let (offer, others) = seek(self.services, self.number).split_first()?;
+        self.services = others;
+        Some(farther(offer.service))
     }
+}
+
+/// The services that are left, from the first on that the port advertises.
+fn seek(services: &[ServiceOffer], number: u8) -> &[ServiceOffer]
+    ensures { result.now ≡ drop (prefix_len (λ offer. not (is_service_told number offer)) services.now) services.now }
+{
+    let mut rest = services;
+    while let Some((offer, others)) = rest.split_first() {
+        if is_service_told(number, offer) {
+            return rest;
+        }
+        rest = others;
+    }
+    rest
 }

@@ -1,5 +1,5 @@
 //! What an event touches of a table: each key whose offer it changes, with what it had before and has now. An offer that changes
-//! nothing isn't noted, so a response that changes nothing costs a search of the table an entry, and no other.
+//! nothing isn't noted, so a response that changes nothing costs one search of the table per entry, and nothing more.
 ghost use Rattle.std.specs.Prelude.{◌≡◌, ◌+◌, ◌-◌, ◌<◌, ◌≤◌, List, ◌++◌, ◌∷◌, [], length, get_or, insert, set, true, false, IfOk, IfErr};
 ghost use Rattle.std.specs.Ordering.{is_eq, is_lt};
 ghost use Rattle.std.specs.declared.cmp.Ordering.TheVariants.{Equal};
@@ -37,17 +37,15 @@ pub(crate) fn take<O: Offer, const CAP: usize, const MOST: usize>(
     ensures few { length touched.new.items ≤ length touched.old.items + 1 }
 {
     let exchanged = table.exchange(offer);
-    let before = exchanged.before;
-    let after = exchanged.after;
-    if is_same(&before, &after) {
+    if !exchanged.taken.is_change() {
         return;
     }
     note(
         touched,
         Touched {
             offer,
-            before,
-            after,
+            before: exchanged.before,
+            after: exchanged.after,
         },
     );
 }

@@ -1,6 +1,7 @@
 //! Which ports are up: their numbers, in order.
 ghost use Rattle.std.specs.Prelude.{◌≡◌, ◌+◌, ◌<◌, ◌≤◌, ◌==◌, nat_lt, not, insert, length};
 ghost use Rattle.std.specs.List.{filter};
+ghost use Rattle.ipx_router.specs.Numbers.{most_ports};
 ghost use Rattle.ipx_router.specs.Port.{numbers, is_up};
 ghost use Rattle.ipx_router.specs.Sorted.{put};
 
@@ -10,16 +11,16 @@ use arrayvec::ArrayVec;
 /// The numbers of the ports that are up.
 pub(crate) type UpPorts = ArrayVec<u8, MOST_PORTS>;
 
-/// Whether the number is among those.
-pub(crate) fn has_number(numbers: &[u8], number: u8) -> bool
-    ensures { result ≡ is_up numbers.now number }
+/// Whether the port of that number is up.
+pub(crate) fn is_up(up: &[u8], number: u8) -> bool
+    ensures { result ≡ is_up up.now number }
 {
-    numbers.iter().any(|other| *other == number)
+    up.iter().any(|other| *other == number)
 }
 
 /// The numbers below a count of ports.
 pub(crate) fn numbers_below(count: usize) -> UpPorts
-    requires few { count ≤ 32 }
+    requires few { count ≤ most_ports }
     ensures { result.items ≡ numbers count }
 {
     let mut below = ArrayVec::new();
@@ -31,7 +32,7 @@ pub(crate) fn numbers_below(count: usize) -> UpPorts
 
 /// The numbers without that one.
 pub(crate) fn without_number(up: &[u8], number: u8) -> UpPorts
-    requires fits { length up.now ≤ 32 }
+    requires fits { length up.now ≤ most_ports }
     ensures { result.items ≡ filter (λ j. not (j == number)) up.now }
 {
     let mut others = ArrayVec::new();
@@ -45,7 +46,7 @@ pub(crate) fn without_number(up: &[u8], number: u8) -> UpPorts
 
 /// The numbers and one more, in its place.
 pub(crate) fn with_number(up: &[u8], number: u8) -> UpPorts
-    requires fits { length up.now < 32 }
+    requires fits { length up.now < most_ports }
     ensures { result.items ≡ put nat_lt number up.now }
 {
     let mut all = ArrayVec::new();

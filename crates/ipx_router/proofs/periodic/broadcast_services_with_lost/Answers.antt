@@ -8,7 +8,6 @@ use Rattle.ipx_router.specs.Port.{every_server}
 use Rattle.ipx_router.specs.Sends.{services_sent}
 use Rattle.ipx_router.specs.Sorted.{put_all}
 use Rattle.ipx_router.specs.Told.{by_name, name_before, told_services}
-use Rattle.ipx_router.specs.ToldServices.{services_left}
 use Rattle.ipx_router.proofs.EndedOrder.{services_with}
 use Rattle.ipx_router.proofs.EndedPages.{services_pay, item_fits, item_page_fits, item_pays, rest_fits, last_fits, last_sent}
 use Rattle.ipx_router.proofs.Paying.{pays_none}
@@ -21,10 +20,12 @@ loop-service-init g c =
     let ended = flat_map (lost_on a.number) a.lost.now in
     let all = told_services services a.number in
     record {
+      goes = tt;
+      ends = tt;
       pays = services_pay a.ports.now a.number (c.every_server-to.ensures ∙ ap every_server c.port_of.ensures) c.new-page.ensures
-          (by_name (all ++ ended)) (put_all name_before (services_left c.new-source.result a.table.now.records) ended)
+          (by_name (all ++ ended)) (put_all name_before c.into_iter-service-iterator.result ended)
           (services_with services a.number ended
-          ∙ ap (λ (es : List Service). put_all name_before es ended) (sym (c.new-source.ensures a.table.now.records)))
+          ∙ ap (λ (es : List Service). put_all name_before es ended) (sym (c.into_iter-service-iterator.ensures.into_iter_gives ∙ c.new-service-items.ensures)))
           (pays_none a.outbox.now _);
       ascends = c.requires.ascends;
     }
@@ -33,35 +34,37 @@ pub add_lost_before-rest-requires-clause-room : goal.add_lost_before-rest-requir
 add_lost_before-rest-requires-clause-room g c =
     let a = c.args in
     let l = c.loop-service in
-    let left = services_left c.next.new.self a.table.now.records in (
+    let left = c.next.new.self in (
       left,
       item_fits services_a_page (services_sent a.ports.now a.number c.every_server-to.result false) name_before
-          l.page.items (services_left l.source a.table.now.records) (flat_map (lost_on a.number) l.rest.now) l.invariant.pays
-          c.in-Some.service left c.in-Some.ensures c.requires.room,
+          l.page.items l.service-iterator (flat_map (lost_on a.number) l.rest.now) l.invariant.pays
+          c.in-Some.service left c.in-Some.ensures.steps c.requires.room,
     )
 
 pub add_service-requires-clause-room : goal.add_service-requires-clause-room
 add_service-requires-clause-room g c full =
     let a = c.args in
     let l = c.loop-service in
-    let left = services_left c.next.new.self a.table.now.records in
+    let left = c.next.new.self in
     let added = c.add_lost_before-rest in
     item_page_fits services_a_page (services_sent a.ports.now a.number c.every_server-to.result false) name_before
-    l.page.items (services_left l.source a.table.now.records) (flat_map (lost_on a.number) l.rest.now) l.invariant.pays
-    c.in-Some.service left c.in-Some.ensures
+    l.page.items l.service-iterator (flat_map (lost_on a.number) l.rest.now) l.invariant.pays
+    c.in-Some.service left c.in-Some.ensures.steps
     added.new.page.items (flat_map (lost_on a.number) added.result.now) (added.ensures.pays left) (omega arith) c.requires.room full
 
 pub loop-service-preserved : goal.loop-service-preserved
 loop-service-preserved g c =
     let a = c.args in
     let l = c.loop-service in
-    let left = services_left c.next.new.self a.table.now.records in
+    let left = c.next.new.self in
     let added = c.add_lost_before-rest in
     let rest = flat_map (lost_on a.number) added.result.now in
     record {
+      goes = tt;
+      ends = tt;
       pays = item_pays services_a_page (services_sent a.ports.now a.number c.every_server-to.result false) name_before
-          l.page.items (services_left l.source a.table.now.records) (flat_map (lost_on a.number) l.rest.now) l.invariant.pays
-          c.in-Some.service left c.in-Some.ensures
+          l.page.items l.service-iterator (flat_map (lost_on a.number) l.rest.now) l.invariant.pays
+          c.in-Some.service left c.in-Some.ensures.steps
           added.new.page.items rest (added.ensures.pays left) c.add_service.new.page.items (c.add_service.ensures (put_all name_before left rest));
       ascends = added.ensures.ascends;
     }
@@ -72,8 +75,8 @@ add_lost_before-rest-requires-2-clause-room g c =
     let l = c.loop-service in (
       [],
       rest_fits services_a_page (services_sent a.ports.now a.number c.every_server-to.result false) name_before
-          l.page.items (services_left l.source a.table.now.records) (flat_map (lost_on a.number) l.rest.now) l.invariant.pays
-          c.in_default.ensures c.requires.room,
+          l.page.items l.service-iterator (flat_map (lost_on a.number) l.rest.now) l.invariant.pays
+          c.in-None.ensures.steps.0 c.requires.room,
     )
 
 pub send_service_rest-requires-clause-room : goal.send_service_rest-requires-clause-room
@@ -81,13 +84,13 @@ send_service_rest-requires-clause-room g c =
     let a = c.args in
     let l = c.loop-service in
     last_fits services_a_page (services_sent a.ports.now a.number c.every_server-to.result false) name_before
-    l.page.items (services_left l.source a.table.now.records) (flat_map (lost_on a.number) l.rest.now) l.invariant.pays
-    c.in_default.ensures c.add_lost_before-rest-2.new.page.items (c.add_lost_before-rest-2.ensures.pays []) c.requires.room
+    l.page.items l.service-iterator (flat_map (lost_on a.number) l.rest.now) l.invariant.pays
+    c.in-None.ensures.steps.0 c.add_lost_before-rest-2.new.page.items (c.add_lost_before-rest-2.ensures.pays []) c.requires.room
 
 pub returns : goal.returns
 returns g c =
     let a = c.args in
     let l = c.loop-service in
     last_sent services_a_page (services_sent a.ports.now a.number c.every_server-to.result false) name_before
-    l.page.items (services_left l.source a.table.now.records) (flat_map (lost_on a.number) l.rest.now) l.invariant.pays
-    c.in_default.ensures c.add_lost_before-rest-2.new.page.items (c.add_lost_before-rest-2.ensures.pays []) c.send_service_rest.ensures
+    l.page.items l.service-iterator (flat_map (lost_on a.number) l.rest.now) l.invariant.pays
+    c.in-None.ensures.steps.0 c.add_lost_before-rest-2.new.page.items (c.add_lost_before-rest-2.ensures.pays []) c.send_service_rest.ensures

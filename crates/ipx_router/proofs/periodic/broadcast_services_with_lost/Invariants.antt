@@ -1,4 +1,4 @@
-use Rattle.std.proofs.Common.{◌++◌, length, false}
+use Rattle.std.proofs.Common.{◌++◌, false}
 use Rattle.std.specs.List.{flat_map}
 use Rattle.ipx_router.specs.Ended.{ServicesAscend, lost_on}
 use Rattle.ipx_router.specs.Facts.{offers}
@@ -7,17 +7,15 @@ use Rattle.ipx_router.specs.Owed.{Pays, owed}
 use Rattle.ipx_router.specs.Sends.{services_sent, sap_broadcast}
 use Rattle.ipx_router.specs.Sorted.{put_all}
 use Rattle.ipx_router.specs.Told.{by_name, name_before, told_services}
-use Rattle.ipx_router.specs.ToldServices.{services_left}
 use Rattle.ipx_router.proofs.periodic.broadcast_services_with_lost.Given as goal
 
 abbrev pub invariant-loop-service : goal.invariant-loop-service
 invariant-loop-service g l = record {
+  goes : (goal.iterator-loop-service g).can_next l.service-iterator;
+  ends : (goal.iterator-loop-service g).is_finite l.service-iterator;
   pays : Pays l.initial.outbox l.outbox
       (sap_broadcast l.ports l.number (by_name (told_services (offers l.table.records) l.number ++ flat_map (lost_on l.number) l.lost)))
       (owed services_a_page (services_sent l.ports l.number l.to false) l.page.items
-      (put_all name_before (services_left l.source l.table.records) (flat_map (lost_on l.number) l.rest)));
+      (put_all name_before l.service-iterator (flat_map (lost_on l.number) l.rest)));
   ascends : ServicesAscend l.rest;
 }
-
-abbrev pub decreases-loop-service : goal.decreases-loop-service
-decreases-loop-service g l = length (services_left l.source l.table.records)

@@ -4,30 +4,30 @@ use Rattle.ipx_router.specs.Numbers.{services_a_page}
 use Rattle.ipx_router.specs.Sends.{services_sent}
 use Rattle.ipx_router.specs.Shown.{service_shown_as}
 use Rattle.ipx_router.specs.Told.{told_services}
-use Rattle.ipx_router.specs.ToldServices.{services_left}
 use Rattle.ipx_router.proofs.Advertising.{owed_step, owed_fits, end_fits, end_sent}
 use Rattle.ipx_router.proofs.told.advertise_services.Goals as goal
 
 pub add_shown_service-requires-clause-room : goal.add_shown_service-requires-clause-room
 add_shown_service-requires-clause-room g c = λ s is full.
-    let records = c.args.table.now.records in
     owed_fits services_a_page (services_sent c.args.ports.now c.args.number c.args.to c.args.nearest) (service_shown_as c.args.shown) (told_services (offers c.args.table.now.records) c.args.number) c.loop-service.page.items
-    (services_left c.loop-service.left records) (services_left c.next.new.self records) c.in-Some.service c.show_service.result c.in-Some.ensures c.show_service.ensures
-    (omega arith) c.requires.room c.loop-service.invariant s is full
+    c.loop-service.service-iterator c.next.new.self c.in-Some.service c.show_service.result c.in-Some.ensures.steps c.show_service.ensures
+    (omega arith) c.requires.room c.loop-service.invariant.2 s is full
 
 pub loop-service-preserved : goal.loop-service-preserved
-loop-service-preserved g c =
-    let records = c.args.table.now.records in
-    owed_step services_a_page (services_sent c.args.ports.now c.args.number c.args.to c.args.nearest) (service_shown_as c.args.shown) (told_services (offers c.args.table.now.records) c.args.number) c.loop-service.page.items
-    (services_left c.loop-service.left records) (services_left c.next.new.self records) c.in-Some.service c.show_service.result c.in-Some.ensures c.show_service.ensures
-    c.add_shown_service.new.page.items c.loop-service.invariant c.add_shown_service.ensures
+loop-service-preserved g c = (
+  tt,
+  tt,
+  owed_step services_a_page (services_sent c.args.ports.now c.args.number c.args.to c.args.nearest) (service_shown_as c.args.shown) (told_services (offers c.args.table.now.records) c.args.number) c.loop-service.page.items
+      c.loop-service.service-iterator c.next.new.self c.in-Some.service c.show_service.result c.in-Some.ensures.steps c.show_service.ensures
+      c.add_shown_service.new.page.items c.loop-service.invariant.2 c.add_shown_service.ensures,
+)
 
 pub send_service_rest-requires-clause-room : goal.send_service_rest-requires-clause-room
 send_service_rest-requires-clause-room g c =
     end_fits services_a_page (services_sent c.args.ports.now c.args.number c.args.to c.args.nearest) (service_shown_as c.args.shown) (told_services (offers c.args.table.now.records) c.args.number) c.loop-service.page.items
-    (services_left c.loop-service.left c.args.table.now.records) c.in_default.ensures c.requires.room c.loop-service.invariant
+    c.loop-service.service-iterator c.in-None.ensures.steps.0 c.requires.room c.loop-service.invariant.2
 
 pub returns : goal.returns
 returns g c =
     end_sent services_a_page (services_sent c.args.ports.now c.args.number c.args.to c.args.nearest) (service_shown_as c.args.shown) (told_services (offers c.args.table.now.records) c.args.number) c.loop-service.page.items
-    (services_left c.loop-service.left c.args.table.now.records) c.in_default.ensures c.loop-service.invariant c.send_service_rest.ensures
+    c.loop-service.service-iterator c.in-None.ensures.steps.0 c.loop-service.invariant.2 c.send_service_rest.ensures

@@ -1,12 +1,12 @@
 use Rattle.std.proofs.Common.{◌∙◌, sym, is_eq}
 use Rattle.ipx_router.specs.Facts.{offers}
 use Rattle.ipx_router.proofs.Differences.{found}
-use Rattle.ipx_router.proofs.Exactness.{exact_or_none}
+use Rattle.ipx_router.proofs.Exactness.{exact_left}
 use Rattle.ipx_router.proofs.Noting.{all_stay, offers_stay, touches_same}
 use Rattle.ipx_router.proofs.touched.take.Goals as goal
 
-pub returns-then-is_same-clause-touches : goal.returns-then-is_same-clause-touches
-returns-then-is_same-clause-touches g c = λ exact before old.
+pub returns-then-not-is_change-clause-touches : goal.returns-then-not-is_change-clause-touches
+returns-then-not-is_change-clause-touches g c = λ exact before old.
     let key_of = g.O.Offer.reading.key in
     let order = g.O.Key.Ord.cmp in
     let total = g.met.O.Key.Ord.total in
@@ -15,8 +15,8 @@ returns-then-is_same-clause-touches g c = λ exact before old.
     let key = key_of c.args.offer in
     let was = c.exchange-exchanged.ensures.before ∙ sym (found (λ o. is_eq (order (key_of o) key)) now) in
     let is = c.exchange-exchanged.ensures.after ∙ sym (found (λ o. is_eq (order (key_of o) key)) new) in
-    let one = exact_or_none key_of order g.O.PartialEq.eq exact c.exchange-exchanged.result.before c.exchange-exchanged.result.after
-    (sym c.is_same.ensures ∙ c.if-is_same.true) in
+    let one = exact_left g.O.PartialEq.eq exact c.exchange-exchanged.result.before c.exchange-exchanged.result.after
+    (c.exchange-exchanged.ensures.unchanged (sym c.is_change.ensures ∙ c.if-not-is_change.true)) in
     touches_same key_of order total before (offers now) (offers new) c.args.touched.now.items
     (all_stay key_of order total key (offers now) (offers new)
     (λ other apart. offers_stay key_of order total now new other (c.exchange-exchanged.ensures.others other apart)) (sym was ∙ one ∙ is)) old

@@ -6,12 +6,12 @@ use Rattle.ipx_router.proofs.router.Router.is_up.Goals as goal
 
 pub returns-clause-stopped : goal.returns-clause-stopped
 returns-clause-stopped g c = λ stopped.
-    c.has_number.ensures ∙ ap (λ up. is_up up c.args.port) c.deref.ensures.0
+    c.is_up.ensures ∙ ap (λ up. is_up up c.args.port) c.deref.ensures.0
     ∙ stopped_up _ _ _ _ _ c.self.invariant c.args.port (ap (λ (s : State). s.running) c.self.view_is ∙ stopped)
 
 pub returns-clause-missing : goal.returns-clause-missing
 returns-clause-missing g c = λ missing.
-    c.has_number.ensures ∙ ap (λ up. is_up up c.args.port) c.deref.ensures.0
+    c.is_up.ensures ∙ ap (λ up. is_up up c.args.port) c.deref.ensures.0
     ∙ missing_up _ _ _ _ _ c.self.invariant c.args.port (subst_back missing)
   where
     subst_back : length c.args.self.now.ports ≤ c.args.port → length c.self.inside.ports.items ≤ c.args.port

@@ -13,7 +13,7 @@ take_down-requires g c =
     let runs : c.args.self.now.running ≡ true = ap (λ (v : State). v.running) (sym c.self.view_is) ∙ c.if-not-self.false in
     let there : is_up c.args.self.now.up n ≡ true =
     ap (λ (v : State). is_up v.up n) (sym c.self.view_is) ∙ ap (λ (u : List ℕ). is_up u n) (sym c.deref.ensures.0)
-    ∙ sym c.has_number.ensures ∙ c.if-not-has_number.false in
+    ∙ sym c.is_up.ensures ∙ c.if-not-is_up.false in
     search (rules, runs, there)
 
 pub returns-then-not-self-clause-follows : goal.returns-then-not-self-clause-follows
@@ -23,10 +23,10 @@ returns-then-not-self-clause-follows g c =
     subst (λ (v : State). Follows g.row.R g.row.S v v (PortDown c.args.port)) c.self.view_is
     (already_down g.row.R g.row.S s c.args.port (stopped_up g.row.R g.row.S s i.routes.shares i.services.shares c.self.invariant c.args.port c.if-not-self.true))
 
-pub returns-then-not-has_number-clause-follows : goal.returns-then-not-has_number-clause-follows
-returns-then-not-has_number-clause-follows g c =
+pub returns-then-not-is_up-clause-follows : goal.returns-then-not-is_up-clause-follows
+returns-then-not-is_up-clause-follows g c =
     let i = c.self.inside in
     let s = state_of i.ports.items i.running i.up.items i.seconds i.routes.records i.services.records in
     let down : is_up s.up c.args.port ≡ false =
-    ap (λ (u : List ℕ). is_up u c.args.port) (sym c.deref.ensures.0) ∙ sym c.has_number.ensures ∙ c.if-not-has_number.true in
+    ap (λ (u : List ℕ). is_up u c.args.port) (sym c.deref.ensures.0) ∙ sym c.is_up.ensures ∙ c.if-not-is_up.true in
     subst (λ (v : State). Follows g.row.R g.row.S v v (PortDown c.args.port)) c.self.view_is (already_down g.row.R g.row.S s c.args.port down)

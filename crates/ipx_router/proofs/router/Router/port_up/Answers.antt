@@ -9,5 +9,5 @@ bring_up-requires g c =
     let runs : c.args.self.now.running ≡ true = ap (λ (v : State). v.running) (sym c.self.view_is) ∙ c.if-not-self.false in
     let down : is_up c.args.self.now.up n ≡ false =
     ap (λ (v : State). is_up v.up n) (sym c.self.view_is) ∙ ap (λ (u : List ℕ). is_up u n) (sym c.deref.ensures.0)
-    ∙ sym c.has_number.ensures ∙ c.if-has_number.false in
+    ∙ sym c.is_up.ensures ∙ c.if-is_up.false in
     search (rules, runs, down)
