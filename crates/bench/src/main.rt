@@ -10,6 +10,7 @@
 
 mod captures;
 mod events;
+mod jumping;
 mod kinds;
 mod packets;
 mod tables;

@@ -2,6 +2,7 @@
 //!
 //! To read its records is what a table must at least do that holds their ages in them.
 
+use crate::jumping::place_at;
 use ipx_table::{Held, Offer, Table, Taken};
 use ipx_wire::{Network, Node};
 use std::io;
@@ -175,7 +176,7 @@ fn let_pass(table: &mut Table<Way, RECORDS>) -> u64 {
 fn refresh(table: &mut Table<Way, RECORDS>, first: u32) -> u64 {
     let mut seen = 0u64;
     for turn in 0..BLOCK {
-        let taken = table.offer(way_to(number_at(first.wrapping_add(turn))));
+        let taken = table.offer(way_to(place_at(first.wrapping_add(turn))));
         seen = seen.wrapping_add(u64::from(taken == Taken::Refreshed { changed: false }));
     }
     seen
@@ -195,7 +196,7 @@ fn refresh_in_order(table: &mut Table<Way, RECORDS>, first: u32) -> u64 {
 fn look_up(table: &Table<Way, RECORDS>, first: u32) -> u64 {
     let mut seen = 0u64;
     for turn in 0..BLOCK {
-        seen = seen.wrapping_add(seen_at(table, number_at(first.wrapping_add(turn))));
+        seen = seen.wrapping_add(seen_at(table, place_at(first.wrapping_add(turn))));
     }
     seen
 }
@@ -254,12 +255,6 @@ pub fn full_list() -> [Held<Way>; RECORDS] {
         records[usize::from(number)].offer = way_to(number);
     }
     records
-}
-
-/// Which network a turn is about: each once in 256 turns, in an order that a processor doesn't guess.
-fn number_at(turn: u32) -> u8 {
-    let turn = turn % 256;
-    (turn * (turn + 1) / 2 % 256) as u8
 }
 
 fn way_to(number: u8) -> Way {

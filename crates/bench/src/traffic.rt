@@ -1,8 +1,9 @@
 //! The packets that come to a router of eight ports: its tables are filled by them, and events are made of them.
 //!
-//! They go round, so that no turn knows the bytes of the next.
+//! Unicast packets jump and the others go round, so that no turn knows the bytes of the next.
 ghost use Rattle.std.specs.Prelude.{◌≤◌, ◌<◌};
 
+use crate::jumping::place_at;
 use ipx_wire::{
     Address, Network, Node, Operation, RipEntry, Service, ServiceName, Socket, write_rip, write_sap,
 };
@@ -75,7 +76,7 @@ impl Traffic {
 
     /// A packet for one of the networks of the table, in an order that jumps. It comes on port 0.
     pub fn unicast(&self, turn: u32) -> &[u8] {
-        &self.unicasts[turn as usize % UNICASTS]
+        &self.unicasts[usize::from(place_at(turn))]
     }
 
     /// A packet for all networks. It comes on port 0.
@@ -102,7 +103,7 @@ impl Traffic {
 fn unicasts() -> [[u8; 62]; UNICASTS] {
     let mut packets = [UNICAST; UNICASTS];
     for place in 0..UNICASTS {
-        let number = (place * (place + 1) / 2 % 256 + 1) as u16;
+        let number = (place + 1) as u16;
         let [high, low] = number.to_be_bytes();
         packets[place][8] = high;
         packets[place][9] = low;
