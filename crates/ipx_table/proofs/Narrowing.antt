@@ -1,8 +1,7 @@
 -- The search's loop: what is sought stands among the `size` places from `low` on, and this many asks suffice to find it.
 use Rattle.std.proofs.Common.{◌≡◌, refl, sym, ap, ◌∙◌, ℕ, ◌||◌, Bool, Ordering, ◌+◌, ◌-◌, ◌/◌, ◌^◌, ◌<◌, ◌≤◌, ◌==◌, zero, suc, nat_lt, true, false, ◌&&◌, if◌then◌else◌, inl, inr, arith, true≢false, Less, Equal, Greater, is_lt, is_eq, is_gt}
-use Rattle.std.proofs.lemmas.Bool.{cases_Bool, ltb-true, ltb-false, eqb-true, eqb-false, and_parts, or_right}
+use Rattle.std.proofs.lemmas.Bool.{cases_Bool, ltb-true, ltb-false, lt-ltb, eqb-true, eqb-false, and_parts, or_right}
 use Rattle.std.proofs.Math.Nat.{two-pow-succ}
-use Rattle.std.specs.Ordering.{ordering_index}
 use Rattle.ipx_table.specs.Answers.{Answers, places, answer_at}
 
 -- of a number of asks, some are spare: enough for what is left
@@ -76,7 +75,7 @@ less_counted a false n all = all
 
 module _ (a : Answers) (low size : ℕ) (held : Bool) (asks : ℕ) (n : Narrowed a low size held asks) (some : 0 < size) where
   less_left : (answer : Ordering) → answer_at a (low + (size - 1) / 2) ≡ answer
-      → Narrowed a (if is_lt answer then low + (size - 1) / 2 + 1 else low) (size / 2) (held || (ordering_index answer == 1)) (asks + 1)
+      → Narrowed a (if is_lt answer then low + (size - 1) / 2 + 1 else low) (size / 2) (held || is_eq answer) (asks + 1)
   less_left Less e = record {
     from = let below = when_less a (low + (size - 1) / 2) e in omega (arith, below);
     upto = rw (or_false held) (omega (arith, n.upto, some));
@@ -101,8 +100,14 @@ module _ (a : Answers) (low size : ℕ) (held : Bool) (asks : ℕ) (n : Narrowed
 
   -- an ask narrows it, whatever its answer
   pub narrow : (answer : Ordering) → answer ≡ answer_at a (low + (size - 1) / 2)
-      → Narrowed a (if is_lt answer then low + (size - 1) / 2 + 1 else low) (size / 2) (held || (ordering_index answer == 1)) (asks + 1)
+      → Narrowed a (if is_lt answer then low + (size - 1) / 2 + 1 else low) (size / 2) (held || is_eq answer) (asks + 1)
   narrow answer e = less_left answer (sym e)
+
+-- the place of the sought key is met where an ask answers that it is the one
+pub met_now : (answer : Ordering) (place met len : ℕ) → place < len → nat_lt (if is_eq answer then place else met) len ≡ (nat_lt met len || is_eq answer)
+met_now Less place met len within = sym (or_false (nat_lt met len))
+met_now Equal place met len within = lt-ltb place len within ∙ sym (or_right (nat_lt met len) true refl)
+met_now Greater place met len within = sym (or_false (nat_lt met len))
 
 -- ---- the answer
 

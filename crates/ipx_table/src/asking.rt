@@ -1,9 +1,9 @@
 //! Search in what is sorted, by asking alone.
-ghost use Rattle.std.specs.Prelude.{◌≡◌, ℕ, ◌+◌, ◌*◌, ◌^◌, ◌<◌, ◌≤◌, if◌then◌else◌};
-ghost use Rattle.std.specs.Ordering.{is_lt};
+ghost use Rattle.std.specs.Prelude.{◌≡◌, ℕ, ◌+◌, ◌^◌, ◌<◌, ◌≤◌};
 ghost use Rattle.ipx_table.specs.Answers.{Answers, places, answer_at, most_asks};
 
 use std::cmp::Ordering;
+use std::hint::select_unpredictable;
 
 /// Something sorted by keys of which no two are equal. It tells how the key at a place compares with one that is
 /// sought, and counts how often it was asked.
@@ -50,26 +50,22 @@ pub fn find<A: Asked>(asked: &mut A) -> Found
     // Where the number of places can be written with so many binary digits, it asks at most that often.
     ensures few { (digits : ℕ) → places (A.answers asked.old) < 2 ^ digits → A.asks asked.new ≤ digits }
 {
+    let len = asked.len();
     let mut low = 0;
-    let mut size = asked.len();
-    let mut held = false;
+    let mut size = len;
+    // the place of the sought key, once it was asked
+    let mut met = len;
     while size > 0 {
-        let before = (size - 1) / 2;
-        let answer = asked.ask(low + before);
-        low = first_left(low, before, answer);
-        held |= answer == Ordering::Equal;
+        let place = low + (size - 1) / 2;
+        let answer = asked.ask(place);
+        // No branch may depend on the answer, since a processor can't guess it. The compiler leaves out a branch for two choices by
+        // one answer, and not for one alone: so the place that was met is kept, and not whether one was.
+        low = select_unpredictable(answer.is_lt(), place + 1, low);
+        met = select_unpredictable(answer.is_eq(), place, met);
         size /= 2;
     }
-    Found { below: low, held }
-}
-
-/// Where a search goes on after it asked about the place `low + before`: behind that place, if its key is smaller, otherwise
-/// still at `low`. No branch may depend on the answer, since a processor can't guess it; the compiler turns anything plainer
-/// than this shift into a branch.
-fn first_left(low: usize, before: usize, answer: Ordering) -> usize
-    requires { low + 2 * before + 1 < 2 ^ 64 }
-    ensures { result ≡ (if is_lt answer then low + before + 1 else low) }
-{
-    let more = usize::from(answer == Ordering::Less);
-    low + (before << more) + more - before
+    Found {
+        below: low,
+        held: met < len,
+    }
 }
