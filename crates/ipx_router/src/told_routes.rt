@@ -96,7 +96,7 @@ fn seek(routes: &[RouteOffer], number: u8) -> &[RouteOffer]
         }
         rest = others;
     }
-    rest
+    &[]
 }
 
 /// Whether the network of a port comes before that learned route.

@@ -73,5 +73,5 @@ fn seek(services: &[ServiceOffer], number: u8) -> &[ServiceOffer]
         }
         rest = others;
     }
-    rest
+    &[]
 }
