@@ -17,7 +17,7 @@ use crate::port::Port;
 use crate::route_offer::RouteOffer;
 use crate::service_offer::ServiceOffer;
 use crate::service_pages::{add_service, send_service_rest};
-use crate::told_routes::{ToldRoutes, told_direct};
+use crate::told_routes::{ToldRoutes, list_direct};
 use crate::told_services::ToldServices;
 use arrayvec::ArrayVec;
 use ipx_table::Table;
@@ -43,7 +43,8 @@ pub(crate) fn broadcast_routes_with_ended<const R: usize>(
     let port = port_of(ports, number);
     let to = everyone(port);
     let cost = port.cost();
-    let direct = told_direct(ports, up, number, cost);
+    let mut direct = ArrayVec::new();
+    list_direct(&mut direct, ports, up, number, cost);
     let mut page = ArrayVec::new();
     let mut rest = ended;
     for entry in ToldRoutes::new(&direct, table, number, cost) {

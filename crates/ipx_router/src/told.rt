@@ -22,7 +22,7 @@ use crate::route_offer::RouteOffer;
 use crate::service_offer::ServiceOffer;
 use crate::service_pages::{SERVICES_A_PAGE, add_service, send_service_rest};
 use crate::shown::{Shown, ShownServices, show, show_service};
-use crate::told_routes::{ToldRoutes, told_direct};
+use crate::told_routes::{ToldRoutes, list_direct};
 use crate::told_services::ToldServices;
 use arrayvec::ArrayVec;
 use ipx_table::Table;
@@ -45,7 +45,8 @@ pub(crate) fn advertise_routes<const R: usize>(
     ensures { Appends outbox.old outbox.new (rip_sends ports.now number to Response (flat_map (shown_as shown.entry) (told ports.now up.now (offers table.now.records) number))) }
 {
     let cost = port_of(ports, number).cost();
-    let direct = told_direct(ports, up, number, cost);
+    let mut direct = ArrayVec::new();
+    list_direct(&mut direct, ports, up, number, cost);
     let mut routes = ToldRoutes::new(&direct, table, number, cost);
     let mut page = [RipEntry::default(); ENTRIES_A_PAGE];
     let mut count = ENTRIES_A_PAGE;

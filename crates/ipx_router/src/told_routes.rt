@@ -109,22 +109,22 @@ fn is_direct_next(direct: &[RipEntry], learned: RipEntry) -> bool
     }
 }
 
-/// The networks of the other ports that are up, by network, as the port advertises them.
-pub(crate) fn told_direct(
+/// Fills an empty list with the networks of the other ports that are up, by network, as the port advertises them.
+pub(crate) fn list_direct(
+    entries: &mut ArrayVec<RipEntry, MOST_PORTS>,
     ports: &[Port],
     up: &[u8],
     number: u8,
     cost: u16,
-) -> ArrayVec<RipEntry, MOST_PORTS>
+)
+    requires empty { entries.old.items ≡ [] }
     requires ports { AllByRecursion (λ j. j < length ports.now) up.now }
     requires few { length up.now ≤ most_ports }
-    ensures { result.items ≡ by_network (map (told_at cost) (direct ports.now up.now number)) }
+    ensures { entries.new.items ≡ by_network (map (told_at cost) (direct ports.now up.now number)) }
 {
-    let mut entries = ArrayVec::new();
     for &other in up {
-        place_direct(&mut entries, ports, number, other, cost);
+        place_direct(entries, ports, number, other, cost);
     }
-    entries
 }
 
 /// Places the network of a port, where it isn't that on which it is advertised.

@@ -25,7 +25,7 @@ loop-entry-init g c =
     c.into_iter-entry-iterator.ensures.into_iter_gives
     ∙ c.new-entry-items.ensures
     ∙ told_placed c.cost-cost.result a.ports.now a.up.now routes a.number c.deref.result.now
-    (c.cost-cost.ensures ∙ ap (λ (p : Port). p.cost) c.port_of-port.ensures) (c.deref.ensures.0 ∙ c.told_direct-direct.ensures) in
+    (c.cost-cost.ensures ∙ ap (λ (p : Port). p.cost) c.port_of-port.ensures) (c.deref.ensures.0 ∙ c.list_direct.ensures) in
     record {
       goes = tt;
       ends = tt;

@@ -20,7 +20,7 @@ loop-count-init g c =
     let whole =
     c.new-routes.ensures
     ∙ told_placed c.cost-cost.result a.ports.now a.up.now routes a.number c.deref.result.now
-    (c.cost-cost.ensures ∙ ap (λ (p : Port). p.cost) c.port_of.ensures) (c.deref.ensures.0 ∙ c.told_direct-direct.ensures)
+    (c.cost-cost.ensures ∙ ap (λ (p : Port). p.cost) c.port_of.ensures) (c.deref.ensures.0 ∙ c.list_direct.ensures)
     in (
       pays_same a.outbox.now (ap (λ (es : List RipEntry). rip_sends a.ports.now a.number a.to Response (flat_map (shown_as a.shown) es)) (sym whole)),
       omega arith,

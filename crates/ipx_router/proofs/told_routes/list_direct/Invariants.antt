@@ -1,6 +1,6 @@
 use Rattle.std.proofs.Common.{◌≡◌, ◌≤◌, map, take, length}
 use Rattle.ipx_router.specs.Told.{by_network, told_at, direct}
-use Rattle.ipx_router.proofs.told_routes.told_direct.Given as goal
+use Rattle.ipx_router.proofs.told_routes.list_direct.Given as goal
 
 abbrev pub invariant-loop-other : goal.invariant-loop-other
 invariant-loop-other l =

@@ -1,6 +1,6 @@
 use Rattle.std.proofs.Common.{arith}
 use Rattle.ipx_router.proofs.ToldNetworks.{direct_step}
-use Rattle.ipx_router.proofs.told_routes.told_direct.Goals as goal
+use Rattle.ipx_router.proofs.told_routes.list_direct.Goals as goal
 
 pub loop-other-preserved : goal.loop-other-preserved
 loop-other-preserved c = (
