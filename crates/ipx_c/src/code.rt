@@ -1,5 +1,5 @@
 //! The numbers by which C hears what became of a call; the header has a name for each.
-ghost use Rattle.std.specs.Prelude.{◌≡◌, pos};
+ghost use Rattle.std.specs.Prelude.{◌≡◌};
 ghost use Rattle.ipx_c.specs.Codes.{packet_number, rip_number, sap_number, why_number, outcome_number, fault_number, fault_code, code_of};
 
 use crate::fault::Fault;

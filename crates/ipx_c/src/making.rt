@@ -1,7 +1,7 @@
 //! Making and freeing, as C asks for it.
-ghost use Rattle.std.specs.Prelude.{◌≡◌, ◌≤◌, map, length, None, Some, IfOk, IfErr};
+ghost use Rattle.std.specs.Prelude.{◌≡◌, ◌≤◌, map, length, None, IfOk, IfErr};
 ghost use Rattle.ipx_router.specs.Port.{IsPort};
-ghost use Rattle.ipx_c.specs.Codes.{done, fault_code};
+ghost use Rattle.ipx_c.specs.Codes.{fault_code};
 ghost use Rattle.ipx_c.specs.Makes.{IsBad, IsFirstBad, IsMade, IsUnmade, Makes};
 ghost use Rattle.ipx_c.specs.Sizes.{most_ports, version};
 ghost use Rattle.ipx_c.specs.Values.{port_of};

@@ -1,6 +1,6 @@
 //! What C reads of a router.
 ghost use Rattle.std.specs.Prelude.{◌≡◌, Some};
-ghost use Rattle.ipx_c.specs.Reads.{truth, running_code, up_code, route_count, service_count, route_at, service_at, route_after, service_after, read_code};
+ghost use Rattle.ipx_c.specs.Reads.{running_code, up_code, route_count, service_count, route_at, service_at, route_after, service_after, read_code};
 ghost use Rattle.ipx_c.specs.Values.{route_record, service_record};
 
 use crate::code::{DONE, fault_code};

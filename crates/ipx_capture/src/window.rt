@@ -1,7 +1,7 @@
 //! The buffer of a capture: bytes that were read, and of these the record that is lent.
 ghost use Rattle.std.specs.Prelude.{◌≡◌, ◌+◌, ◌-◌, ◌<◌, ◌≤◌, [], true, false, IfOk, IfErr, OnOk, OnErr, length, take, drop, vec_len, max};
 ghost use Rattle.std.specs.Io.KnownBytes.{Consumes, IsAtEnd};
-ghost use Rattle.ipx_wire.specs.Ends.{Gave, LostInput};
+ghost use Rattle.ipx_wire.specs.Ends.{LostInput};
 ghost use Rattle.ipx_wire.specs.Piece.{piece};
 ghost use Rattle.ipx_capture.specs.Reads.{most_calls};
 ghost use Rattle.ipx_capture.specs.Window.{most_room};

@@ -1,6 +1,6 @@
 //! A run of `replay`: the script is read in pieces, and the text of the lines that a piece ends is
 //! written before the next piece is asked for.
-ghost use Rattle.std.specs.Prelude.{◌≡◌, ◌+◌, ◌*◌, ◌^◌, ◌<◌, ◌≤◌, ◌++◌, false, [], length, string_bytes, Err, IfErr, IfOk, OnOk, OnErr};
+ghost use Rattle.std.specs.Prelude.{◌≡◌, ◌+◌, ◌^◌, ◌<◌, ◌≤◌, ◌++◌, false, [], length, string_bytes, Err, IfErr, IfOk, OnOk, OnErr};
 ghost use Rattle.std.specs.Io.KnownBytes.{IsAtEnd};
 ghost use Rattle.ipx_cmd.specs.Acted.{StaysFine};
 ghost use Rattle.ipx_cmd.specs.Leads.{IsPending};

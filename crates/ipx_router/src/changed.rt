@@ -1,6 +1,6 @@
 //! What an event changes of a table.
 ghost use Rattle.std.specs.Prelude.{◌≡◌, Bool, ◌+◌, ◌<◌, ◌≤◌, ◌++◌, ◌∷◌, [], List, length, map};
-ghost use Rattle.ipx_router.specs.Changes.{changes};
+ghost use Rattle.ipx_router.specs.Changes.{changes, same_or_none};
 ghost use Rattle.ipx_router.specs.News.{same_route, same_service};
 ghost use Rattle.ipx_router.specs.Routes.{network_order};
 ghost use Rattle.ipx_router.specs.Services.{service_order};
@@ -9,7 +9,7 @@ ghost use Rattle.ipx_router.specs.Touched.{Touches, change_of, changes_noted};
 use crate::learn::{TouchedRoutes, TouchedServices};
 use crate::route_offer::RouteOffer;
 use crate::service_offer::ServiceOffer;
-use crate::touched::{Touched, is_same};
+use crate::touched::Touched;
 use arrayvec::ArrayVec;
 use ipx_table::Offer;
 use ipx_wire::{RipEntry, SapEntry};
@@ -64,6 +64,17 @@ fn add_change<O: Offer, const MOST: usize>(
             before: touched.before,
             after: touched.after,
         });
+    }
+}
+
+/// Whether a key has the offer that it had.
+fn is_same<O: Offer>(before: &Option<O>, after: &Option<O>) -> bool
+    ensures { result ≡ same_or_none O.reading.key O.Key.cmp O.eq before.now after.now }
+{
+    match (before, after) {
+        (None, None) => true,
+        (Some(before), Some(after)) => *before == *after,
+        _ => false,
     }
 }
 

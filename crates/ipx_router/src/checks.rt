@@ -4,7 +4,7 @@
 //! room for the networks crossed; eight were crossed; it has crossed the port's network. Of a near packet: it is for
 //! another node. Of a far packet: it came through sixteen routers or more; it is for a port of the router itself; there is
 //! no way to its network; it is longer than the port allows on which it would leave.
-ghost use Rattle.std.specs.Prelude.{◌≡◌, true, false, not, IfOk, IfErr, None, Some};
+ghost use Rattle.std.specs.Prelude.{◌≡◌, true, false, IfOk, IfErr, None, Some};
 ghost use Rattle.ipx_router.specs.Checks.{relay_checks, source_checks, propagated_checks, is_for_other, far_checks, IsListed, IsWay, IsPassed};
 ghost use Rattle.ipx_router.specs.Facts.{offers};
 ghost use Rattle.ipx_router.specs.Outgoing.{way_to, is_own_port};

@@ -1,6 +1,6 @@
 //! Routes that ended: those that expired, or that came by a port that went down, are advertised as unreachable on the ports
 //! where they weren't learned, alone or in their places among other entries.
-ghost use Rattle.std.specs.Prelude.{◌≡◌, ◌+◌, ◌<◌, ◌≤◌, List, [], ◌∷◌, ◌++◌, length, drop};
+ghost use Rattle.std.specs.Prelude.{◌≡◌, ◌+◌, ◌<◌, List, ◌∷◌, ◌++◌, length, drop};
 ghost use Rattle.std.specs.List.{flat_map, prefix_len};
 ghost use Rattle.ipx_wire.specs.declared.rip.Operation.TheVariants.{Response};
 ghost use Rattle.ipx_wire.specs.declared.rip.RipEntry.{RipEntry};

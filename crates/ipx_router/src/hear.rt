@@ -1,5 +1,5 @@
 //! Hears a response: its entries are offers to a table, and what they change of it is advertised at once.
-ghost use Rattle.std.specs.Prelude.{◌≡◌, ℕ, ◌*◌, ◌<◌, List, ◌++◌, length, map};
+ghost use Rattle.std.specs.Prelude.{◌≡◌, ◌*◌, ◌<◌, List, ◌++◌, length, map};
 ghost use Rattle.std.specs.List.{AllByRecursion, flat_map};
 ghost use Rattle.ipx_table.specs.Facts.{Fact};
 ghost use Rattle.ipx_table.specs.Stands.{Stands};
@@ -7,7 +7,7 @@ ghost use Rattle.ipx_router.specs.Facts.{offers, routes_offered, services_offere
 ghost use Rattle.ipx_router.specs.Numbers.{most_own_length};
 ghost use Rattle.ipx_router.specs.Outbox.{HasRoom, Appends};
 ghost use Rattle.ipx_router.specs.Routes.{route_rules};
-ghost use Rattle.ipx_router.specs.Sends.{Holding, news_on};
+ghost use Rattle.ipx_router.specs.Sends.{news_on};
 ghost use Rattle.ipx_router.specs.Services.{service_rules};
 
 use crate::changed::{changed_routes, changed_services};

@@ -1,5 +1,5 @@
 //! What holds of the definitions, for all ports, routes, services and histories.
-ghost use Rattle.std.specs.Prelude.{◌≡◌, ◌≢◌, ◌↔◌, ◌⊎◌, ℕ, ◌^◌, ◌<◌, ◌≤◌, ◌==◌, Bool, true, false, not, List, [], ◌∷◌, ◌++◌, length, filter, map, slice_get, Some, None, Ok};
+ghost use Rattle.std.specs.Prelude.{◌≡◌, ◌≢◌, ◌↔◌, ◌⊎◌, ℕ, ◌^◌, ◌<◌, ◌≤◌, ◌==◌, true, false, not, List, [], ◌∷◌, ◌++◌, length, filter, map, slice_get, Some, None, Ok};
 ghost use Rattle.std.specs.List.{AllByRecursion};
 ghost use Rattle.std.specs.List.Sorted.{IsStrictlyIncreasing};
 ghost use Rattle.ipx_table.specs.Stands.{Ascends};
@@ -14,7 +14,7 @@ ghost use Rattle.ipx_table.specs.Stands.{held};
 ghost use Rattle.ipx_table.specs.Taken.{taken};
 ghost use Rattle.ipx_table.specs.declared.taken.Taken.TheVariants.{Admitted};
 ghost use Rattle.ipx_router.specs.Facts.{route_facts, route_facts_of, routes_held, service_facts, service_facts_of, services_held, offers};
-ghost use Rattle.ipx_router.specs.History.{Event, History, Start, Stop, Second, Packet, PortDown, PortUp, IsOnPort, IsOfBytes, running, seconds_run, ports_up};
+ghost use Rattle.ipx_router.specs.History.{Event, History, Stop, Second, Packet, PortDown, PortUp, IsOnPort, IsOfBytes, running, seconds_run, ports_up};
 ghost use Rattle.ipx_router.specs.Horizon.{EachEntryReadIs, IsFromElsewhere};
 ghost use Rattle.ipx_router.specs.News.{news, news_services, same_address, same_route, same_service};
 ghost use Rattle.ipx_router.specs.Numbers.{unreachable, most_ports};

@@ -1,6 +1,6 @@
 //! Services that ended: those that expired, or that came by a port that went down, are advertised as unreachable on the
 //! ports where they weren't learned, alone or in their places among other services.
-ghost use Rattle.std.specs.Prelude.{◌≡◌, ◌+◌, ◌<◌, ◌≤◌, List, [], ◌∷◌, ◌++◌, length, false, drop};
+ghost use Rattle.std.specs.Prelude.{◌≡◌, ◌+◌, ◌<◌, List, ◌++◌, length, false, drop};
 ghost use Rattle.std.specs.List.{flat_map, prefix_len};
 ghost use Rattle.ipx_wire.specs.declared.service.Service.{Service};
 ghost use Rattle.ipx_router.specs.Ended.{ServicesAscend, lent, lost_on, lost_before};

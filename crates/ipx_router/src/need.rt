@@ -1,8 +1,8 @@
 //! The room that an event needs in an outbox.
 ghost use Rattle.std.specs.Prelude.{◌≡◌, ◌^◌, ◌<◌, ◌≤◌, ◌*◌};
-ghost use Rattle.ipx_router.specs.Bounds.{most_packets, most_length, route_sheets, service_sheets};
+ghost use Rattle.ipx_router.specs.Bounds.{most_packets, most_length};
 ghost use Rattle.ipx_router.specs.Happened.{happened};
-ghost use Rattle.ipx_router.specs.Numbers.{most_own_length, most_ports};
+ghost use Rattle.ipx_router.specs.Numbers.{most_ports};
 
 use crate::event::Event;
 use crate::outbox::Need;

@@ -1,5 +1,5 @@
 //! Entries in packets, a page a packet: a page is sent where one more entry finds it full, and where the entries end.
-ghost use Rattle.std.specs.Prelude.{◌≡◌, ◌<◌, ◌≤◌, List, [], ◌∷◌, length};
+ghost use Rattle.std.specs.Prelude.{◌<◌, ◌≤◌, List, [], ◌∷◌, length};
 ghost use Rattle.ipx_wire.specs.declared.rip.Operation.TheVariants.{Response};
 ghost use Rattle.ipx_wire.specs.declared.rip.RipEntry.{RipEntry};
 ghost use Rattle.ipx_router.specs.Numbers.{entries_a_page};

@@ -1,5 +1,5 @@
 //! The periodic broadcast of a port: all that it advertises, and in its place among it what ended in this second.
-ghost use Rattle.std.specs.Prelude.{◌≡◌, ◌+◌, ◌<◌, ◌≤◌, List, ◌++◌, length};
+ghost use Rattle.std.specs.Prelude.{◌+◌, ◌<◌, ◌≤◌, ◌++◌, length};
 ghost use Rattle.std.specs.List.{AllByRecursion, flat_map};
 ghost use Rattle.ipx_router.specs.Ended.{RoutesAscend, ServicesAscend, ended_on, lost_on};
 ghost use Rattle.ipx_router.specs.Facts.{offers};

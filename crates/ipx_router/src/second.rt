@@ -1,5 +1,5 @@
 //! Seconds, and ports that go down: what ends in both tables, and how the ports that are up advertise it.
-ghost use Rattle.std.specs.Prelude.{◌≡◌, ℕ, ◌<◌, ◌≤◌, List, [], ◌∷◌, ◌++◌, length, true, false};
+ghost use Rattle.std.specs.Prelude.{◌≡◌, ◌<◌, ◌≤◌, List, [], ◌∷◌, ◌++◌, length, true, false};
 ghost use Rattle.std.specs.List.{AllByRecursion, flat_map, list_any};
 ghost use Rattle.ipx_table.specs.Facts.{Fact, Second, PortEnd};
 ghost use Rattle.ipx_table.specs.Reading.{rules_of};

@@ -1,5 +1,5 @@
 //! Services in packets, a page a packet: a page is sent where one more service finds it full, and where the services end.
-ghost use Rattle.std.specs.Prelude.{◌≡◌, ◌<◌, ◌≤◌, List, [], ◌∷◌, length};
+ghost use Rattle.std.specs.Prelude.{◌<◌, ◌≤◌, List, [], ◌∷◌, length};
 ghost use Rattle.ipx_wire.specs.declared.service.Service.{Service};
 ghost use Rattle.ipx_router.specs.Numbers.{services_a_page};
 ghost use Rattle.ipx_router.specs.Outbox.{Fits, Appends};

@@ -1,7 +1,7 @@
 //! Events that are handed to a router.
-ghost use Rattle.std.specs.Prelude.{◌≡◌, ◌≤◌, [], ◌∷◌, ◌++◌, length, IsOk, IfOk, OnOk, OnErr};
+ghost use Rattle.std.specs.Prelude.{◌≡◌, [], ◌∷◌, ◌++◌, IsOk, IfOk, OnOk, OnErr};
 ghost use Rattle.std.specs.List.{AllByRecursion};
-ghost use Rattle.ipx_router.specs.Bounds.{most_packets, most_length};
+ghost use Rattle.ipx_router.specs.Bounds.{most_length};
 ghost use Rattle.ipx_router.specs.Facts.{route_facts, route_facts_of, service_facts, service_facts_of};
 ghost use Rattle.ipx_router.specs.Happened.{happened};
 ghost use Rattle.ipx_router.specs.History.{History, IsOnPort, IsOfBytes};

@@ -6,7 +6,6 @@ ghost use Rattle.std.specs.declared.cmp.Ordering.TheVariants.{Equal};
 ghost use Rattle.ipx_table.specs.Facts.{Fact, Offered};
 ghost use Rattle.ipx_table.specs.Reading.{rules_of};
 ghost use Rattle.ipx_table.specs.Stands.{Ascends, Stands};
-ghost use Rattle.ipx_router.specs.Changes.{same_or_none};
 ghost use Rattle.ipx_router.specs.Facts.{offers};
 ghost use Rattle.ipx_router.specs.Touched.{IsExact, Touches, is_touched, offer_at};
 
@@ -48,17 +47,6 @@ pub(crate) fn take<O: Offer, const CAP: usize, const MOST: usize>(
             after: exchanged.after,
         },
     );
-}
-
-/// Whether a key has the offer that it had.
-pub(crate) fn is_same<O: Offer>(before: &Option<O>, after: &Option<O>) -> bool
-    ensures { result ≡ same_or_none O.reading.key O.Key.cmp O.eq before.now after.now }
-{
-    match (before, after) {
-        (None, None) => true,
-        (Some(before), Some(after)) => *before == *after,
-        _ => false,
-    }
 }
 
 /// Notes what an offer changed. Of a key that was noted before, only what it has now is new.

@@ -1,5 +1,5 @@
 //! Which ports are up: their numbers, in order.
-ghost use Rattle.std.specs.Prelude.{◌≡◌, ◌+◌, ◌<◌, ◌≤◌, ◌==◌, nat_lt, not, insert, length};
+ghost use Rattle.std.specs.Prelude.{◌≡◌, ◌<◌, ◌≤◌, ◌==◌, nat_lt, not, insert, length};
 ghost use Rattle.std.specs.List.{filter};
 ghost use Rattle.ipx_router.specs.Numbers.{most_ports};
 ghost use Rattle.ipx_router.specs.Port.{numbers, is_up};

@@ -1,5 +1,5 @@
 //! How many records a port has, and how many it may have.
-ghost use Rattle.std.specs.Prelude.{◌≡◌, ℕ, ◌==◌, ◌<◌, nat_lt, length, map};
+ghost use Rattle.std.specs.Prelude.{◌≡◌, ◌==◌, ◌<◌, nat_lt, length};
 ghost use Rattle.std.specs.List.{filter};
 ghost use Rattle.ipx_table.specs.Reading.{port_of, share_of};
 

@@ -1,5 +1,5 @@
 //! The numbers and addresses at fixed places of a packet, each with its highest byte first.
-ghost use Rattle.std.specs.Prelude.{◌≡◌, ◌+◌, ◌≤◌, [], ◌∷◌, length, slice_index};
+ghost use Rattle.std.specs.Prelude.{◌≡◌, ◌+◌, ◌≤◌, [], ◌∷◌, length};
 ghost use Rattle.std.specs.Int.{to_be_bytes, from_be_bytes, w16, w32};
 ghost use Rattle.ipx_wire.specs.Piece.{piece};
 ghost use Rattle.ipx_wire.specs.Address.{address_bytes, address_at};

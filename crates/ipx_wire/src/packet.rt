@@ -1,4 +1,4 @@
-ghost use Rattle.std.specs.Prelude.{◌≡◌, ◌+◌, ◌++◌, ◌≤◌, length, take, drop, IfOk, IfErr, IsOkAnd, Ok};
+ghost use Rattle.std.specs.Prelude.{◌≡◌, ◌+◌, ◌++◌, length, drop, IfOk, IfErr, IsOkAnd, Ok};
 
 use crate::fields::u16_at;
 use crate::header::Header;
