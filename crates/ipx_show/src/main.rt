@@ -2,9 +2,10 @@
 //! of its header, and for each entry of its data. A line that is no packet is told with its fault, and skipped.
 #![tactic(auto)]
 
+use hex::FromHexError;
 use ipx_wire::{Crossed, Header, Packet, Rip, Sap, SapEntry, Socket};
 use std::io;
-use std::io::{BufRead, BufReader};
+use std::io::{BufRead, BufReader, ErrorKind};
 
 fn main(rt: HostRuntime) -> io::Result<()> {
     let lines = BufReader::new(rt.alloc(), rt.reader())?.lines(rt.alloc());
@@ -12,6 +13,7 @@ fn main(rt: HostRuntime) -> io::Result<()> {
         let line = line?;
         match hex::decode(rt.alloc(), line.trim()) {
             Ok(bytes) => show_packet(&rt, bytes.as_slice())?,
+            Err(FromHexError::OutOfMemory) => return Err(ErrorKind::OutOfMemory.into()),
             Err(fault) => println!(rt; "skipped: {fault}")?,
         }
     }

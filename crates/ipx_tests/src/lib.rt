@@ -5,12 +5,18 @@
 //!
 //! - `own_offer`: an offer type of one's own, which the documentation of `Offer` quotes.
 //! - `wire`, `table`, `ports`, `router`: packets and devices, offers, what a router is made of, and what it does.
+//! - `damaged`: packets with bytes cut off or changed, and floods of them.
 //! - `devices`: runs of `replay` and `decode` on devices that give or take few bytes, or fail.
+//! - `endless`: readers that give bytes for ever, and a capture that ends at each of its bytes.
 //! - `program_words`, `exit_statuses`: the words of the command line, the end of a run.
 #![tactic(auto)]
 
 #[cfg(test)]
+mod damaged;
+#[cfg(test)]
 mod devices;
+#[cfg(test)]
+mod endless;
 #[cfg(test)]
 mod exit_statuses;
 #[cfg(test)]

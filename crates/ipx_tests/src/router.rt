@@ -5,7 +5,7 @@ mod full_table;
 mod memory;
 mod needs;
 mod shares;
-mod watched;
+pub mod watched;
 
 use crate::same::same;
 use ipx_router::{Event, Outbox, Outcome, Port, PortFault, PortsFault, RouteOffer, Router, Why};
