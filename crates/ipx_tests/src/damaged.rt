@@ -86,7 +86,9 @@ fn faults_of_changes(heap: Global, packet: &[u8]) -> Result<usize, Fail> {
 }
 
 #[test]
-fn every_change_of_a_byte_of_a_response_is_judged_by_its_bytes(rt: HostRuntime) -> Result<(), Fail> {
+fn every_change_of_a_byte_of_a_response_is_judged_by_its_bytes(
+    rt: HostRuntime,
+) -> Result<(), Fail> {
     same(&rt, faults_of_changes(rt.alloc(), RESPONSE)?, 0);
     Ok(())
 }

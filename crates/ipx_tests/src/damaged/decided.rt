@@ -47,7 +47,7 @@ fn packet_fault(bytes: &[u8]) -> Option<PacketFault> {
 
 /// Why data are no routing information.
 fn rip_fault(data: &[u8]) -> Option<RipFault> {
-    let operation = number(data, 0, 2) as u16;
+    let operation = (number(data, 0, 2) % 65_536) as u16;
     if data.len() < 2 {
         Some(RipFault::Short)
     } else if operation == 0 || operation > 2 {
@@ -63,7 +63,7 @@ fn rip_fault(data: &[u8]) -> Option<RipFault> {
 
 /// Why data are no service advertising.
 fn sap_fault(data: &[u8]) -> Option<SapFault> {
-    let operation = number(data, 0, 2) as u16;
+    let operation = (number(data, 0, 2) % 65_536) as u16;
     let is_query = operation == 1 || operation == 3;
     if data.len() < 2 {
         Some(SapFault::Short)
@@ -141,13 +141,19 @@ fn propagated(port: Port, packet: &[u8]) -> Outcome {
     match crossed_fault(control, data(packet)) {
         Some(CrossedFault::Short) => Outcome::Dropped(Why::CrossedShort),
         Some(CrossedFault::Full) => Outcome::Dropped(Why::CrossedFull),
-        None if has_crossed(control, data(packet), port.network) => Outcome::Dropped(Why::CrossedSeen),
+        None if has_crossed(control, data(packet), port.network) => Outcome::Dropped(
+            Why::CrossedSeen,
+        ),
         None => Outcome::Propagated,
     }
 }
 
 fn near(port: Port, packet: &[u8]) -> Outcome {
-    let (node, socket, source) = (number(packet, 10, 6), number(packet, 16, 2), number(packet, 18, 4));
+    let (node, socket, source) = (
+        number(packet, 10, 6),
+        number(packet, 16, 2),
+        number(packet, 18, 4),
+    );
     if node != port.node && node != ALL {
         Outcome::Dropped(Why::Elsewhere)
     } else if number(packet, 5, 1) == 20 || (socket != 0x452 && socket != 0x453) {
@@ -216,7 +222,8 @@ pub fn read_alike(bytes: &[u8]) -> bool {
 
 fn data_alike(control: u8, given: &[u8], data: &[u8]) -> bool {
     let crossed = match Crossed::read(control, given) {
-        Ok(crossed) => crossed_fault(u64::from(control), data).is_none() && crossed.len() == usize::from(control),
+        Ok(crossed) => crossed_fault(u64::from(control), data).is_none()
+            && crossed.len() == usize::from(control),
         Err(fault) => crossed_fault(u64::from(control), data) == Some(fault),
     };
     given == data && crossed && routes_alike(data) && services_alike(data)

@@ -13,24 +13,29 @@ const PERIODIC: [Option<(u8, usize)>; 4] = [Some((0, 40)), Some((1, 432)), Some(
 #[test]
 fn a_flood_of_offers_fills_the_table_once(rt: HostRuntime) -> Result<(), Fail> {
     let mut watched = Watched::started(rt.alloc())?;
-    let (mut learned, mut sent) = (0, 0);
+    let (mut learned, mut sent) = (0u32, 0usize);
     for response in 0..200 {
         let outcome = watched.hear(0, A, &fifty(0x1000 + 50 * response))?;
-        learned += u32::from(outcome == Outcome::Learned);
-        sent += watched.outbox.len().min(9);
+        learned = learned.wrapping_add(u32::from(outcome == Outcome::Learned));
+        sent = sent.wrapping_add(watched.outbox.len());
         if response == 0 {
             same(&rt, watched.sent(0), Some((1, 432)));
         }
     }
     same(&rt, (learned, sent, watched.router.routes()), (200, 1, 50));
-    let mut silent = 0;
+    let mut silent = 0u32;
     for second in 1..=180 {
         watched.second()?;
         if second % 60 == 0 {
-            let found = [watched.sent(0), watched.sent(1), watched.sent(2), watched.sent(3)];
+            let found = [
+                watched.sent(0),
+                watched.sent(1),
+                watched.sent(2),
+                watched.sent(3),
+            ];
             same(&rt, found, PERIODIC);
         } else {
-            silent += u32::from(watched.outbox.is_empty());
+            silent = silent.wrapping_add(u32::from(watched.outbox.is_empty()));
         }
     }
     same(&rt, (silent, watched.router.routes()), (177, 0));
@@ -69,7 +74,7 @@ fn damaged(chance: &mut Chance) -> ([u8; MOST], usize) {
     bytes[..size].copy_from_slice(&packet[..size]);
     for _ in 0..=chance.below(3) {
         let place = chance.below(size).min(MOST - 1);
-        bytes[place] = chance.below(256) as u8;
+        bytes[place] = (chance.below(256) % 256) as u8;
     }
     (bytes, size)
 }

@@ -1,14 +1,7 @@
 //! The packets that are damaged.
 
 /// In the order in which they stand below.
-pub const PACKETS: [&[u8]; 6] = [
-    REQUEST,
-    RESPONSE,
-    UNICAST,
-    PROPAGATED,
-    SERVICES,
-    SERVICE,
-];
+pub const PACKETS: [&[u8]; 6] = [REQUEST, RESPONSE, UNICAST, PROPAGATED, SERVICES, SERVICE];
 
 /// A neighbour's request on network 10 for all routes.
 pub const REQUEST: &[u8] = &[
