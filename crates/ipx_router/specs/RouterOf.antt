@@ -33,3 +33,10 @@ pub record IsRouter (most_routes most_services : ℕ) (s : State) (route_shares 
   pub stands : StandsFor most_routes most_services s past
   pub on_ports : AllByRecursion (IsOnPort s.ports) past
   pub of_bytes : AllByRecursion IsOfBytes past
+
+-- a router with tables of those capacities has a past: it stands for a history of bytes on its ports
+pub record HasPast (most_routes most_services : ℕ) (s : State) : Type 0 where
+  pub past : History
+  pub stands : StandsFor most_routes most_services s past
+  pub on_ports : AllByRecursion (IsOnPort s.ports) past
+  pub of_bytes : AllByRecursion IsOfBytes past

@@ -1,10 +1,11 @@
 //! The router.
 ghost use Rattle.std.specs.Prelude.{◌≡◌, ◌≤◌, ◌<◌, false, [], length, slice_get, nat_lt, IfOk, IfErr, IfSome};
+ghost use Rattle.std.specs.List.{AllByRecursion};
 ghost use Rattle.ipx_table.specs.Alive.{lifetime};
 ghost use Rattle.ipx_table.specs.Stands.{record_of};
 ghost use Rattle.ipx_router.specs.Numbers.{most_ports};
-ghost use Rattle.ipx_router.specs.RouterOf.{IsNoRouter, made_of};
-ghost use Rattle.ipx_router.specs.Port.{AreApart, is_up};
+ghost use Rattle.ipx_router.specs.RouterOf.{IsNoRouter, made_of, HasPast};
+ghost use Rattle.ipx_router.specs.Port.{IsPort, AreApart, is_up};
 ghost use Rattle.ipx_router.specs.Routes.{network_order};
 ghost use Rattle.ipx_router.specs.Stands.{StandsFor};
 
@@ -111,6 +112,18 @@ impl<const P: usize, const R: usize, const S: usize> Router<P, R, S> {
         ensures apart { AreApart self.now.ports }
     {
         self.ports.len()
+    }
+
+    /// What holds of every router: its ports are such as it may have, and it stands for a history of events on them. It is
+    /// for proofs, and does nothing.
+    pub fn is_router(&self)
+        ensures some { 1 ≤ length self.now.ports }
+        ensures few { length self.now.ports ≤ most_ports }
+        ensures are { AllByRecursion IsPort self.now.ports }
+        ensures apart { AreApart self.now.ports }
+        ensures past { HasPast R S self.now }
+    {
+        let _ = &self.running;
     }
 
     /// The port of this number, if there is one.
