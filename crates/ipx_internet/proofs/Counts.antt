@@ -12,7 +12,7 @@ use Rattle.ipx_internet.proofs.Receivers.{receives_is}
 -- ---- what is in a list
 
 -- an element is one of a list
-abbrev IsIn : {X : Type 0} → X → List X → Type 0
+abbrev pub IsIn : {X : Type 0} → X → List X → Type 0
 IsIn x [] = ⊥
 IsIn x (y ∷ ys) = (y ≡ x) ⊎ IsIn x ys
 
@@ -108,7 +108,7 @@ at_most_greatest n (m ∷ ns) there = elim there [
 -- ---- ports
 
 -- a port that there is is among the places
-place_in : (net : Internet) (place : Place) → IsPlace net place → IsIn place (places net)
+pub place_in : (net : Internet) (place : Place) → IsPlace net place → IsIn place (places net)
 place_in net place within =
     in_pieces (numbers (length net)) (number_in place.router (length net) (router_there net place.router place.port within))
   where

@@ -27,7 +27,7 @@ module _ (w : Wire) (laws : Relaying) (over : SentOn) (routers : List Router) (m
   router_of c = router_at routers c.to.router
 
   -- bytes that are no packet, or one that was sent on so often
-  IsOld : ℕ → List ℕ → Type 0
+  unfoldable pub IsOld : ℕ → List ℕ → Type 0
   IsOld k bytes = IsBytes bytes × ((p : Parts) → IsPacket bytes p → k ≤ p.header.control)
 
   module _ (k : ℕ) (c : Copy) (old : IsOld k c.bytes) where
@@ -83,7 +83,7 @@ module _ (w : Wire) (laws : Relaying) (over : SentOn) (routers : List Router) (m
             all_then (IsRelayed (router_of c).ports (router_of c).up (router_of c).routes c.to.port c.bytes) IsOlder older_by (forwards routers c)
             (sends laws (router_of c) (router_is routers right c.to.router) c.to.port c.bytes old.0 p is).each
 
-    children_older : (number : ℕ) → AllByRecursion (λ x. IsOld (k + 1) x.bytes) (children routers number c)
+    pub children_older : (number : ℕ) → AllByRecursion (λ x. IsOld (k + 1) x.bytes) (children routers number c)
     unfolding IsOlder
     children_older number =
         all-flat_map IsOlder (λ x. IsOld (k + 1) x.bytes) (receivers routers number c)

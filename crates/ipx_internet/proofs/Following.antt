@@ -75,7 +75,7 @@ module _ (w : Wire) (laws : Relaying) (over : SentOn) (routers : List Router) (m
   router_of c = router_at routers c.to.router
 
   -- how a packet for one network is sent on
-  record Passed (c : Copy) (p : Parts) (s : Sent) : Type 0 where
+  pub record Passed (c : Copy) (p : Parts) (s : Sent) : Type 0 where
     pub far : is_far (port_at (router_of c).ports c.to.port) p.header ≡ true
     pub few : p.header.control < most_routers
     pub way : way_to (router_of c).ports (router_of c).up (router_of c).routes p.header.destination ≡ Some (record { port = s.port; link = s.link })
@@ -83,7 +83,7 @@ module _ (w : Wire) (laws : Relaying) (over : SentOn) (routers : List Router) (m
     pub written : s.bytes ≡ packet_bytes (forwarded p)
 
   -- a reception of such a packet
-  record IsOne (c : Copy) (p : Parts) : Type 0 where
+  pub record IsOne (c : Copy) (p : Parts) : Type 0 where
     pub bytes : IsBytes c.bytes
     pub packet : IsPacket c.bytes p
     pub one : is_propagated p.header ≡ false
@@ -103,10 +103,10 @@ module _ (w : Wire) (laws : Relaying) (over : SentOn) (routers : List Router) (m
     sent : Sends laws (router_of c) (router_is routers right c.to.router) c.to.port c.bytes at.bytes p at.packet (forwards routers c)
     sent = sends laws (router_of c) (router_is routers right c.to.router) c.to.port c.bytes at.bytes p at.packet
 
-    passed : AllByRecursion (Passed c p) (forwards routers c)
+    pub passed : AllByRecursion (Passed c p) (forwards routers c)
     passed = all_then (IsRelayed (router_of c).ports (router_of c).up (router_of c).routes c.to.port c.bytes) (Passed c p) passed_by (forwards routers c) sent.each
 
-    once : length (forwards routers c) ≤ 1
+    pub once : length (forwards routers c) ≤ 1
     once =
         at_most_one (Passed c p)
         (λ s t f g. one_sent (way_to (router_of c).ports (router_of c).up (router_of c).routes p.header.destination) (packet_bytes (forwarded p)) s t f.way g.way f.written g.written)
@@ -137,7 +137,7 @@ module _ (w : Wire) (laws : Relaying) (over : SentOn) (routers : List Router) (m
           subst P (sym (ports_same routers c.to.router)) (holds_of (λ j. j < length (router_of c).ports) s.port (router_of c).up (router_is routers right c.to.router).within f.leaves_up)
 
       -- what is received of it
-      child_is : (k : Copy) → k.bytes ≡ s.bytes → IsOne k (forwarded p)
+      pub child_is : (k : Copy) → k.bytes ≡ s.bytes → IsOne k (forwarded p)
       child_is k same =
           let P : List ℕ → Type 0 = λ b. IsPacket b (forwarded p) in
           let B : List ℕ → Type 0 = λ b. IsBytes b in
@@ -151,27 +151,29 @@ module _ (w : Wire) (laws : Relaying) (over : SentOn) (routers : List Router) (m
       abbrev copy : ℕ → Place → Copy
       copy number to = record { parent = Some number; to = to; bytes = s.bytes }
 
-      received : (number : ℕ) → AllByRecursion (λ k. IsOne k (forwarded p) × IsPlace net k.to) (receivers routers number c s)
+      pub received : (number : ℕ) → AllByRecursion (λ k. IsOne k (forwarded p) × IsPlace net k.to) (receivers routers number c s)
       received number =
           all-map (λ to. IsPlace net to × (receives net from s.link to ≡ true)) (λ k. IsOne k (forwarded p) × IsPlace net k.to) (copy number)
           (λ to there. (child_is (copy number to) refl, there.0)) (delivered net from s.link) (delivered_within net from s.link)
 
-      -- where it left on the network that it is for, none that receives it sends it on
-      direct : (port_at (router_of c).ports s.port).network.0 ≡ p.header.destination.network.0 → (number : ℕ) → AllByRecursion (IsLast routers) (receivers routers number c s)
-      direct here number =
-          all-map (λ to. IsPlace net to × (receives net from s.link to ≡ true)) (IsLast routers) (copy number)
-          (λ to there. stays to (receives_is net from s.link to there.1).network) (delivered net from s.link) (delivered_within net from s.link)
-        where
-          near : (to : Place) → network_of net to ≡ network_of net from → p.header.destination.network.0 ≡ (port_at (router_at routers to.router).ports to.port).network.0
-          near to e =
-              sym here ∙ sym (ap (λ (ports : List Port). (port_at ports s.port).network.0) (ports_same routers c.to.router)) ∙ sym (ap (λ (n : Network). n.0) e)
-              ∙ ap (λ (ports : List Port). (port_at ports to.port).network.0) (ports_same routers to.router)
+      -- where it left on the network that it is for, it is near for all that receive it, and none sends it on
+      module _ (here : (port_at (router_of c).ports s.port).network.0 ≡ p.header.destination.network.0) where
+        pub near_there : (to : Place) → network_of net to ≡ network_of net from → p.header.destination.network.0 ≡ (network_of net to).0
+        near_there to e =
+            sym here ∙ sym (ap (λ (ports : List Port). (port_at ports s.port).network.0) (ports_same routers c.to.router)) ∙ sym (ap (λ (n : Network). n.0) e)
 
-          stays : (to : Place) → network_of net to ≡ network_of net from → IsLast routers (copy number to)
-          stays to e = near_last (copy number to) (forwarded p) (child_is (copy number to) refl) (near to e)
+        direct : (number : ℕ) → AllByRecursion (IsLast routers) (receivers routers number c s)
+        direct number =
+            all-map (λ to. IsPlace net to × (receives net from s.link to ≡ true)) (IsLast routers) (copy number)
+            (λ to there. stays to (receives_is net from s.link to there.1).network) (delivered net from s.link) (delivered_within net from s.link)
+          where
+            stays : (to : Place) → network_of net to ≡ network_of net from → IsLast routers (copy number to)
+            stays to e =
+                near_last (copy number to) (forwarded p) (child_is (copy number to) refl)
+                (near_there to e ∙ ap (λ (ports : List Port). (port_at ports to.port).network.0) (ports_same routers to.router))
 
       -- where it was sent to one node, one receives it at most
-      one_node : NodesDiffer net → same_node s.link broadcast ≡ false → (number : ℕ) → length (receivers routers number c s) ≤ 1
+      pub one_node : NodesDiffer net → same_node s.link broadcast ≡ false → (number : ℕ) → length (receivers routers number c s) ≤ 1
       one_node differ one number =
           let same = length-map (delivered net from s.link) (copy number) in
           let few =
@@ -180,7 +182,7 @@ module _ (w : Wire) (laws : Relaying) (over : SentOn) (routers : List Router) (m
           (delivered net from s.link) (delivered_within net from s.link) (delivered_differ net from s.link) in
           omega (arith, same, few)
 
-      few_receive : (number : ℕ) → length (receivers routers number c s) ≤ most_on_network net - 1
+      pub few_receive : (number : ℕ) → length (receivers routers number c s) ≤ most_on_network net - 1
       few_receive number =
           let same = length-map (delivered net from s.link) (copy number) in
           let few = delivered_few net from s.link from_there in

@@ -55,7 +55,7 @@ module _ (w : Wire) (laws : Relaying) (over : SentOn) (routers : List Router) (m
   degree = (most_ports net - 1) * (most_on_network net - 1)
 
   -- a reception of a propagated packet with so much transport control or more
-  record IsLive (k : ℕ) (c : Copy) : Type 0 where
+  pub record IsLive (k : ℕ) (c : Copy) : Type 0 where
     pub packet : Parts
     pub bytes : IsBytes c.bytes
     pub is : IsPacket c.bytes packet
@@ -117,7 +117,7 @@ module _ (w : Wire) (laws : Relaying) (over : SentOn) (routers : List Router) (m
         let small : length r.ports ≤ most_ports net = subst P (ports_same routers c.to.router) (router_small net c.to.router) in
         omega (arith, counted, of_numbers, of_ports, small)
 
-    children_few : (number : ℕ) → length (children routers number c) ≤ degree
+    pub children_few : (number : ℕ) → length (children routers number c) ≤ degree
     children_few number =
         let joined = flat_map_few (receivers routers number c) (most_on_network net - 1) (forwards routers c)
         (all_then (SpreadBy r c.to.port p) (λ s. length (receivers routers number c s) ≤ most_on_network net - 1)
@@ -132,14 +132,14 @@ module _ (w : Wire) (laws : Relaying) (over : SentOn) (routers : List Router) (m
         omega (arith, joined, few)
 
     -- none, from eight networks on
-    no_children : crossed_places ≤ k → (number : ℕ) → length (children routers number c) ≤ 0
+    pub no_children : crossed_places ≤ k → (number : ℕ) → length (children routers number c) ≤ 0
     no_children full number = by (forwards routers c) spread
       where
         by : (ss : List Sent) → AllByRecursion (SpreadBy r c.to.port p) ss → length (flat_map (receivers routers number c) ss) ≤ 0
         by [] none = omega arith
         by (s ∷ ss) some = let free = some.0.crossed.free in let old = live.old in absurd (omega (arith, free, old, full))
 
-    children_live : (number : ℕ) → AllByRecursion (IsLive (k + 1)) (children routers number c)
+    pub children_live : (number : ℕ) → AllByRecursion (IsLive (k + 1)) (children routers number c)
     children_live number =
         all-flat_map (SpreadBy r c.to.port p) (IsLive (k + 1)) (receivers routers number c)
         (λ s f.

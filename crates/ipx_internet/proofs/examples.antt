@@ -8,4 +8,5 @@ pub mod Rings
 pub mod Running
 pub mod Segments
 pub mod Waiting
+pub mod Weights
 pub mod Words

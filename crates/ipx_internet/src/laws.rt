@@ -23,9 +23,12 @@ ghost use Rattle.ipx_internet.specs.Different.{AreDifferent};
 ghost use Rattle.ipx_internet.specs.Internet.{Internet, Place, IsInternet, NodesDiffer, IsPlace, network_of, ports_of};
 ghost use Rattle.ipx_internet.specs.Log.{Sending, Reception, reception_at, IsForward, IsLog};
 ghost use Rattle.ipx_internet.specs.Most.{most, most_on_network};
-ghost use Rattle.ipx_internet.specs.Queue.{deliveries_of, queued, settled_one, settled};
+ghost use Rattle.ipx_internet.specs.Queue.{Queued, deliveries_of, queued, settled_one, settled};
 ghost use Rattle.ipx_internet.specs.Run.{Step, Settles, IsStep, AreHistories, Run, begun, forgotten, happens, stepped, run_of};
-ghost use Rattle.ipx_internet.specs.Tree.{Router, router_now, IsRouter, Copy, net_of, sent_on, tree_to, IsTree};
+ghost use Rattle.ipx_internet.specs.Moment.{Moment, StandsFor, net_at};
+ghost use Rattle.ipx_internet.specs.Traced.{tree, routers_of, routers_after};
+ghost use Rattle.ipx_internet.specs.Tree.{Router, router_now, IsRouter, Copy, net_of, sent_on, children, tree_to, IsTree};
+ghost use Rattle.ipx_internet.specs.Weight.{weight, weights, CanCome, IsBounded};
 
 /// How far a packet goes, in any internet and any log: with any tables and any ports up, also such as change on the way.
 ///
@@ -123,6 +126,53 @@ pub fn trees()
     ipx_router::laws::tables();
     ipx_router::laws::relays();
 }
+
+/// What a reception may still lead to has a weight, and to send it on never makes the whole heavier: it counts 1, and what
+/// receives its forwards weighs what is left, at most.
+///
+/// A propagated packet that may still be sent on n times weighs `most` of n. A packet for another network weighs the number of
+/// routers that may still send it on, and all ports of one network. All other bytes weigh 1: they go no further. So a list of
+/// receptions that begins with one, and to whose end those are put that receive what is sent on, one reception after the
+/// other, is never longer than the first one's weight (`few`), whether it is finished or not (`begins`, `goes_on`); and that
+/// weight is no more than what `trees` says of the whole tree.
+pub fn weights()
+    ensures never_rises { (routers : List Router) (c : Copy) (number : ℕ) → IsInternet (net_of routers) → NodesDiffer (net_of routers) → AllByRecursion IsRouter routers
+        → CanCome (net_of routers) c → 1 + weights (net_of routers) (children routers number c) ≤ weight (net_of routers) c }
+    ensures can_come { (routers : List Router) (c : Copy) (number : ℕ) → IsInternet (net_of routers) → AllByRecursion IsRouter routers
+        → CanCome (net_of routers) c → AllByRecursion (CanCome (net_of routers)) (children routers number c) }
+    ensures at_least_one { (net : Internet) (c : Copy) → 1 ≤ weight net c }
+    ensures begins { (net : Internet) (c : Copy) → CanCome net c → IsBounded net c 0 (c ∷ []) }
+    ensures goes_on { (routers : List Router) (root c : Copy) (copies : List Copy) (sent number : ℕ) → IsInternet (net_of routers) → NodesDiffer (net_of routers)
+        → AllByRecursion IsRouter routers → IsBounded (net_of routers) root sent copies → slice_get copies sent ≡ Some c
+        → IsBounded (net_of routers) root (sent + 1) (copies ++ children routers number c) }
+    ensures few { (net : Internet) (root : Copy) (copies : List Copy) (sent : ℕ) → IsBounded net root sent copies → length copies ≤ weight net root }
+    ensures all_networks { (net : Internet) (c : Copy) (p : Parts) → IsBytes c.bytes → IsPacket c.bytes p → is_propagated p.header ≡ true
+        → weight net c ≤ most net (crossed_places - p.header.control) }
+    ensures one_network { (net : Internet) (c : Copy) (p : Parts) → CanCome net c → IsPacket c.bytes p → is_propagated p.header ≡ false
+        → p.header.control ≤ most_routers → weight net c ≤ (most_routers - p.header.control) + most_on_network net }
+    ensures nowhere { (net : Internet) (c : Copy) → IsBytes c.bytes
+        → ((p : Parts) → IsPacket c.bytes p → (is_propagated p.header ≡ false) × (most_routers ≤ p.header.control)) → weight net c ≤ 1 }
+{
+    ipx_wire::laws::readings();
+    ipx_wire::laws::reread();
+    ipx_wire::laws::sent_on();
+    ipx_router::laws::same_offers();
+    ipx_router::laws::relays();
+}
+
+/// There is one tree: the list of a tree's receptions is that of its first 17 levels.
+pub fn one_tree()
+    ensures { (routers : List Router) (c : Copy) (copies : List Copy) → IsInternet (net_of routers) → AllByRecursion IsRouter routers
+        → IsBytes c.bytes → IsTree routers c copies → copies ≡ tree routers c }
+{
+    trees();
+}
+
+/// Where an internet stands for histories, its routers are those that a tree is of: each as it is after its history.
+pub fn routers_now()
+    ensures { (most_routes most_services : ℕ) (m : Moment) (q : Queued) → StandsFor most_routes most_services m q
+        → routers_of m.routers ≡ routers_after (net_at m) most_routes q.histories }
+{}
 
 /// An event of a router makes few deliveries: each packet that it sends reaches at most all other ports of a network, and
 /// it sends no more packets than stated, where the router has at most 32 ports.

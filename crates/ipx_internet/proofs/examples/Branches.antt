@@ -11,7 +11,7 @@ use Rattle.ipx_internet.specs.Most.{most}
 use Rattle.ipx_internet.specs.Tree.{Router, Copy, IsTree, net_of, root, tree_to}
 use Rattle.ipx_internet.proofs.examples.Words.{port_on, running, to_all, at}
 
-abbrev branches : List Router
+abbrev pub branches : List Router
 branches =
     running (port_on 0x10 1 ∷ port_on 0x20 2 ∷ []) [] ∷ running (port_on 0x20 3 ∷ []) []
     ∷ running (port_on 0x20 4 ∷ port_on 0x40 5 ∷ port_on 0x70 6 ∷ []) [] ∷ running (port_on 0x40 7 ∷ port_on 0x50 8 ∷ []) []

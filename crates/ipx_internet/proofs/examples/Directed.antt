@@ -12,7 +12,7 @@ use Rattle.ipx_internet.specs.Most.{most, most_ports, most_on_network}
 use Rattle.ipx_internet.specs.Tree.{Router, Copy, net_of, root, forwards, levels}
 use Rattle.ipx_internet.proofs.examples.Words.{port_on, running, plain, at, copy}
 
-abbrev star : List Router
+abbrev pub star : List Router
 star =
     running (port_on 0x10 1 ∷ port_on 0x20 2 ∷ []) [] ∷ running (port_on 0x20 3 ∷ port_on 0x30 4 ∷ []) []
     ∷ running (port_on 0x40 5 ∷ port_on 0x20 6 ∷ []) [] ∷ []

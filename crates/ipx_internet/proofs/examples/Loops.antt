@@ -12,7 +12,7 @@ use Rattle.ipx_internet.specs.Most.{most, most_on_network}
 use Rattle.ipx_internet.specs.Tree.{Router, net_of, root, levels, tree_to}
 use Rattle.ipx_internet.proofs.examples.Words.{node, port_on, route, running, plain, at, copy}
 
-abbrev loop : List Router
+abbrev pub loop : List Router
 loop =
     running (port_on 0x10 1 ∷ port_on 0x20 2 ∷ []) (route 0x99 1 3 ∷ []) ∷ running (port_on 0x20 3 ∷ port_on 0x30 4 ∷ []) (route 0x99 1 5 ∷ [])
     ∷ running (port_on 0x30 5 ∷ port_on 0x10 6 ∷ []) (route 0x99 1 1 ∷ []) ∷ []

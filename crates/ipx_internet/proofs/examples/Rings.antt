@@ -11,7 +11,7 @@ use Rattle.ipx_internet.specs.Most.{most}
 use Rattle.ipx_internet.specs.Tree.{Router, Copy, net_of, root, levels}
 use Rattle.ipx_internet.proofs.examples.Words.{port_on, running, to_all, at, copy}
 
-abbrev ring : List Router
+abbrev pub ring : List Router
 ring =
     running (port_on 0x10 1 ∷ port_on 0x20 2 ∷ []) [] ∷ running (port_on 0x20 3 ∷ port_on 0x30 4 ∷ []) []
     ∷ running (port_on 0x30 5 ∷ port_on 0x10 6 ∷ []) [] ∷ []

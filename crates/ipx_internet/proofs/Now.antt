@@ -1,0 +1,58 @@
+-- The routers of an internet that stands for histories, as a tree sees them.
+use Rattle.std.proofs.Common.{◌≡◌, refl, sym, ap, ap₂, ◌∙◌, ℕ, zero, suc, Bool, List, [], ◌∷◌, ◌++◌, length, map, slice_get, Some}
+use Rattle.std.proofs.lemmas.List.{length-map, map-append, get_or-map}
+use Rattle.std.proofs.lemmas.Option.{get_or_from_slice_get, slice_get_within}
+use Rattle.ipx_table.specs.declared.held.Held.{Held}
+use Rattle.ipx_router.specs.Facts.{offers}
+use Rattle.ipx_router.specs.History.{History, running, ports_up}
+use Rattle.ipx_router.specs.Port.{Port, numbers}
+use Rattle.ipx_router.specs.Stands.{State, StandsFor as RouterStandsFor}
+use Rattle.ipx_router.specs.declared.route_offer.RouteOffer.{RouteOffer}
+use Rattle.ipx_internet.specs.Internet.{ports_of}
+use Rattle.ipx_internet.specs.Moment.{Moment, StandsFor, net_at}
+use Rattle.ipx_internet.specs.Queue.{Queued, history_of}
+use Rattle.ipx_internet.specs.Traced.{router_of, routers_of, routers_after}
+use Rattle.ipx_internet.specs.Tree.{Router, router_now}
+
+-- a router that stands for a history is as it is after it
+pub stands_now : (most_routes most_services : ℕ) (s : State) (history : History) → RouterStandsFor most_routes most_services s history
+    → router_of s ≡ router_now s.ports most_routes history
+stands_now most_routes most_services s history stands =
+    let made : Bool → List ℕ → List (Held RouteOffer) → Router = λ runs up routes. record { ports = s.ports; running = runs; up = up; routes = offers routes } in
+    ap (λ (b : Bool). made b s.up s.routes) stands.runs
+    ∙ ap (λ (up : List ℕ). made (running history) up s.routes) stands.ups
+    ∙ ap (λ (routes : List (Held RouteOffer)). made (running history) (ports_up s.ports history) routes) stands.routes_stand
+
+-- the numbers from the front
+numbers_front : (n : ℕ) → numbers (suc n) ≡ 0 ∷ map suc (numbers n)
+numbers_front zero = refl
+numbers_front (suc n) =
+    ap (λ (ns : List ℕ). ns ++ suc n ∷ []) (numbers_front n)
+    ∙ ap (λ (ns : List ℕ). 0 ∷ ns) (sym (map-append suc (numbers n) (n ∷ [])))
+
+module _ {X : Type 0} where
+  joint : (f : ℕ → X) (ns : List ℕ) → map f (map suc ns) ≡ map (λ n. f (suc n)) ns
+  joint f [] = refl
+  joint f (n ∷ ns) = ap (λ (xs : List X). f (suc n) ∷ xs) (joint f ns)
+
+module _ (most_routes most_services : ℕ) (m : Moment) (q : Queued) (stands : StandsFor most_routes most_services m q) where
+  abbrev now : ℕ → Router
+  now number = router_now (ports_of (net_at m) number) most_routes (history_of q.histories number)
+
+  one : (k : ℕ) (s : State) → slice_get m.routers k ≡ Some s → router_of s ≡ now k
+  one k s there =
+      let ports : ports_of (net_at m) k ≡ s.ports =
+      get_or-map (λ (s : State). s.ports) m.routers k s [] (slice_get_within m.routers k s there) ∙ ap (λ (s : State). s.ports) (get_or_from_slice_get m.routers k s s there) in
+      stands_now most_routes most_services s (history_of q.histories k) (stands.routers k s there)
+      ∙ ap (λ (ports : List Port). router_now ports most_routes (history_of q.histories k)) (sym ports)
+
+  mapped : (f : ℕ → Router) (states : List State) → ((k : ℕ) (s : State) → slice_get states k ≡ Some s → router_of s ≡ f k)
+      → routers_of states ≡ map f (numbers (length states))
+  mapped f [] at = refl
+  mapped f (s ∷ states) at =
+      ap₂ (λ (y : Router) (ys : List Router). y ∷ ys) (at 0 s refl) (mapped (λ n. f (suc n)) states (λ k t there. at (suc k) t there) ∙ sym (joint f (numbers (length states))))
+      ∙ ap (λ (ns : List ℕ). map f ns) (sym (numbers_front (length states)))
+
+  pub after_histories : routers_of m.routers ≡ routers_after (net_at m) most_routes q.histories
+  after_histories =
+      mapped now m.routers one ∙ ap (λ (n : ℕ). map now (numbers n)) (sym (length-map m.routers (λ (s : State). s.ports)))

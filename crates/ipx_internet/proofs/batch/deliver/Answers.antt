@@ -1,0 +1,35 @@
+use Rattle.std.proofs.Common.{rules, ◌≡◌, ◌<◌, ◌++◌, ap, ◌∙◌, length, map, drop}
+use Rattle.std.specs.List.{filter, flat_map}
+use Rattle.std.specs.Vec.{vec_len, vec_capacity}
+use Rattle.ipx_router.specs.Relays.{Sent}
+use Rattle.ipx_internet.specs.Batches.{deliveries_in, pending_at, hearing, heard}
+use Rattle.ipx_internet.specs.Stations.{hears, stations_on}
+use Rattle.ipx_internet.proofs.Batched.{one_packet, still_within, room_for_one, room_for_others}
+use Rattle.ipx_internet.proofs.batch.deliver.Goals as goal
+
+pub deliver_one-requires : goal.deliver_one-requires
+deliver_one-requires g c =
+    let lt : c.loop-packet.packet < length c.args.outbox.now.sent = search rules in
+    room_for_one (vec_len c.loop-packet.pending) (length c.args.outbox.now.sent) c.loop-packet.packet c.args.stations.now.most (vec_capacity c.loop-packet.pending)
+    (length c.on-near.result.now) lt c.loop-packet.invariant.1 c.on-near.ensures.few
+
+pub loop-packet-preserved : goal.loop-packet-preserved
+loop-packet-preserved g c =
+    let sent = c.args.outbox.now.sent in
+    let packet = c.loop-packet.packet in
+    let lt : packet < length sent = search rules in
+    let s : Sent = record { port = c.get-sent.result.port; link = c.get-sent.result.link; bytes = c.get-sent.result.bytes.now } in
+    let list = c.args.stations.now.list in
+    let ports = c.args.router.now.ports in
+    let added : c.deliver_one.new.pending.items ≡ c.loop-packet.pending.items ++ map (pending_at packet) (hearing list ports c.args.number s) =
+    c.deliver_one.ensures.items
+    ∙ ap (λ near. c.loop-packet.pending.items ++ map (pending_at packet) (filter (hears c.args.number s.link) near))
+    (c.on-near.ensures.stations ∙ ap (λ network. stations_on list network) c.network_of.ensures) in (
+      one_packet sent packet s c.get-sent.ensures list ports c.args.number c.loop-packet.pending.items c.deliver_one.new.pending.items
+          (deliveries_in sent c.args.pending.now.items ++ flat_map (heard list ports c.args.number) (drop c.args.before sent)) lt added c.loop-packet.invariant.0,
+      room_for_others (vec_len c.loop-packet.pending) (length sent) packet c.args.stations.now.most (vec_capacity c.loop-packet.pending)
+          (length c.on-near.result.now) (vec_len c.deliver_one.new.pending) (vec_capacity c.deliver_one.new.pending)
+          lt c.loop-packet.invariant.1 c.on-near.ensures.few c.deliver_one.ensures.len c.deliver_one.ensures.capacity,
+      λ within. still_within sent packet (hearing list ports c.args.number s) c.loop-packet.pending.items c.deliver_one.new.pending.items lt added
+          (c.loop-packet.invariant.2 within),
+    )

@@ -1,0 +1,22 @@
+use Rattle.std.proofs.Common.{rules, arith, ap, ◌∙◌, ◌≡◌, ◌<◌, ◌≤◌, length}
+use Rattle.ipx_internet.specs.Settled.{HasSettled}
+use Rattle.ipx_internet.proofs.Settling.{one_more, no_more, none_of}
+use Rattle.ipx_internet.proofs.internet.Internet.settle.Goals as goal
+
+pub returns-then-waiting-eq0-clause-settled : goal.returns-then-waiting-eq0-clause-settled
+returns-then-waiting-eq0-clause-settled g c =
+    let few : c.loop.counter ≤ c.args.limit = search rules in
+    let none : length c.loop.self.queue ≡ 0 = search rules in
+    no_more g.row.R g.row.S c.loop.counter c.args.limit c.args.self.now c.loop.self few c.loop.invariant.1 (none_of c.loop.self.queue none)
+
+pub loop-preserved : goal.loop-preserved
+loop-preserved g c =
+    let one : HasSettled g.row.R g.row.S 1 c.loop.self c.settle_one.new.self = search rules in
+    let some : 0 < length c.loop.self.queue = search rules in (
+      c.settle_one.ensures.net ∙ c.loop.invariant.0,
+      one_more g.row.R g.row.S c.loop.counter c.args.self.now c.loop.self c.settle_one.new.self c.loop.invariant.0 c.loop.invariant.1 one,
+      λ at_first.
+          let none : length c.loop.self.queue ≡ 0 = ap length (c.loop.invariant.2 at_first) in
+          let no : ⊥ = omega (arith, some, none) in
+          absurd no,
+    )

@@ -1,0 +1,63 @@
+use Rattle.std.proofs.Common.{arith, ◌+◌, ◌<◌, ◌++◌, length, sym, ap, ap₂, ◌∙◌, subst, drop}
+use Rattle.ipx_internet.specs.Batches.{delivery_of}
+use Rattle.ipx_internet.specs.Moment.{Moment}
+use Rattle.ipx_internet.specs.Simulated.{moment, net_among, IsComing}
+use Rattle.std.specs.List.{AllByRecursion}
+use Rattle.ipx_internet.proofs.Handing.{some_router, it_is_there, left_coming, coming_front, coming_behind, settled_next, still_simulated, at_error, at_moment}
+use Rattle.ipx_internet.proofs.internet.Internet.settle_one.Goals as goal
+
+pub are_sized-requires : goal.are_sized-requires
+are_sized-requires g c = subst (λ xs. 0 < length xs) (sym c.deref.ensures.value)
+    (some_router c.self.inside.routers.items _ c.self.invariant.coming (subst (λ (m : Moment). 0 < length m.queue) (sym c.self.view_is) c.requires))
+
+pub happen-requires : goal.happen-requires
+happen-requires g c =
+    let coming = subst (λ ds. AllByRecursion (IsComing (net_among c.self.inside.routers.items)) ds) (sym c.turn-self-inside.ensures.queue) c.self.invariant.coming in (
+      c.are_sized.ensures,
+      (
+        c.self.invariant.sound,
+        it_is_there g.row.R g.row.S c.self.inside.routers.items c.turn-self-inside.new.front.deliveries c.turn-self-inside.new.back.deliveries c.turn-self-inside.result
+            (delivery_of c.get-coming.result) c.get-coming.ensures coming c.get-coming.result.bytes.now,
+      ),
+    )
+
+pub invariant_of-self : goal.invariant_of-self
+invariant_of-self g c =
+    let coming = subst (λ ds. AllByRecursion (IsComing (net_among c.self.inside.routers.items)) ds) (sym c.turn-self-inside.ensures.queue) c.self.invariant.coming in
+    let there = c.turn-self-inside.ensures.there in
+    let front = drop c.turn-self-inside.result c.turn-self-inside.new.front.deliveries in
+    let net = net_among c.self.inside.routers.items in
+    still_simulated g.row.R g.row.S c.self.inside.routers.items c.happen.new.routers.items c.self.inside.stations.list c.turn-self-inside.new.front.deliveries
+    c.turn-self-inside.new.back.deliveries c.happen.new.back.deliveries c.turn-self-inside.result c.happen.ensures.routers c.happen.ensures.net
+    (coming_front net front c.turn-self-inside.new.back.deliveries coming)
+    (c.happen.ensures.coming (coming_behind net front c.turn-self-inside.new.back.deliveries coming))
+    (omega (arith, there))
+
+pub returns-in_err-happen-clause-unchanged : goal.returns-in_err-happen-clause-unchanged
+returns-in_err-happen-clause-unchanged g c =
+    at_error c.from_residual.result
+    (ap₂ (λ routers later. moment routers (drop c.turn-self-inside.result c.turn-self-inside.new.front.deliveries ++ later)) c.in_err-happen.ensures.unchanged c.in_err-happen.ensures.kept
+    ∙ ap (λ ds. moment c.self.inside.routers.items ds) c.turn-self-inside.ensures.queue ∙ c.self.view_is)
+
+pub invariant_of-self-2 : goal.invariant_of-self-2
+invariant_of-self-2 g c =
+    let coming = subst (λ ds. AllByRecursion (IsComing (net_among c.self.inside.routers.items)) ds) (sym c.turn-self-inside.ensures.queue) c.self.invariant.coming in
+    let there = c.turn-self-inside.ensures.there in
+    let front = drop c.turn-self-inside.result c.turn-self-inside.new.front.deliveries in
+    let net = net_among c.self.inside.routers.items in
+    still_simulated g.row.R g.row.S c.self.inside.routers.items c.happen.new.routers.items c.self.inside.stations.list c.turn-self-inside.new.front.deliveries
+    c.turn-self-inside.new.back.deliveries c.happen.new.back.deliveries (c.turn-self-inside.result + 1) c.happen.ensures.routers c.happen.ensures.net
+    (left_coming g.row.R g.row.S c.self.inside.routers.items c.turn-self-inside.new.front.deliveries c.turn-self-inside.new.back.deliveries c.turn-self-inside.result
+    (delivery_of c.get-coming.result) c.get-coming.ensures coming)
+    (c.happen.ensures.coming (coming_behind net front c.turn-self-inside.new.back.deliveries coming))
+    (omega (arith, there))
+
+pub returns-clause-settled : goal.returns-clause-settled
+returns-clause-settled g c =
+    let routers = c.self.inside.routers.items in
+    let left = drop c.turn-self-inside.result c.turn-self-inside.new.front.deliveries ++ c.turn-self-inside.new.back.deliveries in
+    at_moment g.row.R g.row.S (moment routers left) c.args.self.now
+    (moment c.happen.new.routers.items (drop (c.turn-self-inside.result + 1) c.turn-self-inside.new.front.deliveries ++ c.happen.new.back.deliveries))
+    (ap (λ ds. moment routers ds) c.turn-self-inside.ensures.queue ∙ c.self.view_is)
+    (settled_next g.row.R g.row.S routers c.turn-self-inside.new.front.deliveries c.turn-self-inside.new.back.deliveries c.turn-self-inside.result (delivery_of c.get-coming.result) c.get-coming.ensures
+    c.happen.new.routers.items c.happen.new.back.deliveries c.in_ok-happen.ensures.stands)

@@ -1,0 +1,10 @@
+use Rattle.std.proofs.Common.{map, filter, drop}
+use Rattle.ipx_internet.specs.Listed.{child, Fills}
+use Rattle.ipx_internet.specs.Stations.{hears}
+use Rattle.ipx_internet.proofs.listing.list_receivers.Given as goal
+
+abbrev pub invariant-loop-station : goal.invariant-loop-station
+invariant-loop-station l = record {
+  fills : Fills l.limit l.initial.list.items l.list.items (map (child l.parent l.packet) (filter (hears l.parent.router l.link) l.stations))
+      (map (child l.parent l.packet) (filter (hears l.parent.router l.link) (drop l.station-index l.stations)));
+}

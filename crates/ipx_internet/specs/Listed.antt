@@ -1,0 +1,130 @@
+-- A listing of a tree under way: what is listed so far, and what is left to list.
+use Rattle.std.specs.Prelude.{◌≡◌, ℕ, ◌+◌, ◌<◌, ◌≤◌, Bool, true, false, if◌then◌else◌, List, [], ◌∷◌, ◌++◌, length, map, None, Some, slice_index_or}
+use Rattle.std.specs.List.{AllByRecursion, filter, flat_map}
+use Rattle.ipx_router.specs.Port.{Port, broadcast, port_at}
+use Rattle.ipx_router.specs.Relays.{Sent}
+use Rattle.ipx_router.specs.declared.outcome.Outcome.{Outcome}
+use Rattle.ipx_internet.specs.Internet.{IsPlace}
+use Rattle.ipx_internet.specs.Stations.{stations_on, place_of, hears}
+use Rattle.ipx_internet.specs.Traced.{Traced, outcome_of, tree, outcome_at}
+use Rattle.ipx_internet.specs.Tree.{Router, Copy, net_of, sent_on, next_level}
+use Rattle.ipx_internet.specs.declared.fault.TraceFault.{TraceFault}
+use Rattle.ipx_internet.specs.declared.fault.TraceFault.TheVariants.{NoSuchPort, Limit, Memory}
+use Rattle.ipx_internet.specs.declared.listing.Listed.{Listed}
+use Rattle.ipx_internet.specs.declared.listing.Parent.{Parent}
+use Rattle.ipx_internet.specs.declared.listing.Source.{Source}
+use Rattle.ipx_internet.specs.declared.listing.Source.TheVariants.{First, Even, Odd}
+use Rattle.ipx_internet.specs.declared.stations.Station.{Station}
+
+-- ---- as it is kept: the bytes stand with the caller or in one of two outboxes
+
+-- the packet of that number; behind the last, one of nothing
+abbrev pub sent_at : List Sent → ℕ → Sent
+sent_at sents number = slice_index_or sents number (record { port = 0; link = broadcast; bytes = [] })
+
+module _ (first : List ℕ) (even odd : List Sent) where
+  -- the bytes that stand there
+  abbrev pub bytes_in : Source → List ℕ
+  bytes_in First = first
+  bytes_in (Even number) = (sent_at even number).bytes
+  bytes_in (Odd number) = (sent_at odd number).bytes
+
+  -- a reception that is kept
+  abbrev pub copy_in : Listed → Copy
+  copy_in l = record { parent = l.parent; to = record { router = l.router; port = l.port }; bytes = bytes_in l.source }
+
+-- there are such bytes
+abbrev pub IsIn : List Sent → List Sent → Source → Type 0
+IsIn even odd First = Unit
+IsIn even odd (Even number) = number < length even
+IsIn even odd (Odd number) = number < length odd
+
+abbrev pub AreKept : List Sent → List Sent → List Listed → Type 0
+AreKept even odd list = AllByRecursion (λ l. IsIn even odd l.source) list
+
+-- what is sent on goes into the outbox in which it doesn't stand
+abbrev pub into_odd : Source → Bool
+into_odd First = true
+into_odd (Even number) = true
+into_odd (Odd number) = false
+
+abbrev pub outbox_of : Bool → List Sent → List Sent → List Sent
+outbox_of in_odd even odd = if in_odd then odd else even
+
+-- where a packet of an outbox stands
+abbrev pub source_in : Bool → ℕ → Source
+source_in true number = Odd number
+source_in false number = Even number
+
+-- the reception of a packet by a station
+abbrev pub child : Parent → ℕ → Station → Listed
+child parent number s = record { parent = Some parent.number; router = s.router; port = s.port; source = source_in parent.odd number }
+
+-- the stations that receive a packet of a router with those ports
+abbrev pub hearers : List Station → List Port → ℕ → Sent → List Station
+hearers stations ports router s = filter (hears router s.link) (stations_on stations (port_at ports s.port).network)
+
+module _ (stations : List Station) (ports : List Port) (parent : Parent) where
+  -- the receptions of packets, where the first of them has a number
+  abbrev pub listed_from : ℕ → List Sent → List Listed
+  listed_from number [] = []
+  listed_from number (s ∷ sents) = map (child parent number) (hearers stations ports parent.router s) ++ listed_from (number + 1) sents
+
+-- ---- as its callers see it
+
+-- the receptions that are listed, and what became of the packet at the first of them
+pub record Listing : Type 0 where
+  pub copies : List Copy
+  pub outcomes : List Outcome
+
+-- the reception at a place; behind the last, one of nothing
+abbrev pub copy_at : List Copy → ℕ → Copy
+copy_at copies number = slice_index_or copies number (record { parent = None; to = record { router = 0; port = 0 }; bytes = [] })
+
+-- the first one that wasn't asked yet what it sends on
+abbrev pub waits_next : Listing → Copy
+waits_next l = copy_at l.copies (length l.outcomes)
+
+module _ (r : Router) (stations : List Station) where
+  -- those of some stations that receive one forward of a reception
+  abbrev pub receivers_by : ℕ → Copy → Sent → List Copy
+  receivers_by number c s = map (λ to. record { parent = Some number; to = place_of to; bytes = s.bytes }) (hearers stations r.ports c.to.router s)
+
+  -- the receptions of what a router sends on
+  abbrev pub children_by : ℕ → Copy → List Copy
+  children_by number c = flat_map (receivers_by number c) (sent_on r c.to.port c.bytes)
+
+  -- what waits next was asked, and its receptions are listed
+  pub record GoesOn (old new : Listing) : Type 0 where
+    pub copies : new.copies ≡ old.copies ++ children_by (length old.outcomes) (waits_next old)
+    pub outcomes : new.outcomes ≡ old.outcomes ++ outcome_of r (waits_next old).to.port (waits_next old).bytes ∷ []
+
+-- why not all of so many receptions are listed
+abbrev pub IsCut : ℕ → ℕ → TraceFault → Type 0
+IsCut limit count NoSuchPort = ⊥
+IsCut limit count Limit = limit < count
+IsCut limit count Memory = Unit
+
+-- what is listed begins the tree; some of it is done, and is what the rest was sent on by
+pub record IsListed (routers : List Router) (root : Copy) (l : Listing) : Type 0 where
+  pub done : List Copy
+  pub waiting : List Copy
+  pub behind : List Copy
+  pub copies : l.copies ≡ done ++ waiting
+  pub outcomes : l.outcomes ≡ map (outcome_at routers) done
+  pub listed : l.copies ≡ root ∷ next_level routers 0 done
+  pub front : tree routers root ≡ l.copies ++ behind
+  pub places : AllByRecursion (λ c. IsPlace (net_of routers) c.to) l.copies
+
+-- what is listed is told, each with what became of the packet there
+abbrev pub told : List Copy → List Outcome → List Traced
+told [] outcomes = []
+told (c ∷ copies) [] = []
+told (c ∷ copies) (o ∷ outcomes) = record { copy = c; outcome = o } ∷ told copies outcomes
+
+-- ---- a list that grows up to a limit
+
+-- what is listed now and what is left make what was listed first and all that is to be listed
+pub record Fills (limit : ℕ) (first now all rest : List Listed) : Type 0 where
+  pub whole : now ++ rest ≡ first ++ all
+  pub few : length first ≤ limit → length now ≤ limit

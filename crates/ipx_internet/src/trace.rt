@@ -1,0 +1,187 @@
+//! Where a packet gets to while nothing else happens.
+ghost use Rattle.std.specs.Prelude.{◌≡◌, ◌↔◌, ◌<◌, ◌≤◌, ◌==◌, true, length, map, slice_get, Some, IfOk, OnOk, IfErr, IsErrOf};
+ghost use Rattle.std.specs.List.{AllByRecursion};
+ghost use Rattle.ipx_wire.specs.Piece.{IsBytes};
+ghost use Rattle.ipx_internet.specs.Internet.{IsInternet, NodesDiffer, IsPlace};
+ghost use Rattle.ipx_internet.specs.Listed.{IsCut};
+ghost use Rattle.ipx_internet.specs.Moment.{net_at};
+ghost use Rattle.ipx_internet.specs.Simulated.{net_among};
+ghost use Rattle.ipx_internet.specs.Stations.{AreOf};
+ghost use Rattle.ipx_internet.specs.Traced.{traced, routers_of, tree, outcome_at};
+ghost use Rattle.ipx_internet.specs.Tree.{IsRouter, root, IsTree};
+ghost use Rattle.ipx_internet.specs.Weight.{weight};
+ghost use Rattle.ipx_internet.specs.declared.fault.TraceFault.TheVariants.{NoSuchPort, Limit};
+
+use crate::batch::are_sized;
+use crate::fault::TraceFault;
+use crate::internet::Internet;
+use crate::listing::Listing;
+use crate::stations::Stations;
+use ipx_router::{Outcome, Router};
+use std::alloc::Global;
+use std::marker::Model;
+
+/// A reception of a packet: by a port of a router, of what the router of the parent sent on.
+#[derive(Clone, Copy, Debug)]
+pub struct Reception<'a> {
+    /// The number of the reception whose router sent it on; none of the first.
+    pub parent: Option<usize>,
+    pub router: usize,
+    pub port: u8,
+    pub bytes: &'a [u8],
+    pub outcome: Outcome,
+}
+
+/// The tree of a packet: its receptions, level by level, children in the order of their parents and of delivery.
+#[derive(Debug, Drop)]
+pub struct Trace<'a> {
+    listing: Listing<'a>,
+}
+
+impl<'a> Model for Trace<'a> {
+    ghost use Rattle.std.specs.Prelude.{◌≡◌, List, length};
+    ghost use Rattle.ipx_internet.specs.Traced.{Traced};
+    ghost use Rattle.ipx_internet.specs.Listed.{told};
+
+    ghost Value = { List Traced };
+
+    ghost view = { λ t. told t.listing.copies t.listing.outcomes };
+
+    ghost invariant = { λ t. length t.listing.copies ≡ length t.listing.outcomes };
+}
+
+impl<'a> Trace<'a> {
+    /// How many receptions there are.
+    pub fn len(&self) -> usize
+        ensures { result ≡ length self.now }
+    {
+        self.listing.len()
+    }
+
+    /// Whether there is none; there is always the first one.
+    pub fn is_empty(&self) -> bool
+        ensures { result ≡ (length self.now == 0) }
+    {
+        self.len() == 0
+    }
+
+    /// The reception with exactly `k` others before it.
+    pub fn get(&self, k: usize) -> Reception<'_>
+        requires { k < length self.now }
+        ensures { slice_get self.now k ≡ Some (traced result) }
+    {
+        let lent = self.listing.get(k);
+        Reception {
+            parent: lent.parent,
+            router: lent.router,
+            port: lent.port,
+            bytes: lent.bytes,
+            outcome: self.listing.outcome(k),
+        }
+    }
+}
+
+impl<const P: usize, const R: usize, const S: usize> Internet<P, R, S> {
+    /// The tree of a packet that comes to a port now, by the tables and the ports as they are; nothing is changed.
+    pub fn trace<'a>(
+        &self,
+        router: usize,
+        port: u8,
+        bytes: &'a [u8],
+        limit: usize,
+    ) -> Result<Trace<'a>, TraceFault>
+        ensures is_tree { IfOk result (λ t. map (λ r. r.copy) t ≡ tree (routers_of self.now.routers) (root (record { router = router; port = port }) bytes.entry.now)) }
+        ensures whole { OnOk result (IsTree (routers_of self.now.routers) (root (record { router = router; port = port }) bytes.entry.now)
+            (tree (routers_of self.now.routers) (root (record { router = router; port = port }) bytes.entry.now))) }
+        ensures outcomes { IfOk result (λ t. AllByRecursion (λ r. r.outcome ≡ outcome_at (routers_of self.now.routers) r.copy) t) }
+        ensures few { IfOk result (λ t. length t ≤ limit) }
+        ensures bounded { IfOk result (λ t. length t ≤ weight (net_at self.now) (root (record { router = router; port = port }) bytes.entry.now)) }
+        ensures missing { IsErrOf result NoSuchPort ↔ (IsPlace (net_at self.now) (record { router = router; port = port }) → ⊥) }
+        ensures limit { IsErrOf result Limit → limit < length (tree (routers_of self.now.routers) (root (record { router = router; port = port }) bytes.entry.now)) }
+        ensures enough { weight (net_at self.now) (root (record { router = router; port = port }) bytes.entry.now) ≤ limit → IsErrOf result Limit → ⊥ }
+    {
+        if !self.has_place(router, port) {
+            return Err(TraceFault::NoSuchPort);
+        }
+        self.len();
+        are_sized(&self.routers);
+        let listing = list_tree(
+            self.alloc,
+            &self.routers,
+            &self.stations,
+            router,
+            port,
+            bytes,
+            limit,
+        )?;
+        Ok(Trace { listing })
+    }
+
+    /// Whether there is such a port.
+    fn has_place(&self, router: usize, port: u8) -> bool
+        ensures { result ≡ true ↔ IsPlace (net_at self.now) (record { router = router; port = port }) }
+    {
+        if router >= self.routers.len() {
+            return false;
+        }
+        are_sized(&self.routers);
+        is_place(&self.routers, router, port)
+    }
+}
+
+/// Whether one of some routers has that port.
+fn is_place<const P: usize, const R: usize, const S: usize>(
+    routers: &[Router<P, R, S>],
+    router: usize,
+    port: u8,
+) -> bool
+    ensures { result ≡ true ↔ IsPlace (net_among routers.now) (record { router = router; port = port }) }
+{
+    match routers.get(router) {
+        Some(router) => router.has_port(port),
+        None => false,
+    }
+}
+
+/// Lists the tree of a packet that comes to a port of one of some routers.
+fn list_tree<'a, const P: usize, const R: usize, const S: usize>(
+    alloc: Global,
+    routers: &Vec<Router<P, R, S>>,
+    stations: &Stations,
+    router: usize,
+    port: u8,
+    bytes: &'a [u8],
+    limit: usize,
+) -> Result<Listing<'a>, TraceFault>
+    requires internet { IsInternet (net_among routers.now.items) }
+    requires nodes { NodesDiffer (net_among routers.now.items) }
+    requires tables { AllByRecursion IsRouter (routers_of routers.now.items) }
+    requires stationed { AreOf (net_among routers.now.items) stations.now.list }
+    requires place { IsPlace (net_among routers.now.items) (record { router = router; port = port }) }
+    ensures copies { IfOk result (λ l. l.copies ≡ tree (routers_of routers.now.items) (root (record { router = router; port = port }) bytes.entry.now)) }
+    ensures outcomes { IfOk result (λ l. l.outcomes ≡ map (outcome_at (routers_of routers.now.items))
+        (tree (routers_of routers.now.items) (root (record { router = router; port = port }) bytes.entry.now))) }
+    ensures whole { OnOk result (IsTree (routers_of routers.now.items) (root (record { router = router; port = port }) bytes.entry.now)
+        (tree (routers_of routers.now.items) (root (record { router = router; port = port }) bytes.entry.now))) }
+    ensures few { IfOk result (λ l. length l.copies ≤ limit) }
+    ensures bounded { IfOk result (λ l. length l.copies ≤ weight (net_among routers.now.items) (root (record { router = router; port = port }) bytes.entry.now)) }
+    ensures refused { IfErr result (IsCut limit (length (tree (routers_of routers.now.items) (root (record { router = router; port = port }) bytes.entry.now)))) }
+    ensures enough { IfErr result (IsCut limit (weight (net_among routers.now.items) (root (record { router = router; port = port }) bytes.entry.now))) }
+{
+    crate::laws::trees();
+    crate::laws::weights();
+    are_bytes(bytes);
+    let mut listing = Listing::new(alloc, router, port, bytes, limit)?;
+    while listing.mark() < listing.len() {
+        let at = listing.get(listing.mark()).router;
+        listing = listing.go_on(&routers[at], stations, limit)?;
+    }
+    Ok(listing)
+}
+
+/// Bytes are numbers under 256. It is for proofs, and does nothing.
+fn are_bytes(bytes: &[u8])
+    ensures { IsBytes bytes.now }
+{
+    let _ = bytes;
+}
