@@ -1,15 +1,17 @@
 //! How fast packets are read and written, beside copying the same bytes in the same run; and how fast a
 //! full table is called, beside reading its records in the same run; and how fast a router with full tables takes its events,
-//! beside copying what it sends; and how fast a capture is shown, beside copying its file.
+//! beside copying what it sends; and how fast a capture is shown, beside copying its file; and how fast internets settle and a
+//! packet is traced, in larger and larger ones.
 //!
 //! With no word it prints what it can measure; with the word `run` it measures, all or the part that a second word names:
-//! packets, tables, events or captures. A copy is what any
+//! packets, tables, events, captures or internets. A copy is what any
 //! program must at least do with a packet, and a reading with records that age, so the ratios hold on
 //! any machine.
 #![tactic(auto)]
 
 mod captures;
 mod events;
+mod internets;
 mod jumping;
 mod kinds;
 mod packets;
@@ -51,7 +53,9 @@ fn list(rt: &HostRuntime) -> io::Result<()> {
         println!(rt; "{name}: 8 ports, {RECORDS} routes")?;
     }
     let records = captures::RECORDS;
-    println!(rt; "show a capture: {records} records")
+    println!(rt; "show a capture: {records} records")?;
+    let routers = internets::RINGS.len();
+    println!(rt; "settle a ring, trace a packet: {routers} rings")
 }
 
 /// Measures the part of that name, or all parts where none is named.
@@ -74,6 +78,9 @@ fn measure(rt: &HostRuntime, part: &Option<String>) -> io::Result<()> {
     }
     if is_wanted(part, "captures") {
         report_capture(rt, &packets)?;
+    }
+    if is_wanted(part, "internets") {
+        report_internets(rt)?;
     }
     Ok(())
 }
@@ -132,6 +139,19 @@ fn report_capture(rt: &HostRuntime, packets: &Packets) -> io::Result<()> {
     println!(rt;
         "show a capture: {records} records a second, {megabytes} megabytes a second, {copies} copies of the file"
     )
+}
+
+fn report_internets(rt: &HostRuntime) -> io::Result<()> {
+    for routers in internets::RINGS {
+        let timed = internets::measure_ring(rt, routers)?;
+        let each = Tenths(timed.nanoseconds.wrapping_mul(10) / u128::from(timed.count.max(1)));
+        let count = timed.count;
+        println!(rt; "settle a ring of {routers} routers: {each} ns a delivery of {count}")?;
+    }
+    let timed = internets::measure_trace(rt)?;
+    let each = Tenths(timed.nanoseconds.wrapping_mul(10) / u128::from(timed.count.max(1)));
+    let count = timed.count;
+    println!(rt; "trace a packet: {each} ns a reception of {count}")
 }
 
 /// A number of tenths, shown with a point.

@@ -5,6 +5,7 @@
 //!
 //! - `own_offer`: an offer type of one's own, which the documentation of `Offer` quotes.
 //! - `wire`, `table`, `ports`, `router`: packets and devices, offers, what a router is made of, and what it does.
+//! - `internet`: several routers, the deliveries between them, and where a packet gets to.
 //! - `damaged`: packets with bytes cut off or changed, and floods of them.
 //! - `devices`: runs of `replay` and `decode` on devices that give or take few bytes, or fail.
 //! - `endless`: readers that give bytes for ever, and a capture that ends at each of its bytes.
@@ -19,6 +20,8 @@ mod devices;
 mod endless;
 #[cfg(test)]
 mod exit_statuses;
+#[cfg(test)]
+mod internet;
 #[cfg(test)]
 mod own_offer;
 #[cfg(test)]

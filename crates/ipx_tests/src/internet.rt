@@ -1,0 +1,225 @@
+//! Internets: deliveries one by one, where a packet gets to, and what is refused.
+
+use crate::same::same;
+use ipx_internet::{Internet, InternetFault, Settled, Trace, TraceFault};
+use ipx_router::{Event, Outcome, Port, PortFault, Router, Why};
+use ipx_wire::{Network, Node};
+use std::alloc::Global;
+use std::test::Fail;
+
+type Small = Internet<2, 50, 8>;
+
+/// A port of a network with this number, whose node ends so.
+fn port(network: u32, node: u8) -> Result<Port, PortFault> {
+    Port::new(Network(network), Node([0, 0, 0, 0, 0, node]), 1, 576)
+}
+
+/// A router on two networks.
+fn between(first: Port, second: Port) -> Result<Router<2, 50, 8>, Fail> {
+    Ok(Router::new(&[first, second])?)
+}
+
+/// Adds a router, and forgets it where it is refused.
+fn add(internet: &mut Small, router: Router<2, 50, 8>) -> Result<usize, InternetFault> {
+    match internet.add(router) {
+        Ok(number) => Ok(number),
+        Err(refused) => Err(refused.fault),
+    }
+}
+
+/// Networks 10, 20 and 30 in a line: routers 0 and 1 meet on network 20. Both are started, and nothing has settled.
+fn line(heap: Global) -> Result<Small, Fail> {
+    let mut internet = Small::new(heap);
+    add(&mut internet, between(port(0x10, 1)?, port(0x20, 2)?)?)?;
+    add(&mut internet, between(port(0x20, 3)?, port(0x30, 4)?)?)?;
+    internet.event(0, Event::Start)?;
+    internet.event(1, Event::Start)?;
+    Ok(internet)
+}
+
+/// The network, hops and age of the first route of a router.
+fn first_route(internet: &Small, number: usize) -> Option<(u32, u16, u8)> {
+    let held = internet.router(number)?.route_at(0)?;
+    Some((held.offer.network.0, held.offer.hops, held.age))
+}
+
+#[test]
+fn two_routers_learn_each_other_delivery_by_delivery(rt: HostRuntime) -> Result<(), Fail> {
+    let mut internet = line(rt.alloc())?;
+    same(&rt, internet.len(), 2);
+    same(&rt, internet.waiting(), 6);
+    same(&rt, internet.settle(0)?, Settled::Left(6));
+    same(&rt, internet.settle(1)?, Settled::Left(5));
+    same(&rt, first_route(&internet, 0), None);
+    same(&rt, first_route(&internet, 1), Some((0x10, 1, 0)));
+    same(&rt, internet.settle(6)?, Settled::Left(1));
+    same(&rt, internet.settle(100)?, Settled::Quiet);
+    same(&rt, internet.settle(1)?, Settled::Quiet);
+    same(&rt, first_route(&internet, 0), Some((0x30, 1, 0)));
+    Ok(())
+}
+
+/// A packet from node AA on network 10 to node CC on network 99.
+const FAR: [u8; 30] = [
+    0xFF, 0xFF, 0, 30, 0, 0, 0, 0, 0, 0x99, 0, 0, 0, 0, 0, 0xCC, 0x40, 3, 0, 0, 0, 0x10, 0, 0, 0,
+    0, 0, 0xAA, 0x40, 3,
+];
+
+/// A response on network 20 from node 0, which the caller sets, that offers a way to network 99 at one hop.
+const WAY: [u8; 40] = [
+    0xFF, 0xFF, 0, 40, 0, 1, 0, 0, 0, 0x20, 0xFF, 0xFF, 0xFF, 0xFF, 0xFF, 0xFF, 4, 0x53, 0, 0, 0,
+    0x20, 0, 0, 0, 0, 0, 0, 4, 0x53, 0, 2, 0, 0, 0, 0x99, 0, 1, 0, 2,
+];
+
+/// The line, settled, where each router holds the other for its way to network 99.
+fn looped(heap: Global) -> Result<Small, Fail> {
+    let mut internet = line(heap)?;
+    internet.settle(100)?;
+    for (number, port, neighbour) in [(0, 1, 3), (1, 0, 2)] {
+        let mut bytes = WAY;
+        bytes[27] = neighbour;
+        let way = Event::Packet {
+            port,
+            bytes: &bytes,
+        };
+        internet.event(number, way)?;
+    }
+    Ok(internet)
+}
+
+/// The parent of a reception, its router and the packet's transport control, and what became of it.
+type Row = (Option<usize>, usize, Option<u8>, Outcome);
+
+fn row(trace: &Trace<'_>, number: usize) -> Option<Row> {
+    if number < trace.len() {
+        let it = trace.get(number);
+        Some((it.parent, it.router, it.bytes.get(4).copied(), it.outcome))
+    } else {
+        None
+    }
+}
+
+#[test]
+fn a_packet_goes_round_a_loop_sixteen_times(rt: HostRuntime) -> Result<(), Fail> {
+    let internet = looped(rt.alloc())?;
+    let trace = internet.trace(0, 0, &FAR, 17)?;
+    same(&rt, trace.len(), 17);
+    let on = Outcome::Forwarded;
+    same(&rt, row(&trace, 0), Some((None, 0, Some(0), on)));
+    same(&rt, row(&trace, 1), Some((Some(0), 1, Some(1), on)));
+    same(&rt, row(&trace, 15), Some((Some(14), 1, Some(15), on)));
+    let last = Outcome::Dropped(Why::TooManyRouters);
+    same(&rt, row(&trace, 16), Some((Some(15), 0, Some(16), last)));
+    same(&rt, row(&trace, 17), None);
+    Ok(())
+}
+
+#[test]
+fn a_limit_below_the_receptions_is_told(rt: HostRuntime) -> Result<(), Fail> {
+    let internet = looped(rt.alloc())?;
+    for limit in [0, 1, 16] {
+        match internet.trace(0, 0, &FAR, limit) {
+            Ok(trace) => same(&rt, trace.len(), limit.wrapping_add(1)),
+            Err(fault) => same(&rt, fault, TraceFault::Limit),
+        }
+    }
+    Ok(())
+}
+
+/// A packet of type 20 to all of network 10, from node AA there.
+const TO_ALL: [u8; 62] = [
+    0xFF, 0xFF, 0, 62, 0, 20, 0, 0, 0, 0x10, 0xFF, 0xFF, 0xFF, 0xFF, 0xFF, 0xFF, 4, 0x55, 0, 0, 0,
+    0x10, 0, 0, 0, 0, 0, 0xAA, 4, 0x55, 0, 0, 0, 0, 0, 0, 0, 0, 0, 0, 0, 0, 0, 0, 0, 0, 0, 0, 0, 0,
+    0, 0, 0, 0, 0, 0, 0, 0, 0, 0, 0, 0,
+];
+
+/// Networks 10, 20 and 30 in a ring of three routers that were started.
+fn ring(heap: Global) -> Result<Small, Fail> {
+    let mut internet = Small::new(heap);
+    add(&mut internet, between(port(0x10, 1)?, port(0x20, 2)?)?)?;
+    add(&mut internet, between(port(0x20, 3)?, port(0x30, 4)?)?)?;
+    add(&mut internet, between(port(0x30, 5)?, port(0x10, 6)?)?)?;
+    for number in 0..3 {
+        internet.event(number, Event::Start)?;
+    }
+    Ok(internet)
+}
+
+#[test]
+fn a_propagated_packet_visits_each_network_of_a_ring_once(rt: HostRuntime) -> Result<(), Fail> {
+    let internet = ring(rt.alloc())?;
+    let trace = internet.trace(0, 0, &TO_ALL, 9)?;
+    same(&rt, trace.len(), 3);
+    let on = Outcome::Propagated;
+    same(&rt, row(&trace, 0), Some((None, 0, Some(0), on)));
+    same(&rt, row(&trace, 1), Some((Some(0), 1, Some(1), on)));
+    same(&rt, row(&trace, 2), Some((Some(1), 2, Some(2), on)));
+    Ok(())
+}
+
+#[test]
+fn a_packet_for_all_nodes_of_a_far_network_is_heard_there(rt: HostRuntime) -> Result<(), Fail> {
+    let internet = line(rt.alloc())?;
+    let mut bytes = FAR;
+    bytes[9] = 0x20;
+    for place in 10..16 {
+        bytes[place] = 0xFF;
+    }
+    let trace = internet.trace(0, 0, &bytes, 9)?;
+    same(&rt, trace.len(), 2);
+    same(
+        &rt,
+        row(&trace, 0),
+        Some((None, 0, Some(0), Outcome::Forwarded)),
+    );
+    same(
+        &rt,
+        row(&trace, 1),
+        Some((Some(0), 1, Some(1), Outcome::Local)),
+    );
+    Ok(())
+}
+
+#[test]
+fn a_node_that_two_routers_claim_is_refused(rt: HostRuntime) -> Result<(), Fail> {
+    let mut internet = Small::new(rt.alloc());
+    assert!(rt; internet.is_empty());
+    same(
+        &rt,
+        add(&mut internet, between(port(0x10, 1)?, port(0x20, 2)?)?),
+        Ok(0),
+    );
+    let same_node = Err(InternetFault::SameNode);
+    same(
+        &rt,
+        add(&mut internet, between(port(0x30, 1)?, port(0x20, 2)?)?),
+        same_node,
+    );
+    same(&rt, internet.len(), 1);
+    // (one node on two networks is no such)
+    same(
+        &rt,
+        add(&mut internet, between(port(0x30, 1)?, port(0x20, 1)?)?),
+        Ok(1),
+    );
+    same(&rt, internet.len(), 2);
+    Ok(())
+}
+
+#[test]
+fn what_is_not_there_is_refused(rt: HostRuntime) -> Result<(), Fail> {
+    let mut internet = line(rt.alloc())?;
+    let missing = InternetFault::NoSuchPort;
+    let down = Event::PortDown { port: 2 };
+    same(&rt, internet.event(2, Event::Second), Err(missing));
+    same(&rt, internet.event(1, down), Err(missing));
+    same(&rt, internet.waiting(), 6);
+    assert!(rt; internet.router(2).is_none());
+    for (number, port) in [(2, 0), (0, 2)] {
+        match internet.trace(number, port, &FAR, 0) {
+            Ok(trace) => same(&rt, trace.is_empty(), true),
+            Err(fault) => same(&rt, fault, TraceFault::NoSuchPort),
+        }
+    }
+    Ok(())
+}
