@@ -10,6 +10,7 @@ pub mod Moment
 pub mod Most
 pub mod Queue
 pub mod Refused
+pub mod Rounds
 pub mod Run
 pub mod Settled
 pub mod Simulated

@@ -24,6 +24,7 @@ ghost use Rattle.ipx_internet.specs.Internet.{Internet, Place, IsInternet, Nodes
 ghost use Rattle.ipx_internet.specs.Log.{Sending, Reception, reception_at, IsForward, IsLog};
 ghost use Rattle.ipx_internet.specs.Most.{most, most_on_network};
 ghost use Rattle.ipx_internet.specs.Queue.{Queued, deliveries_of, queued, settled_one, settled};
+ghost use Rattle.ipx_internet.specs.Rounds.{IsDelivery, rounds, handed_out, most_rounds};
 ghost use Rattle.ipx_internet.specs.Run.{Step, Settles, IsStep, AreHistories, Run, begun, forgotten, happens, stepped, run_of};
 ghost use Rattle.ipx_internet.specs.Moment.{Moment, StandsFor, net_at};
 ghost use Rattle.ipx_internet.specs.Traced.{tree, routers_of, routers_after};
@@ -189,4 +190,24 @@ pub fn deliveries()
     ipx_router::laws::bounds();
     ipx_router::laws::down_ports();
     ipx_router::laws::relays();
+}
+
+/// Every internet settles: whatever is in the tables and whatever waits, forged packets too, nothing waits after 34 rounds and
+/// one for each router. In a round all that waits when it begins is handed out; what is sent for it waits for the next.
+///
+/// So handing out as many deliveries as those rounds have, or more, leaves nothing. Nothing is asked of the nodes of the
+/// ports, of capacities, or of how many ports a router has.
+pub fn settles()
+    ensures quiet { (net : Internet) (most_routes most_services : ℕ) (q : Queued) → IsInternet net → AreHistories net q.histories
+        → AllByRecursion (IsDelivery net) q.queue → (rounds net most_routes most_services (most_rounds net) q).queue ≡ [] }
+    ensures enough { (net : Internet) (most_routes most_services : ℕ) (q : Queued) (limit : ℕ) → IsInternet net → AreHistories net q.histories
+        → AllByRecursion (IsDelivery net) q.queue → handed_out net most_routes most_services (most_rounds net) q ≤ limit
+        → (settled net most_routes most_services limit q).queue ≡ [] }
+    ensures one_by_one { (net : Internet) (most_routes most_services n : ℕ) (q : Queued)
+        → settled net most_routes most_services (handed_out net most_routes most_services n q) q ≡ rounds net most_routes most_services n q }
+{
+    ipx_wire::laws::readings();
+    ipx_wire::laws::service_readings();
+    ipx_wire::laws::reread();
+    ipx_router::laws::packets();
 }
