@@ -1,7 +1,10 @@
 pub mod Adding
+pub mod Aging
+pub mod Announced
 pub mod Batched
 pub mod Beginning
 pub mod Bytes
+pub mod Casting
 pub mod Changing
 pub mod Counts
 pub mod Courses
@@ -10,11 +13,13 @@ pub mod Departing
 pub mod Dying
 pub mod Ebbing
 pub mod Ending
+pub mod Enduring
 pub mod Eventing
 pub mod Fanning
 pub mod Filling
 pub mod Following
 pub mod Going
+pub mod Gone
 pub mod Handing
 pub mod Hearing
 pub mod Holding
@@ -48,6 +53,7 @@ pub mod Stationed
 pub mod Tabled
 pub mod Taking
 pub mod Tellings
+pub mod Ticking
 pub mod Traced
 pub mod Trees
 pub mod Ways

@@ -21,9 +21,9 @@ use Rattle.ipx_router.specs.History.{Event, History, Packet, IsOnPort, IsOfBytes
 use Rattle.ipx_router.specs.News.{news, news_services}
 use Rattle.ipx_router.specs.Numbers.{most_routers}
 use Rattle.ipx_router.specs.Packets.{IsSentFor, IsForPacket, IsRelayed}
-use Rattle.ipx_router.specs.Port.{Port, IsPort, port_at, is_local, own_address, everyone, own_services, every_server, reply_to}
+use Rattle.ipx_router.specs.Port.{Port, IsPort, port_at, is_up, is_local, own_address, everyone, own_services, every_server, reply_to}
 use Rattle.ipx_router.specs.Relays.{Sent, relayed}
-use Rattle.ipx_router.specs.Sends.{Holding, holding, sends, ports_sending, rip_sends, sap_sends, rip_broadcast, sap_broadcast, news_on, heard_sends, asked, of_kind, is_nearer, nearest_of}
+use Rattle.ipx_router.specs.Sends.{Holding, holding, sends, ports_sending, rip_sends, sap_sends, rip_broadcast, sap_broadcast, broadcasts, news_on, heard_sends, asked, of_kind, is_nearer, nearest_of}
 use Rattle.ipx_router.specs.Told.{told, told_services}
 use Rattle.ipx_router.specs.Why.{why, is_propagated, is_far}
 use Rattle.ipx_router.specs.declared.route_offer.RouteOffer.{RouteOffer}
@@ -35,7 +35,7 @@ use Rattle.ipx_router.proofs.Hearing.{heard_is}
 use Rattle.ipx_router.proofs.Histories.{ports_stay}
 use Rattle.ipx_router.proofs.NewsFits.{news_fit, news_services_fit}
 use Rattle.ipx_router.proofs.Owned.{Writable, reply_is}
-use Rattle.ipx_router.proofs.PortPlaces.{port-all, ports_up-within}
+use Rattle.ipx_router.proofs.PortPlaces.{port-all, ports_up-within, members, one_up}
 use Rattle.ipx_router.proofs.SaidOnce.{one_read}
 use Rattle.ipx_router.proofs.SentBytes.{relayed_bytes}
 use Rattle.ipx_router.proofs.SentLengths.{network_fits}
@@ -90,6 +90,11 @@ sap_reply Q port from to nearest bytes home is = record {
 abbrev pub IsNewsSent : (RipEntry → Type 0) → (Service → Type 0) → Port → List ℕ → Type 0
 IsNewsSent P Q port bytes =
     IsRipPage P (own_address port) (everyone port) bytes ⊎ IsSapPage Q (own_services port) (every_server port) false bytes
+
+-- such a page leaves on a port that is up, where what is asked of entries and services is asked by the port
+pub record IsCast (up : List ℕ) (P : ℕ → RipEntry → Type 0) (Q : ℕ → Service → Type 0) (ports : List Port) (s : Sent) : Type 0 where
+  pub on : is_up up s.port ≡ true
+  pub news : IsNewsSent (P s.port) (Q s.port) (port_at ports s.port) s.bytes
 
 pub news_reply : (P : RipEntry → Type 0) (Q : Service → Type 0) (port : Port) (bytes : List ℕ) → IsNewsSent P Q port bytes → IsReply port bytes
 news_reply P Q port bytes (inl is) = rip_reply P port (own_address port) (everyone port) bytes refl is
@@ -187,6 +192,29 @@ module _ (laws : Layouts) (ports : List Port) (are : AllByRecursion IsPort ports
   either_fits true xs ys one two = one
   either_fits false xs ys one two = two
 
+  -- ---- broadcasts
+
+  module _ (up : List ℕ) (ups : AllByRecursion (λ j. j < length ports) up) (P : ℕ → RipEntry → Type 0) (Q : ℕ → Service → Type 0) where
+    pub broadcast_cast : (j : ℕ) → is_up up j ≡ true → (entries : List RipEntry) (services : List Service) → AllByRecursion (Writable (P j)) entries
+        → AllByRecursion (Tellable (Q j)) services → AllByRecursion (IsCast up P Q ports) (broadcasts ports j entries services)
+    broadcast_cast j on entries services written tellable =
+        let port = port_at ports j in
+        let is_port : IsPort port = port-all IsPort ports j are (one_up (λ k. k < length ports) up j ups on) in
+        let P_at : ℕ → Sent → Type 0 = λ k s. IsRipPage (P k) (own_address (port_at ports k)) (everyone (port_at ports k)) s.bytes in
+        let Q_at : ℕ → Sent → Type 0 = λ k s. IsSapPage (Q k) (own_services (port_at ports k)) (every_server (port_at ports k)) false s.bytes in
+        let Up : ℕ → Type 0 = λ k. is_up up k ≡ true in
+        all-append (IsCast up P Q ports) (rip_broadcast ports j entries) (sap_broadcast ports j services)
+        (all_then (λ s. P_at j s × (s.port ≡ j)) (IsCast up P Q ports)
+        (λ s is. record { on = subst Up (sym is.1) on; news = inl (subst (λ (k : ℕ). P_at k s) (sym is.1) is.0) }) (rip_broadcast ports j entries)
+        (rip_pages laws.readings laws.again ports j is_port (P j) (everyone port) (everyone_is port is_port) entries written))
+        (all_then (λ s. Q_at j s × (s.port ≡ j)) (IsCast up P Q ports)
+        (λ s is. record { on = subst Up (sym is.1) on; news = inr (subst (λ (k : ℕ). Q_at k s) (sym is.1) is.0) }) (sap_broadcast ports j services)
+        (sap_pages laws.readings laws.again ports j is_port (Q j) (every_server port) (every_server_is port is_port) false services tellable))
+
+    -- what each port that is up sends
+    pub each_cast : (f : ℕ → List Sent) → ((j : ℕ) → is_up up j ≡ true → AllByRecursion (IsCast up P Q ports) (f j)) → AllByRecursion (IsCast up P Q ports) (flat_map f up)
+    each_cast f step = all-flat_map (λ j. is_up up j ≡ true) (IsCast up P Q ports) f step up (members up)
+
   -- ---- a packet that comes after a history
 
   module _ (most_routes most_services : ℕ) (history : History) (on : AllByRecursion (IsOnPort ports) history) (of_bytes : AllByRecursion IsOfBytes history)
@@ -257,32 +285,22 @@ module _ (laws : Layouts) (ports : List Port) (are : AllByRecursion IsPort ports
 
     -- ---- changes
 
-    module _ (P : RipEntry → Type 0) (Q : Service → Type 0) (routes : (j : ℕ) → AllByRecursion P (news ports before.routes after.routes j))
-        (services : (j : ℕ) → AllByRecursion Q (news_services before.services after.services j)) where
+    module _ (P : ℕ → RipEntry → Type 0) (Q : ℕ → Service → Type 0) (routes : (j : ℕ) → AllByRecursion (P j) (news ports before.routes after.routes j))
+        (services : (j : ℕ) → AllByRecursion (Q j) (news_services before.services after.services j)) where
       abbrev IsNews : Sent → Type 0
-      IsNews s = IsNewsSent P Q (port_at ports s.port) s.bytes
-
-      news_pages : (j : ℕ) → j < length ports → AllByRecursion IsNews (news_on ports before after j)
-      news_pages j there =
-          let entries = news ports before.routes after.routes j in
-          let told_now = news_services before.services after.services j in
-          let port = port_at ports j in
-          all-append IsNews (rip_broadcast ports j entries) (sap_broadcast ports j told_now)
-          (all_then (λ s. IsRipPage P (own_address port) (everyone port) s.bytes × (s.port ≡ j)) IsNews
-          (λ s is. inl (subst (λ (k : ℕ). IsRipPage P (own_address (port_at ports k)) (everyone (port_at ports k)) s.bytes) (sym is.1) is.0))
-          (rip_broadcast ports j entries)
-          (rip_pages laws.readings laws.again ports j (is_port j there) P (everyone port) (everyone_is port (is_port j there)) entries
-          (all_both IsEntry P entries (news_fit ports before.routes after.routes j (held_routes_fit laws.readings ports most_routes history of_bytes)
-          (held_routes_fit laws.readings ports most_routes (history ++ event ∷ []) all_of_bytes)) (routes j))))
-          (all_then (λ s. IsSapPage Q (own_services port) (every_server port) false s.bytes × (s.port ≡ j)) IsNews
-          (λ s is. inr (subst (λ (k : ℕ). IsSapPage Q (own_services (port_at ports k)) (every_server (port_at ports k)) false s.bytes) (sym is.1) is.0))
-          (sap_broadcast ports j told_now)
-          (sap_pages laws.readings laws.again ports j (is_port j there) Q (every_server port) (every_server_is port (is_port j there)) false told_now
-          (all_both IsTellable Q told_now (news_services_fit before.services after.services j (held_services_fit laws.readings ports most_services history of_bytes)
-          (held_services_fit laws.readings ports most_services (history ++ event ∷ []) all_of_bytes)) (services j))))
+      IsNews s = IsCast after.up P Q ports s
 
       all_news : AllByRecursion IsNews (flat_map (news_on ports before after) after.up)
-      all_news = all-flat_map (λ j. j < length ports) IsNews (news_on ports before after) news_pages after.up (ports_up-within ports (history ++ event ∷ []))
+      all_news =
+          let ups = ports_up-within ports (history ++ event ∷ []) in
+          each_cast after.up ups P Q (news_on ports before after) (λ j on.
+          let entries = news ports before.routes after.routes j in
+          let told_now = news_services before.services after.services j in
+          broadcast_cast after.up ups P Q j on entries told_now
+          (all_both IsEntry (P j) entries (news_fit ports before.routes after.routes j (held_routes_fit laws.readings ports most_routes history of_bytes)
+          (held_routes_fit laws.readings ports most_routes (history ++ event ∷ []) all_of_bytes)) (routes j))
+          (all_both IsTellable (Q j) told_now (news_services_fit before.services after.services j (held_services_fit laws.readings ports most_services history of_bytes)
+          (held_services_fit laws.readings ports most_services (history ++ event ∷ []) all_of_bytes)) (services j)))
 
       -- for a response, pages of changes
       pub answered : (m : Heard) → heard_now ≡ Some m → IsAnswering m → AllByRecursion IsNews sent
@@ -313,9 +331,11 @@ module _ (laws : Layouts) (ports : List Port) (are : AllByRecursion IsPort ports
 
     all_news_reply : AllByRecursion Replies (flat_map (news_on ports before after) after.up)
     all_news_reply =
-        all_then (λ s. IsNewsSent (λ e. Unit {0}) (λ s. Unit {0}) (port_at ports s.port) s.bytes) Replies
-        (λ s is. news_reply (λ e. Unit {0}) (λ s. Unit {0}) (port_at ports s.port) s.bytes is) (flat_map (news_on ports before after) after.up)
-        (all_news (λ e. Unit {0}) (λ s. Unit {0}) (λ j. anything (news ports before.routes after.routes j)) (λ j. anything (news_services before.services after.services j)))
+        let P : ℕ → RipEntry → Type 0 = λ j e. Unit {0} in
+        let Q : ℕ → Service → Type 0 = λ j s. Unit {0} in
+        all_then (IsCast after.up P Q ports) Replies (λ s is. news_reply (P s.port) (Q s.port) (port_at ports s.port) s.bytes is.news)
+        (flat_map (news_on ports before after) after.up)
+        (all_news P Q (λ j. anything (news ports before.routes after.routes j)) (λ j. anything (news_services before.services after.services j)))
 
     writable : (entries : List RipEntry) → AllByRecursion IsEntry entries → AllByRecursion (Writable (λ e. Unit {0})) entries
     writable entries all = all_then IsEntry (Writable (λ e. Unit {0})) (λ e is. (is, tt)) entries all

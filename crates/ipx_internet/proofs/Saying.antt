@@ -35,7 +35,7 @@ use Rattle.ipx_internet.proofs.Lists.{all_then, all_mapped}
 use Rattle.ipx_internet.proofs.Offered.{EachHeard}
 use Rattle.ipx_internet.proofs.Paging.{IsRipPage, IsSapPage, answering}
 use Rattle.ipx_internet.proofs.Receivers.{ports_at}
-use Rattle.ipx_internet.proofs.Replying.{Layouts, IsReply, IsNewsSent, IsOnward, news_reply, no_reply, unsaid, answered}
+use Rattle.ipx_internet.proofs.Replying.{Layouts, IsReply, IsNewsSent, IsCast, IsOnward, news_reply, no_reply, unsaid, answered}
 use Rattle.ipx_internet.proofs.Rounding.{sents, sent_for}
 use Rattle.ipx_internet.proofs.Spending.{Calm, reply_moves}
 use Rattle.ipx_internet.proofs.Ways.{nothing, it_is}
@@ -63,36 +63,44 @@ Tells P Q bytes = TellsRoutes P bytes ⊎ TellsServices Q bytes
 
 -- ---- what is told is what may be heard
 
+-- a page of entries for the RIP process is heard as what was written
+pub page_heard : (P : RipEntry → Type 0) (from to : Address) (bytes : List ℕ) → (to.socket.0 == rip_socket) ≡ true → (is : IsRipPage P from to bytes) (p : Parts) (m : Heard)
+    → packet_of bytes ≡ Ok p → heard_in p ≡ Some m → Some (HeardRip from (record { operation = Response; entries = is.page })) ≡ Some m
+page_heard P from to bytes for_rip is p m read e =
+    let same : p ≡ rip_packet_parts from to Response is.page = one_read (packet_of bytes) p (rip_packet_parts from to Response is.page) read is.read in
+    let heard : heard_in (rip_packet_parts from to Response is.page) ≡ Some m = subst (λ (q : Parts). heard_in q ≡ Some m) same e in
+    let rip : from_rip (rip_of (rip_payload Response is.page)) ≡ Some m = rw for_rip at heard in
+    sym (ap from_rip is.says) ∙ rip
+  where
+    from_rip : Result RipParts RipFault → Option Heard
+    from_rip r = elim r [ Ok rip ↦ Some (HeardRip from rip) | Err fault ↦ None ]
+
+-- and a page of services for the SAP process
+pub services_heard_of : (Q : Service → Type 0) (from to : Address) (bytes : List ℕ) → (to.socket.0 == rip_socket) ≡ false → (is : IsSapPage Q from to false bytes) (p : Parts) (m : Heard)
+    → packet_of bytes ≡ Ok p → heard_in p ≡ Some m → Some (HeardSap from (SapResponse false (map entry_of is.page))) ≡ Some m
+services_heard_of Q from to bytes for_sap is p m read e =
+    let same : p ≡ sap_packet_parts from to false is.page = one_read (packet_of bytes) p (sap_packet_parts from to false is.page) read is.read in
+    let heard : heard_in (sap_packet_parts from to false is.page) ≡ Some m = subst (λ (q : Parts). heard_in q ≡ Some m) same e in
+    let sap : from_sap (sap_of (sap_payload false is.page)) ≡ Some m = rw for_sap at heard in
+    sym (ap from_sap is.says) ∙ sap
+  where
+    from_sap : Result Sap SapFault → Option Heard
+    from_sap r = elim r [ Ok sap ↦ Some (HeardSap from sap) | Err fault ↦ None ]
+
 module _ (P : RipEntry → Type 0) (Q : Service → Type 0) (E : RipEntry → Type 0) (S : SapEntry → Type 0)
     (route : (e : RipEntry) → P e → E e) (service : (s : Service) → Q s → S (entry_of s)) (bytes : List ℕ) where
   routes_say : TellsRoutes P bytes → Says E S bytes
   routes_say tells p m read e =
       let page = tells.page in
-      let parts = rip_packet_parts tells.from tells.to Response page.page in
-      let same : p ≡ parts = one_read (packet_of bytes) p parts read page.read in
-      let said : RipParts = record { operation = Response; entries = page.page } in
-      let heard : heard_in parts ≡ Some m = subst (λ (q : Parts). heard_in q ≡ Some m) same e in
-      let rip : from_rip (rip_of (rip_payload Response page.page)) ≡ Some m = rw tells.for_rip at heard in
-      let one : Some (HeardRip tells.from said) ≡ Some m = sym (ap from_rip page.says) ∙ rip in
-      it_is (EachHeard E S) m (HeardRip tells.from said) one (all_then P E route page.page page.each)
-    where
-      from_rip : Result RipParts RipFault → Option Heard
-      from_rip r = elim r [ Ok rip ↦ Some (HeardRip tells.from rip) | Err fault ↦ None ]
+      it_is (EachHeard E S) m (HeardRip tells.from (record { operation = Response; entries = page.page }))
+      (page_heard P tells.from tells.to bytes tells.for_rip page p m read e) (all_then P E route page.page page.each)
 
   services_say : TellsServices Q bytes → Says E S bytes
   services_say tells p m read e =
       let page = tells.page in
-      let parts = sap_packet_parts tells.from tells.to false page.page in
-      let same : p ≡ parts = one_read (packet_of bytes) p parts read page.read in
-      let said : Sap = SapResponse false (map entry_of page.page) in
-      let heard : heard_in parts ≡ Some m = subst (λ (q : Parts). heard_in q ≡ Some m) same e in
-      let sap : from_sap (sap_of (sap_payload false page.page)) ≡ Some m = rw tells.for_sap at heard in
-      let one : Some (HeardSap tells.from said) ≡ Some m = sym (ap from_sap page.says) ∙ sap in
-      it_is (EachHeard E S) m (HeardSap tells.from said) one
+      it_is (EachHeard E S) m (HeardSap tells.from (SapResponse false (map entry_of page.page)))
+      (services_heard_of Q tells.from tells.to bytes tells.for_sap page p m read e)
       (all_mapped S entry_of page.page (all_then Q (λ s. S (entry_of s)) service page.page page.each))
-    where
-      from_sap : Result Sap SapFault → Option Heard
-      from_sap r = elim r [ Ok sap ↦ Some (HeardSap tells.from sap) | Err fault ↦ None ]
 
   pub tells_says : Tells P Q bytes → Says E S bytes
   tells_says (inl tells) = routes_say tells
@@ -186,10 +194,10 @@ module _ (net : Internet) (laws : Layouts) (is : IsInternet net) (most_routes mo
             (unsaid laws ports (ports_at net is d.to.router) most_routes most_services history (are.on_ports d.to.router) (are.of_bytes d.to.router)
             d.to.port d.bytes calm.0.place calm.0.bytes e)
         by (Some m) e =
-            all_then (λ s. IsNewsSent P Q (port_at ports s.port) s.bytes) (λ s. IsTold P Q (port_at ports s.port) s.bytes)
-            (λ s sent. news_told P Q (port_at ports s.port) s.bytes sent) these
+            all_then (IsCast (ports_up ports now) (λ j. P) (λ j. Q) ports) (λ s. IsTold P Q (port_at ports s.port) s.bytes)
+            (λ s sent. news_told P Q (port_at ports s.port) s.bytes sent.news) these
             (answered laws ports (ports_at net is d.to.router) most_routes most_services history (are.on_ports d.to.router) (are.of_bytes d.to.router)
-            d.to.port d.bytes calm.0.place calm.0.bytes P Q routes services m e (answering calm.1.packet calm.1.answers m (heard_from m e)))
+            d.to.port d.bytes calm.0.place calm.0.bytes (λ j. P) (λ j. Q) routes services m e (answering calm.1.packet calm.1.answers m (heard_from m e)))
 
     pub telling : AllByRecursion (λ e. IsDelivery net e × IsTold P Q (port_of net e.to) e.bytes) (sent_for net most_routes most_services histories d)
     telling = all_wait net laws is most_routes most_services histories are d calm.0 (IsTold P Q) (told_moves P Q) all_told

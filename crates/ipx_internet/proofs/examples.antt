@@ -8,6 +8,7 @@ pub mod Rings
 pub mod Running
 pub mod Segments
 pub mod Settled
+pub mod Ticks
 pub mod Waiting
 pub mod Weights
 pub mod Words
