@@ -54,6 +54,8 @@ pub mod Tabled
 pub mod Taking
 pub mod Tellings
 pub mod Ticking
+pub mod Tolling
+pub mod Totalling
 pub mod Traced
 pub mod Trees
 pub mod Ways

@@ -22,13 +22,13 @@ ghost use Rattle.ipx_internet.specs.Departure.{ObservesHorizon, departures, hand
 ghost use Rattle.ipx_internet.specs.Different.{AreDifferent};
 ghost use Rattle.ipx_internet.specs.Internet.{Internet, Place, IsInternet, NodesDiffer, IsPlace, network_of, ports_of};
 ghost use Rattle.ipx_internet.specs.Log.{Sending, Reception, reception_at, IsForward, IsLog};
-ghost use Rattle.ipx_internet.specs.Most.{most, most_on_network};
+ghost use Rattle.ipx_internet.specs.Most.{most, most_of, most_on_network, most_ports as ports_at_most};
 ghost use Rattle.ipx_internet.specs.Queue.{Queued, deliveries_of, history_of, queued, settled_one, settled};
 ghost use Rattle.ipx_internet.specs.Real.{IsReal};
-ghost use Rattle.ipx_internet.specs.Rounds.{IsDelivery, rounds, handed_out, most_rounds};
+ghost use Rattle.ipx_internet.specs.Rounds.{IsDelivery, rounds, handed_out, most_caused, most_rounds};
 ghost use Rattle.ipx_internet.specs.Run.{Step, Settles, IsStep, AreHistories, Run, begun, forgotten, happens, stepped, run_of};
 ghost use Rattle.ipx_internet.specs.Moment.{Moment, StandsFor, net_at};
-ghost use Rattle.ipx_internet.specs.Ticks.{AreTicks, ticked, most_ticks_gone, ups, IsGone};
+ghost use Rattle.ipx_internet.specs.Ticks.{IsTick, AreTicks, ticked, a_tick, most_ticks_gone, ups, IsGone};
 ghost use Rattle.ipx_internet.specs.Traced.{tree, routers_of, routers_after};
 ghost use Rattle.ipx_internet.specs.Tree.{Router, router_now, IsRouter, Copy, net_of, sent_on, children, tree_to, IsTree};
 ghost use Rattle.ipx_internet.specs.Weight.{weight, weights, CanCome, IsBounded};
@@ -197,16 +197,35 @@ pub fn deliveries()
 /// Every internet settles: whatever is in the tables and whatever waits, forged packets too, nothing waits after 34 rounds and
 /// one for each router. In a round all that waits when it begins is handed out; what is sent for it waits for the next.
 ///
-/// So handing out as many deliveries as those rounds have, or more, leaves nothing. Nothing is asked of the nodes of the
-/// ports, of capacities, or of how many ports a router has.
+/// So handing out as many deliveries as those rounds have, or more, leaves nothing; where no router has more than 32 ports, `few`
+/// says how many these are at most. Else nothing is asked of the ports, of their nodes, or of capacities.
 pub fn settles()
     ensures quiet { (net : Internet) (most_routes most_services : ℕ) (q : Queued) → IsInternet net → AreHistories net q.histories
         → AllByRecursion (IsDelivery net) q.queue → (rounds net most_routes most_services (most_rounds net) q).queue ≡ [] }
     ensures enough { (net : Internet) (most_routes most_services : ℕ) (q : Queued) (limit : ℕ) → IsInternet net → AreHistories net q.histories
         → AllByRecursion (IsDelivery net) q.queue → handed_out net most_routes most_services (most_rounds net) q ≤ limit
         → (settled net most_routes most_services limit q).queue ≡ [] }
+    ensures few { (net : Internet) (most_routes most_services : ℕ) (q : Queued) → IsInternet net → AreHistories net q.histories
+        → AllByRecursion (IsDelivery net) q.queue → ports_at_most net ≤ most_ports
+        → handed_out net most_routes most_services (most_rounds net) q ≤ length q.queue * most_of (most_caused net most_routes most_services) (33 + length net) }
     ensures one_by_one { (net : Internet) (most_routes most_services n : ℕ) (q : Queued)
         → settled net most_routes most_services (handed_out net most_routes most_services n q) q ≡ rounds net most_routes most_services n q }
+{
+    ipx_wire::laws::readings();
+    ipx_wire::laws::service_readings();
+    ipx_wire::laws::reread();
+    ipx_router::laws::packets();
+    ipx_router::laws::relays();
+    ipx_router::laws::bounds();
+    ipx_router::laws::down_ports();
+    ipx_router::laws::within_capacity();
+}
+
+/// Time can always pass: from any run, whatever waits, there is a tick, of which all seconds come first.
+pub fn ticks_pass()
+    ensures { (net : Internet) (most_routes most_services : ℕ) (run : Run) → IsInternet net → AreHistories net run.histories
+        → AllByRecursion (λ w. IsDelivery net w.delivery) run.waiting
+        → (deliveries : ℕ) × IsTick net most_routes most_services run (a_tick (length net) deliveries) }
 {
     ipx_wire::laws::readings();
     ipx_wire::laws::service_readings();
