@@ -221,11 +221,15 @@ pub fn settles()
     ipx_router::laws::within_capacity();
 }
 
-/// Time can always pass: from any run, whatever waits, there is a tick, of which all seconds come first.
+/// Time can always pass: from any run, whatever waits, there is a tick, of which all seconds come first; and there are any
+/// number of ticks, one after the other.
 pub fn ticks_pass()
-    ensures { (net : Internet) (most_routes most_services : ℕ) (run : Run) → IsInternet net → AreHistories net run.histories
+    ensures one { (net : Internet) (most_routes most_services : ℕ) (run : Run) → IsInternet net → AreHistories net run.histories
         → AllByRecursion (λ w. IsDelivery net w.delivery) run.waiting
         → (deliveries : ℕ) × IsTick net most_routes most_services run (a_tick (length net) deliveries) }
+    ensures as_many { (net : Internet) (most_routes most_services : ℕ) (run : Run) (count : ℕ) → IsInternet net → AreHistories net run.histories
+        → AllByRecursion (λ w. IsDelivery net w.delivery) run.waiting
+        → (ticks : List (List Step)) × (length ticks ≡ count) × AreTicks net most_routes most_services run ticks }
 {
     ipx_wire::laws::readings();
     ipx_wire::laws::service_readings();

@@ -1,5 +1,5 @@
 use Rattle.ipx_internet.proofs.Replying.{Layouts}
-use Rattle.ipx_internet.proofs.Tolling.{can_pass}
+use Rattle.ipx_internet.proofs.Tolling.{can_pass, as_many}
 use Rattle.ipx_internet.proofs.laws.ticks_pass.Goals as goal
 
 -- the laws of packets and routers
@@ -25,5 +25,8 @@ layouts c = record {
   bytes = c.packets.ensures.bytes;
 }
 
-pub returns : goal.returns
-returns c net most_routes most_services run is are waits = can_pass net (layouts c) is most_routes most_services run are waits
+pub returns-clause-one : goal.returns-clause-one
+returns-clause-one c net most_routes most_services run is are waits = can_pass net (layouts c) is most_routes most_services run are waits
+
+pub returns-clause-as_many : goal.returns-clause-as_many
+returns-clause-as_many c net most_routes most_services run count is are waits = as_many net (layouts c) is most_routes most_services run count are waits
