@@ -32,6 +32,12 @@ reception_last : (log : List Reception) (r : Reception) → reception_at (log ++
 reception_last [] r = refl
 reception_last (q ∷ log) r = reception_last log r
 
+-- a router that has a port is there
+pub router_there : (net : Internet) (router number : ℕ) → number < length (ports_of net router) → router < length net
+router_there [] router number there = absurd (omega (arith, there))
+router_there (ports ∷ others) zero number there = omega arith
+router_there (ports ∷ others) (suc router) number there = let deeper = router_there others router number there in omega (arith, deeper)
+
 module _ (net : Internet) where
   -- ---- what waits
 
@@ -170,7 +176,7 @@ module _ (net : Internet) where
         subst H (sym (get_or-set_other histories router other (history_of histories router ++ event ∷ []) [] off)) all
   ]
 
-  histories_more : (histories : List History) (router : ℕ) (event : Event) → AreHistories net histories → router < length net
+  pub histories_more : (histories : List History) (router : ℕ) (event : Event) → AreHistories net histories → router < length net
       → IsOnPort (ports_of net router) event → IsOfBytes event → AreHistories net (with_event histories router event)
   histories_more histories router event are within on bytes =
       let there : router < length histories = let each = are.each in omega (arith, within, each) in
@@ -396,12 +402,6 @@ module _ (net : Internet) where
     happens_well run good router (Packet number bytes) within on are_bytes =
         received_well laws is most_routes most_services run.histories run.log run.waiting good.histories good.sound good.waiting router number bytes within on are_bytes
         None (λ s e. nothing e) good.names
-
-    -- a router that has a port is there
-    router_there : (net : Internet) (router number : ℕ) → number < length (ports_of net router) → router < length net
-    router_there [] router number there = absurd (omega (arith, there))
-    router_there (ports ∷ others) zero number there = omega arith
-    router_there (ports ∷ others) (suc router) number there = let deeper = router_there others router number there in omega (arith, deeper)
 
     -- a delivery
     settles_well : (histories : List History) (log : List Reception) (waiting : List Waiting) → Good (record { histories = histories; waiting = waiting; log = log })

@@ -8,7 +8,7 @@ use Rattle.ipx_internet.specs.Settled.{HasSettled}
 
 module _ (net : Internet) (most_routes most_services : ℕ) where
   -- some deliveries, and then some more
-  settled_then : (n m : ℕ) (q : Queued) → settled net most_routes most_services (n + m) q
+  pub settled_then : (n m : ℕ) (q : Queued) → settled net most_routes most_services (n + m) q
       ≡ settled net most_routes most_services m (settled net most_routes most_services n q)
   settled_then zero m q =
       let e : zero + m ≡ m = omega arith in
@@ -28,7 +28,7 @@ module _ (net : Internet) (most_routes most_services : ℕ) where
       ])
       none
 
-  none_settle : (n : ℕ) (q : Queued) → q.queue ≡ [] → settled net most_routes most_services n q ≡ q
+  pub none_settle : (n : ℕ) (q : Queued) → q.queue ≡ [] → settled net most_routes most_services n q ≡ q
   none_settle zero q none = refl
   none_settle (suc n) q none =
       ap (settled net most_routes most_services n) (none_settles q none) ∙ none_settle n q none

@@ -7,6 +7,8 @@ pub mod Loops
 pub mod Rings
 pub mod Running
 pub mod Segments
+pub mod Settled
+pub mod Ticks
 pub mod Waiting
 pub mod Weights
 pub mod Words

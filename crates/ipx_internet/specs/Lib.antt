@@ -9,11 +9,14 @@ pub mod Log
 pub mod Moment
 pub mod Most
 pub mod Queue
+pub mod Real
 pub mod Refused
+pub mod Rounds
 pub mod Run
 pub mod Settled
 pub mod Simulated
 pub mod Stations
+pub mod Ticks
 pub mod Traced
 pub mod Tree
 pub mod Weight

@@ -1,5 +1,5 @@
 //! What holds of every internet, whatever its routers' tables.
-ghost use Rattle.std.specs.Prelude.{◌≡◌, ◌↔◌, ℕ, ◌+◌, ◌-◌, ◌*◌, ◌<◌, ◌≤◌, true, false, List, [], ◌∷◌, ◌++◌, length, map, flat_map, replicate, Option, Some, slice_get};
+ghost use Rattle.std.specs.Prelude.{◌≡◌, ◌≢◌, ◌↔◌, ℕ, ◌+◌, ◌-◌, ◌*◌, ◌<◌, ◌≤◌, true, false, List, [], ◌∷◌, ◌++◌, length, map, flat_map, replicate, Option, Some, slice_get};
 ghost use Rattle.std.specs.List.{AllByRecursion};
 ghost use Rattle.ipx_wire.specs.Crossed.{is_among};
 ghost use Rattle.ipx_wire.specs.Numbers.{crossed_places};
@@ -8,11 +8,11 @@ ghost use Rattle.ipx_wire.specs.Piece.{IsBytes};
 ghost use Rattle.ipx_wire.specs.declared.network.Network.{Network};
 ghost use Rattle.ipx_wire.specs.declared.node.Node.{Node};
 ghost use Rattle.ipx_router.specs.Bounds.{most_packets};
-ghost use Rattle.ipx_router.specs.Facts.{routes_held, services_held};
+ghost use Rattle.ipx_router.specs.Facts.{routes_held, services_held, offers};
 ghost use Rattle.ipx_router.specs.History.{Event, History, IsOnPort, IsOfBytes};
 ghost use Rattle.ipx_router.specs.Numbers.{most_routers, most_ports};
 ghost use Rattle.ipx_router.specs.Packets.{IsRelayed};
-ghost use Rattle.ipx_router.specs.Port.{Port};
+ghost use Rattle.ipx_router.specs.Port.{Port, is_up};
 ghost use Rattle.ipx_router.specs.Relays.{Sent};
 ghost use Rattle.ipx_router.specs.Sends.{sends};
 ghost use Rattle.ipx_router.specs.Why.{is_propagated};
@@ -22,10 +22,13 @@ ghost use Rattle.ipx_internet.specs.Departure.{ObservesHorizon, departures, hand
 ghost use Rattle.ipx_internet.specs.Different.{AreDifferent};
 ghost use Rattle.ipx_internet.specs.Internet.{Internet, Place, IsInternet, NodesDiffer, IsPlace, network_of, ports_of};
 ghost use Rattle.ipx_internet.specs.Log.{Sending, Reception, reception_at, IsForward, IsLog};
-ghost use Rattle.ipx_internet.specs.Most.{most, most_on_network};
-ghost use Rattle.ipx_internet.specs.Queue.{Queued, deliveries_of, queued, settled_one, settled};
+ghost use Rattle.ipx_internet.specs.Most.{most, most_of, most_on_network, most_ports as ports_at_most};
+ghost use Rattle.ipx_internet.specs.Queue.{Queued, deliveries_of, history_of, queued, settled_one, settled};
+ghost use Rattle.ipx_internet.specs.Real.{IsReal};
+ghost use Rattle.ipx_internet.specs.Rounds.{IsDelivery, rounds, handed_out, most_caused, most_rounds};
 ghost use Rattle.ipx_internet.specs.Run.{Step, Settles, IsStep, AreHistories, Run, begun, forgotten, happens, stepped, run_of};
 ghost use Rattle.ipx_internet.specs.Moment.{Moment, StandsFor, net_at};
+ghost use Rattle.ipx_internet.specs.Ticks.{IsTick, AreTicks, ticked, a_tick, most_ticks_gone, ups, IsGone};
 ghost use Rattle.ipx_internet.specs.Traced.{tree, routers_of, routers_after};
 ghost use Rattle.ipx_internet.specs.Tree.{Router, router_now, IsRouter, Copy, net_of, sent_on, children, tree_to, IsTree};
 ghost use Rattle.ipx_internet.specs.Weight.{weight, weights, CanCome, IsBounded};
@@ -189,4 +192,89 @@ pub fn deliveries()
     ipx_router::laws::bounds();
     ipx_router::laws::down_ports();
     ipx_router::laws::relays();
+}
+
+/// Every internet settles: whatever is in the tables and whatever waits, forged packets too, nothing waits after 34 rounds and
+/// one for each router. In a round all that waits when it begins is handed out; what is sent for it waits for the next.
+///
+/// So handing out as many deliveries as those rounds have, or more, leaves nothing; where no router has more than 32 ports, `few`
+/// says how many these are at most. Else nothing is asked of the ports, of their nodes, or of capacities.
+pub fn settles()
+    ensures quiet { (net : Internet) (most_routes most_services : ℕ) (q : Queued) → IsInternet net → AreHistories net q.histories
+        → AllByRecursion (IsDelivery net) q.queue → (rounds net most_routes most_services (most_rounds net) q).queue ≡ [] }
+    ensures enough { (net : Internet) (most_routes most_services : ℕ) (q : Queued) (limit : ℕ) → IsInternet net → AreHistories net q.histories
+        → AllByRecursion (IsDelivery net) q.queue → handed_out net most_routes most_services (most_rounds net) q ≤ limit
+        → (settled net most_routes most_services limit q).queue ≡ [] }
+    ensures few { (net : Internet) (most_routes most_services : ℕ) (q : Queued) → IsInternet net → AreHistories net q.histories
+        → AllByRecursion (IsDelivery net) q.queue → ports_at_most net ≤ most_ports
+        → handed_out net most_routes most_services (most_rounds net) q ≤ length q.queue * most_of (most_caused net most_routes most_services) (33 + length net) }
+    ensures one_by_one { (net : Internet) (most_routes most_services n : ℕ) (q : Queued)
+        → settled net most_routes most_services (handed_out net most_routes most_services n q) q ≡ rounds net most_routes most_services n q }
+{
+    ipx_wire::laws::readings();
+    ipx_wire::laws::service_readings();
+    ipx_wire::laws::reread();
+    ipx_router::laws::packets();
+    ipx_router::laws::relays();
+    ipx_router::laws::bounds();
+    ipx_router::laws::down_ports();
+    ipx_router::laws::within_capacity();
+}
+
+/// Time can always pass: from any run, whatever waits, there is a tick, of which all seconds come first; and there are any
+/// number of ticks, one after the other.
+pub fn ticks_pass()
+    ensures one { (net : Internet) (most_routes most_services : ℕ) (run : Run) → IsInternet net → AreHistories net run.histories
+        → AllByRecursion (λ w. IsDelivery net w.delivery) run.waiting
+        → (deliveries : ℕ) × IsTick net most_routes most_services run (a_tick (length net) deliveries) }
+    ensures as_many { (net : Internet) (most_routes most_services : ℕ) (run : Run) (count : ℕ) → IsInternet net → AreHistories net run.histories
+        → AllByRecursion (λ w. IsDelivery net w.delivery) run.waiting
+        → (ticks : List (List Step)) × (length ticks ≡ count) × AreTicks net most_routes most_services run ticks }
+{
+    ipx_wire::laws::readings();
+    ipx_wire::laws::service_readings();
+    ipx_wire::laws::reread();
+    ipx_router::laws::packets();
+}
+
+/// What is gone is gone everywhere after 2,895 ticks, whatever was in the tables before: where nobody has a port up on a network,
+/// no router has a route to it; and no router has any service, as no router announces one of its own.
+///
+/// In a tick each router has one second, in any order, deliveries happen in between, and in the end nothing waits. Nothing
+/// else happens: packets of hosts, starts and stops, and ports that go down or come up aren't in it.
+pub fn gone()
+    ensures networks { (net : Internet) (most_routes most_services : ℕ) (histories : List History) (ticks : List (List Step)) (router : ℕ) (network : Network)
+        → IsInternet net → AreHistories net histories → AreTicks net most_routes most_services (begun histories) ticks → most_ticks_gone ≤ length ticks
+        → router < length net → IsGone net histories network
+        → AllByRecursion (λ r. r.network ≢ network)
+        (offers (routes_held (ports_of net router) most_routes (history_of (ticked net most_routes most_services (begun histories) ticks).histories router))) }
+    ensures services { (net : Internet) (most_routes most_services : ℕ) (histories : List History) (ticks : List (List Step)) (router : ℕ)
+        → IsInternet net → AreHistories net histories → AreTicks net most_routes most_services (begun histories) ticks → most_ticks_gone ≤ length ticks
+        → router < length net
+        → services_held (ports_of net router) most_services (history_of (ticked net most_routes most_services (begun histories) ticks).histories router) ≡ [] }
+{
+    ipx_wire::laws::readings();
+    ipx_wire::laws::service_readings();
+    ipx_wire::laws::reread();
+    ipx_router::laws::packets();
+}
+
+/// Every route is of a real way after 2,895 such ticks, whatever was in the tables before: each came by a port that is up from a
+/// router that has the network on another port, or has such a route by another one; all those ports are up, and hops and
+/// ticks are those of that way. So no route leads over a port that has been down that long.
+pub fn real()
+    ensures routes { (net : Internet) (most_routes most_services : ℕ) (histories : List History) (ticks : List (List Step)) (router : ℕ)
+        → IsInternet net → AreHistories net histories → AreTicks net most_routes most_services (begun histories) ticks → most_ticks_gone ≤ length ticks
+        → router < length net
+        → AllByRecursion (IsReal net (ups net histories) router)
+        (offers (routes_held (ports_of net router) most_routes (history_of (ticked net most_routes most_services (begun histories) ticks).histories router))) }
+    ensures own_ports { (net : Internet) (most_routes most_services : ℕ) (histories : List History) (ticks : List (List Step)) (router : ℕ)
+        → IsInternet net → AreHistories net histories → AreTicks net most_routes most_services (begun histories) ticks → router < length net
+        → AllByRecursion (λ r. is_up (ups net histories router) r.port ≡ true)
+        (offers (routes_held (ports_of net router) most_routes (history_of (ticked net most_routes most_services (begun histories) ticks).histories router))) }
+{
+    ipx_wire::laws::readings();
+    ipx_wire::laws::service_readings();
+    ipx_wire::laws::reread();
+    ipx_router::laws::packets();
 }

@@ -14,11 +14,11 @@ use Rattle.ipx_internet.specs.Run.{Happens, Settles, begun, run_of}
 use Rattle.ipx_internet.specs.Tree.{router_now}
 use Rattle.ipx_internet.proofs.examples.Words.{port_on, route, at}
 
-abbrev segment : Internet
+abbrev pub segment : Internet
 segment = (port_on 0x10 1 ∷ port_on 0x20 2 ∷ []) ∷ (port_on 0x20 3 ∷ port_on 0x30 4 ∷ []) ∷ []
 
 -- both were started, and so many deliveries handed out
-abbrev after : ℕ → Queued
+abbrev pub after : ℕ → Queued
 after n = settled segment 8 8 n (queued segment 8 8 (queued segment 8 8 (record { histories = [] ∷ [] ∷ []; queue = [] }) 0 Start) 1 Start)
 
 -- each sent the other a response, a request and a query, the first router first

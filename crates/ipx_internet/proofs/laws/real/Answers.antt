@@ -1,0 +1,34 @@
+use Rattle.ipx_internet.proofs.Gone.{all_real, all_on}
+use Rattle.ipx_internet.proofs.Replying.{Layouts}
+use Rattle.ipx_internet.proofs.laws.real.Goals as goal
+
+-- the laws of packets and routers
+layouts : goal.After-packets → Layouts
+layouts c = record {
+  readings = record {
+    packet_read = c.readings.ensures.packet_read;
+    packet_front = c.readings.ensures.packet_front;
+    rip_read = c.readings.ensures.rip_read;
+    sap_read = c.service_readings.ensures.sap_read;
+  };
+  again = record {
+    rip_packet_again = c.reread.ensures.rip_packet;
+    rip_again = c.reread.ensures.rip;
+    query_packet_again = c.reread.ensures.query_packet;
+    query_again = c.reread.ensures.query;
+    sap_packet_again = c.reread.ensures.sap_packet;
+    sap_again = c.reread.ensures.sap;
+    forwarded_again = c.reread.ensures.forwarded;
+    propagated_again = c.reread.ensures.propagated;
+  };
+  layouts = c.packets.ensures.layouts;
+  bytes = c.packets.ensures.bytes;
+}
+
+pub returns-clause-routes : goal.returns-clause-routes
+returns-clause-routes c net most_routes most_services histories ticks router is are passes long within =
+    all_real net (layouts c) is most_routes most_services histories are ticks passes router within long
+
+pub returns-clause-own_ports : goal.returns-clause-own_ports
+returns-clause-own_ports c net most_routes most_services histories ticks router is are passes within =
+    all_on net (layouts c) is most_routes most_services histories are ticks passes router within
