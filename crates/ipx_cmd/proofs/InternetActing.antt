@@ -346,6 +346,6 @@ pub on_err : {A E : Type 0} {P Q : E → Type 0} (r : Result A E) → IfErr r P 
 on_err (Ok a) p next = tt
 on_err (Err e) p next = next e p
 
--- the run ends for want of memory
+-- the run ends since memory is missing
 pub no_memory : (s : Standing) (line : List ℕ) (o : Output) (text : List ℕ) (halt : Halt) → o.failed ≡ false → halt ≡ Run Memory → Halted (acts s line) o o text text halt
 no_memory s line o text halt fine e = subst (λ (h : Halt). Halted (acts s line) o o text text h) (sym e) (stopped o text (acts s line) Memory fine refl)
