@@ -108,7 +108,8 @@ same_deliveries sent more (p ∷ pending) within =
     ∙ ap (λ ds. delivery_in sent p ∷ ds) (same_deliveries sent more pending within.1)
 
 -- an event of a router appends the deliveries of what it sends
-pub event_delivers : (list : List Station) (ports then : List Port) (number before : ℕ) (sent more longer : List Sent) (pending after : List Pending) (all : List Delivery)
+pub event_delivers : (list : List Station) (ports then : List Port) (number before : ℕ) (sent more longer : List Sent)
+    (pending after : List Pending) (all : List Delivery)
     → AreWithin sent pending → longer ≡ sent ++ more → before ≡ length sent → then ≡ ports → all ≡ deliveries_in sent pending
     → deliveries_in longer after ≡ deliveries_in longer pending ++ flat_map (heard list then number) (drop before longer)
     → deliveries_in longer after ≡ all ++ flat_map (heard list ports number) more

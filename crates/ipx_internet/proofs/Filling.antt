@@ -103,5 +103,6 @@ packet_fills limit first now all stations ports parent sents k s network near on
     let same : near ≡ stations_on stations (port_at ports s.port).network = on ∙ ap (λ (n : Network). stations_on stations n) of in
     subst (λ (rest : List Listed). Fills limit first now all rest)
     (next_packet stations ports parent sents k s there
-    ∙ ap (λ (xs : List Station). map (child parent k) (filter (hears parent.router s.link) xs) ++ listed_from stations ports parent (k + 1) (drop (k + 1) sents)) (sym same))
+    ∙ ap (λ (xs : List Station).
+    map (child parent k) (filter (hears parent.router s.link) xs) ++ listed_from stations ports parent (k + 1) (drop (k + 1) sents)) (sym same))
     fills

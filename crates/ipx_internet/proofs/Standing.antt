@@ -87,7 +87,8 @@ its_ports routers number s there =
     get_or_from_slice_get (net_among routers) number s.ports []
     (slice_get-map (λ (r : State). r.ports) routers number ∙ ap (λ o. option_map (λ (r : State). r.ports) o) there)
 
-module _ (most_routes most_services : ℕ) (routers : List State) (number : ℕ) (s new : State) (there : slice_get routers number ≡ Some s) (same : new.ports ≡ s.ports) where
+module _ (most_routes most_services : ℕ) (routers : List State) (number : ℕ) (s new : State) (there : slice_get routers number ≡ Some s)
+    (same : new.ports ≡ s.ports) where
   abbrev after : List State
   after = slice_set routers number new
 
@@ -119,7 +120,8 @@ module _ (most_routes most_services : ℕ) (routers : List State) (number : ℕ)
         → later ≡ old ++ flat_map (deliveries_of net number) (sends (ports_of net number) most_routes most_services h event)
     by_ports h stands =
         sent h stands
-        ∙ ap (λ ds. old ++ ds) (flat_map_same (heard list s.ports number) (deliveries_of net number) (heard_is net list of s.ports number (its_ports routers number s there))
+        ∙ ap (λ ds. old ++ ds) (flat_map_same (heard list s.ports number) (deliveries_of net number)
+        (heard_is net list of s.ports number (its_ports routers number s there))
         (sends s.ports most_routes most_services h event))
         ∙ ap (λ (ps : List Port). old ++ flat_map (deliveries_of net number) (sends ps most_routes most_services h event)) (sym (its_ports routers number s there))
 

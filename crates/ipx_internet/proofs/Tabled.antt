@@ -16,7 +16,8 @@ module _ (most_routes most_services : ℕ)
   -- one that stands for its past is as the past says
   as_now : (s : State) (is : HasPast most_routes most_services s) → router_now s.ports most_routes is.past ≡ router_of s
   as_now s is =
-      ap (λ (runs : Bool). record { ports = s.ports; running = runs; up = ports_up s.ports is.past; routes = offers (routes_held s.ports most_routes is.past) }) (sym is.stands.runs)
+      ap (λ (runs : Bool). record { ports = s.ports; running = runs; up = ports_up s.ports is.past; routes = offers (routes_held s.ports most_routes is.past) })
+      (sym is.stands.runs)
       ∙ ap (λ (up : List ℕ). record { ports = s.ports; running = s.running; up = up; routes = offers (routes_held s.ports most_routes is.past) }) (sym is.stands.ups)
       ∙ ap (λ (held : List (Held RouteOffer)). record { ports = s.ports; running = s.running; up = s.up; routes = offers held }) (sym is.stands.routes_stand)
 

@@ -118,7 +118,8 @@ returns-in_err-listing-2-clause-enough g c =
     let state = c.index.result.now in
     let read : state ≡ slice_index_or states (waits_next l).to.router state = subst (λ (n : ℕ). state ≡ slice_index_or states n state) (sym at) c.index.ensures in
     rw (p.1, p.2)
-    (cut_bounded states stations first c.requires.stationed is l listed waits state read c.weights.ensures.goes_on c.requires.internet c.requires.nodes c.requires.tables
+    (cut_bounded states stations first c.requires.stationed is l listed waits state read c.weights.ensures.goes_on c.requires.internet
+    c.requires.nodes c.requires.tables
     c.loop-listing.invariant.bounded c.args.limit _ c.in_err-listing-2.ensures.refused)
 
 pub loop-listing-smaller : goal.loop-listing-smaller
@@ -162,7 +163,8 @@ loop-listing-preserved g c =
     record {
       listed = goes_on states stations first c.requires.stationed is l listed waits state read c.in_ok-listing-2.listing c.in_ok-listing-2.ensures.goes_on;
       few = c.in_ok-listing-2.ensures.few c.loop-listing.invariant.few;
-      bounded = stays_bounded states stations first c.requires.stationed is l listed waits state read c.weights.ensures.goes_on c.requires.internet c.requires.nodes c.requires.tables
+      bounded = stays_bounded states stations first c.requires.stationed is l listed waits state read c.weights.ensures.goes_on
+          c.requires.internet c.requires.nodes c.requires.tables
           c.loop-listing.invariant.bounded c.in_ok-listing-2.listing c.in_ok-listing-2.ensures.goes_on;
     }
 
