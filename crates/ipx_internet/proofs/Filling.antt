@@ -1,14 +1,13 @@
 -- A list that grows up to a limit, piece by piece.
-use Rattle.std.proofs.Common.{◌≡◌, refl, sym, ap, ◌∙◌, subst, ℕ, zero, suc, ◌+◌, ◌<◌, ◌≤◌, Bool, true, false, List, [], ◌∷◌, ◌++◌, length, map, filter, drop, get_or, Option, Some, None, slice_get, arith, length-append}
+use Rattle.std.proofs.Common.{◌≡◌, refl, sym, ap, ◌∙◌, subst, ℕ, zero, suc, ◌+◌, ◌<◌, ◌≤◌, Bool, true, false, List, [], ◌∷◌, ◌++◌, length, map, filter, drop, get_or, Some, slice_get, arith, length-append}
 use Rattle.std.proofs.Math.Seq.{drop-cons}
 use Rattle.std.proofs.lemmas.List.{append_assoc, append-nil}
-use Rattle.std.proofs.lemmas.Option.{get_or_from_slice_get, slice_get_within, unwrap_or-slice_get}
-use Rattle.std.specs.Option.{unwrap_or}
+use Rattle.std.proofs.lemmas.Option.{get_or_from_slice_get, slice_get_within}
 use Rattle.ipx_wire.specs.declared.network.Network.{Network}
 use Rattle.ipx_router.specs.Port.{Port, port_at}
 use Rattle.ipx_router.specs.Relays.{Sent}
-use Rattle.ipx_internet.specs.Listed.{child, hearers, listed_from, IsCut, Fills}
-use Rattle.ipx_internet.specs.Stations.{stations_on, hears}
+use Rattle.ipx_internet.specs.Listed.{child, listed_from, IsCut, Fills}
+use Rattle.ipx_internet.specs.Stations.{stations_on, hears, hearers}
 use Rattle.ipx_internet.specs.declared.fault.TraceFault.{TraceFault}
 use Rattle.ipx_internet.specs.declared.fault.TraceFault.TheVariants.{NoSuchPort, Limit, Memory}
 use Rattle.ipx_internet.specs.declared.listing.Listed.{Listed}
@@ -85,14 +84,6 @@ module _ (stations : List Station) (ports : List Port) (parent : Parent) where
 -- a station, where none is asked for
 abbrev pub some_station : Station
 some_station = record { network = record { 0 = 0 }; node = record { 0 = [] }; router = 0; port = 0 }
-
--- behind the last port is one on network 0
-pub past_port : (ports : List Port) (number : ℕ) → slice_get ports number ≡ None → (port_at ports number).network ≡ record { 0 = 0 }
-past_port ports number none =
-    ap (λ (p : Port). p.network) (sym (unwrap_or-slice_get ports number no_port) ∙ ap (λ (o : Option Port). unwrap_or o no_port) none)
-  where
-    no_port : Port
-    no_port = port_at [] 0
 
 -- what is left before a packet is asked, over the stations that are on its network
 pub packet_fills : (limit : ℕ) (first now all : List Listed) (stations : List Station) (ports : List Port) (parent : Parent) (sents : List Sent) (k : ℕ) (s : Sent)

@@ -1,11 +1,12 @@
 -- A listing of a tree under way: what is listed so far, and what is left to list.
 use Rattle.std.specs.Prelude.{◌≡◌, ℕ, ◌+◌, ◌<◌, ◌≤◌, Bool, true, false, if◌then◌else◌, List, [], ◌∷◌, ◌++◌, length, map, None, Some, slice_index_or}
-use Rattle.std.specs.List.{AllByRecursion, filter, flat_map}
-use Rattle.ipx_router.specs.Port.{Port, broadcast, port_at}
+use Rattle.std.specs.List.{AllByRecursion, flat_map}
+use Rattle.ipx_router.specs.Port.{Port}
 use Rattle.ipx_router.specs.Relays.{Sent}
 use Rattle.ipx_router.specs.declared.outcome.Outcome.{Outcome}
+use Rattle.ipx_internet.specs.Batches.{sent_at}
 use Rattle.ipx_internet.specs.Internet.{IsPlace}
-use Rattle.ipx_internet.specs.Stations.{stations_on, place_of, hears}
+use Rattle.ipx_internet.specs.Stations.{place_of, hearers}
 use Rattle.ipx_internet.specs.Traced.{Traced, outcome_of, tree, outcome_at}
 use Rattle.ipx_internet.specs.Tree.{Router, Copy, net_of, sent_on, next_level}
 use Rattle.ipx_internet.specs.declared.fault.TraceFault.{TraceFault}
@@ -17,10 +18,6 @@ use Rattle.ipx_internet.specs.declared.listing.Source.TheVariants.{First, Even, 
 use Rattle.ipx_internet.specs.declared.stations.Station.{Station}
 
 -- ---- as it is kept: the bytes stand with the caller or in one of two outboxes
-
--- the packet of that number; behind the last, one of nothing
-abbrev pub sent_at : List Sent → ℕ → Sent
-sent_at sents number = slice_index_or sents number (record { port = 0; link = broadcast; bytes = [] })
 
 module _ (first : List ℕ) (even odd : List Sent) where
   -- the bytes that stand there
@@ -59,10 +56,6 @@ source_in false number = Even number
 -- the reception of a packet by a station
 abbrev pub child : Parent → ℕ → Station → Listed
 child parent number s = record { parent = Some parent.number; router = s.router; port = s.port; source = source_in parent.odd number }
-
--- the stations that receive a packet of a router with those ports
-abbrev pub hearers : List Station → List Port → ℕ → Sent → List Station
-hearers stations ports router s = filter (hears router s.link) (stations_on stations (port_at ports s.port).network)
 
 module _ (stations : List Station) (ports : List Port) (parent : Parent) where
   -- the receptions of packets, where the first of them has a number

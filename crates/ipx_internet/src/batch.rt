@@ -8,16 +8,15 @@ ghost use Rattle.ipx_router.specs.History.{History, IsOnPort};
 ghost use Rattle.ipx_router.specs.Needs.{HasRoomFor, packets_needed};
 ghost use Rattle.ipx_router.specs.Outbox.{HasRoom};
 ghost use Rattle.ipx_router.specs.Outcomes.{outcome};
-ghost use Rattle.ipx_router.specs.Port.{port_at};
 ghost use Rattle.ipx_router.specs.RouterOf.{HasPast};
 ghost use Rattle.ipx_router.specs.Sends.{sends};
 ghost use Rattle.ipx_router.specs.Stands.{StandsFor};
 ghost use Rattle.ipx_internet.specs.Batches.{AreWithin, deliveries_in, delivery_of, heard, pending_at};
 ghost use Rattle.ipx_internet.specs.Stations.{hears};
 
-use crate::stations::{Station, Stations};
+use crate::stations::{Station, Stations, network_of};
 use ipx_router::{Event, Need, Outbox, Outcome, Router};
-use ipx_wire::{Network, Node, OutOfMemory};
+use ipx_wire::{Node, OutOfMemory};
 use std::alloc::Global;
 use std::marker::Model;
 
@@ -179,19 +178,6 @@ fn deliver_one(
                 packet,
             });
         }
-    }
-}
-
-/// The network of a port.
-fn network_of<const P: usize, const R: usize, const S: usize>(
-    router: &Router<P, R, S>,
-    port: u8,
-) -> Network
-    ensures { result ≡ (port_at router.now.ports port).network }
-{
-    match router.port(usize::from(port)) {
-        Some(port) => port.network(),
-        None => Network(0),
     }
 }
 
