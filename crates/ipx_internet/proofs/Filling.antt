@@ -18,11 +18,11 @@ use Rattle.ipx_internet.specs.declared.stations.Station.{Station}
 pub cut_more : (limit a b : ℕ) (fault : TraceFault) → a ≤ b → IsCut limit a fault → IsCut limit b fault
 cut_more limit a b NoSuchPort more cut = cut
 cut_more limit a b Limit more cut = omega (arith, more, cut)
-cut_more limit a b Memory more cut = tt
+cut_more limit a b Memory more cut = cut
 
--- no memory is a reason for any number
-pub no_memory : (limit count : ℕ) (fault : TraceFault) → fault ≡ Memory → IsCut limit count fault
-no_memory limit count fault is = subst (λ (f : TraceFault). IsCut limit count f) (sym is) tt
+-- no memory is a reason for any number, where one is allowed
+pub no_memory : (limit count : ℕ) (fault : TraceFault) → 0 < limit → fault ≡ Memory → IsCut limit count fault
+no_memory limit count fault some is = subst (λ (f : TraceFault). IsCut limit count f) (sym is) some
 
 module _ (limit : ℕ) (first now all : List Listed) where
   pub begins : Fills limit first first all all

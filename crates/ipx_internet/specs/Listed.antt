@@ -92,11 +92,11 @@ module _ (r : Router) (stations : List Station) where
     pub copies : new.copies ≡ old.copies ++ children_by (length old.outcomes) (waits_next old)
     pub outcomes : new.outcomes ≡ old.outcomes ++ outcome_of r (waits_next old).to.port (waits_next old).bytes ∷ []
 
--- why not all of so many receptions are listed
+-- why not all of so many receptions are listed: they are more than the limit, or memory ran out for one within it
 abbrev pub IsCut : ℕ → ℕ → TraceFault → Type 0
 IsCut limit count NoSuchPort = ⊥
 IsCut limit count Limit = limit < count
-IsCut limit count Memory = Unit
+IsCut limit count Memory = 0 < limit
 
 -- what is listed begins the tree; some of it is done, and is what the rest was sent on by
 pub record IsListed (routers : List Router) (root : Copy) (l : Listing) : Type 0 where

@@ -20,10 +20,12 @@ pub record Index : Type 0 where
 abbrev pub stations_on : List Station → Network → List Station
 stations_on list network = filter (λ s. s.network.0 == network.0) list
 
--- they stand by network, and no network has more than the most
+-- they stand by network, no network has more than the most, and one has that many
 pub record IsIndex (list : List Station) (most : ℕ) : Type 0 where
   pub sorted : IsNonDecreasingBy (λ s. s.network.0) list
   pub few : (network : Network) → length (stations_on list network) ≤ most
+  pub fullest : Network
+  pub full : length (stations_on list fullest) ≡ most
 
 -- the station of a port
 abbrev pub station : ℕ → ℕ → Port → Station

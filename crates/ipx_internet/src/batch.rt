@@ -1,5 +1,5 @@
 //! Packets that routers sent, with their deliveries.
-ghost use Rattle.std.specs.Prelude.{◌≡◌, ◌+◌, ◌-◌, ◌*◌, ◌^◌, ◌<◌, ◌≤◌, [], ◌∷◌, ◌++◌, length, map, drop, slice_get, Some, OnOk};
+ghost use Rattle.std.specs.Prelude.{◌≡◌, ℕ, ◌+◌, ◌-◌, ◌*◌, ◌^◌, ◌<◌, ◌≤◌, [], ◌∷◌, ◌++◌, length, map, drop, slice_get, Some, OnOk};
 ghost use Rattle.std.specs.List.{filter, flat_map};
 ghost use Rattle.std.specs.Vec.{vec_len, vec_capacity};
 ghost use Rattle.std.specs.Mem.{FitsInMemory};
@@ -86,9 +86,12 @@ impl Batch {
         }
     }
 
-    /// Takes all out, and leaves the room.
+    /// Takes all out, the packets too, and leaves the room.
     pub fn clear(&mut self)
-        ensures { self.new.deliveries ≡ [] }
+        ensures deliveries { self.new.deliveries ≡ [] }
+        ensures packets { self.new.outbox.sent ≡ [] }
+        ensures room { (packets bytes : ℕ) → HasRoom self.old.outbox packets bytes → HasRoom self.new.outbox packets bytes }
+        ensures places { self.old.places ≤ self.new.places }
     {
         self.outbox.clear();
         self.pending.clear();

@@ -152,9 +152,10 @@ impl<'a> Listing<'a> {
         limit: usize,
     ) -> Result<Listing<'a>, TraceFault>
         requires waits { length self.outcomes < length self.copies }
+        requires few { length self.copies ≤ limit }
         requires port { (waits_next self).to.port < length router.now.ports }
         ensures goes_on { IfOk result (GoesOn (router_of router.now) stations.now.list self.entry) }
-        ensures few { IfOk result (λ l. length self.entry.copies ≤ limit → length l.copies ≤ limit) }
+        ensures few { IfOk result (λ l. length l.copies ≤ limit) }
         ensures refused { IfErr result (IsCut limit (length self.entry.copies
             + length (children_by (router_of router.now) stations.now.list (length self.entry.outcomes) (waits_next self.entry)))) }
     {

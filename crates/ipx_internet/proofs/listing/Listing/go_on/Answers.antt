@@ -2,6 +2,7 @@ use Rattle.std.proofs.Common.{rules, ◌≡◌, ◌<◌, ◌≤◌, arith, lengt
 use Rattle.std.proofs.lemmas.Result.{err_from_is_err_and}
 use Rattle.ipx_internet.specs.Listed.{IsIn, outbox_of}
 use Rattle.ipx_internet.specs.Traced.{router_of}
+use Rattle.ipx_internet.proofs.Filling.{no_memory}
 use Rattle.ipx_internet.proofs.Going.{after, port_is, there_is, cut, kept_all, few_all, went_on}
 use Rattle.ipx_internet.proofs.listing.Listing.go_on.Goals as goal
 
@@ -25,6 +26,13 @@ send_on-requires g c =
     port_is first even odd list i.outcomes.items at n r stations c.args.self c.self.view_is done c.index-at.ensures c.requires.waits
     (length c.args.router.now.ports) c.requires.port in
     search (rules, there, port)
+
+pub returns-in_err-outcome-clause-refused : goal.returns-in_err-outcome-clause-refused
+returns-in_err-outcome-clause-refused g c =
+    let p = err_from_is_err_and c.from_residual.result c.from_residual.ensures.1 in
+    let waits = c.requires.waits in
+    let few = c.requires.few in
+    rw (p.1, p.2) (no_memory c.args.limit _ _ (omega (arith, waits, few)) c.in_err-outcome.ensures.refused)
 
 pub list_sent-requires : goal.list_sent-requires
 list_sent-requires g c =
@@ -146,4 +154,4 @@ returns-clause-few g c =
     let a = after first even odd list at n r stations c.self.invariant flag before even2 odd2 c.is_for_odd.ensures c.sent_so_far-before.ensures
     s.even s.odd s.even_stays s.odd_stays in
     few_all first even odd list i.outcomes.items at n r stations c.args.self c.self.view_is done c.index-at.ensures c.requires.waits
-    flag before even2 odd2 a c.list_sent.new.list.items c.in_ok-list_sent.ensures.listed c.args.limit c.in_ok-list_sent.ensures.few
+    flag before even2 odd2 a c.list_sent.new.list.items c.in_ok-list_sent.ensures.listed c.args.limit c.in_ok-list_sent.ensures.few c.requires.few
