@@ -65,7 +65,8 @@ one_more number ports k old new next s has is put network =
     let front = stations_of number ports k in
     let next_is : k + 1 ≡ suc k = omega arith in
     let split : stations_on (stations_of number ports (k + 1)) network ≡ stations_on front network ++ stations_on (s ∷ []) network =
-    ap (λ m. stations_on (stations_of number ports m) network) next_is ∙ ap (λ ss. stations_on ss network) (map-append (λ j. station number j (port_at ports j)) (numbers k) (k ∷ []))
+    ap (λ m. stations_on (stations_of number ports m) network) next_is
+    ∙ ap (λ ss. stations_on ss network) (map-append (λ j. station number j (port_at ports j)) (numbers k) (k ∷ []))
     ∙ filter-append on front (station number k (port_at ports k) ∷ []) ∙ ap (λ x. stations_on front network ++ stations_on (x ∷ []) network) (sym is) in
     elim (cases_Bool (on s)) [
       | inl e ↦
@@ -107,7 +108,8 @@ module _ (net : Internet) (ports : List Port) where
       let size : length wider ≡ suc n = let joined = length-append net (ports ∷ []) in omega (arith, joined) in
       let front : flat_map (of_router wider) (numbers n) ≡ places net =
       flat_map_same (of_router wider) (of_router net) (numbers n)
-      (all_then (λ r. r < n) (λ r. of_router wider r ≡ of_router net r) (λ r less. ap (λ (ps : List Port). map (at r) (numbers (length ps))) (old_ports r less)) (numbers n) (numbers_below n)) in
+      (all_then (λ r. r < n) (λ r. of_router wider r ≡ of_router net r) (λ r less. ap (λ (ps : List Port). map (at r) (numbers (length ps))) (old_ports r less))
+      (numbers n) (numbers_below n)) in
       let last : of_router wider n ++ [] ≡ map (at n) (numbers (length ports)) =
       append-nil (of_router wider n) ∙ ap (λ (ps : List Port). map (at n) (numbers (length ps))) new_ports in
       ap (λ m. flat_map (of_router wider) (numbers m)) size ∙ flat_map-append (of_router wider) (numbers n) (n ∷ []) ∙ ap₂ (λ a b. a ++ b) front last
@@ -133,7 +135,8 @@ module _ (net : Internet) (ports : List Port) where
         (ap (λ (p : Port). p.network.0 == network.0) same, ap (λ (p : Port). station place.router place.port p) same))
         (places net) places_before)
 
-    behind : map (station_at wider) (filter (on wider) (map (at (length net)) (numbers (length ports)))) ≡ stations_on (stations_of (length net) ports (length ports)) network
+    behind : map (station_at wider) (filter (on wider) (map (at (length net)) (numbers (length ports))))
+        ≡ stations_on (stations_of (length net) ports (length ports)) network
     behind =
         image_filter (at (length net)) (station_at wider) (λ j. station (length net) j (port_at ports j)) (on wider) (λ s. s.network.0 == network.0)
         (λ j. ap (λ (ps : List Port). station (length net) j (port_at ps j)) new_ports)

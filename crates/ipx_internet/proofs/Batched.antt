@@ -1,24 +1,16 @@
 -- Deliveries that are put into a batch one packet after another.
-use Rattle.std.proofs.Common.{◌≡◌, refl, sym, ap, ◌∙◌, subst, ℕ, ◌+◌, ◌-◌, ◌*◌, ◌<◌, ◌≤◌, Option, None, Some, slice_get, List, [], ◌∷◌, ◌++◌, map, drop, flat_map, get_or, length, arith, append_assoc, length-append}
+use Rattle.std.proofs.Common.{◌≡◌, refl, sym, ap, ◌∙◌, subst, ℕ, ◌+◌, ◌-◌, ◌*◌, ◌<◌, ◌≤◌, Some, slice_get, List, [], ◌∷◌, ◌++◌, map, drop, flat_map, get_or, length, arith, append_assoc, length-append}
 use Rattle.std.proofs.Math.Nat.{mul-le-mul_right}
 use Rattle.std.proofs.lemmas.List.{drop_more, drop_at, get_or_append_left, map-append}
-use Rattle.std.proofs.lemmas.Option.{get_or_from_slice_get, unwrap_or-slice_get}
-use Rattle.std.specs.Option.{unwrap_or}
-use Rattle.ipx_router.specs.Port.{Port, broadcast, port_at}
+use Rattle.std.proofs.lemmas.Option.{get_or_from_slice_get}
+use Rattle.ipx_router.specs.Port.{Port, broadcast}
 use Rattle.ipx_router.specs.Relays.{Sent}
-use Rattle.ipx_internet.specs.Batches.{arriving, deliveries_in, AreWithin, delivery_in, pending_at, hearing, reaching, heard}
+use Rattle.ipx_internet.specs.Stations.{hearers}
+use Rattle.ipx_internet.specs.Batches.{arriving, deliveries_in, AreWithin, delivery_in, pending_at, reaching, heard}
 use Rattle.ipx_internet.specs.Queue.{Delivery}
 use Rattle.ipx_internet.specs.declared.batch.Pending.{Pending}
 use Rattle.ipx_internet.specs.declared.stations.Station.{Station}
 use Rattle.ipx_internet.proofs.Lists.{all-append, all_then}
-
--- ---- the port that a packet leaves on
-
-pub on_no_network : (ports : List Port) (number read : ℕ) → read ≡ number → slice_get ports read ≡ None → (port_at ports number).network ≡ record { 0 = 0 }
-on_no_network ports number read same none =
-    let past : Port = record { network = record { 0 = 0 }; node = broadcast; cost = 0; longest = 0; route_share = 0; service_share = 0 } in
-    ap (λ k. (port_at ports k).network) (sym same)
-    ∙ ap (λ (p : Port). p.network) (sym (unwrap_or-slice_get ports read past) ∙ ap (λ (o : Option Port). unwrap_or o past) none)
 
 -- ---- the deliveries of one packet
 
@@ -39,17 +31,17 @@ module _ (sent : List Sent) (packet : ℕ) (s : Sent) (there : slice_get sent pa
   module _ (list : List Station) (ports : List Port) (number : ℕ) (before after : List Pending) (all : List Delivery) where
     -- what was left to do is less by the deliveries of this packet
     pub one_packet : packet < length sent
-        → after ≡ before ++ map (pending_at packet) (hearing list ports number s)
+        → after ≡ before ++ map (pending_at packet) (hearers list ports number s)
         → all ≡ deliveries_in sent before ++ flat_map (heard list ports number) (drop packet sent)
         → all ≡ deliveries_in sent after ++ flat_map (heard list ports number) (drop (packet + 1) sent)
     one_packet lt added so_far =
         let rest = flat_map (heard list ports number) (drop (packet + 1) sent) in
-        let these = map (pending_at packet) (hearing list ports number s) in
+        let these = map (pending_at packet) (hearers list ports number s) in
         so_far
         ∙ ap (λ ss. deliveries_in sent before ++ flat_map (heard list ports number) ss)
         (drop_more sent packet (record { port = 0; link = broadcast; bytes = [] }) lt ∙ ap (λ (r : Sent). r ∷ drop (packet + 1) sent) is_sent)
         ∙ sym (append_assoc (deliveries_in sent before) (heard list ports number s) rest)
-        ∙ ap (λ ds. (deliveries_in sent before ++ ds) ++ rest) (sym (reached (hearing list ports number s)))
+        ∙ ap (λ ds. (deliveries_in sent before ++ ds) ++ rest) (sym (reached (hearers list ports number s)))
         ∙ ap (λ ds. ds ++ rest) (sym (map-append (delivery_in sent) before these))
         ∙ ap (λ (ps : List Pending). deliveries_in sent ps ++ rest) (sym added)
 
@@ -108,7 +100,8 @@ same_deliveries sent more (p ∷ pending) within =
     ∙ ap (λ ds. delivery_in sent p ∷ ds) (same_deliveries sent more pending within.1)
 
 -- an event of a router appends the deliveries of what it sends
-pub event_delivers : (list : List Station) (ports then : List Port) (number before : ℕ) (sent more longer : List Sent) (pending after : List Pending) (all : List Delivery)
+pub event_delivers : (list : List Station) (ports then : List Port) (number before : ℕ) (sent more longer : List Sent)
+    (pending after : List Pending) (all : List Delivery)
     → AreWithin sent pending → longer ≡ sent ++ more → before ≡ length sent → then ≡ ports → all ≡ deliveries_in sent pending
     → deliveries_in longer after ≡ deliveries_in longer pending ++ flat_map (heard list then number) (drop before longer)
     → deliveries_in longer after ≡ all ++ flat_map (heard list ports number) more

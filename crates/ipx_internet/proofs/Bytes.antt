@@ -54,7 +54,8 @@ of_network network = of_number 4 network.0
 pub record SentOn : Type 0 where
   pub forwarded_over : (bytes : List ℕ) (p : Parts) → IsPacket bytes p → p.header.control < 255
       → packet_bytes (forwarded p) ≡ take 4 bytes ++ (p.header.control + 1) ∷ drop 5 (take p.header.length bytes)
-  pub propagated_over : (bytes : List ℕ) (p : Parts) (arrived outgoing : Network) → IsPacket bytes p → p.header.control < crossed_places → crossed_bytes ≤ length p.payload
+  pub propagated_over : (bytes : List ℕ) (p : Parts) (arrived outgoing : Network) → IsPacket bytes p → p.header.control < crossed_places
+      → crossed_bytes ≤ length p.payload
       → packet_bytes (propagated arrived outgoing p) ≡ replicate 2 0xff ++ piece bytes 2 2 ++ (p.header.control + 1) ∷ piece bytes 5 1 ++ network_bytes outgoing
       ++ piece bytes 10 (20 + 4 * p.header.control) ++ network_bytes arrived ++ drop (34 + 4 * p.header.control) (take p.header.length bytes)
 

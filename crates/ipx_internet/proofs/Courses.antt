@@ -29,7 +29,8 @@ sending place sent = record { place = place; sent = sent }
 
 -- a reception in a course is its start, or in the course of one that received a forward of the start
 pub below : (log : List Reception) (start place : ℕ) → IsInCourse log start place
-    → (place ≡ start) ⊎ ((child : ℕ) × (s : Sending) × (child < length log) × ((reception_at log child).origin ≡ Some s) × (s.place ≡ start) × IsInCourse log child place)
+    → (place ≡ start) ⊎ ((child : ℕ) × (s : Sending) × (child < length log) × ((reception_at log child).origin ≡ Some s)
+    × (s.place ≡ start) × IsInCourse log child place)
 below log start place starts = inl refl
 below log start place (goes_on s within origin course) = elim (below log start s.place course) [
   | inl e ↦ inr (place, s, within, origin, e, starts)
@@ -100,7 +101,8 @@ module _ (w : Wire) (net : Internet) (is : IsInternet net) (differ : NodesDiffer
         | inl direct ↦
             let P : ℕ → Type 0 = λ k. is_far (port_of net (reception_at log k).to) p.header ≡ true in
             let far = subst P from again.far in
-            let beyond = not-true _ (and_parts (not (is_propagated p.header)) (not (is_local (port_of net (reception_at log child).to) p.header.destination.network)) far).1 in
+            let beyond = not-true _ (and_parts (not (is_propagated p.header))
+            (not (is_local (port_of net (reception_at log child).to) p.header.destination.network)) far).1 in
             let other = eqb-false p.header.destination.network.0 (network_of net (reception_at log child).to).0 (or_parts _ _ beyond).1 in
             absurd (other (sym (ap (λ n. n.0) delivery.network ∙ direct)))
       ]
@@ -212,7 +214,8 @@ module _ (w : Wire) (net : Internet) (is : IsInternet net) (differ : NodesDiffer
       one_forward s t p (here_s ∙ sym here_t) (goes_from start p s at here_s on_s.0.0) (goes_from start p t at here_t on_t.0.0))
       here all differ
 
-  few_within : (n start : ℕ) (p : Parts) → most_routers ≤ n + p.header.control → IsAt start p → (forwards : List Sending) → AllByRecursion (IsOfCourse start) forwards
+  few_within : (n start : ℕ) (p : Parts) → most_routers ≤ n + p.header.control → IsAt start p → (forwards : List Sending)
+      → AllByRecursion (IsOfCourse start) forwards
       → AreDifferent forwards → length forwards ≤ most_routers - p.header.control
   few_within n start p enough at [] all differ = omega arith
   few_within zero start p enough at (e ∷ forwards) all differ =

@@ -39,7 +39,8 @@ module _ (net : Internet) (laws : Routing) (none_back : IsLawOfRouters) (is : Is
       all-map (λ s. EachEntryReadIs (IsFromElsewhere routes s.port) s.bytes) ObservesHorizon (λ s. record { router = router; sent = s; routes = routes })
       (λ s is. is) (sends_at net most_routes most_services histories router event)
       (none_back ports most_routes most_services history event (ports_at net is router)
-      (all-append (IsOnPort ports) history (event ∷ []) (are.on_ports router) (on, tt)) (all-append IsOfBytes history (event ∷ []) (are.of_bytes router) (bytes, tt)))
+      (all-append (IsOnPort ports) history (event ∷ []) (are.on_ports router) (on, tt))
+      (all-append IsOfBytes history (event ∷ []) (are.of_bytes router) (bytes, tt)))
 
   -- what is sent in one step
   in_observes : (run : Run) → Good net run → (step : Step) → IsStep net step → AllByRecursion ObservesHorizon (departures_in net most_routes most_services run step)
@@ -95,7 +96,8 @@ module _ (net : Internet) (most_routes most_services : ℕ) where
   in_order run (Happens router event) = happened run router event None
   in_order run Settles = by run.histories run.log run.waiting
     where
-      by : (histories : List History) (log : List Reception) (waiting : List Waiting) → let before : Run = record { histories = histories; waiting = waiting; log = log } in
+      by : (histories : List History) (log : List Reception) (waiting : List Waiting)
+          → let before : Run = record { histories = histories; waiting = waiting; log = log } in
           handed_in net most_routes most_services before Settles ++ queue (stepped net most_routes most_services before Settles)
           ≡ queue before ++ flat_map (deliveries_from net) (departures_in net most_routes most_services before Settles)
       by histories log [] = refl

@@ -26,7 +26,8 @@ still_coming net new_net front back new_back same all added =
     (all-append (IsComing net) front new_back (all_front (IsComing net) front back all) (added (all_behind (IsComing net) front back all)))
 
 -- what the routers stand for after an event, over all that waits
-pub stands_then : (most_routes most_services : ℕ) (routers new_routers : List State) (front back new_back : List Delivery) (old : Moment) (router : ℕ) (event : Event)
+pub stands_then : (most_routes most_services : ℕ) (routers new_routers : List State) (front back new_back : List Delivery) (old : Moment)
+    (router : ℕ) (event : Event)
     → moment routers (front ++ back) ≡ old
     → ((before : List Delivery) (q : Queued) → StandsFor most_routes most_services (moment routers (before ++ back)) q
     → StandsFor most_routes most_services (moment new_routers (before ++ new_back)) (queued (net_among routers) most_routes most_services q router event))

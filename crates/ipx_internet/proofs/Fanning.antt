@@ -41,7 +41,8 @@ module _ (laws : Sending) (net : Internet) (router most_routes most_services : �
     | inr e ↦ rw e (laws.within ports (history ++ event ∷ []))
   ]
 
-  pub few_deliveries : IsInternet net → length ports ≤ 32 → AllByRecursion (IsOnPort ports) (history ++ event ∷ []) → AllByRecursion IsOfBytes (history ++ event ∷ [])
+  pub few_deliveries : IsInternet net → length ports ≤ 32 → AllByRecursion (IsOnPort ports) (history ++ event ∷ [])
+      → AllByRecursion IsOfBytes (history ++ event ∷ [])
       → length (flat_map (deliveries_of net router) (sends ports most_routes most_services history event))
       ≤ most_packets (length ports) (length (routes_held ports most_routes history)) (length (services_held ports most_services history)) event
       * (most_on_network net - 1)

@@ -1,14 +1,13 @@
 -- A list that grows up to a limit, piece by piece.
-use Rattle.std.proofs.Common.{◌≡◌, refl, sym, ap, ◌∙◌, subst, ℕ, zero, suc, ◌+◌, ◌<◌, ◌≤◌, Bool, true, false, List, [], ◌∷◌, ◌++◌, length, map, filter, drop, get_or, Option, Some, None, slice_get, arith, length-append}
+use Rattle.std.proofs.Common.{◌≡◌, refl, sym, ap, ◌∙◌, subst, ℕ, zero, suc, ◌+◌, ◌<◌, ◌≤◌, Bool, true, false, List, [], ◌∷◌, ◌++◌, length, map, filter, drop, get_or, Some, slice_get, arith, length-append}
 use Rattle.std.proofs.Math.Seq.{drop-cons}
 use Rattle.std.proofs.lemmas.List.{append_assoc, append-nil}
-use Rattle.std.proofs.lemmas.Option.{get_or_from_slice_get, slice_get_within, unwrap_or-slice_get}
-use Rattle.std.specs.Option.{unwrap_or}
+use Rattle.std.proofs.lemmas.Option.{get_or_from_slice_get, slice_get_within}
 use Rattle.ipx_wire.specs.declared.network.Network.{Network}
 use Rattle.ipx_router.specs.Port.{Port, port_at}
 use Rattle.ipx_router.specs.Relays.{Sent}
-use Rattle.ipx_internet.specs.Listed.{child, hearers, listed_from, IsCut, Fills}
-use Rattle.ipx_internet.specs.Stations.{stations_on, hears}
+use Rattle.ipx_internet.specs.Listed.{child, listed_from, IsCut, Fills}
+use Rattle.ipx_internet.specs.Stations.{stations_on, hears, hearers}
 use Rattle.ipx_internet.specs.declared.fault.TraceFault.{TraceFault}
 use Rattle.ipx_internet.specs.declared.fault.TraceFault.TheVariants.{NoSuchPort, Limit, Memory}
 use Rattle.ipx_internet.specs.declared.listing.Listed.{Listed}
@@ -19,11 +18,11 @@ use Rattle.ipx_internet.specs.declared.stations.Station.{Station}
 pub cut_more : (limit a b : ℕ) (fault : TraceFault) → a ≤ b → IsCut limit a fault → IsCut limit b fault
 cut_more limit a b NoSuchPort more cut = cut
 cut_more limit a b Limit more cut = omega (arith, more, cut)
-cut_more limit a b Memory more cut = tt
+cut_more limit a b Memory more cut = cut
 
--- no memory is a reason for any number
-pub no_memory : (limit count : ℕ) (fault : TraceFault) → fault ≡ Memory → IsCut limit count fault
-no_memory limit count fault is = subst (λ (f : TraceFault). IsCut limit count f) (sym is) tt
+-- no memory is a reason for any number, where one is allowed
+pub no_memory : (limit count : ℕ) (fault : TraceFault) → 0 < limit → fault ≡ Memory → IsCut limit count fault
+no_memory limit count fault some is = subst (λ (f : TraceFault). IsCut limit count f) (sym is) some
 
 module _ (limit : ℕ) (first now all : List Listed) where
   pub begins : Fills limit first first all all
@@ -86,14 +85,6 @@ module _ (stations : List Station) (ports : List Port) (parent : Parent) where
 abbrev pub some_station : Station
 some_station = record { network = record { 0 = 0 }; node = record { 0 = [] }; router = 0; port = 0 }
 
--- behind the last port is one on network 0
-pub past_port : (ports : List Port) (number : ℕ) → slice_get ports number ≡ None → (port_at ports number).network ≡ record { 0 = 0 }
-past_port ports number none =
-    ap (λ (p : Port). p.network) (sym (unwrap_or-slice_get ports number no_port) ∙ ap (λ (o : Option Port). unwrap_or o no_port) none)
-  where
-    no_port : Port
-    no_port = port_at [] 0
-
 -- what is left before a packet is asked, over the stations that are on its network
 pub packet_fills : (limit : ℕ) (first now all : List Listed) (stations : List Station) (ports : List Port) (parent : Parent) (sents : List Sent) (k : ℕ) (s : Sent)
     (network : Network) (near : List Station) → near ≡ stations_on stations network → network ≡ (port_at ports s.port).network → slice_get sents k ≡ Some s
@@ -103,5 +94,6 @@ packet_fills limit first now all stations ports parent sents k s network near on
     let same : near ≡ stations_on stations (port_at ports s.port).network = on ∙ ap (λ (n : Network). stations_on stations n) of in
     subst (λ (rest : List Listed). Fills limit first now all rest)
     (next_packet stations ports parent sents k s there
-    ∙ ap (λ (xs : List Station). map (child parent k) (filter (hears parent.router s.link) xs) ++ listed_from stations ports parent (k + 1) (drop (k + 1) sents)) (sym same))
+    ∙ ap (λ (xs : List Station).
+    map (child parent k) (filter (hears parent.router s.link) xs) ++ listed_from stations ports parent (k + 1) (drop (k + 1) sents)) (sym same))
     fills

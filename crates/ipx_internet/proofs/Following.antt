@@ -109,7 +109,8 @@ module _ (w : Wire) (laws : Relaying) (over : SentOn) (routers : List Router) (m
     pub once : length (forwards routers c) ≤ 1
     once =
         at_most_one (Passed c p)
-        (λ s t f g. one_sent (way_to (router_of c).ports (router_of c).up (router_of c).routes p.header.destination) (packet_bytes (forwarded p)) s t f.way g.way f.written g.written)
+        (λ s t f g. one_sent (way_to (router_of c).ports (router_of c).up (router_of c).routes p.header.destination)
+        (packet_bytes (forwarded p)) s t f.way g.way f.written g.written)
         (forwards routers c) passed (differ-unmap (λ s. s.port) (forwards routers c) sent.differ)
 
   -- a packet that is near isn't sent on
@@ -134,7 +135,8 @@ module _ (w : Wire) (laws : Relaying) (over : SentOn) (routers : List Router) (m
       from_there : IsPlace net from
       from_there =
           let P : List Port → Type 0 = λ ports. s.port < length ports in
-          subst P (sym (ports_same routers c.to.router)) (holds_of (λ j. j < length (router_of c).ports) s.port (router_of c).up (router_is routers right c.to.router).within f.leaves_up)
+          subst P (sym (ports_same routers c.to.router))
+          (holds_of (λ j. j < length (router_of c).ports) s.port (router_of c).up (router_is routers right c.to.router).within f.leaves_up)
 
       -- what is received of it
       pub child_is : (k : Copy) → k.bytes ≡ s.bytes → IsOne k (forwarded p)
@@ -178,7 +180,8 @@ module _ (w : Wire) (laws : Relaying) (over : SentOn) (routers : List Router) (m
           let same = length-map (delivered net from s.link) (copy number) in
           let few =
           at_most_one (λ to. IsPlace net to × (receives net from s.link to ≡ true))
-          (λ a b on_a on_b. one_receiver w net made differ from s.link a b one on_a.0 on_b.0 (receives_is net from s.link a on_a.1) (receives_is net from s.link b on_b.1))
+          (λ a b on_a on_b. one_receiver w net made differ from s.link a b one on_a.0 on_b.0 (receives_is net from s.link a on_a.1)
+          (receives_is net from s.link b on_b.1))
           (delivered net from s.link) (delivered_within net from s.link) (delivered_differ net from s.link) in
           omega (arith, same, few)
 
@@ -231,7 +234,9 @@ module _ (w : Wire) (laws : Relaying) (over : SentOn) (routers : List Router) (m
       omega (arith, counted, rest)
     where
       leads : ((x : Copy) (q : Parts) → IsOne x q → IsPlace net x.to → q.header.control ≤ most_routers
-          → length (joined (levels routers m (first + 1) (x ∷ []))) ≤ (most_routers - q.header.control) + most_on_network net) → (ks : List Copy) → length ks ≤ 1 → AllByRecursion (λ k. IsOne k (forwarded p) × IsPlace net k.to) ks → p.header.control < most_routers → 1 ≤ most_on_network net
+          → length (joined (levels routers m (first + 1) (x ∷ []))) ≤ (most_routers - q.header.control) + most_on_network net)
+          → (ks : List Copy) → length ks ≤ 1 → AllByRecursion (λ k. IsOne k (forwarded p) × IsPlace net k.to) ks → p.header.control < most_routers
+          → 1 ≤ most_on_network net
           → length (joined (levels routers m (first + 1) ks)) + 1 ≤ (most_routers - p.header.control) + most_on_network net
       leads on [] one are below some = let none = none_behind routers m (first + 1) in omega (arith, none, some)
       leads on (x ∷ y ∷ ks) one are below some = absurd (omega (arith, one))

@@ -4,8 +4,9 @@ use Rattle.std.proofs.lemmas.List.{append-nil, map-append, get_or_append_left, g
 use Rattle.std.proofs.lemmas.Option.{get_or_from_slice_get, slice_get_within}
 use Rattle.ipx_router.specs.Relays.{Sent}
 use Rattle.ipx_router.specs.declared.outcome.Outcome.{Outcome}
-use Rattle.ipx_internet.specs.Listed.{sent_at, bytes_in, copy_in, IsIn, AreKept, into_odd, outbox_of, source_in, child, hearers, listed_from, Listing, copy_at, waits_next, receivers_by, children_by, GoesOn, IsCut}
-use Rattle.ipx_internet.specs.Stations.{place_of}
+use Rattle.ipx_internet.specs.Batches.{sent_at}
+use Rattle.ipx_internet.specs.Listed.{bytes_in, copy_in, IsIn, AreKept, into_odd, outbox_of, source_in, child, listed_from, Listing, copy_at, waits_next, receivers_by, children_by, GoesOn, IsCut}
+use Rattle.ipx_internet.specs.Stations.{place_of, hearers}
 use Rattle.ipx_internet.specs.Traced.{outcome_of}
 use Rattle.ipx_internet.specs.Tree.{Router, Copy, sent_on}
 use Rattle.ipx_internet.specs.declared.fault.TraceFault.{TraceFault}
@@ -39,7 +40,8 @@ module _ (first : List ℕ) (even odd more_even more_odd : List Sent) where
   same_copies (l ∷ list) kept = ap₂ (λ (c : Copy) (cs : List Copy). c ∷ cs) (same_copy l kept.0) (same_copies list kept.1)
 
   pub still_kept : (list : List Listed) → AreKept even odd list → AreKept (even ++ more_even) (odd ++ more_odd) list
-  still_kept list kept = all_then (λ l. IsIn even odd l.source) (λ l. IsIn (even ++ more_even) (odd ++ more_odd) l.source) (λ l there. in_more l.source there) list kept
+  still_kept list kept = all_then (λ l. IsIn even odd l.source) (λ l. IsIn (even ++ more_even) (odd ++ more_odd) l.source)
+      (λ l there. in_more l.source there) list kept
 
 -- ---- the receptions of packets, where their bytes are known to stand
 
@@ -51,7 +53,8 @@ module _ (first : List ℕ) (even odd : List Sent) (r : Router) (stations : List
 
   behind_one : (number : ℕ) (s : Sent) (sents : List Sent) → Stand number (s ∷ sents) → Stand (number + 1) sents
   behind_one number s sents stand = record {
-    there = λ i t at. let e : number + suc i ≡ number + 1 + i = omega arith in subst (λ (n : ℕ). IsIn even odd (source_in parent.odd n)) e (stand.there (suc i) t at);
+    there = λ i t at. let e : number + suc i ≡ number + 1 + i = omega arith in
+        subst (λ (n : ℕ). IsIn even odd (source_in parent.odd n)) e (stand.there (suc i) t at);
     bytes = λ i t at. let e : number + suc i ≡ number + 1 + i = omega arith in
         subst (λ (n : ℕ). bytes_in first even odd (source_in parent.odd n) ≡ t.bytes) e (stand.bytes (suc i) t at);
   }
@@ -87,7 +90,8 @@ module _ (first : List ℕ) (even odd : List Sent) (r : Router) (stations : List
   new_kept [] number stand = tt
   new_kept (s ∷ sents) number stand =
       let zero_more : number + 0 ≡ number = omega arith in
-      all-append (λ l. IsIn even odd l.source) (map (child parent number) (hearers stations r.ports parent.router s)) (listed_from stations r.ports parent (number + 1) sents)
+      all-append (λ l. IsIn even odd l.source) (map (child parent number) (hearers stations r.ports parent.router s))
+      (listed_from stations r.ports parent (number + 1) sents)
       (kept_one number (subst (λ (n : ℕ). IsIn even odd (source_in parent.odd n)) zero_more (stand.there 0 s refl)) (hearers stations r.ports parent.router s))
       (new_kept sents (number + 1) (behind_one number s sents stand))
 
@@ -229,11 +233,13 @@ module _ (first : List ℕ) (even odd : List Sent) (list : List Listed) (outcome
           let c = length-map new (copy_in first even2 odd2) in
           let d : length (map (copy_in first even2 odd2) new) ≡ length (children_by r stations (length old.outcomes) (waits_next old)) =
           ap (λ (cs : List Copy). length cs) (after.copies_new ∙ children_are) in
-          cut_more limit (length list + length new) (length old.copies + length (children_by r stations (length old.outcomes) (waits_next old))) fault (omega (arith, a, b, c, d)) was
+          cut_more limit (length list + length new) (length old.copies + length (children_by r stations (length old.outcomes) (waits_next old))) fault
+          (omega (arith, a, b, c, d)) was
 
       module _ (list2 : List Listed) (listed : list2 ≡ list ++ new) where
         pub kept_all : AreKept even2 odd2 list2
-        kept_all = subst (λ (ls : List Listed). AreKept even2 odd2 ls) (sym listed) (all-append (λ l. IsIn even2 odd2 l.source) list new after.kept_old after.kept_new)
+        kept_all = subst (λ (ls : List Listed). AreKept even2 odd2 ls) (sym listed)
+            (all-append (λ l. IsIn even2 odd2 l.source) list new after.kept_old after.kept_new)
 
         pub few_all : (limit : ℕ) → (length list ≤ limit → length list2 ≤ limit) → length old.copies ≤ limit → length (map (copy_in first even2 odd2) list2) ≤ limit
         few_all limit few here =

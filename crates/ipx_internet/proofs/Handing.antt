@@ -79,11 +79,13 @@ module _ (most_routes most_services : ℕ) (routers : List State) (front back : 
 -- ---- what is kept
 
 module _ (most_routes most_services : ℕ) (routers after : List State) (list : List Station) (front back later : List Delivery) (done : ℕ) where
-  pub still_simulated : AreRouters most_routes most_services after list → net_among after ≡ net_among routers → AllByRecursion (IsComing (net_among routers)) (drop done front)
+  pub still_simulated : AreRouters most_routes most_services after list → net_among after ≡ net_among routers
+      → AllByRecursion (IsComing (net_among routers)) (drop done front)
       → AllByRecursion (IsComing (net_among routers)) later → done ≤ length front → IsSimulated most_routes most_services after list front done later
   still_simulated are same coming more within = record {
     sound = are;
-    coming = subst (λ (n : Internet). AllByRecursion (IsComing n) (drop done front ++ later)) (sym same) (all-append (IsComing (net_among routers)) (drop done front) later coming more);
+    coming = subst (λ (n : Internet). AllByRecursion (IsComing n) (drop done front ++ later)) (sym same)
+        (all-append (IsComing (net_among routers)) (drop done front) later coming more);
     within = within;
   }
 
@@ -102,4 +104,5 @@ pub at_moment : (most_routes most_services : ℕ) (m n o : Moment) → m ≡ n
     → ((q : Queued) → StandsFor most_routes most_services m q → StandsFor most_routes most_services o (settled_one (net_at m) most_routes most_services q))
     → (q : Queued) → StandsFor most_routes most_services n q → StandsFor most_routes most_services o (settled_one (net_at n) most_routes most_services q)
 at_moment most_routes most_services m n o is step =
-    subst (λ (x : Moment). (q : Queued) → StandsFor most_routes most_services x q → StandsFor most_routes most_services o (settled_one (net_at x) most_routes most_services q)) is step
+    subst (λ (x : Moment). (q : Queued) → StandsFor most_routes most_services x q
+    → StandsFor most_routes most_services o (settled_one (net_at x) most_routes most_services q)) is step

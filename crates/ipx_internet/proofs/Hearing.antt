@@ -37,7 +37,8 @@ no_more_pass p (x ∷ xs) =
       | inr e ↦ rw e (omega (arith, rest))
     ]
 
-module _ (net : Internet) (list : List Station) (of : AreOf net list) (from : Place) (link : Node) (network : Network) (is : network.0 ≡ (network_of net from).0) where
+module _ (net : Internet) (list : List Station) (of : AreOf net list) (from : Place) (link : Node) (network : Network)
+    (is : network.0 ≡ (network_of net from).0) where
   reordered : (a b c : Bool) → ((a && b) && c) ≡ (b && (a && c))
   reordered a b c = elim (cases_Bool a) [
     | inl e ↦ elim (cases_Bool b) [ inl f ↦ rw (e, f) refl | inr f ↦ rw (e, f) refl ]
@@ -55,7 +56,8 @@ module _ (net : Internet) (list : List Station) (of : AreOf net list) (from : Pl
   pub heard : map place_of (filter (hears from.router link) (stations_on list network)) ≡ delivered net from link
   heard =
       ap (λ ss. map place_of (filter (hears from.router link) ss)) (of.each network)
-      ∙ passes_both (station_at net) place_of (λ place. (network_of net place).0 == network.0) (receives net from link) (hears from.router link) (λ place. refl) received
+      ∙ passes_both (station_at net) place_of (λ place. (network_of net place).0 == network.0) (receives net from link)
+      (hears from.router link) (λ place. refl) received
       (places net)
 
   -- as many as may be on one network

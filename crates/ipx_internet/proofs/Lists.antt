@@ -168,8 +168,10 @@ module _ {X : Type 0} where
 
   pub differ-map : {Y : Type 0} (f : X → Y) → ((a b : X) → f a ≡ f b → a ≡ b) → (xs : List X) → AreDifferent xs → AreDifferent (map f xs)
   differ-map f injective [] differ = tt
-  differ-map f injective (x ∷ xs) differ =
-      (all_mapped (λ y. y ≢ f x) f xs (all_then (λ y. y ≢ x) (λ y. f y ≢ f x) (λ y other same. other (injective y x same)) xs differ.0), differ-map f injective xs differ.1)
+  differ-map f injective (x ∷ xs) differ = (
+    all_mapped (λ y. y ≢ f x) f xs (all_then (λ y. y ≢ x) (λ y. f y ≢ f x) (λ y other same. other (injective y x same)) xs differ.0),
+    differ-map f injective xs differ.1,
+  )
 
   -- elements whose images differ do
   pub differ-unmap : {Y : Type 0} (f : X → Y) (xs : List X) → AreDifferent (map f xs) → AreDifferent xs

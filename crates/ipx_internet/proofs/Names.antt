@@ -116,7 +116,8 @@ module _ (net : Internet) (router : ℕ) (origin : Sent → Option Sending) wher
     names_differ sents differ =
         subst (λ (ns : List Name). AreDifferent ns) (sym (names_in_pieces sents))
         (differ-flat_map (λ s. Unit {0}) (λ n. n.sending.sent) (λ s. names_waiting (waits s))
-        (λ s. subst (λ (ns : List Name). AllByRecursion (λ n. n.sending.sent ≡ s) ns) (sym (names_of s (delivered net (record { router = router; port = s.port }) s.link)))
+        (λ s. subst (λ (ns : List Name). AllByRecursion (λ n. n.sending.sent ≡ s) ns)
+        (sym (names_of s (delivered net (record { router = router; port = s.port }) s.link)))
         (all_mapped (λ n. n.sending.sent ≡ s) (name s) (delivered net (record { router = router; port = s.port }) s.link)
         (same s (delivered net (record { router = router; port = s.port }) s.link))))
         (λ s one. subst (λ (ns : List Name). AreDifferent ns) (sym (names_of s (delivered net (record { router = router; port = s.port }) s.link)))

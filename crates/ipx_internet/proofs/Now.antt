@@ -42,7 +42,8 @@ module _ (most_routes most_services : ℕ) (m : Moment) (q : Queued) (stands : S
   one : (k : ℕ) (s : State) → slice_get m.routers k ≡ Some s → router_of s ≡ now k
   one k s there =
       let ports : ports_of (net_at m) k ≡ s.ports =
-      get_or-map (λ (s : State). s.ports) m.routers k s [] (slice_get_within m.routers k s there) ∙ ap (λ (s : State). s.ports) (get_or_from_slice_get m.routers k s s there) in
+      get_or-map (λ (s : State). s.ports) m.routers k s [] (slice_get_within m.routers k s there)
+      ∙ ap (λ (s : State). s.ports) (get_or_from_slice_get m.routers k s s there) in
       stands_now most_routes most_services s (history_of q.histories k) (stands.routers k s there)
       ∙ ap (λ (ports : List Port). router_now ports most_routes (history_of q.histories k)) (sym ports)
 
@@ -50,7 +51,8 @@ module _ (most_routes most_services : ℕ) (m : Moment) (q : Queued) (stands : S
       → routers_of states ≡ map f (numbers (length states))
   mapped f [] at = refl
   mapped f (s ∷ states) at =
-      ap₂ (λ (y : Router) (ys : List Router). y ∷ ys) (at 0 s refl) (mapped (λ n. f (suc n)) states (λ k t there. at (suc k) t there) ∙ sym (joint f (numbers (length states))))
+      ap₂ (λ (y : Router) (ys : List Router). y ∷ ys) (at 0 s refl) (mapped (λ n. f (suc n)) states (λ k t there. at (suc k) t there)
+      ∙ sym (joint f (numbers (length states))))
       ∙ ap (λ (ns : List ℕ). map f ns) (sym (numbers_front (length states)))
 
   pub after_histories : routers_of m.routers ≡ routers_after (net_at m) most_routes q.histories

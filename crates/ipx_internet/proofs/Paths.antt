@@ -72,8 +72,10 @@ module _ (w : Wire) (net : Internet) (is : IsInternet net) (log : List Reception
       let next : Parts = propagated came (goes_to s) p in
       let rest : Fresh place next (networks ++ came ∷ []) path =
       fresh on next (networks ++ came ∷ []) (received w net is log whole place s p within origin forward there.0 spread, at.1)
-      (λ small. w.crossed_again p networks came (goes_to s) (crossed free) small (is_network w net is log whole (reception_at log s.place).to (whole.within s.place forward.there))) in
-      let arrived : network_at place ≡ goes_to s = (receives_is net (outlet log s) s.sent.link (reception_at log place).to (whole.origins place s within origin).delivered).network in
+      (λ small. w.crossed_again p networks came (goes_to s) (crossed free) small
+      (is_network w net is log whole (reception_at log s.place).to (whole.within s.place forward.there))) in
+      let arrived : network_at place ≡ goes_to s = (receives_is net (outlet log s) s.sent.link (reception_at log place).to
+      (whole.origins place s within origin).delivered).network in
       let few = rest.few in
       record {
         new = (
@@ -138,7 +140,8 @@ module _ (w : Wire) (net : Internet) (is : IsInternet net) (log : List Reception
         let visits = no_more_than (λ n. n.0) same_number (visited net log start (s ∷ path)) networks (no_network_twice (s ∷ path) leads) (
           listed (reception_at log start).to (whole.within start within),
           all_mapped (λ n. is_among n networks ≡ true) goes_to (s ∷ path)
-              (all_then (λ t. IsPlace net (outlet log t)) (λ t. is_among (goes_to t) networks ≡ true) (λ t there. listed (outlet log t) there) (s ∷ path) (on_ports leads)),
+              (all_then (λ t. IsPlace net (outlet log t)) (λ t. is_among (goes_to t) networks ≡ true) (λ t there. listed (outlet log t) there)
+              (s ∷ path) (on_ports leads)),
         ) in
         let counted : length (visited net log start (s ∷ path)) ≡ length (s ∷ path) + 1 = more (s ∷ path) in
         omega (arith, visits, counted)

@@ -21,7 +21,8 @@ module _ (net : Internet) (most_routes most_services : ℕ) where
   without_all place router event origin_of (s ∷ sents) =
       let here : List Waiting = map (λ d. record { delivery = d; origin = origin_of s }) (deliveries_of net router s) in
       let behind : List Waiting = flat_map (λ t. map (λ d. record { delivery = d; origin = origin_of t }) (deliveries_of net router t)) sents in
-      map-append (λ (w : Waiting). w.delivery) here behind ∙ ap (λ (ds : List Delivery). ds ++ map (λ (w : Waiting). w.delivery) behind) (without (origin_of s) (deliveries_of net router s))
+      map-append (λ (w : Waiting). w.delivery) here behind
+      ∙ ap (λ (ds : List Delivery). ds ++ map (λ (w : Waiting). w.delivery) behind) (without (origin_of s) (deliveries_of net router s))
       ∙ ap (λ (ds : List Delivery). deliveries_of net router s ++ ds) (without_all place router event origin_of sents)
 
   pub events : (run : Run) (router : ℕ) (event : Event) (origin : Option Sending)

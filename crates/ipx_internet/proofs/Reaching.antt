@@ -106,7 +106,8 @@ module _ (routers : List Router) where
       }
 
       -- where nothing waits it is the tree
-      pub ends : (l : Listing) → IsListed routers root l → length l.copies ≤ length l.outcomes → (l.copies ≡ tree routers root) × (l.outcomes ≡ map (outcome_at routers) (tree routers root))
+      pub ends : (l : Listing) → IsListed routers root l → length l.copies ≤ length l.outcomes → (l.copies ≡ tree routers root)
+          × (l.outcomes ≡ map (outcome_at routers) (tree routers root))
       ends l listed none =
           let a : length l.copies ≡ length (listed.done ++ listed.waiting) = ap (λ cs. length cs) listed.copies in
           let b = length-append listed.done listed.waiting in
@@ -143,7 +144,8 @@ module _ (routers : List Router) where
       (forwards routers c) (all_of (λ s. Unit {0}) (λ s. tt) (forwards routers c))
 
   -- one step more
-  module _ (root : Copy) (is : IsTree routers root (tree routers root)) (l : Listing) (listed : IsListed routers root l) (waits : length l.outcomes < length l.copies) where
+  module _ (root : Copy) (is : IsTree routers root (tree routers root)) (l : Listing) (listed : IsListed routers root l)
+      (waits : length l.outcomes < length l.copies) where
     abbrev c : Copy
     c = waits_next l
 

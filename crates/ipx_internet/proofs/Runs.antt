@@ -79,7 +79,8 @@ module _ (net : Internet) where
                 };
           })
           (deliveries_of net router s)
-          (all-map (λ to. IsPlace net to × (receives net from s.link to ≡ true)) (λ d. IsPlace net d.to × (receives net from s.link d.to ≡ true) × (d.bytes ≡ s.bytes))
+          (all-map (λ to. IsPlace net to × (receives net from s.link to ≡ true))
+          (λ d. IsPlace net d.to × (receives net from s.link d.to ≡ true) × (d.bytes ≡ s.bytes))
           (λ to. record { to = to; bytes = s.bytes }) (λ to there. (there.0, there.1, refl)) (delivered net from s.link) (delivered_within net from s.link))
 
   -- ---- what was received
@@ -169,8 +170,10 @@ module _ (net : Internet) where
     | inl e ↦
         let H : History → Type 0 = λ h. AllByRecursion P h in
         let now : history_of (with_event histories router event) other ≡ history_of histories router ++ event ∷ [] =
-        ap (λ (k : ℕ). history_of (with_event histories router event) k) e ∙ get_or-set_same histories router (history_of histories router ++ event ∷ []) [] within in
-        subst H (sym now) (all-append P (history_of histories router) (event ∷ []) (subst (λ (k : ℕ). AllByRecursion P (history_of histories k)) e all) (one (sym e), tt))
+        ap (λ (k : ℕ). history_of (with_event histories router event) k) e
+        ∙ get_or-set_same histories router (history_of histories router ++ event ∷ []) [] within in
+        subst H (sym now) (all-append P (history_of histories router) (event ∷ [])
+        (subst (λ (k : ℕ). AllByRecursion P (history_of histories k)) e all) (one (sym e), tt))
     | inr off ↦
         let H : History → Type 0 = λ h. AllByRecursion P h in
         subst H (sym (get_or-set_other histories router other (history_of histories router ++ event ∷ []) [] off)) all
@@ -297,7 +300,11 @@ module _ (net : Internet) where
     joined : (forward : Sent → Option Sending) → AllByRecursion (IsSent after router forward) sent_for_it
         → ((s : Sent) (x : Sending) → forward s ≡ Some x → x.place ≡ length log) → AreDifferent (names_waiting (flat_map (waits net router forward) sent_for_it))
         → AreDifferent (names log ++ (named origin to ++ names_waiting rest))
-        → Good (record { histories = with_event histories router (Packet number bytes); waiting = rest ++ flat_map (waits net router forward) sent_for_it; log = after })
+        → Good (record {
+          histories = with_event histories router (Packet number bytes);
+          waiting = rest ++ flat_map (waits net router forward) sent_for_it;
+          log = after;
+        })
     joined forward each at_end apart differ = record {
       histories = histories_more histories router (Packet number bytes) are within on are_bytes;
       sound = sound_more log arrived sound arrived_sound;
@@ -314,10 +321,15 @@ module _ (net : Internet) where
 
     -- a packet for the router itself
     kept : (forward : Sent → Option Sending) → ((s : Sent) → forward s ≡ None) → AreDifferent (names log ++ (named origin to ++ names_waiting rest))
-        → Good (record { histories = with_event histories router (Packet number bytes); waiting = rest ++ flat_map (waits net router forward) sent_for_it; log = after })
+        → Good (record {
+          histories = with_event histories router (Packet number bytes);
+          waiting = rest ++ flat_map (waits net router forward) sent_for_it;
+          log = after;
+        })
     kept forward none differ =
         joined forward
-        (all_then (λ s. IsBytes s.bytes) (IsSent after router forward) (λ s b. record { bytes = b; forward = λ x e. nothing (sym (none s) ∙ e) }) sent_for_it packet_bytes)
+        (all_then (λ s. IsBytes s.bytes) (IsSent after router forward)
+        (λ s b. record { bytes = b; forward = λ x e. nothing (sym (none s) ∙ e) }) sent_for_it packet_bytes)
         (λ s x e. nothing (sym (none s) ∙ e)) (unnamed router forward none sent_for_it) differ
 
     abbrev here : Sent → Sending
@@ -338,7 +350,11 @@ module _ (net : Internet) where
     sent_on : (forward : Sent → Option Sending) → ((s : Sent) → forward s ≡ Some (here s))
         → AreForwards (ports_of net router) arrived.up arrived.routes (running history) number bytes sent_for_it
         → AreDifferent (names log ++ (named origin to ++ names_waiting rest))
-        → Good (record { histories = with_event histories router (Packet number bytes); waiting = rest ++ flat_map (waits net router forward) sent_for_it; log = after })
+        → Good (record {
+          histories = with_event histories router (Packet number bytes);
+          waiting = rest ++ flat_map (waits net router forward) sent_for_it;
+          log = after;
+        })
     sent_on forward is_here forwards differ =
         joined forward (both sent_for_it packet_bytes forwards.each)
         (λ s x e. it_is (λ (y : Sending). y.place ≡ length log) x (here s) (sym (is_here s) ∙ e) refl)
@@ -352,7 +368,8 @@ module _ (net : Internet) where
           record {
             bytes = bs.0;
             forward = λ x e.
-                it_is (λ (y : Sending). IsForward net after y × (outlet after y ≡ record { router = router; port = s.port }) × (y.sent ≡ s)) x (here s) (sym (is_here s) ∙ e)
+                it_is (λ (y : Sending). IsForward net after y × (outlet after y ≡ record { router = router; port = s.port }) × (y.sent ≡ s))
+                x (here s) (sym (is_here s) ∙ e)
                 (is_forward s rs.0.0 rs.0.1, ap (λ (r : Reception). by r.to.router s.port) (reception_last log arrived), refl);
           },
           both ss bs.1 rs.1,
@@ -394,13 +411,17 @@ module _ (net : Internet) where
     happens_well run good router Stop within on bytes =
         unreceived laws is most_routes most_services run.histories run.log run.waiting good.histories good.sound good.waiting router Stop within on bytes good.names
     happens_well run good router Second within on bytes =
-        unreceived laws is most_routes most_services run.histories run.log run.waiting good.histories good.sound good.waiting router Second within on bytes good.names
+        unreceived laws is most_routes most_services run.histories run.log run.waiting good.histories good.sound good.waiting router
+        Second within on bytes good.names
     happens_well run good router (PortDown number) within on bytes =
-        unreceived laws is most_routes most_services run.histories run.log run.waiting good.histories good.sound good.waiting router (PortDown number) within on bytes good.names
+        unreceived laws is most_routes most_services run.histories run.log run.waiting good.histories good.sound good.waiting router
+        (PortDown number) within on bytes good.names
     happens_well run good router (PortUp number) within on bytes =
-        unreceived laws is most_routes most_services run.histories run.log run.waiting good.histories good.sound good.waiting router (PortUp number) within on bytes good.names
+        unreceived laws is most_routes most_services run.histories run.log run.waiting good.histories good.sound good.waiting router
+        (PortUp number) within on bytes good.names
     happens_well run good router (Packet number bytes) within on are_bytes =
-        received_well laws is most_routes most_services run.histories run.log run.waiting good.histories good.sound good.waiting router number bytes within on are_bytes
+        received_well laws is most_routes most_services run.histories run.log run.waiting good.histories good.sound good.waiting
+        router number bytes within on are_bytes
         None (λ s e. nothing e) good.names
 
     -- a delivery

@@ -31,7 +31,8 @@ pub record Routing : Type 0 where
   pub ups : (ports : List Port) (history : History) → IsStrictlyIncreasing (ports_up ports history) × AllByRecursion (λ j. j < length ports) (ports_up ports history)
   pub of_a_table : (ports : List Port) (capacity : ℕ) (history : History) → AllByRecursion (IsOnPort ports) history
       → AllByRecursion (IsTableRoute ports) (offers (routes_held ports capacity history))
-  pub routes_up : (ports : List Port) (capacity : ℕ) (history : History) → AllByRecursion (λ r. is_up (ports_up ports history) r.port ≡ true) (offers (routes_held ports capacity history))
+  pub routes_up : (ports : List Port) (capacity : ℕ) (history : History)
+      → AllByRecursion (λ r. is_up (ports_up ports history) r.port ≡ true) (offers (routes_held ports capacity history))
   pub sent_bytes : (ports : List Port) (most_routes most_services : ℕ) (history : History) (event : Event)
       → AllByRecursion IsPort ports → AllByRecursion (IsOnPort ports) (history ++ event ∷ []) → AllByRecursion IsOfBytes (history ++ event ∷ [])
       → AllByRecursion (λ s. IsBytes s.bytes) (sends ports most_routes most_services history event)
@@ -46,7 +47,8 @@ module _ (ports : List Port) (number : ℕ) (bytes : List ℕ) where
     | inl all ↦ rw all refl
     | inr far ↦
         and_right (not (is_propagated p.header)) (is_local (port_at ports number) p.header.destination.network)
-        (not-true (is_local (port_at ports number) p.header.destination.network) (and_parts (not (is_propagated p.header)) (not (is_local (port_at ports number) p.header.destination.network)) far).1)
+        (not-true (is_local (port_at ports number) p.header.destination.network)
+        (and_parts (not (is_propagated p.header)) (not (is_local (port_at ports number) p.header.destination.network)) far).1)
   ]
 
   -- what is heard, by what the checks and the reader say
@@ -75,13 +77,15 @@ module _ (ports : List Port) (number : ℕ) (bytes : List ℕ) where
   -- so what is sent is what is listed of it, if no check drops it
   pub sends_on : (before after : Holding) (runs : Bool) (p : Parts) → packet_of bytes ≡ Ok p → goes_on p ≡ true
       → (packet_sends ports before after runs number bytes ≡ [])
-      ⊎ ((why ports before.up before.routes runs number bytes ≡ None) × (packet_sends ports before after runs number bytes ≡ relayed ports before.up before.routes number p))
+      ⊎ ((why ports before.up before.routes runs number bytes ≡ None)
+      × (packet_sends ports before after runs number bytes ≡ relayed ports before.up before.routes number p))
   sends_on before after runs p read on =
       by (why ports before.up before.routes runs number bytes) (heard ports before.up runs number bytes) (packet_of bytes) refl
       (unheard before.up runs p read on) read
     where
       by : (o : Option Why) (h : Option Heard) (r : Result Parts PacketFault) → why ports before.up before.routes runs number bytes ≡ o → h ≡ None → r ≡ Ok p
-          → (answer before after o h r ≡ []) ⊎ ((why ports before.up before.routes runs number bytes ≡ None) × (answer before after o h r ≡ relayed ports before.up before.routes number p))
+          → (answer before after o h r ≡ []) ⊎ ((why ports before.up before.routes runs number bytes ≡ None)
+          × (answer before after o h r ≡ relayed ports before.up before.routes number p))
       by (Some reason) h r dropped none read = inl refl
       by None h r passed none read = inr (passed, rw none (rw read refl))
 

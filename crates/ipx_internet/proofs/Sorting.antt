@@ -1,5 +1,5 @@
 -- Lists that stand by a number: where the elements of one number stand, and what an insert behind them changes.
-use Rattle.std.proofs.Common.{◌≡◌, refl, sym, ap, ◌∙◌, ℕ, zero, suc, ◌+◌, ◌-◌, ◌<◌, ◌≤◌, ◌==◌, Bool, true, false, if◌then◌else◌, List, [], ◌∷◌, ◌++◌, length, filter, take, drop, get_or, inl, inr, arith, leb, ltb, append-nil}
+use Rattle.std.proofs.Common.{◌≡◌, refl, sym, ap, ◌∙◌, ℕ, zero, suc, ◌+◌, ◌-◌, ◌<◌, ◌≤◌, ◌==◌, Bool, true, false, if◌then◌else◌, List, [], ◌∷◌, ◌++◌, length, filter, take, drop, get_or, ◌⊎◌, inl, inr, arith, leb, ltb, append-nil, length-append, subst}
 use Rattle.std.specs.List.{insert}
 use Rattle.std.specs.List.Sorted.{IsPartitionPoint, IsNonDecreasingBy}
 use Rattle.std.proofs.lemmas.Bool.{cases_lt, cases_eq, eq-eqb, ne_eqb, ltb-true, ltb-false, leb-true, leb-false}
@@ -122,4 +122,19 @@ module _ {X : Type 0} (key : X → ℕ) (xs : List X) (place : ℕ) (y : X) (poi
   still_few old new more few last n = elim (cases_eq (key y) n) [
     | inl e ↦ rw (sym e) last
     | inr other ↦ let before = few n in rw (put_aside n (ne_eqb (key y) n other)) (omega (arith, before, more))
+  ]
+
+  -- some number still has that many: the same as before, or that of the insert
+  pub still_full : (old new fullest : ℕ) → length (filter (λ x. key x == fullest) xs) ≡ old
+      → length (filter (λ x. key x == key y) (insert xs place y)) ≤ new
+      → (new ≡ old) ⊎ (new ≡ length (filter (λ x. key x == key y) (insert xs place y)))
+      → (n : ℕ) × (length (filter (λ x. key x == n) (insert xs place y)) ≡ new)
+  still_full old new fullest full last (inr is) = (key y, sym is)
+  still_full old new fullest full last (inl is) = elim (cases_eq (key y) fullest) [
+    | inl same ↦
+        let before : length (filter (λ x. key x == key y) xs) ≡ old = subst (λ n. length (filter (λ x. key x == n) xs) ≡ old) (sym same) full in
+        let more = ap (λ ys. length ys) put_last in
+        let one = length-append (filter (λ x. key x == key y) xs) (y ∷ []) in
+        absurd (omega (arith, before, more, one, last, is))
+    | inr other ↦ (fullest, ap (λ ys. length ys) (put_aside fullest (ne_eqb (key y) fullest other)) ∙ full ∙ sym is)
   ]

@@ -104,8 +104,11 @@ module _ (w : Wire) (laws : Relaying) (over : SentOn) (routers : List Router) (m
     forwards_few (s ∷ ss) all_spread differ =
         let ports : List ℕ = map (λ s. s.port) (s ∷ ss) in
         let counted =
-        no_more_than (λ n. n) (λ a b e. e) (c.to.port ∷ ports) (numbers (length r.ports))
-        (all_mapped (λ j. j ≢ c.to.port) (λ s. s.port) (s ∷ ss) (all_then (SpreadBy r c.to.port p) (λ s. s.port ≢ c.to.port) (λ s f. f.other) (s ∷ ss) all_spread), differ) (
+        no_more_than (λ n. n) (λ a b e. e) (c.to.port ∷ ports) (numbers (length r.ports)) (
+          all_mapped (λ j. j ≢ c.to.port) (λ s. s.port) (s ∷ ss)
+              (all_then (SpreadBy r c.to.port p) (λ s. s.port ≢ c.to.port) (λ s f. f.other) (s ∷ ss) all_spread),
+          differ,
+        ) (
           is_number c.to.port (length r.ports) (port_there c.to.port all_spread.0.comes_up),
           all_mapped (λ j. list_any (λ y. y == j) (numbers (length r.ports)) ≡ true) (λ s. s.port) (s ∷ ss)
               (all_then (SpreadBy r c.to.port p) (λ s. list_any (λ y. y == s.port) (numbers (length r.ports)) ≡ true)
@@ -149,7 +152,8 @@ module _ (w : Wire) (laws : Relaying) (over : SentOn) (routers : List Router) (m
         let N : List Port → Type 0 = λ ports. IsNetwork (port_at ports s.port).network in
         let number_of : IsNetwork goes = subst N (ports_same routers c.to.router) (place_network net made from (place_there s.port f.leaves_up)) in
         let P : List ℕ → Type 0 = λ b. IsPacket b (propagated came goes p) in
-        let read : IsPacket s.bytes (propagated came goes p) = subst P (sym f.written) (read_propagated w c.bytes p live.is came goes f.networks f.crossed number_of) in
+        let read : IsPacket s.bytes (propagated came goes p) =
+        subst P (sym f.written) (read_propagated w c.bytes p live.is came goes f.networks f.crossed number_of) in
         let B : List ℕ → Type 0 = λ b. IsBytes b in
         let are : IsBytes s.bytes = subst B (sym f.written) (propagated_bytes over c.bytes p live.bytes live.is came goes f.networks f.crossed) in
         let old = live.old in
@@ -166,7 +170,8 @@ module _ (w : Wire) (laws : Relaying) (over : SentOn) (routers : List Router) (m
       let counted = length-append level (joined (levels routers m (first + length level) next)) in
       let none = next_few routers 0 first level (all_then (IsLive k) (λ c. (number : ℕ) → length (children routers number c) ≤ 0)
       (λ c is. no_children k c is (omega (arith, enough))) level live) in
-      let rest = size m zero (k + 1) (first + length level) next (omega (arith, enough)) (next_all routers (IsLive k) (IsLive (k + 1)) (λ c number is. children_live k c is number) first level live) in
+      let rest = size m zero (k + 1) (first + length level) next (omega (arith, enough))
+      (next_all routers (IsLive k) (IsLive (k + 1)) (λ c number is. children_live k c is number) first level live) in
       let a : length level * 0 ≡ 0 = mul-zero (length level) in
       let b : length next * 1 ≡ length next = mul-one (length next) in
       let d : length level * 1 ≡ length level = mul-one (length level) in
@@ -176,7 +181,8 @@ module _ (w : Wire) (laws : Relaying) (over : SentOn) (routers : List Router) (m
       let counted = length-append level (joined (levels routers m (first + length level) next)) in
       let few = next_few routers degree first level (all_then (IsLive k) (λ c. (number : ℕ) → length (children routers number c) ≤ degree)
       (λ c is. children_few k c is) level live) in
-      let rest = size m n (k + 1) (first + length level) next (omega (arith, enough)) (next_all routers (IsLive k) (IsLive (k + 1)) (λ c number is. children_live k c is number) first level live) in
+      let rest = size m n (k + 1) (first + length level) next (omega (arith, enough))
+      (next_all routers (IsLive k) (IsLive (k + 1)) (λ c number is. children_live k c is number) first level live) in
       let product = mul-le-mul_right (most_of degree n) few in
       let behind : length (joined (levels routers m (first + length level) next)) ≤ (length level * degree) * most_of degree n = omega (arith, rest, product) in
       let all_of_it = grown (length level) degree (most_of degree n) (length (joined (levels routers m (first + length level) next))) behind in
@@ -187,5 +193,6 @@ module _ (w : Wire) (laws : Relaying) (over : SentOn) (routers : List Router) (m
   all_networks c p n bytes packet propagates =
       let bound = size n (crossed_places - p.header.control) p.header.control 0 (c ∷ []) (omega arith)
       (record { packet = p; bytes = bytes; is = packet; all = propagates; old = omega arith }, tt) in
-      let one : 1 * most_of degree (crossed_places - p.header.control) ≡ most_of degree (crossed_places - p.header.control) = one-mul (most_of degree (crossed_places - p.header.control)) in
+      let one : 1 * most_of degree (crossed_places - p.header.control) ≡ most_of degree (crossed_places - p.header.control) =
+      one-mul (most_of degree (crossed_places - p.header.control)) in
       omega (arith, bound, one)

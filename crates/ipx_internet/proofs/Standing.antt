@@ -13,13 +13,13 @@ use Rattle.ipx_router.specs.RouterOf.{HasPast}
 use Rattle.ipx_router.specs.Sends.{sends}
 use Rattle.ipx_router.specs.Stands.{State, StandsFor as RouterStandsFor}
 use Rattle.ipx_router.specs.declared.outcome.Outcome.{Outcome}
-use Rattle.ipx_internet.specs.Batches.{heard, hearing, reaching}
+use Rattle.ipx_internet.specs.Batches.{heard, reaching}
 use Rattle.ipx_internet.specs.Delivery.{receives, delivered}
 use Rattle.ipx_internet.specs.Internet.{Internet, Place, IsInternet, NodesDiffer, IsPlace, ports_of}
 use Rattle.ipx_internet.specs.Moment.{StandsFor}
 use Rattle.ipx_internet.specs.Queue.{Delivery, Queued, deliveries_of, history_of, queued}
 use Rattle.ipx_internet.specs.Simulated.{moment, net_among, IsComing, AreRouters}
-use Rattle.ipx_internet.specs.Stations.{AreOf, place_of}
+use Rattle.ipx_internet.specs.Stations.{AreOf, place_of, hearers}
 use Rattle.ipx_internet.specs.declared.stations.Station.{Station}
 use Rattle.ipx_internet.proofs.Hearing.{heard_at}
 use Rattle.ipx_internet.proofs.Lists.{all_at, all-append, all-map, all-flat_map, all_of}
@@ -66,7 +66,7 @@ at_places s (t ∷ ts) = ap (λ (ds : List Delivery). reaching s t ∷ ds) (at_p
 pub heard_is : (net : Internet) (list : List Station) → AreOf net list → (ports : List Port) (number : ℕ) → ports_of net number ≡ ports
     → (s : Sent) → heard list ports number s ≡ deliveries_of net number s
 heard_is net list of ports number is s =
-    ap (λ (ps : List Port). heard list ps number s) (sym is) ∙ at_places s (hearing list (ports_of net number) number s)
+    ap (λ (ps : List Port). heard list ps number s) (sym is) ∙ at_places s (hearers list (ports_of net number) number s)
     ∙ ap (λ ps. map (λ to. record { to = to; bytes = s.bytes }) ps) (heard_at net list of (record { router = number; port = s.port }) s.link)
 
 -- the ports that receive packets are there
@@ -87,7 +87,8 @@ its_ports routers number s there =
     get_or_from_slice_get (net_among routers) number s.ports []
     (slice_get-map (λ (r : State). r.ports) routers number ∙ ap (λ o. option_map (λ (r : State). r.ports) o) there)
 
-module _ (most_routes most_services : ℕ) (routers : List State) (number : ℕ) (s new : State) (there : slice_get routers number ≡ Some s) (same : new.ports ≡ s.ports) where
+module _ (most_routes most_services : ℕ) (routers : List State) (number : ℕ) (s new : State) (there : slice_get routers number ≡ Some s)
+    (same : new.ports ≡ s.ports) where
   abbrev after : List State
   after = slice_set routers number new
 
@@ -119,7 +120,8 @@ module _ (most_routes most_services : ℕ) (routers : List State) (number : ℕ)
         → later ≡ old ++ flat_map (deliveries_of net number) (sends (ports_of net number) most_routes most_services h event)
     by_ports h stands =
         sent h stands
-        ∙ ap (λ ds. old ++ ds) (flat_map_same (heard list s.ports number) (deliveries_of net number) (heard_is net list of s.ports number (its_ports routers number s there))
+        ∙ ap (λ ds. old ++ ds) (flat_map_same (heard list s.ports number) (deliveries_of net number)
+        (heard_is net list of s.ports number (its_ports routers number s there))
         (sends s.ports most_routes most_services h event))
         ∙ ap (λ (ps : List Port). old ++ flat_map (deliveries_of net number) (sends ps most_routes most_services h event)) (sym (its_ports routers number s there))
 

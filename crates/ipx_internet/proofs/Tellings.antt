@@ -21,7 +21,8 @@ told_copies (c ∷ copies) [] same = absurd (omega (arith, same))
 told_copies (c ∷ copies) (o ∷ outcomes) same = ap (λ (cs : List Copy). c ∷ cs) (told_copies copies outcomes (omega (arith, same)))
 
 -- the one at a place
-pub told_at : (copies : List Copy) (outcomes : List Outcome) (k : ℕ) (c : Copy) (o : Outcome) → k < length copies → copy_at copies k ≡ c → slice_get outcomes k ≡ Some o
+pub told_at : (copies : List Copy) (outcomes : List Outcome) (k : ℕ) (c : Copy) (o : Outcome) → k < length copies → copy_at copies k ≡ c
+    → slice_get outcomes k ≡ Some o
     → slice_get (told copies outcomes) k ≡ Some (record { copy = c; outcome = o })
 told_at [] outcomes k c o within is became = absurd (omega (arith, within))
 told_at (x ∷ copies) [] zero c o within is became = nothing became

@@ -136,7 +136,8 @@ module _ (states : List State) (stations : List Station) (root : Copy) where
             → IsCut limit (length (tree routers root)) fault
         cut limit fault was =
             let short = more_no_longer routers root is l listed waits in
-            let same : length (children_by (router_of state) stations (length l.outcomes) (waits_next l)) ≡ length (children routers (length l.outcomes) (waits_next l)) =
+            let same : length (children_by (router_of state) stations (length l.outcomes) (waits_next l))
+            ≡ length (children routers (length l.outcomes) (waits_next l)) =
             ap (λ (cs : List Copy). length cs) kids in
             cut_more limit (length l.copies + length (children_by (router_of state) stations (length l.outcomes) (waits_next l))) (length (tree routers root)) fault
             (omega (arith, short, same)) was
@@ -150,7 +151,8 @@ module _ (states : List State) (stations : List Station) (root : Copy) where
           grown_bounded =
               let same = sym (nets_same states) in
               subst (λ (cs : List Copy). IsBounded (net_among states) root (length l.outcomes + 1) (l.copies ++ cs)) (sym kids)
-              (subst (λ (net : Internet). IsBounded net root (length l.outcomes + 1) (l.copies ++ children routers (length l.outcomes) (waits_next l))) (nets_same states)
+              (subst (λ (net : Internet). IsBounded net root (length l.outcomes + 1) (l.copies ++ children routers (length l.outcomes) (waits_next l)))
+              (nets_same states)
               (law routers root (waits_next l) l.copies (length l.outcomes) (length l.outcomes)
               (subst (λ (net : Internet). IsInternet net) same made) (subst (λ (net : Internet). NodesDiffer net) same differ) right
               (subst (λ (net : Internet). IsBounded net root (length l.outcomes) l.copies) same bounded)

@@ -183,10 +183,12 @@ module _ (w : Wire) (laws : Relaying) (over : SentOn) (routers : List Router) (m
                 let local : is_local port p.header.destination.network ≡ true =
                 or_right _ (p.header.destination.network.0 == port.network.0) (eq-eqb p.header.destination.network.0 port.network.0 near) in
                 and_left (is_far port p.header) (nat_lt (p.header.control + 1) most_routers)
-                (and_right (not (is_propagated p.header)) (not (is_local port p.header.destination.network)) (not_from_true (is_local port p.header.destination.network) local))
+                (and_right (not (is_propagated p.header)) (not (is_local port p.header.destination.network))
+                (not_from_true (is_local port p.header.destination.network) local))
 
         -- what one router receives by a route
-        routed : length (receivers routers number c s) ≤ 1 → weights net (receivers routers number c s) ≤ (most_routers - (p.header.control + 1)) + most_on_network net
+        routed : length (receivers routers number c s) ≤ 1
+            → weights net (receivers routers number c s) ≤ (most_routers - (p.header.control + 1)) + most_on_network net
         routed single =
             let few = f.few in
             let each = (most_routers - (p.header.control + 1)) + most_on_network net in

@@ -90,7 +90,8 @@ module _ (net : Internet) (ports : List Port) where
 pub wider_net : (routers : List State) (r : State) → net_among (routers ++ r ∷ []) ≡ net_among routers ++ r.ports ∷ []
 wider_net routers r = map-append (λ (s : State). s.ports) routers (r ∷ [])
 
-pub wider_simulated : (most_routes most_services : ℕ) (routers : List State) (r : State) (list new : List Station) (front : List Delivery) (done : ℕ) (back : List Delivery)
+pub wider_simulated : (most_routes most_services : ℕ) (routers : List State) (r : State) (list new : List Station) (front : List Delivery)
+    (done : ℕ) (back : List Delivery)
     → IsSimulated most_routes most_services routers list front done back → (SharesNode (net_among routers) r.ports → ⊥)
     → AllByRecursion IsPort r.ports → AreApart r.ports → HasPast most_routes most_services r → AreOf (net_among routers ++ r.ports ∷ []) new
     → IsSimulated most_routes most_services (routers ++ r ∷ []) new front done back

@@ -1,11 +1,11 @@
 -- What a batch of deliveries is: packets that routers sent, and who receives which of them.
 use Rattle.std.specs.Prelude.{ℕ, ◌<◌, List, [], length, map, slice_index_or}
-use Rattle.std.specs.List.{filter, AllByRecursion}
+use Rattle.std.specs.List.{AllByRecursion}
 use Rattle.ipx_router.specs.Outbox.{Contents}
-use Rattle.ipx_router.specs.Port.{Port, broadcast, port_at}
+use Rattle.ipx_router.specs.Port.{Port, broadcast}
 use Rattle.ipx_router.specs.Relays.{Sent}
 use Rattle.ipx_internet.specs.Queue.{Delivery}
-use Rattle.ipx_internet.specs.Stations.{stations_on, place_of, hears}
+use Rattle.ipx_internet.specs.Stations.{place_of, hearers}
 use Rattle.ipx_internet.specs.declared.batch.Pending.{Pending}
 use Rattle.ipx_internet.specs.declared.batch.Coming.{Coming}
 use Rattle.ipx_internet.specs.declared.stations.Station.{Station}
@@ -46,13 +46,9 @@ pending_at packet s = record { router = s.router; port = s.port; packet = packet
 abbrev pub delivery_of : Coming → Delivery
 delivery_of c = record { to = record { router = c.router; port = c.port }; bytes = c.bytes.now }
 
--- the stations that receive a packet of a router with that number and those ports
-abbrev pub hearing : List Station → List Port → ℕ → Sent → List Station
-hearing list ports number s = filter (hears number s.link) (stations_on list (port_at ports s.port).network)
-
 -- the deliveries of that packet
 abbrev pub reaching : Sent → Station → Delivery
 reaching s t = record { to = place_of t; bytes = s.bytes }
 
 abbrev pub heard : List Station → List Port → ℕ → Sent → List Delivery
-heard list ports number s = map (reaching s) (hearing list ports number s)
+heard list ports number s = map (reaching s) (hearers list ports number s)

@@ -1,11 +1,12 @@
 -- A listing of a tree under way: what is listed so far, and what is left to list.
 use Rattle.std.specs.Prelude.{◌≡◌, ℕ, ◌+◌, ◌<◌, ◌≤◌, Bool, true, false, if◌then◌else◌, List, [], ◌∷◌, ◌++◌, length, map, None, Some, slice_index_or}
-use Rattle.std.specs.List.{AllByRecursion, filter, flat_map}
-use Rattle.ipx_router.specs.Port.{Port, broadcast, port_at}
+use Rattle.std.specs.List.{AllByRecursion, flat_map}
+use Rattle.ipx_router.specs.Port.{Port}
 use Rattle.ipx_router.specs.Relays.{Sent}
 use Rattle.ipx_router.specs.declared.outcome.Outcome.{Outcome}
+use Rattle.ipx_internet.specs.Batches.{sent_at}
 use Rattle.ipx_internet.specs.Internet.{IsPlace}
-use Rattle.ipx_internet.specs.Stations.{stations_on, place_of, hears}
+use Rattle.ipx_internet.specs.Stations.{place_of, hearers}
 use Rattle.ipx_internet.specs.Traced.{Traced, outcome_of, tree, outcome_at}
 use Rattle.ipx_internet.specs.Tree.{Router, Copy, net_of, sent_on, next_level}
 use Rattle.ipx_internet.specs.declared.fault.TraceFault.{TraceFault}
@@ -17,10 +18,6 @@ use Rattle.ipx_internet.specs.declared.listing.Source.TheVariants.{First, Even, 
 use Rattle.ipx_internet.specs.declared.stations.Station.{Station}
 
 -- ---- as it is kept: the bytes stand with the caller or in one of two outboxes
-
--- the packet of that number; behind the last, one of nothing
-abbrev pub sent_at : List Sent → ℕ → Sent
-sent_at sents number = slice_index_or sents number (record { port = 0; link = broadcast; bytes = [] })
 
 module _ (first : List ℕ) (even odd : List Sent) where
   -- the bytes that stand there
@@ -60,10 +57,6 @@ source_in false number = Even number
 abbrev pub child : Parent → ℕ → Station → Listed
 child parent number s = record { parent = Some parent.number; router = s.router; port = s.port; source = source_in parent.odd number }
 
--- the stations that receive a packet of a router with those ports
-abbrev pub hearers : List Station → List Port → ℕ → Sent → List Station
-hearers stations ports router s = filter (hears router s.link) (stations_on stations (port_at ports s.port).network)
-
 module _ (stations : List Station) (ports : List Port) (parent : Parent) where
   -- the receptions of packets, where the first of them has a number
   abbrev pub listed_from : ℕ → List Sent → List Listed
@@ -99,11 +92,11 @@ module _ (r : Router) (stations : List Station) where
     pub copies : new.copies ≡ old.copies ++ children_by (length old.outcomes) (waits_next old)
     pub outcomes : new.outcomes ≡ old.outcomes ++ outcome_of r (waits_next old).to.port (waits_next old).bytes ∷ []
 
--- why not all of so many receptions are listed
+-- why not all of so many receptions are listed: they are more than the limit, or memory ran out for one within it
 abbrev pub IsCut : ℕ → ℕ → TraceFault → Type 0
 IsCut limit count NoSuchPort = ⊥
 IsCut limit count Limit = limit < count
-IsCut limit count Memory = Unit
+IsCut limit count Memory = 0 < limit
 
 -- what is listed begins the tree; some of it is done, and is what the rest was sent on by
 pub record IsListed (routers : List Router) (root : Copy) (l : Listing) : Type 0 where

@@ -4,7 +4,8 @@ use Rattle.std.specs.List.{filter}
 use Rattle.std.specs.List.Sorted.{IsNonDecreasingBy}
 use Rattle.ipx_wire.specs.declared.network.Network.{Network}
 use Rattle.ipx_wire.specs.declared.node.Node.{Node}
-use Rattle.ipx_router.specs.Port.{Port, broadcast, same_node}
+use Rattle.ipx_router.specs.Port.{Port, broadcast, same_node, port_at}
+use Rattle.ipx_router.specs.Relays.{Sent}
 use Rattle.ipx_internet.specs.Internet.{Internet, Place, port_of}
 use Rattle.ipx_internet.specs.Most.{on_network}
 use Rattle.ipx_internet.specs.declared.stations.Station.{Station}
@@ -19,10 +20,12 @@ pub record Index : Type 0 where
 abbrev pub stations_on : List Station → Network → List Station
 stations_on list network = filter (λ s. s.network.0 == network.0) list
 
--- they stand by network, and no network has more than the most
+-- they stand by network, no network has more than the most, and one has that many
 pub record IsIndex (list : List Station) (most : ℕ) : Type 0 where
   pub sorted : IsNonDecreasingBy (λ s. s.network.0) list
   pub few : (network : Network) → length (stations_on list network) ≤ most
+  pub fullest : Network
+  pub full : length (stations_on list fullest) ≡ most
 
 -- the station of a port
 abbrev pub station : ℕ → ℕ → Port → Station
@@ -38,6 +41,10 @@ place_of s = record { router = s.router; port = s.port }
 -- it receives what another router sends to a node of its network
 abbrev pub hears : ℕ → Node → Station → Bool
 hears router link s = not (s.router == router) && (same_node s.node link || same_node link broadcast)
+
+-- the stations that receive a packet of a router with that number and those ports
+abbrev pub hearers : List Station → List Port → ℕ → Sent → List Station
+hearers list ports number s = filter (hears number s.link) (stations_on list (port_at ports s.port).network)
 
 -- on each network there are the stations of its ports, by router and port
 pub record AreOf (net : Internet) (list : List Station) : Type 0 where

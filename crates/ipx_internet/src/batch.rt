@@ -1,5 +1,5 @@
 //! Packets that routers sent, with their deliveries.
-ghost use Rattle.std.specs.Prelude.{◌≡◌, ◌+◌, ◌-◌, ◌*◌, ◌^◌, ◌<◌, ◌≤◌, [], ◌∷◌, ◌++◌, length, map, drop, slice_get, Some, OnOk};
+ghost use Rattle.std.specs.Prelude.{◌≡◌, ℕ, ◌+◌, ◌-◌, ◌*◌, ◌^◌, ◌<◌, ◌≤◌, [], ◌∷◌, ◌++◌, length, map, drop, slice_get, Some, OnOk};
 ghost use Rattle.std.specs.List.{filter, flat_map};
 ghost use Rattle.std.specs.Vec.{vec_len, vec_capacity};
 ghost use Rattle.std.specs.Mem.{FitsInMemory};
@@ -8,16 +8,15 @@ ghost use Rattle.ipx_router.specs.History.{History, IsOnPort};
 ghost use Rattle.ipx_router.specs.Needs.{HasRoomFor, packets_needed};
 ghost use Rattle.ipx_router.specs.Outbox.{HasRoom};
 ghost use Rattle.ipx_router.specs.Outcomes.{outcome};
-ghost use Rattle.ipx_router.specs.Port.{port_at};
 ghost use Rattle.ipx_router.specs.RouterOf.{HasPast};
 ghost use Rattle.ipx_router.specs.Sends.{sends};
 ghost use Rattle.ipx_router.specs.Stands.{StandsFor};
 ghost use Rattle.ipx_internet.specs.Batches.{AreWithin, deliveries_in, delivery_of, heard, pending_at};
 ghost use Rattle.ipx_internet.specs.Stations.{hears};
 
-use crate::stations::{Station, Stations};
+use crate::stations::{Station, Stations, network_of};
 use ipx_router::{Event, Need, Outbox, Outcome, Router};
-use ipx_wire::{Network, Node, OutOfMemory};
+use ipx_wire::{Node, OutOfMemory};
 use std::alloc::Global;
 use std::marker::Model;
 
@@ -87,9 +86,12 @@ impl Batch {
         }
     }
 
-    /// Takes all out, and leaves the room.
+    /// Takes all out, the packets too, and leaves the room.
     pub fn clear(&mut self)
-        ensures { self.new.deliveries ≡ [] }
+        ensures deliveries { self.new.deliveries ≡ [] }
+        ensures packets { self.new.outbox.sent ≡ [] }
+        ensures room { (packets bytes : ℕ) → HasRoom self.old.outbox packets bytes → HasRoom self.new.outbox packets bytes }
+        ensures places { self.old.places ≤ self.new.places }
     {
         self.outbox.clear();
         self.pending.clear();
@@ -179,19 +181,6 @@ fn deliver_one(
                 packet,
             });
         }
-    }
-}
-
-/// The network of a port.
-fn network_of<const P: usize, const R: usize, const S: usize>(
-    router: &Router<P, R, S>,
-    port: u8,
-) -> Network
-    ensures { result ≡ (port_at router.now.ports port).network }
-{
-    match router.port(usize::from(port)) {
-        Some(port) => port.network(),
-        None => Network(0),
     }
 }
 

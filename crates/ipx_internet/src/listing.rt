@@ -1,18 +1,17 @@
 //! The receptions of a tree as they are listed, and what was sent on of them.
 ghost use Rattle.std.specs.Prelude.{◌≡◌, ◌+◌, ◌<◌, ◌≤◌, true, false, [], ◌∷◌, ◌++◌, length, map, filter, drop, slice_get, Some, IfOk, OnOk, OnErr, IfErr};
 ghost use Rattle.ipx_router.specs.Facts.{offers};
-ghost use Rattle.ipx_router.specs.Port.{port_at};
 ghost use Rattle.ipx_router.specs.Relay.{relay_outcome, relay_sends};
-ghost use Rattle.ipx_internet.specs.Listed.{bytes_in, IsIn, into_odd, outbox_of, child, hearers, listed_from, copy_at, waits_next, children_by, GoesOn, IsCut};
+ghost use Rattle.ipx_internet.specs.Listed.{bytes_in, IsIn, into_odd, outbox_of, child, listed_from, copy_at, waits_next, children_by, GoesOn, IsCut};
 ghost use Rattle.ipx_internet.specs.Stations.{hears};
 ghost use Rattle.ipx_internet.specs.Traced.{router_of, outcome_of};
 ghost use Rattle.ipx_internet.specs.Tree.{root, sent_on};
 ghost use Rattle.ipx_internet.specs.declared.fault.TraceFault.TheVariants.{Memory as NoMemory};
 
 use crate::fault::TraceFault;
-use crate::stations::{Station, Stations};
+use crate::stations::{Station, Stations, network_of};
 use ipx_router::{Outbox, Outcome, Router, Why};
-use ipx_wire::{Network, Node, Packet};
+use ipx_wire::{Node, Packet};
 use std::alloc::Global;
 use std::marker::Model;
 
@@ -153,9 +152,10 @@ impl<'a> Listing<'a> {
         limit: usize,
     ) -> Result<Listing<'a>, TraceFault>
         requires waits { length self.outcomes < length self.copies }
+        requires few { length self.copies ≤ limit }
         requires port { (waits_next self).to.port < length router.now.ports }
         ensures goes_on { IfOk result (GoesOn (router_of router.now) stations.now.list self.entry) }
-        ensures few { IfOk result (λ l. length self.entry.copies ≤ limit → length l.copies ≤ limit) }
+        ensures few { IfOk result (λ l. length l.copies ≤ limit) }
         ensures refused { IfErr result (IsCut limit (length self.entry.copies
             + length (children_by (router_of router.now) stations.now.list (length self.entry.outcomes) (waits_next self.entry)))) }
     {
@@ -364,19 +364,6 @@ fn child(parent: Parent, packet: usize, station: &Station) -> Listed
         } else {
             Source::Even(packet)
         },
-    }
-}
-
-/// The network of a port; network 0, which is no port's, where there is no such port.
-fn network_of<const P: usize, const R: usize, const S: usize>(
-    router: &Router<P, R, S>,
-    port: u8,
-) -> Network
-    ensures { result ≡ (port_at router.now.ports port).network }
-{
-    match router.port(usize::from(port)) {
-        Some(port) => port.network(),
-        None => Network(0),
     }
 }
 

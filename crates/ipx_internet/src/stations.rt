@@ -4,7 +4,7 @@ ghost use Rattle.std.specs.List.{insert, list_any};
 ghost use Rattle.std.specs.List.Sorted.{IsNonDecreasingBy, IsPartitionPoint};
 ghost use Rattle.std.specs.Vec.{vec_len, vec_capacity};
 ghost use Rattle.ipx_wire.specs.declared.network.Network.{Network as SomeNetwork};
-ghost use Rattle.ipx_router.specs.Port.{same_node};
+ghost use Rattle.ipx_router.specs.Port.{same_node, port_at};
 ghost use Rattle.ipx_router.specs.Stands.{State};
 ghost use Rattle.ipx_internet.specs.Internet.{Internet};
 ghost use Rattle.ipx_internet.specs.Moment.{SharesNode};
@@ -146,6 +146,19 @@ impl Stations {
         insert_at(&mut self.list, place, station);
         let most = part(&self.list, station.network).len();
         self.most = self.most.max(most);
+    }
+}
+
+/// The network of a port; network 0, which is no port's, where there is no such port.
+pub(crate) fn network_of<const P: usize, const R: usize, const S: usize>(
+    router: &Router<P, R, S>,
+    port: u8,
+) -> Network
+    ensures { result ≡ (port_at router.now.ports port).network }
+{
+    match router.port(usize::from(port)) {
+        Some(port) => port.network(),
+        None => Network(0),
     }
 }
 

@@ -10,7 +10,7 @@ ghost use Rattle.ipx_internet.specs.Stations.{AreOf};
 ghost use Rattle.ipx_internet.specs.Traced.{traced, routers_of, tree, outcome_at};
 ghost use Rattle.ipx_internet.specs.Tree.{IsRouter, root, IsTree};
 ghost use Rattle.ipx_internet.specs.Weight.{weight};
-ghost use Rattle.ipx_internet.specs.declared.fault.TraceFault.TheVariants.{NoSuchPort, Limit};
+ghost use Rattle.ipx_internet.specs.declared.fault.TraceFault.TheVariants.{NoSuchPort, Limit, Memory};
 
 use crate::batch::are_sized;
 use crate::fault::TraceFault;
@@ -98,6 +98,7 @@ impl<const P: usize, const R: usize, const S: usize> Internet<P, R, S> {
         ensures bounded { IfOk result (λ t. length t ≤ weight (net_at self.now) (root (record { router = router; port = port }) bytes.entry.now)) }
         ensures missing { IsErrOf result NoSuchPort ↔ (IsPlace (net_at self.now) (record { router = router; port = port }) → ⊥) }
         ensures limit { IsErrOf result Limit → limit < length (tree (routers_of self.now.routers) (root (record { router = router; port = port }) bytes.entry.now)) }
+        ensures memory { IsErrOf result Memory → 0 < limit }
         ensures enough { weight (net_at self.now) (root (record { router = router; port = port }) bytes.entry.now) ≤ limit → IsErrOf result Limit → ⊥ }
     {
         if !self.has_place(router, port) {

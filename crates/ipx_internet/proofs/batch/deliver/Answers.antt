@@ -2,8 +2,8 @@ use Rattle.std.proofs.Common.{rules, ◌≡◌, ◌<◌, ◌++◌, ap, ◌∙◌
 use Rattle.std.specs.List.{filter, flat_map}
 use Rattle.std.specs.Vec.{vec_len, vec_capacity}
 use Rattle.ipx_router.specs.Relays.{Sent}
-use Rattle.ipx_internet.specs.Batches.{deliveries_in, pending_at, hearing, heard}
-use Rattle.ipx_internet.specs.Stations.{hears, stations_on}
+use Rattle.ipx_internet.specs.Batches.{deliveries_in, pending_at, heard}
+use Rattle.ipx_internet.specs.Stations.{hears, stations_on, hearers}
 use Rattle.ipx_internet.proofs.Batched.{one_packet, still_within, room_for_one, room_for_others}
 use Rattle.ipx_internet.proofs.batch.deliver.Goals as goal
 
@@ -21,7 +21,7 @@ loop-packet-preserved g c =
     let s : Sent = record { port = c.get-sent.result.port; link = c.get-sent.result.link; bytes = c.get-sent.result.bytes.now } in
     let list = c.args.stations.now.list in
     let ports = c.args.router.now.ports in
-    let added : c.deliver_one.new.pending.items ≡ c.loop-packet.pending.items ++ map (pending_at packet) (hearing list ports c.args.number s) =
+    let added : c.deliver_one.new.pending.items ≡ c.loop-packet.pending.items ++ map (pending_at packet) (hearers list ports c.args.number s) =
     c.deliver_one.ensures.items
     ∙ ap (λ near. c.loop-packet.pending.items ++ map (pending_at packet) (filter (hears c.args.number s.link) near))
     (c.on-near.ensures.stations ∙ ap (λ network. stations_on list network) c.network_of.ensures) in (
@@ -30,6 +30,6 @@ loop-packet-preserved g c =
       room_for_others (vec_len c.loop-packet.pending) (length sent) packet c.args.stations.now.most (vec_capacity c.loop-packet.pending)
           (length c.on-near.result.now) (vec_len c.deliver_one.new.pending) (vec_capacity c.deliver_one.new.pending)
           lt c.loop-packet.invariant.1 c.on-near.ensures.few c.deliver_one.ensures.len c.deliver_one.ensures.capacity,
-      λ within. still_within sent packet (hearing list ports c.args.number s) c.loop-packet.pending.items c.deliver_one.new.pending.items lt added
+      λ within. still_within sent packet (hearers list ports c.args.number s) c.loop-packet.pending.items c.deliver_one.new.pending.items lt added
           (c.loop-packet.invariant.2 within),
     )

@@ -25,7 +25,8 @@ happen-requires g c =
         (
           subst (λ (n : ℕ). HasRoom c.make_room.new.self.outbox (packets_needed s event) n) c.need.ensures.bytes
               (subst (λ (n : ℕ). HasRoom c.make_room.new.self.outbox n c.need.result.bytes) c.need.ensures.packets room),
-          subst (λ (n : ℕ). n ≤ c.make_room.new.self.places) (ap (λ (n : ℕ). n * c.most.result) c.need.ensures.packets ∙ ap (λ (n : ℕ). packets_needed s event * n) c.most.ensures.value) places,
+          subst (λ (n : ℕ). n ≤ c.make_room.new.self.places) (ap (λ (n : ℕ). n * c.most.result) c.need.ensures.packets
+              ∙ ap (λ (n : ℕ). packets_needed s event * n) c.most.ensures.value) places,
         ),
       ),
     )

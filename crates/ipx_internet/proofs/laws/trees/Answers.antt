@@ -18,7 +18,12 @@ wire c = record {
 }
 
 relaying : goal.After-relays → Relaying
-relaying c = record { packet_read = c.readings.ensures.packet_read; listed = c.relays.ensures.listed; all = c.relays.ensures.all; in_order = c.relays.ensures.in_order }
+relaying c = record {
+  packet_read = c.readings.ensures.packet_read;
+  listed = c.relays.ensures.listed;
+  all = c.relays.ensures.all;
+  in_order = c.relays.ensures.in_order;
+}
 
 over : goal.After-relays → SentOn
 over c = record { forwarded_over = c.sent_on.ensures.forwarded; propagated_over = c.sent_on.ensures.propagated }

@@ -18,13 +18,19 @@ wire c = record {
 }
 
 relaying : goal.After-relays → Relaying
-relaying c = record { packet_read = c.readings.ensures.packet_read; listed = c.relays.ensures.listed; all = c.relays.ensures.all; in_order = c.relays.ensures.in_order }
+relaying c = record {
+  packet_read = c.readings.ensures.packet_read;
+  listed = c.relays.ensures.listed;
+  all = c.relays.ensures.all;
+  in_order = c.relays.ensures.in_order;
+}
 
 over : goal.After-relays → SentOn
 over c = record { forwarded_over = c.sent_on.ensures.forwarded; propagated_over = c.sent_on.ensures.propagated }
 
 pub returns-clause-never_rises : goal.returns-clause-never_rises
-returns-clause-never_rises c routers copy number made differ right can = weighing.never_rises (wire c) (relaying c) (over c) routers made right copy can number differ
+returns-clause-never_rises c routers copy number made differ right can =
+    weighing.never_rises (wire c) (relaying c) (over c) routers made right copy can number differ
 
 pub returns-clause-can_come : goal.returns-clause-can_come
 returns-clause-can_come c routers copy number made right can = weighing.can_come (wire c) (relaying c) (over c) routers made right copy can number

@@ -16,7 +16,8 @@ returns-in_err-list_receivers-clause-refused g c =
     let sents = c.args.outbox.now.sent in
     let s : Sent = record { port = c.get-sent.result.port; link = c.get-sent.result.link; bytes = c.get-sent.result.bytes.now } in
     let all = listed_from stations ports c.args.parent c.args.before (drop c.args.before sents) in
-    let fills = packet_fills c.args.limit first c.loop-packet.list.items all stations ports c.args.parent sents k s c.network_of.result c.on-near.result.now c.on-near.ensures.stations
+    let fills = packet_fills c.args.limit first c.loop-packet.list.items all stations ports c.args.parent sents k s c.network_of.result
+    c.on-near.result.now c.on-near.ensures.stations
     c.network_of.ensures c.get-sent.ensures c.loop-packet.invariant.fills in
     rw (p.1, p.2)
     (cut_short c.args.limit first c.loop-packet.list.items all (map (child c.args.parent k) (filter (hears c.args.parent.router s.link) c.on-near.result.now))
@@ -31,7 +32,8 @@ loop-packet-preserved g c =
     let sents = c.args.outbox.now.sent in
     let s : Sent = record { port = c.get-sent.result.port; link = c.get-sent.result.link; bytes = c.get-sent.result.bytes.now } in
     let all = listed_from stations ports c.args.parent c.args.before (drop c.args.before sents) in
-    let fills = packet_fills c.args.limit first c.loop-packet.list.items all stations ports c.args.parent sents k s c.network_of.result c.on-near.result.now c.on-near.ensures.stations
+    let fills = packet_fills c.args.limit first c.loop-packet.list.items all stations ports c.args.parent sents k s c.network_of.result
+    c.on-near.result.now c.on-near.ensures.stations
     c.network_of.ensures c.get-sent.ensures c.loop-packet.invariant.fills in
     record {
       fills = goes_on c.args.limit first c.loop-packet.list.items all (map (child c.args.parent k) (filter (hears c.args.parent.router s.link) c.on-near.result.now))

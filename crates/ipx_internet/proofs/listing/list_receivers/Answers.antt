@@ -15,8 +15,10 @@ returns-in_err-add-clause-refused c =
     let of = child c.args.parent c.args.packet in
     let test = hears c.args.parent.router c.args.link in
     let there = one_hears of test xs k some_station c.loop-station-test.true (sym c.hears.ensures ∙ c.if-hears.true) in
-    let fills : Fills c.args.limit first c.loop-station.list.items (map of (filter test xs)) (of (get_or xs k some_station) ∷ map of (filter test (drop (suc k) xs))) =
+    let fills : Fills c.args.limit first c.loop-station.list.items (map of (filter test xs))
+    (of (get_or xs k some_station) ∷ map of (filter test (drop (suc k) xs))) =
     subst (λ (r : List Listed). Fills c.args.limit first c.loop-station.list.items (map of (filter test xs)) r) there c.loop-station.invariant.fills in
     rw (p.1, p.2)
-    (cut_short c.args.limit first c.loop-station.list.items (map of (filter test xs)) (of (get_or xs k some_station) ∷ []) (map of (filter test (drop (suc k) xs))) _ fills
+    (cut_short c.args.limit first c.loop-station.list.items (map of (filter test xs)) (of (get_or xs k some_station) ∷ [])
+    (map of (filter test (drop (suc k) xs))) _ fills
     c.in_err-add.ensures.refused)

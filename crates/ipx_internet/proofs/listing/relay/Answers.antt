@@ -4,7 +4,10 @@ use Rattle.ipx_internet.proofs.SendingOn.{of_packet, outcome_of_packet}
 use Rattle.ipx_internet.proofs.listing.relay.Goals as goal
 
 pub returns-in-Ok-clause-sent : goal.returns-in-Ok-clause-sent
-returns-in-Ok-clause-sent g c = rw (of_packet (router_of c.args.router.now) c.args.port c.args.bytes.now _ (sym c.read.ensures.value ∙ c.in-Ok.is)) c.relay_packet.ensures.sent
+returns-in-Ok-clause-sent g c =
+    rw (of_packet (router_of c.args.router.now) c.args.port c.args.bytes.now _ (sym c.read.ensures.value ∙ c.in-Ok.is)) c.relay_packet.ensures.sent
 
 pub returns-in-Ok-clause-outcome : goal.returns-in-Ok-clause-outcome
-returns-in-Ok-clause-outcome g c = rw (outcome_of_packet (router_of c.args.router.now) c.args.port c.args.bytes.now _ (sym c.read.ensures.value ∙ c.in-Ok.is)) c.relay_packet.ensures.outcome
+returns-in-Ok-clause-outcome g c =
+    rw (outcome_of_packet (router_of c.args.router.now) c.args.port c.args.bytes.now _ (sym c.read.ensures.value ∙ c.in-Ok.is))
+    c.relay_packet.ensures.outcome

@@ -77,7 +77,7 @@ go_on-requires g c =
     let state = c.index.result.now in
     let read : state ≡ slice_index_or states (waits_next l).to.router state = subst (λ (n : ℕ). state ≡ slice_index_or states n state) (sym at) c.index.ensures in
     let port : (waits_next l).to.port < length state.ports = port_there states stations first c.requires.stationed is l listed waits state read in
-    (first_of (assumption c.well_formed, search c.well_formed, assumption c.args.routers.now, search rules), (waits, port))
+    (first_of (assumption c.well_formed, search c.well_formed, assumption c.args.routers.now, search rules), (waits, (c.loop-listing.invariant.few, port)))
 
 pub returns-in_err-listing-2-clause-refused : goal.returns-in_err-listing-2-clause-refused
 returns-in_err-listing-2-clause-refused g c =
@@ -118,7 +118,8 @@ returns-in_err-listing-2-clause-enough g c =
     let state = c.index.result.now in
     let read : state ≡ slice_index_or states (waits_next l).to.router state = subst (λ (n : ℕ). state ≡ slice_index_or states n state) (sym at) c.index.ensures in
     rw (p.1, p.2)
-    (cut_bounded states stations first c.requires.stationed is l listed waits state read c.weights.ensures.goes_on c.requires.internet c.requires.nodes c.requires.tables
+    (cut_bounded states stations first c.requires.stationed is l listed waits state read c.weights.ensures.goes_on c.requires.internet
+    c.requires.nodes c.requires.tables
     c.loop-listing.invariant.bounded c.args.limit _ c.in_err-listing-2.ensures.refused)
 
 pub loop-listing-smaller : goal.loop-listing-smaller
@@ -161,8 +162,9 @@ loop-listing-preserved g c =
     let read : state ≡ slice_index_or states (waits_next l).to.router state = subst (λ (n : ℕ). state ≡ slice_index_or states n state) (sym at) c.index.ensures in
     record {
       listed = goes_on states stations first c.requires.stationed is l listed waits state read c.in_ok-listing-2.listing c.in_ok-listing-2.ensures.goes_on;
-      few = c.in_ok-listing-2.ensures.few c.loop-listing.invariant.few;
-      bounded = stays_bounded states stations first c.requires.stationed is l listed waits state read c.weights.ensures.goes_on c.requires.internet c.requires.nodes c.requires.tables
+      few = c.in_ok-listing-2.ensures.few;
+      bounded = stays_bounded states stations first c.requires.stationed is l listed waits state read c.weights.ensures.goes_on
+          c.requires.internet c.requires.nodes c.requires.tables
           c.loop-listing.invariant.bounded c.in_ok-listing-2.listing c.in_ok-listing-2.ensures.goes_on;
     }
 

@@ -21,9 +21,11 @@ deliver-requires g c =
     let begins = c.len-before.ensures in
     let small = bounds.few in (
       search rules,
-      room_for_all (vec_len c.self.inside.pending) (vec_capacity c.self.inside.pending) (packets_needed c.args.router.now (happened c.args.event)) c.args.stations.now.most
+      room_for_all (vec_len c.self.inside.pending) (vec_capacity c.self.inside.pending)
+          (packets_needed c.args.router.now (happened c.args.event)) c.args.stations.now.most
           (length c.handle-outcome.new.outbox.sent) c.len-before.result (search rules)
-          (subst (λ (p : Pile). packets_needed c.args.router.now (happened c.args.event) * c.args.stations.now.most ≤ p.places) (sym c.self.view_is) c.requires.places)
+          (subst (λ (p : Pile). packets_needed c.args.router.now (happened c.args.event) * c.args.stations.now.most ≤ p.places)
+          (sym c.self.view_is) c.requires.places)
           (omega (arith, longer, begins, small)),
     )
 
@@ -36,6 +38,7 @@ invariant_of-self g c =
 pub returns-clause-deliveries : goal.returns-clause-deliveries
 returns-clause-deliveries g c h stands =
     event_delivers c.args.stations.now.list c.args.router.now.ports c.handle-outcome.new.self.ports c.args.number c.len-before.result c.self.inside.outbox.sent
-    (sends c.args.router.now.ports g.row.R g.row.S h (happened c.args.event)) c.handle-outcome.new.outbox.sent c.self.inside.pending.items c.deliver.new.pending.items
+    (sends c.args.router.now.ports g.row.R g.row.S h (happened c.args.event)) c.handle-outcome.new.outbox.sent c.self.inside.pending.items
+    c.deliver.new.pending.items
     c.args.self.now.deliveries c.self.invariant (c.handle-outcome.ensures.sends h stands).sent c.len-before.ensures c.handle-outcome.ensures.ports
     (ap (λ (p : Pile). p.deliveries) (sym c.self.view_is)) c.deliver.ensures.deliveries

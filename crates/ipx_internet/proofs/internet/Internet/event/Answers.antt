@@ -41,4 +41,5 @@ returns-clause-outcome g c q stands =
 pub returns-clause-there : goal.returns-clause-there
 returns-clause-there g c =
     subst (λ (m : Moment). IsThere m c.args.router (happened c.args.event)) c.self.view_is
-    (subst (λ (rs : List State). IsThere (moment rs []) c.args.router (happened c.args.event)) c.deref-2.ensures.value (c.is_there.ensures.0 c.if-not-is_there.false))
+    (subst (λ (rs : List State). IsThere (moment rs []) c.args.router (happened c.args.event)) c.deref-2.ensures.value
+    (c.is_there.ensures.0 c.if-not-is_there.false))

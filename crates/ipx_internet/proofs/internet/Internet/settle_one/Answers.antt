@@ -12,11 +12,13 @@ are_sized-requires g c = subst (λ xs. 0 < length xs) (sym c.deref.ensures.value
 
 pub happen-requires : goal.happen-requires
 happen-requires g c =
-    let coming = subst (λ ds. AllByRecursion (IsComing (net_among c.self.inside.routers.items)) ds) (sym c.turn-self-inside.ensures.queue) c.self.invariant.coming in (
+    let coming = subst (λ ds. AllByRecursion (IsComing (net_among c.self.inside.routers.items)) ds) (sym c.turn-self-inside.ensures.queue)
+    c.self.invariant.coming in (
       c.are_sized.ensures,
       (
         c.self.invariant.sound,
-        it_is_there g.row.R g.row.S c.self.inside.routers.items c.turn-self-inside.new.front.deliveries c.turn-self-inside.new.back.deliveries c.turn-self-inside.result
+        it_is_there g.row.R g.row.S c.self.inside.routers.items c.turn-self-inside.new.front.deliveries c.turn-self-inside.new.back.deliveries
+            c.turn-self-inside.result
             (delivery_of c.get-coming.result) c.get-coming.ensures coming c.get-coming.result.bytes.now,
       ),
     )
@@ -36,7 +38,8 @@ invariant_of-self g c =
 pub returns-in_err-happen-clause-unchanged : goal.returns-in_err-happen-clause-unchanged
 returns-in_err-happen-clause-unchanged g c =
     at_error c.from_residual.result
-    (ap₂ (λ routers later. moment routers (drop c.turn-self-inside.result c.turn-self-inside.new.front.deliveries ++ later)) c.in_err-happen.ensures.unchanged c.in_err-happen.ensures.kept
+    (ap₂ (λ routers later. moment routers (drop c.turn-self-inside.result c.turn-self-inside.new.front.deliveries ++ later))
+    c.in_err-happen.ensures.unchanged c.in_err-happen.ensures.kept
     ∙ ap (λ ds. moment c.self.inside.routers.items ds) c.turn-self-inside.ensures.queue ∙ c.self.view_is)
 
 pub invariant_of-self-2 : goal.invariant_of-self-2
@@ -59,5 +62,6 @@ returns-clause-settled g c =
     at_moment g.row.R g.row.S (moment routers left) c.args.self.now
     (moment c.happen.new.routers.items (drop (c.turn-self-inside.result + 1) c.turn-self-inside.new.front.deliveries ++ c.happen.new.back.deliveries))
     (ap (λ ds. moment routers ds) c.turn-self-inside.ensures.queue ∙ c.self.view_is)
-    (settled_next g.row.R g.row.S routers c.turn-self-inside.new.front.deliveries c.turn-self-inside.new.back.deliveries c.turn-self-inside.result (delivery_of c.get-coming.result) c.get-coming.ensures
+    (settled_next g.row.R g.row.S routers c.turn-self-inside.new.front.deliveries c.turn-self-inside.new.back.deliveries c.turn-self-inside.result
+    (delivery_of c.get-coming.result) c.get-coming.ensures
     c.happen.new.routers.items c.happen.new.back.deliveries c.in_ok-happen.ensures.stands)

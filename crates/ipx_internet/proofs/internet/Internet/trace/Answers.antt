@@ -16,7 +16,8 @@ pub are_sized-requires : goal.are_sized-requires
 are_sized-requires g c =
     let same : c.args.self.now.routers ≡ c.deref.result.now = ap (λ (m : Moment). m.routers) (sym c.self.view_is) ∙ sym c.deref.ensures.value in
     some_state c.deref.result.now c.args.router c.args.port
-    (subst (λ (ss : List State). IsPlace (net_among ss) (record { router = c.args.router; port = c.args.port })) same (c.has_place.ensures.0 c.if-not-has_place.false))
+    (subst (λ (ss : List State). IsPlace (net_among ss) (record { router = c.args.router; port = c.args.port })) same
+    (c.has_place.ensures.0 c.if-not-has_place.false))
 
 pub list_tree-requires : goal.list_tree-requires
 list_tree-requires g c =
@@ -24,7 +25,8 @@ list_tree-requires g c =
     let same : c.args.self.now.routers ≡ states = ap (λ (m : Moment). m.routers) (sym c.self.view_is) in
     let tables : AllByRecursion IsRouter (routers_of states) = subst (λ (ss : List State). AllByRecursion IsRouter (routers_of ss)) same c.len.ensures.tables in
     let place : IsPlace (net_among states) (record { router = c.args.router; port = c.args.port }) =
-    subst (λ (ss : List State). IsPlace (net_among ss) (record { router = c.args.router; port = c.args.port })) same (c.has_place.ensures.0 c.if-not-has_place.false) in
+    subst (λ (ss : List State). IsPlace (net_among ss) (record { router = c.args.router; port = c.args.port })) same
+    (c.has_place.ensures.0 c.if-not-has_place.false) in
     (c.are_sized.ensures, (c.self.invariant.sound.internet, (c.self.invariant.sound.nodes, (tables, (c.self.invariant.sound.stationed, place)))))
 
 pub returns-clause-is_tree : goal.returns-clause-is_tree
@@ -50,7 +52,8 @@ returns-clause-few g c =
     let states = c.self.inside.routers.items in
     let first : Copy = root (record { router = c.args.router; port = c.args.port }) c.args.bytes.now in
     let l = c.in_ok-listing.listing in
-    let both = each_has_one (outcome_at (routers_of states)) (tree (routers_of states) first) l.copies l.outcomes c.in_ok-listing.ensures.copies c.in_ok-listing.ensures.outcomes in
+    let both = each_has_one (outcome_at (routers_of states)) (tree (routers_of states) first) l.copies l.outcomes c.in_ok-listing.ensures.copies
+    c.in_ok-listing.ensures.outcomes in
     let same = as_many l.copies l.outcomes both in
     let few = c.in_ok-listing.ensures.few in
     omega (arith, same, few)
@@ -61,6 +64,7 @@ returns-clause-bounded g c =
     let same : states ≡ c.args.self.now.routers = ap (λ (m : Moment). m.routers) c.self.view_is in
     let first : Copy = root (record { router = c.args.router; port = c.args.port }) c.args.bytes.now in
     let l = c.in_ok-listing.listing in
-    let both = each_has_one (outcome_at (routers_of states)) (tree (routers_of states) first) l.copies l.outcomes c.in_ok-listing.ensures.copies c.in_ok-listing.ensures.outcomes in
+    let both = each_has_one (outcome_at (routers_of states)) (tree (routers_of states) first) l.copies l.outcomes c.in_ok-listing.ensures.copies
+    c.in_ok-listing.ensures.outcomes in
     subst (λ (ss : List State). length (told l.copies l.outcomes) ≤ weight (net_among ss) first) same
     (subst (λ (n : ℕ). n ≤ weight (net_among states) first) (sym (as_many l.copies l.outcomes both)) c.in_ok-listing.ensures.bounded)

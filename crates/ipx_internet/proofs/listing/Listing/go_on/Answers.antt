@@ -2,6 +2,7 @@ use Rattle.std.proofs.Common.{rules, ◌≡◌, ◌<◌, ◌≤◌, arith, lengt
 use Rattle.std.proofs.lemmas.Result.{err_from_is_err_and}
 use Rattle.ipx_internet.specs.Listed.{IsIn, outbox_of}
 use Rattle.ipx_internet.specs.Traced.{router_of}
+use Rattle.ipx_internet.proofs.Filling.{no_memory}
 use Rattle.ipx_internet.proofs.Going.{after, port_is, there_is, cut, kept_all, few_all, went_on}
 use Rattle.ipx_internet.proofs.listing.Listing.go_on.Goals as goal
 
@@ -19,9 +20,19 @@ send_on-requires g c =
     let odd = i.odd.sent in
     let list = i.list.items in
     let stations = c.args.stations.now.list in
-    let there : IsIn even odd at.source = there_is first even odd list i.outcomes.items at n r stations c.args.self c.self.view_is done c.index-at.ensures c.requires.waits c.self.invariant in
-    let port : at.port < length c.args.router.now.ports = port_is first even odd list i.outcomes.items at n r stations c.args.self c.self.view_is done c.index-at.ensures c.requires.waits (length c.args.router.now.ports) c.requires.port in
+    let there : IsIn even odd at.source = there_is first even odd list i.outcomes.items at n r stations c.args.self c.self.view_is
+    done c.index-at.ensures c.requires.waits c.self.invariant in
+    let port : at.port < length c.args.router.now.ports =
+    port_is first even odd list i.outcomes.items at n r stations c.args.self c.self.view_is done c.index-at.ensures c.requires.waits
+    (length c.args.router.now.ports) c.requires.port in
     search (rules, there, port)
+
+pub returns-in_err-outcome-clause-refused : goal.returns-in_err-outcome-clause-refused
+returns-in_err-outcome-clause-refused g c =
+    let p = err_from_is_err_and c.from_residual.result c.from_residual.ensures.1 in
+    let waits = c.requires.waits in
+    let few = c.requires.few in
+    rw (p.1, p.2) (no_memory c.args.limit _ _ (omega (arith, waits, few)) c.in_err-outcome.ensures.refused)
 
 pub list_sent-requires : goal.list_sent-requires
 list_sent-requires g c =
@@ -42,7 +53,8 @@ list_sent-requires g c =
     let flag = c.is_for_odd.result in
     let before = c.sent_so_far-before.result in
     let s = c.in_ok-outcome.ensures in
-    let a = after first even odd list at n r stations c.self.invariant flag before even2 odd2 c.is_for_odd.ensures c.sent_so_far-before.ensures s.even s.odd s.even_stays s.odd_stays in
+    let a = after first even odd list at n r stations c.self.invariant flag before even2 odd2 c.is_for_odd.ensures c.sent_so_far-before.ensures
+    s.even s.odd s.even_stays s.odd_stays in
     let fits : before ≤ length (outbox_of flag even2 odd2) = a.fits in
     (first_of (assumption c.well_formed, search c.well_formed), fits)
 
@@ -66,8 +78,10 @@ returns-in_err-list_sent-clause-refused g c =
     let flag = c.is_for_odd.result in
     let before = c.sent_so_far-before.result in
     let s = c.in_ok-outcome.ensures in
-    let a = after first even odd list at n r stations c.self.invariant flag before even2 odd2 c.is_for_odd.ensures c.sent_so_far-before.ensures s.even s.odd s.even_stays s.odd_stays in
-    rw (p.1, p.2) (cut first even odd list i.outcomes.items at n r stations c.args.self c.self.view_is done c.index-at.ensures c.requires.waits flag before even2 odd2 a c.args.limit _ c.in_err-list_sent.ensures.refused)
+    let a = after first even odd list at n r stations c.self.invariant flag before even2 odd2 c.is_for_odd.ensures c.sent_so_far-before.ensures
+    s.even s.odd s.even_stays s.odd_stays in
+    rw (p.1, p.2) (cut first even odd list i.outcomes.items at n r stations c.args.self c.self.view_is done c.index-at.ensures
+    c.requires.waits flag before even2 odd2 a c.args.limit _ c.in_err-list_sent.ensures.refused)
 
 pub invariant_of-result : goal.invariant_of-result
 invariant_of-result g c =
@@ -88,8 +102,10 @@ invariant_of-result g c =
     let flag = c.is_for_odd.result in
     let before = c.sent_so_far-before.result in
     let s = c.in_ok-outcome.ensures in
-    let a = after first even odd list at n r stations c.self.invariant flag before even2 odd2 c.is_for_odd.ensures c.sent_so_far-before.ensures s.even s.odd s.even_stays s.odd_stays in
-    kept_all first even odd list i.outcomes.items at n r stations c.args.self c.self.view_is done c.index-at.ensures c.requires.waits flag before even2 odd2 a c.list_sent.new.list.items c.in_ok-list_sent.ensures.listed
+    let a = after first even odd list at n r stations c.self.invariant flag before even2 odd2 c.is_for_odd.ensures c.sent_so_far-before.ensures
+    s.even s.odd s.even_stays s.odd_stays in
+    kept_all first even odd list i.outcomes.items at n r stations c.args.self c.self.view_is done c.index-at.ensures c.requires.waits
+    flag before even2 odd2 a c.list_sent.new.list.items c.in_ok-list_sent.ensures.listed
 
 pub returns-clause-goes_on : goal.returns-clause-goes_on
 returns-clause-goes_on g c =
@@ -110,8 +126,10 @@ returns-clause-goes_on g c =
     let flag = c.is_for_odd.result in
     let before = c.sent_so_far-before.result in
     let s = c.in_ok-outcome.ensures in
-    let a = after first even odd list at n r stations c.self.invariant flag before even2 odd2 c.is_for_odd.ensures c.sent_so_far-before.ensures s.even s.odd s.even_stays s.odd_stays in
-    went_on first even odd list i.outcomes.items at n r stations c.args.self c.self.view_is done c.index-at.ensures c.requires.waits flag before even2 odd2 a c.list_sent.new.list.items c.in_ok-list_sent.ensures.listed c.keep.new.outcomes.items _
+    let a = after first even odd list at n r stations c.self.invariant flag before even2 odd2 c.is_for_odd.ensures c.sent_so_far-before.ensures
+    s.even s.odd s.even_stays s.odd_stays in
+    went_on first even odd list i.outcomes.items at n r stations c.args.self c.self.view_is done c.index-at.ensures c.requires.waits
+    flag before even2 odd2 a c.list_sent.new.list.items c.in_ok-list_sent.ensures.listed c.keep.new.outcomes.items _
     c.in_ok-keep.ensures.kept s.outcome
 
 pub returns-clause-few : goal.returns-clause-few
@@ -133,5 +151,7 @@ returns-clause-few g c =
     let flag = c.is_for_odd.result in
     let before = c.sent_so_far-before.result in
     let s = c.in_ok-outcome.ensures in
-    let a = after first even odd list at n r stations c.self.invariant flag before even2 odd2 c.is_for_odd.ensures c.sent_so_far-before.ensures s.even s.odd s.even_stays s.odd_stays in
-    few_all first even odd list i.outcomes.items at n r stations c.args.self c.self.view_is done c.index-at.ensures c.requires.waits flag before even2 odd2 a c.list_sent.new.list.items c.in_ok-list_sent.ensures.listed c.args.limit c.in_ok-list_sent.ensures.few
+    let a = after first even odd list at n r stations c.self.invariant flag before even2 odd2 c.is_for_odd.ensures c.sent_so_far-before.ensures
+    s.even s.odd s.even_stays s.odd_stays in
+    few_all first even odd list i.outcomes.items at n r stations c.args.self c.self.view_is done c.index-at.ensures c.requires.waits
+    flag before even2 odd2 a c.list_sent.new.list.items c.in_ok-list_sent.ensures.listed c.args.limit c.in_ok-list_sent.ensures.few c.requires.few

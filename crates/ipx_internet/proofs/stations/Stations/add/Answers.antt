@@ -31,7 +31,8 @@ loop-k-preserved g c = elim c.match-port.branch [
       let is : s ≡ station c.args.number c.loop-k.k (port_at c.args.router.now.ports c.loop-k.k) =
       ap₂ made w.network.ensures w.node.ensures ∙ ap (λ (p : Port). station c.args.number c.loop-k.k p) (sym port) in
       let first : HasFirst c.args.number c.args.router.now.ports (c.loop-k.k + 1) c.args.self.now.list w.put.new.self.list =
-      one_more c.args.number c.args.router.now.ports c.loop-k.k c.args.self.now.list c.loop-k.self.list w.put.new.self.list s c.loop-k.invariant.first is w.put.ensures.others in
+      one_more c.args.number c.args.router.now.ports c.loop-k.k c.args.self.now.list c.loop-k.self.list w.put.new.self.list s
+      c.loop-k.invariant.first is w.put.ensures.others in
       let room = c.loop-k.invariant.room in
       let places = w.put.ensures.places in
       let all : length c.args.router.now.ports ≤ w.put.new.self.places + (c.loop-k.k + 1) = omega (arith, room, places) in

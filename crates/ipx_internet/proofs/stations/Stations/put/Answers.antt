@@ -1,4 +1,5 @@
-use Rattle.std.proofs.Common.{rules, arith, ◌≡◌, ap, sym, subst, ◌≤◌, ◌∙◌, List, length, leb}
+use Rattle.std.proofs.Common.{rules, arith, ◌≡◌, ap, sym, subst, ◌≤◌, ◌∙◌, ◌⊎◌, inl, inr, List, length, leb}
+use Rattle.std.proofs.lemmas.Bool.{cases_lt}
 use Rattle.std.specs.List.{insert}
 use Rattle.ipx_internet.specs.Stations.{stations_on, IsIndex}
 use Rattle.ipx_internet.specs.declared.stations.Station.{Station}
@@ -26,9 +27,15 @@ invariant_of-self c =
     let P : List Station → Type 0 = λ list. IsIndex list c.max-self-inside.result in
     let most = c.max-self-inside.ensures in
     let size = ap (λ part. length part) (last c) in
+    let there = stations_on (insert c.args.self.now.list c.bounds-place.result.1 c.args.station) c.args.station.network in
+    let either : (c.max-self-inside.result ≡ c.self.inside.most) ⊎ (c.max-self-inside.result ≡ length there) =
+    elim (cases_lt c.self.inside.most (length c.part-most.result.now)) [
+      | inl less ↦ inr (omega (arith, most, size, less))
+      | inr not_less ↦ inl (omega (arith, most, size, not_less))
+    ] in
     subst P (sym (put c))
     (index_put c.args.self.now.list c.bounds-place.result.1 c.args.station (point c) (within c) c.self.inside.most c.max-self-inside.result (index c)
-    (omega (arith, most)) (omega (arith, most, size)))
+    (omega (arith, most)) (omega (arith, most, size)) either)
 
 pub returns-clause-others : goal.returns-clause-others
 returns-clause-others c network =

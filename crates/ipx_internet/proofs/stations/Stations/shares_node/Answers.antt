@@ -21,9 +21,11 @@ loop-number-preserved g c = elim c.match-port.branch [
   | in-Some+else-has_node w ↦
       let there : c.port.result ≡ Some w.in-Some.port = search rules in
       let got = sym c.port.ensures ∙ there in
-      let port : port_at c.args.router.now.ports c.loop-number.number ≡ w.in-Some.port = port_found c.args.router.now.ports c.loop-number.number w.in-Some.port got in
+      let port : port_at c.args.router.now.ports c.loop-number.number ≡ w.in-Some.port =
+      port_found c.args.router.now.ports c.loop-number.number w.in-Some.port got in
       let free : is_taken c.args.self.now.list w.in-Some.port ≡ false = search rules in
-      let last : is_taken c.args.self.now.list (port_at c.args.router.now.ports c.loop-number.number) ≡ false = ap (λ p. is_taken c.args.self.now.list p) port ∙ free in
+      let last : is_taken c.args.self.now.list (port_at c.args.router.now.ports c.loop-number.number) ≡ false =
+      ap (λ p. is_taken c.args.self.now.list p) port ∙ free in
       record {
         none = λ k less. elim (cases_lt k c.loop-number.number) [
           | inl before ↦ c.loop-number.invariant.none k before
@@ -43,5 +45,6 @@ pub returns : goal.returns
 returns g c net of = (
   (λ no. absurd (both_ways false refl no)),
   (λ shares. absurd (shares_none c.same_offers.ensures.nodes net c.args.self.now.list of c.args.router.now.ports
-      (λ k less. let value = c.ports-number-end.ensures.value in let end = c.loop-number-test.false in c.loop-number.invariant.none k (omega (arith, less, value, end))) shares)),
+      (λ k less. let value = c.ports-number-end.ensures.value in let end = c.loop-number-test.false in
+      c.loop-number.invariant.none k (omega (arith, less, value, end))) shares)),
 )

@@ -27,4 +27,5 @@ returns c =
     let seen = ap (λ (t : List Traced). length t) c.self.view_is in
     let within = c.requires in
     let here : c.args.k < length l.copies = omega (arith, same, seen, within) in
-    ap (λ (t : List Traced). slice_get t c.args.k) (sym c.self.view_is) ∙ told_at l.copies l.outcomes c.args.k _ c.outcome.result here c.get-lent.ensures c.outcome.ensures
+    ap (λ (t : List Traced). slice_get t c.args.k) (sym c.self.view_is)
+    ∙ told_at l.copies l.outcomes c.args.k _ c.outcome.result here c.get-lent.ensures c.outcome.ensures
