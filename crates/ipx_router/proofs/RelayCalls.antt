@@ -82,6 +82,11 @@ module _ (ports : List Port) (number : ℕ) (p : Parts) where
   none_back : propagated_on ports number p number ≡ []
   none_back = let same : (number == number) ≡ true = eq-eqb number number refl in rw same refl
 
+  pub few_propagated : (up : List ℕ) → is_up up number ≡ true → length up ≤ length ports → length (flat_map (propagated_on ports number p) up) ≤ relay_places ports
+  few_propagated up there few =
+      let others = few_others (propagated_on ports number p) up number one_each none_back there in
+      omega (arith, others, few)
+
   -- each as long as it came
   module _ (long : (arrived outgoing : Network) → p.header.control < 8 → 32 ≤ length p.payload
       → length (packet_bytes (propagated arrived outgoing p)) ≡ p.header.length) (networks : List Network) (listed : IsListed p networks) where
@@ -91,14 +96,16 @@ module _ (ports : List Port) (number : ℕ) (p : Parts) where
       | inr stays ↦ rw stays tt
     ]
 
+    pub short_propagated : (up : List ℕ) → AllByRecursion (λ s. length s.bytes ≤ p.header.length) (flat_map (propagated_on ports number p) up)
+    short_propagated up =
+        all-flat_map (λ out. is_up up out ≡ true) (λ s. length s.bytes ≤ p.header.length) (propagated_on ports number p) (λ out there. short_each out) up (members up)
+
     pub propagated_fit : (up : List ℕ) (o : Contents) → is_up up number ≡ true → length up ≤ length ports
         → HasRoom o (relay_places ports) (relay_places ports * p.header.length) → Fits o (flat_map (propagated_on ports number p) up)
     propagated_fit up o there few room =
         let sent = flat_map (propagated_on ports number p) up in
-        let others = few_others (propagated_on ports number p) up number one_each none_back there in
-        let within : length sent ≤ relay_places ports = omega (arith, others, few) in
-        let short = total_most p.header.length sent
-        (all-flat_map (λ out. is_up up out ≡ true) (λ s. length s.bytes ≤ p.header.length) (propagated_on ports number p) (λ out there. short_each out) up (members up)) in
+        let within = few_propagated up there few in
+        let short = total_most p.header.length sent (short_propagated up) in
         fits_room (relay_places ports) (relay_places ports * p.header.length) sent room within
         (omega (arith, short, mul-le-mul_right p.header.length within))
 

@@ -1,40 +1,45 @@
--- What a history offers came by ports that there are, so it has the shares of the router's ports.
-use Rattle.std.proofs.Common.{◌≡◌, sym, ap, ◌∙◌, subst, append_assoc, ℕ, ◌<◌, List, [], ◌∷◌, ◌++◌, map, length, Option, None, Some, inl, inr}
-use Rattle.std.specs.List.{AllByRecursion}
+-- What a history offers came by the ports on which its packets came, and these share the tables if their shares fit.
+use Rattle.std.proofs.Common.{◌≡◌, refl, sym, ap, ◌∙◌, subst, append_assoc, ℕ, zero, suc, ◌+◌, ◌≤◌, ◌==◌, true, List, [], ◌∷◌, ◌++◌, map, length, Option, None, Some, inl, inr, arith}
+use Rattle.std.specs.List.{AllByRecursion, list_any, sum, sum_by}
 use Rattle.std.proofs.lemmas.Bool.{cases_Bool}
 use Rattle.std.proofs.lemmas.List.{length-map}
-use Rattle.ipx_table.specs.Facts.{Fact, Offered, Second, PortEnd, End}
-use Rattle.ipx_table.specs.Shares.{IsByPort}
+use Rattle.std.proofs.lemmas.List.Sums.{sum_by-cons, sum_by_push}
+use Rattle.ipx_table.specs.Facts.{Fact, Offered, Second as SecondPassed, PortEnd, End}
+use Rattle.ipx_table.specs.Reading.{Rules, share_of}
+use Rattle.ipx_table.specs.Shares.{IsByOneOf, IsSharedBy}
 use Rattle.ipx_wire.specs.declared.node.Node.{Node}
 use Rattle.ipx_wire.specs.declared.rip.Operation.{Operation}
 use Rattle.ipx_wire.specs.declared.rip.Operation.TheVariants.{Request, Response}
 use Rattle.ipx_wire.specs.declared.rip.RipEntry.{RipEntry}
 use Rattle.ipx_wire.specs.declared.sap.Sap.TheVariants.{Query, Response as SapResponse}
 use Rattle.ipx_wire.specs.declared.sap_entries.SapEntry.{SapEntry}
-use Rattle.ipx_router.specs.Facts.{heard_after, route_facts, route_facts_of, routes_offered, routes_heard, service_facts, service_facts_of, services_offered, services_heard}
+use Rattle.ipx_router.specs.Facts.{heard_after, route_facts, routes_offered, routes_heard, service_facts, services_offered, services_heard}
 use Rattle.ipx_router.specs.Heard.{Heard, HeardRip, HeardSap}
-use Rattle.ipx_router.specs.History.{Event, History, IsOnPort}
-use Rattle.ipx_router.specs.Port.{Port, takes_no_route}
+use Rattle.ipx_router.specs.History.{Event, History, Start, Stop, Second, Packet, PortDown, PortUp, IsOnPort}
+use Rattle.ipx_router.specs.Port.{Port, numbers, takes_no_route}
+use Rattle.ipx_router.specs.Routes.{route_rules}
+use Rattle.ipx_router.specs.Services.{service_rules}
+use Rattle.ipx_router.specs.Shares.{ShareOut, CameOnOneOf}
 use Rattle.ipx_router.specs.declared.route_offer.RouteOffer.{RouteOffer}
 use Rattle.ipx_router.specs.declared.service_offer.ServiceOffer.{ServiceOffer}
-use Rattle.ipx_router.proofs.Every.{all_before, all_behind}
-use Rattle.ipx_router.proofs.Offering.{facts_from-more}
+use Rattle.ipx_router.proofs.Every.{all_then, all_before}
+use Rattle.ipx_router.proofs.Histories.{among}
 use Rattle.ipx_router.proofs.Tables.{OfferIs, history_all, routes_after, services_after}
 
-by_ports : {O : Type 0} (port_by : O → ℕ) (ports : ℕ) (facts : List (Fact O)) → AllByRecursion (OfferIs (λ o. port_by o < ports)) facts
-    → AllByRecursion (IsByPort port_by ports) facts
-by_ports port_by ports [] all = tt
-by_ports port_by ports (Offered offer ∷ facts) all = (all.0, by_ports port_by ports facts all.1)
-by_ports port_by ports (Second ∷ facts) all = (tt, by_ports port_by ports facts all.1)
-by_ports port_by ports (PortEnd port ∷ facts) all = (tt, by_ports port_by ports facts all.1)
-by_ports port_by ports (End ∷ facts) all = (tt, by_ports port_by ports facts all.1)
+by_ports : {O : Type 0} (port_by : O → ℕ) (sharers : List ℕ) (facts : List (Fact O))
+    → AllByRecursion (OfferIs (λ o. list_any (λ port. port == port_by o) sharers ≡ true)) facts → AllByRecursion (IsByOneOf port_by sharers) facts
+by_ports port_by sharers [] all = tt
+by_ports port_by sharers (Offered offer ∷ facts) all = (all.0, by_ports port_by sharers facts all.1)
+by_ports port_by sharers (SecondPassed ∷ facts) all = (tt, by_ports port_by sharers facts all.1)
+by_ports port_by sharers (PortEnd port ∷ facts) all = (tt, by_ports port_by sharers facts all.1)
+by_ports port_by sharers (End ∷ facts) all = (tt, by_ports port_by sharers facts all.1)
 
-module _ (ports : List Port) (number : ℕ) (within : number < length ports) where
+module _ (ports : List Port) (sharers : List ℕ) (number : ℕ) (within : list_any (λ port. port == number) sharers ≡ true) where
   abbrev OfRoute : Fact RouteOffer → Type 0
-  OfRoute = OfferIs (λ (r : RouteOffer). r.port < length ports)
+  OfRoute = OfferIs (λ (r : RouteOffer). list_any (λ port. port == r.port) sharers ≡ true)
 
   abbrev OfService : Fact ServiceOffer → Type 0
-  OfService = OfferIs (λ (s : ServiceOffer). s.port < length ports)
+  OfService = OfferIs (λ (s : ServiceOffer). list_any (λ port. port == s.port) sharers ≡ true)
 
   routes_within : (node : Node) (entries : List RipEntry) → AllByRecursion OfRoute (routes_offered ports number node entries)
   routes_within node [] = tt
@@ -75,51 +80,71 @@ module _ (ports : List Port) (number : ℕ) (within : number < length ports) whe
   sap_within (Some (HeardSap source (Query nearest kind))) = tt
   sap_within (Some (HeardSap source (SapResponse nearest entries))) = services_within source.node entries
 
-route_facts_by : (ports : List Port) (history : History) → AllByRecursion (IsOnPort ports) history
-    → AllByRecursion (IsByPort (λ (r : RouteOffer). r.port) (length ports)) (route_facts ports history)
-route_facts_by ports history on =
-    by_ports (λ (r : RouteOffer). r.port) (length ports) (route_facts ports history)
-    (history_all (λ (r : RouteOffer). r.port < length ports) (IsOnPort ports) ports (routes_after ports)
-    (λ before number bytes within. heard_within ports number within (heard_after ports before number bytes)) [] history on)
+pub routes_shared : (ports : List Port) (capacity : ℕ) (sharers : List ℕ) (history : History) → AllByRecursion (CameOnOneOf sharers) history
+    → sum_by (route_rules ports capacity).share sharers ≤ capacity → IsSharedBy (route_rules ports capacity) sharers (route_facts ports history)
+routes_shared ports capacity sharers history on fit = record {
+  came = by_ports (λ (r : RouteOffer). r.port) sharers (route_facts ports history)
+      (history_all (λ (r : RouteOffer). list_any (λ port. port == r.port) sharers ≡ true) (CameOnOneOf sharers) ports (routes_after ports)
+      (λ before number bytes within. heard_within ports sharers number within (heard_after ports before number bytes)) [] history on);
+  fit = fit;
+}
 
-service_facts_by : (ports : List Port) (history : History) → AllByRecursion (IsOnPort ports) history
-    → AllByRecursion (IsByPort (λ (s : ServiceOffer). s.port) (length ports)) (service_facts ports history)
-service_facts_by ports history on =
-    by_ports (λ (s : ServiceOffer). s.port) (length ports) (service_facts ports history)
-    (history_all (λ (s : ServiceOffer). s.port < length ports) (IsOnPort ports) ports (services_after ports)
-    (λ before number bytes within. sap_within ports number within (heard_after ports before number bytes)) [] history on)
+pub services_shared : (ports : List Port) (capacity : ℕ) (sharers : List ℕ) (history : History) → AllByRecursion (CameOnOneOf sharers) history
+    → sum_by (service_rules ports capacity).share sharers ≤ capacity → IsSharedBy (service_rules ports capacity) sharers (service_facts ports history)
+services_shared ports capacity sharers history on fit = record {
+  came = by_ports (λ (s : ServiceOffer). s.port) sharers (service_facts ports history)
+      (history_all (λ (s : ServiceOffer). list_any (λ port. port == s.port) sharers ≡ true) (CameOnOneOf sharers) ports (services_after ports)
+      (λ before number bytes within. sap_within ports sharers number within (heard_after ports before number bytes)) [] history on);
+  fit = fit;
+}
 
--- what is offered up to a place of an event, and what is offered there, came by ports with shares
-pub record CameByShares {O : Type 0} (port_by : O → ℕ) (share : Port → ℕ) (ports : List Port) (facts : List (Fact O)) (offer : O) : Type 0 where
-  pub before : AllByRecursion (IsByPort port_by (length (map share ports))) facts
-  pub here : port_by offer < length (map share ports)
+-- ---- all ports
 
-came : {O : Type 0} (port_by : O → ℕ) (share : Port → ℕ) (ports : List Port) (facts first : List (Fact O)) (offer : O) (rest : List (Fact O))
-    → AllByRecursion (IsByPort port_by (length ports)) (facts ++ (first ++ Offered offer ∷ rest)) → CameByShares port_by share ports (facts ++ first) offer
-came {O} port_by share ports facts first offer rest all =
-    let split : AllByRecursion (IsByPort port_by (length ports)) (facts ++ first ++ Offered offer ∷ rest) =
-    subst (λ (fs : List (Fact O)). AllByRecursion (IsByPort port_by (length ports)) fs) (sym (append_assoc facts first (Offered offer ∷ rest))) all in
+-- a packet on a port that there is came on one of all ports
+pub came_on_one : (ports : List Port) (history : History) → AllByRecursion (IsOnPort ports) history → AllByRecursion (CameOnOneOf (numbers (length ports))) history
+came_on_one ports history on = all_then (IsOnPort ports) (CameOnOneOf (numbers (length ports))) one history on
+  where
+    one : (event : Event) → IsOnPort ports event → CameOnOneOf (numbers (length ports)) event
+    one Start is = tt
+    one Stop is = tt
+    one Second is = tt
+    one (Packet number bytes) is = among (length ports) number is
+    one (PortDown number) is = tt
+    one (PortUp number) is = tt
+
+first_apart : (f : ℕ → ℕ) (n : ℕ) → sum_by f (numbers (suc n)) ≡ f 0 + sum_by (λ k. f (suc k)) (numbers n)
+first_apart f zero = let one = sum_by-cons f 0 [] in omega (arith, one)
+first_apart f (suc n) =
+    let ih = first_apart f n in
+    let whole = sum_by_push f (numbers (suc n)) (suc n) in
+    let later = sum_by_push (λ k. f (suc k)) (numbers n) n in
+    omega (arith, ih, whole, later)
+
+-- the shares of all ports, by their numbers
+sum_shares : (capacity : ℕ) (shares : List ℕ) → sum_by (share_of capacity shares) (numbers (length shares)) ≡ sum shares
+sum_shares capacity [] = refl
+sum_shares capacity (share ∷ shares) =
+    let ih = sum_shares capacity shares in
+    let first = first_apart (share_of capacity (share ∷ shares)) (length shares) in
+    let whole = sum_by-cons (λ x. x) share shares in
+    omega (arith, ih, first, whole)
+
+pub all_shares : (share : Port → ℕ) (ports : List Port) (capacity : ℕ) → ShareOut share ports capacity
+    → sum_by (share_of capacity (map share ports)) (numbers (length ports)) ≤ capacity
+all_shares share ports capacity fits =
+    subst (λ (n : ℕ). sum_by (share_of capacity (map share ports)) (numbers n) ≤ capacity) (length-map ports share)
+    (subst (λ (n : ℕ). n ≤ capacity) (sym (sum_shares capacity (map share ports))) fits)
+
+-- ---- up to a place of an event
+
+-- ports that share a table after an event share it up to an offer of the event
+pub shared_before : {O : Type 0} (rules : Rules O) (sharers : List ℕ) (all facts offered first : List (Fact O)) (offer : O) (rest : List (Fact O))
+    → all ≡ facts ++ offered → offered ≡ first ++ Offered offer ∷ rest → IsSharedBy rules sharers all → IsSharedBy rules sharers (facts ++ first ++ Offered offer ∷ [])
+shared_before {O} rules sharers all facts offered first offer rest whole is shared =
+    let split : all ≡ facts ++ first ++ Offered offer ∷ [] ++ rest =
+    whole ∙ ap (λ (fs : List (Fact O)). facts ++ fs) is ∙ sym (append_assoc facts first (Offered offer ∷ rest)) ∙ sym (append_assoc (facts ++ first) (Offered offer ∷ []) rest) in
     record {
-      before = subst (λ (n : ℕ). AllByRecursion (IsByPort port_by n) (facts ++ first)) (sym (length-map ports share))
-          (all_before (IsByPort port_by (length ports)) (facts ++ first) (Offered offer ∷ rest) split);
-      here = subst (λ (n : ℕ). port_by offer < n) (sym (length-map ports share))
-          (all_behind (IsByPort port_by (length ports)) (facts ++ first) (Offered offer ∷ rest) split).0;
+      came = all_before (IsByOneOf rules.port sharers) (facts ++ first ++ Offered offer ∷ []) rest
+          (subst (λ (fs : List (Fact O)). AllByRecursion (IsByOneOf rules.port sharers) fs) split shared.came);
+      fit = shared.fit;
     }
-
-pub routes_came : (share : Port → ℕ) (ports : List Port) (history : History) (event : Event) (first : List (Fact RouteOffer)) (route : RouteOffer) (rest : List (Fact RouteOffer))
-    → AllByRecursion (IsOnPort ports) (history ++ event ∷ []) → route_facts_of ports history event ≡ first ++ Offered route ∷ rest
-    → CameByShares (λ r. r.port) share ports (route_facts ports history ++ first) route
-routes_came share ports history event first route rest on is =
-    came (λ (r : RouteOffer). r.port) share ports (route_facts ports history) first route rest
-    (subst (λ (fs : List (Fact RouteOffer)). AllByRecursion (IsByPort (λ (r : RouteOffer). r.port) (length ports)) fs)
-    (facts_from-more (route_facts_of ports) [] history event ∙ ap (λ (fs : List (Fact RouteOffer)). route_facts ports history ++ fs) is)
-    (route_facts_by ports (history ++ event ∷ []) on))
-
-pub services_came : (share : Port → ℕ) (ports : List Port) (history : History) (event : Event) (first : List (Fact ServiceOffer)) (service : ServiceOffer) (rest : List (Fact ServiceOffer))
-    → AllByRecursion (IsOnPort ports) (history ++ event ∷ []) → service_facts_of ports history event ≡ first ++ Offered service ∷ rest
-    → CameByShares (λ s. s.port) share ports (service_facts ports history ++ first) service
-services_came share ports history event first service rest on is =
-    came (λ (s : ServiceOffer). s.port) share ports (service_facts ports history) first service rest
-    (subst (λ (fs : List (Fact ServiceOffer)). AllByRecursion (IsByPort (λ (s : ServiceOffer). s.port) (length ports)) fs)
-    (facts_from-more (service_facts_of ports) [] history event ∙ ap (λ (fs : List (Fact ServiceOffer)). service_facts ports history ++ fs) is)
-    (service_facts_by ports (history ++ event ∷ []) on))

@@ -1,10 +1,11 @@
 -- Capacities and shares: how much of the tables the ports have, and what finds room.
-use Rattle.std.specs.Prelude.{◌≡◌, ℕ, ◌<◌, ◌≤◌, false, List, ◌∷◌, ◌++◌, map, length, slice_get, None, Some}
-use Rattle.std.specs.List.{AllByRecursion, find, sum}
+use Rattle.std.specs.Prelude.{◌≡◌, ℕ, ◌<◌, ◌≤◌, ◌==◌, true, false, List, ◌∷◌, ◌++◌, map, length, slice_get, None, Some}
+use Rattle.std.specs.List.{AllByRecursion, find, list_any, sum}
 use Rattle.ipx_table.specs.Facts.{Fact, Offered}
 use Rattle.ipx_table.specs.Reading.{Rules, count_by, same_key}
 use Rattle.ipx_table.specs.Stands.{held}
 use Rattle.ipx_table.specs.declared.held.Held.{Held}
+use Rattle.ipx_router.specs.History.{Event, Packet}
 use Rattle.ipx_router.specs.Port.{Port, port_at}
 use Rattle.ipx_router.specs.Stands.{State}
 use Rattle.ipx_router.specs.declared.route_offer.RouteOffer.{RouteOffer}
@@ -30,6 +31,11 @@ WithinServiceShares ports services = (number : ℕ) → number < length ports �
 -- the shares of all ports fit into a table of that capacity together
 abbrev pub ShareOut : (Port → ℕ) → List Port → ℕ → Type 0
 ShareOut share ports capacity = sum (map share ports) ≤ capacity
+
+-- if the event is a packet, it came on one of those ports
+abbrev pub CameOnOneOf : List ℕ → Event → Type 0
+CameOnOneOf ports (Packet number bytes) = list_any (λ port. port == number) ports ≡ true
+CameOnOneOf ports event = Unit
 
 module _ {O : Type 0} (rules : Rules O) where
   -- an offer to which those records leave room: it isn't down, none of them is of its key, and its port is below its share

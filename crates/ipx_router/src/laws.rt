@@ -1,6 +1,6 @@
 //! What holds of the definitions, for all ports, routes, services and histories.
 ghost use Rattle.std.specs.Prelude.{◌≡◌, ◌≢◌, ◌↔◌, ◌⊎◌, ℕ, ◌^◌, ◌<◌, ◌≤◌, ◌==◌, true, false, not, List, [], ◌∷◌, ◌++◌, length, filter, map, slice_get, Some, None, Ok};
-ghost use Rattle.std.specs.List.{AllByRecursion};
+ghost use Rattle.std.specs.List.{AllByRecursion, sum_by};
 ghost use Rattle.std.specs.List.Sorted.{IsStrictlyIncreasing};
 ghost use Rattle.ipx_table.specs.Stands.{Ascends};
 ghost use Rattle.ipx_wire.specs.Packet.{Parts, packet_of};
@@ -10,6 +10,7 @@ ghost use Rattle.ipx_wire.specs.declared.network.Network.{Network};
 ghost use Rattle.ipx_wire.specs.declared.node.Node.{Node};
 ghost use Rattle.ipx_router.specs.Bounds.{most_packets, most_length};
 ghost use Rattle.ipx_table.specs.Facts.{Fact, Offered};
+ghost use Rattle.ipx_table.specs.Shares.{IsSharedBy};
 ghost use Rattle.ipx_table.specs.Stands.{held};
 ghost use Rattle.ipx_table.specs.Taken.{taken};
 ghost use Rattle.ipx_table.specs.declared.taken.Taken.TheVariants.{Admitted};
@@ -20,14 +21,14 @@ ghost use Rattle.ipx_router.specs.News.{news, news_services, same_address, same_
 ghost use Rattle.ipx_router.specs.Numbers.{unreachable, most_ports};
 ghost use Rattle.ipx_router.specs.Outcomes.{outcome, changes_nothing};
 ghost use Rattle.ipx_router.specs.Packets.{EachEntryIs, IsSentFor, IsRelayed};
-ghost use Rattle.ipx_router.specs.Port.{Port, IsPort, IsNoPort, AreApart, port_at, is_up, same_node};
+ghost use Rattle.ipx_router.specs.Port.{Port, IsPort, IsNoPort, AreApart, numbers, port_at, is_up, same_node};
 ghost use Rattle.ipx_router.specs.Relay.{relay_sends};
 ghost use Rattle.ipx_router.specs.Relays.{Sent, IsTableRoute, relayed};
 ghost use Rattle.ipx_router.specs.Why.{why};
 ghost use Rattle.ipx_router.specs.Sends.{sends, ports_sending};
 ghost use Rattle.ipx_router.specs.Routes.{route_rules};
 ghost use Rattle.ipx_router.specs.Services.{service_order, service_rules};
-ghost use Rattle.ipx_router.specs.Shares.{WithinRouteShares, WithinServiceShares, ShareOut, IsNew, KeepsNew};
+ghost use Rattle.ipx_router.specs.Shares.{WithinRouteShares, WithinServiceShares, ShareOut, CameOnOneOf, IsNew, KeepsNew};
 ghost use Rattle.ipx_router.specs.Told.{told, told_services};
 ghost use Rattle.ipx_router.specs.declared.port.PortFault.{PortFault};
 
@@ -252,25 +253,24 @@ pub fn shares_hold()
     ipx_table::laws::shares_hold::<ServiceOffer>();
 }
 
-/// Where the shares of all ports fit into a table together, a port below its share finds room, whatever the other ports sent:
-/// a route or a service that an event offers is admitted if it isn't down and there is none of its key when its turn comes.
-/// It is then in the table, unless the same event offers its key once more.
+/// Where all routes that were offered came by ports whose shares sum to at most the capacity, a port below its share finds
+/// room, whatever these ports sent; and services likewise. The other ports may have any share. A route or a service that an
+/// event offers is admitted if it isn't down and there is none of its key when its turn comes. It is then in the table, unless
+/// the same event offers its key once more.
 pub fn room_within_a_share()
-    ensures routes { (ports : List Port) (capacity : ℕ) (history : History) (event : Event) (first : List (Fact RouteOffer)) (route : RouteOffer) (rest : List (Fact RouteOffer))
-        → AllByRecursion (IsOnPort ports) (history ++ event ∷ []) → ShareOut (λ p. p.route_share) ports capacity
-        → route_facts_of ports history event ≡ first ++ Offered route ∷ rest
+    ensures routes { (ports : List Port) (capacity : ℕ) (sharers : List ℕ) (history : History) (event : Event) (first : List (Fact RouteOffer)) (route : RouteOffer) (rest : List (Fact RouteOffer))
         → let rules = route_rules ports capacity in let facts = route_facts ports history ++ first in
-        IsNew rules (held rules facts) route → taken rules same_route facts route ≡ Admitted }
-    ensures services { (ports : List Port) (capacity : ℕ) (history : History) (event : Event) (first : List (Fact ServiceOffer)) (service : ServiceOffer) (rest : List (Fact ServiceOffer))
-        → AllByRecursion (IsOnPort ports) (history ++ event ∷ []) → ShareOut (λ p. p.service_share) ports capacity
-        → service_facts_of ports history event ≡ first ++ Offered service ∷ rest
+        IsSharedBy rules sharers (route_facts ports (history ++ event ∷ [])) → route_facts_of ports history event ≡ first ++ Offered route ∷ rest
+        → IsNew rules (held rules facts) route → taken rules same_route facts route ≡ Admitted }
+    ensures services { (ports : List Port) (capacity : ℕ) (sharers : List ℕ) (history : History) (event : Event) (first : List (Fact ServiceOffer)) (service : ServiceOffer) (rest : List (Fact ServiceOffer))
         → let rules = service_rules ports capacity in let facts = service_facts ports history ++ first in
-        IsNew rules (held rules facts) service → taken rules same_service facts service ≡ Admitted }
-    ensures routes_kept { (ports : List Port) (capacity : ℕ) (history : History) (event : Event)
-        → AllByRecursion (IsOnPort ports) (history ++ event ∷ []) → ShareOut (λ p. p.route_share) ports capacity
+        IsSharedBy rules sharers (service_facts ports (history ++ event ∷ [])) → service_facts_of ports history event ≡ first ++ Offered service ∷ rest
+        → IsNew rules (held rules facts) service → taken rules same_service facts service ≡ Admitted }
+    ensures routes_kept { (ports : List Port) (capacity : ℕ) (sharers : List ℕ) (history : History) (event : Event)
+        → IsSharedBy (route_rules ports capacity) sharers (route_facts ports (history ++ event ∷ []))
         → KeepsNew (route_rules ports capacity) (route_facts ports history) (route_facts_of ports history event) (routes_held ports capacity (history ++ event ∷ [])) }
-    ensures services_kept { (ports : List Port) (capacity : ℕ) (history : History) (event : Event)
-        → AllByRecursion (IsOnPort ports) (history ++ event ∷ []) → ShareOut (λ p. p.service_share) ports capacity
+    ensures services_kept { (ports : List Port) (capacity : ℕ) (sharers : List ℕ) (history : History) (event : Event)
+        → IsSharedBy (service_rules ports capacity) sharers (service_facts ports (history ++ event ∷ []))
         → KeepsNew (service_rules ports capacity) (service_facts ports history) (service_facts_of ports history event) (services_held ports capacity (history ++ event ∷ [])) }
 {
     ipx_table::laws::room_within_a_share::<RouteOffer>();
@@ -278,3 +278,16 @@ pub fn room_within_a_share()
     ipx_table::laws::standing_records::<RouteOffer>();
     ipx_table::laws::standing_records::<ServiceOffer>();
 }
+
+/// Which ports share a table. What is offered comes by the ports on which packets came. So where packets came on some ports
+/// alone, and their shares sum to at most the capacity, these share it. Where the shares of all ports do, all ports share it.
+pub fn shared_tables()
+    ensures routes { (ports : List Port) (capacity : ℕ) (sharers : List ℕ) (history : History) → let rules = route_rules ports capacity in
+        AllByRecursion (CameOnOneOf sharers) history → sum_by rules.share sharers ≤ capacity → IsSharedBy rules sharers (route_facts ports history) }
+    ensures services { (ports : List Port) (capacity : ℕ) (sharers : List ℕ) (history : History) → let rules = service_rules ports capacity in
+        AllByRecursion (CameOnOneOf sharers) history → sum_by rules.share sharers ≤ capacity → IsSharedBy rules sharers (service_facts ports history) }
+    ensures all_routes { (ports : List Port) (capacity : ℕ) (history : History) → AllByRecursion (IsOnPort ports) history
+        → ShareOut (λ p. p.route_share) ports capacity → IsSharedBy (route_rules ports capacity) (numbers (length ports)) (route_facts ports history) }
+    ensures all_services { (ports : List Port) (capacity : ℕ) (history : History) → AllByRecursion (IsOnPort ports) history
+        → ShareOut (λ p. p.service_share) ports capacity → IsSharedBy (service_rules ports capacity) (numbers (length ports)) (service_facts ports history) }
+{}

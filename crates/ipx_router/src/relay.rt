@@ -7,7 +7,7 @@ ghost use Rattle.ipx_wire.specs.declared.network.Network.{Network};
 ghost use Rattle.ipx_router.specs.Checks.{IsListed, IsPassed};
 ghost use Rattle.ipx_router.specs.Facts.{offers};
 ghost use Rattle.ipx_router.specs.Numbers.{most_ports};
-ghost use Rattle.ipx_router.specs.Outbox.{HasRoom, Fits, Appends};
+ghost use Rattle.ipx_router.specs.Outbox.{HasRoom, Fits, Appends, AppendsAtMost};
 ghost use Rattle.ipx_router.specs.Port.{port_at, is_up};
 ghost use Rattle.ipx_router.specs.Relay.{relay_why, relay_outcome, relay_sends, passed_outcome, relay_places};
 ghost use Rattle.ipx_router.specs.Relays.{goes_out, propagated_on, relayed};
@@ -53,6 +53,7 @@ pub(crate) fn relay<const R: usize>(
     requires room { HasRoom outbox.old (relay_places ports.now) (relay_places ports.now * packet.now.header.length) }
     ensures outcome { result ≡ relay_outcome ports.now up.now (offers routes.now.records) running number packet.now }
     ensures sends { Appends outbox.old outbox.new (relay_sends ports.now up.now (offers routes.now.records) running number packet.now) }
+    ensures bounds { AppendsAtMost (relay_places ports.now) packet.now.header.length outbox.old.sent outbox.new.sent }
 {
     if !running {
         return Outcome::Dropped(Why::NotRunning);
@@ -102,6 +103,7 @@ fn send_on<const R: usize>(
     requires room { HasRoom outbox.old (relay_places ports.now) (relay_places ports.now * packet.now.header.length) }
     ensures outcome { result ≡ passed_outcome (port_at ports.now number) packet.now.header }
     ensures sends { Appends outbox.old outbox.new (relayed ports.now up.now (offers routes.now.records) number packet.now) }
+    ensures bounds { AppendsAtMost (relay_places ports.now) packet.now.header.length outbox.old.sent outbox.new.sent }
 {
     lengths(packet);
     match passed {

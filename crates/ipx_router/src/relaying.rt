@@ -1,7 +1,7 @@
 //! Packets that a router only sends on: its own processes hear nothing of them.
 ghost use Rattle.std.specs.Prelude.{◌≡◌, ◌*◌, ◌<◌, length};
 ghost use Rattle.ipx_router.specs.Facts.{offers};
-ghost use Rattle.ipx_router.specs.Outbox.{HasRoom, Appends};
+ghost use Rattle.ipx_router.specs.Outbox.{HasRoom, Appends, AppendsAtMost};
 ghost use Rattle.ipx_router.specs.Relay.{relay_outcome, relay_sends, relay_places};
 
 use crate::outbox::{Need, Outbox};
@@ -26,6 +26,8 @@ impl<const P: usize, const R: usize, const S: usize> Router<P, R, S> {
         requires room { HasRoom outbox.old (relay_places self.now.ports) (relay_places self.now.ports * packet.now.header.length) }
         ensures outcome { result ≡ relay_outcome self.now.ports self.now.up (offers self.now.routes) self.now.running port packet.now }
         ensures sends { Appends outbox.old outbox.new (relay_sends self.now.ports self.now.up (offers self.now.routes) self.now.running port packet.now) }
+        // No more than the room that it needs.
+        ensures bounds { AppendsAtMost (relay_places self.now.ports) packet.now.header.length outbox.old.sent outbox.new.sent }
     {
         relay(
             self.running,

@@ -1,6 +1,6 @@
 //! Events that are handed to a router.
-ghost use Rattle.std.specs.Prelude.{◌≡◌, [], ◌∷◌, ◌++◌, IsOk, IfOk, OnOk, OnErr};
-ghost use Rattle.std.specs.List.{AllByRecursion};
+ghost use Rattle.std.specs.Prelude.{◌≡◌, ℕ, List, [], ◌∷◌, ◌++◌, IsOk, IfOk, OnOk, OnErr};
+ghost use Rattle.ipx_table.specs.Shares.{IsSharedBy};
 ghost use Rattle.ipx_router.specs.Bounds.{most_length};
 ghost use Rattle.ipx_router.specs.Facts.{route_facts, route_facts_of, service_facts, service_facts_of};
 ghost use Rattle.ipx_router.specs.Happened.{happened};
@@ -12,7 +12,7 @@ ghost use Rattle.ipx_router.specs.Outcomes.{outcome};
 ghost use Rattle.ipx_router.specs.Routes.{route_rules};
 ghost use Rattle.ipx_router.specs.Sends.{sends};
 ghost use Rattle.ipx_router.specs.Services.{service_rules};
-ghost use Rattle.ipx_router.specs.Shares.{IsWithinCapacity, WithinRouteShares, WithinServiceShares, ShareOut, KeepsNew};
+ghost use Rattle.ipx_router.specs.Shares.{IsWithinCapacity, WithinRouteShares, WithinServiceShares, KeepsNew};
 ghost use Rattle.ipx_router.specs.Stands.{State, StandsFor};
 ghost use Rattle.ipx_router.specs.Within.{StaysWithin};
 
@@ -52,9 +52,11 @@ impl<const P: usize, const R: usize, const S: usize> Router<P, R, S> {
         ensures capacity { IsWithinCapacity R S self.new }
         ensures route_shares { WithinRouteShares self.new.ports self.new.routes }
         ensures service_shares { WithinServiceShares self.new.ports self.new.services }
-        ensures route_room { ShareOut (λ p. p.route_share) self.old.ports R → (h : History) → AllByRecursion (IsOnPort self.old.ports) h → StandsFor R S self.old h
+        ensures route_room { (h : History) (sharers : List ℕ) → StandsFor R S self.old h
+            → IsSharedBy (route_rules self.old.ports R) sharers (route_facts self.old.ports (h ++ happened event.entry ∷ []))
             → KeepsNew (route_rules self.old.ports R) (route_facts self.old.ports h) (route_facts_of self.old.ports h (happened event.entry)) self.new.routes }
-        ensures service_room { ShareOut (λ p. p.service_share) self.old.ports S → (h : History) → AllByRecursion (IsOnPort self.old.ports) h → StandsFor R S self.old h
+        ensures service_room { (h : History) (sharers : List ℕ) → StandsFor R S self.old h
+            → IsSharedBy (service_rules self.old.ports S) sharers (service_facts self.old.ports (h ++ happened event.entry ∷ []))
             → KeepsNew (service_rules self.old.ports S) (service_facts self.old.ports h) (service_facts_of self.old.ports h (happened event.entry)) self.new.services }
     {
         self.stays_within(&event);
@@ -104,9 +106,11 @@ impl<const P: usize, const R: usize, const S: usize> Router<P, R, S> {
         ensures capacity { OnOk result (IsWithinCapacity R S self.new) }
         ensures route_shares { OnOk result (WithinRouteShares self.new.ports self.new.routes) }
         ensures service_shares { OnOk result (WithinServiceShares self.new.ports self.new.services) }
-        ensures route_room { OnOk result (ShareOut (λ p. p.route_share) self.old.ports R → (h : History) → AllByRecursion (IsOnPort self.old.ports) h → StandsFor R S self.old h
+        ensures route_room { OnOk result ((h : History) (sharers : List ℕ) → StandsFor R S self.old h
+            → IsSharedBy (route_rules self.old.ports R) sharers (route_facts self.old.ports (h ++ happened event.entry ∷ []))
             → KeepsNew (route_rules self.old.ports R) (route_facts self.old.ports h) (route_facts_of self.old.ports h (happened event.entry)) self.new.routes) }
-        ensures service_room { OnOk result (ShareOut (λ p. p.service_share) self.old.ports S → (h : History) → AllByRecursion (IsOnPort self.old.ports) h → StandsFor R S self.old h
+        ensures service_room { OnOk result ((h : History) (sharers : List ℕ) → StandsFor R S self.old h
+            → IsSharedBy (service_rules self.old.ports S) sharers (service_facts self.old.ports (h ++ happened event.entry ∷ []))
             → KeepsNew (service_rules self.old.ports S) (service_facts self.old.ports h) (service_facts_of self.old.ports h (happened event.entry)) self.new.services) }
         ensures router { OnErr result (self.new ≡ self.old) }
         ensures outbox { OnErr result (outbox.new.sent ≡ outbox.old.sent) }

@@ -20,6 +20,12 @@ module _ {X : Type 0} where
   all-append P [] ys one two = two
   all-append P (x ∷ xs) ys one two = (one.0, all-append P xs ys one.1 two)
 
+  pub all-parts : (P : X → Type 0) (xs ys : List X) → AllByRecursion P (xs ++ ys) → AllByRecursion P xs × AllByRecursion P ys
+  all-parts P [] ys all = (tt, all)
+  all-parts P (x ∷ xs) ys all =
+      let rest = all-parts P xs ys all.1 in
+      ((all.0, rest.0), rest.1)
+
   pub all-filter : (P : X → Type 0) (p : X → Bool) (xs : List X) → AllByRecursion P xs → AllByRecursion P (filter p xs)
   all-filter P p [] all = tt
   all-filter P p (x ∷ xs) all =

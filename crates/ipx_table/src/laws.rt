@@ -1,12 +1,12 @@
 //! What holds by the definitions alone, of every list of facts.
 ghost use Rattle.std.specs.Prelude.{◌≡◌, ℕ, ◌≤◌, ◌<◌, false, List, [], ◌∷◌, ◌++◌, length, slice_get, None, Some};
-ghost use Rattle.std.specs.List.{AllByRecursion, sum};
+ghost use Rattle.std.specs.List.{AllByRecursion};
 ghost use Rattle.std.specs.Ordering.{is_eq};
 ghost use Rattle.ipx_table.specs.Reading.{rules_of, count_by};
 ghost use Rattle.ipx_table.specs.Facts.{Fact, Offered, Second, PortEnd, End, Marked};
 ghost use Rattle.ipx_table.specs.Alive.{alive, lifetime, IsAliveAt};
 ghost use Rattle.ipx_table.specs.Accepted.{marked};
-ghost use Rattle.ipx_table.specs.Shares.{IsByPort};
+ghost use Rattle.ipx_table.specs.Shares.{IsSharedBy};
 ghost use Rattle.ipx_table.specs.Taken.{taken};
 ghost use Rattle.ipx_table.specs.Stands.{Stands, IsAscending, IsDistinct, held as held_after, record_of, second_later, without_port};
 ghost use Rattle.ipx_table.specs.declared.held.Held.{Held};
@@ -77,18 +77,16 @@ pub fn shares_hold<O: Offer>()
         Stands rules records facts → count_by rules.port port records ≤ rules.share port }
 {}
 
-/// Where all offers come by ports that were given a share, and the shares sum to at most the capacity, a port below its
-/// share finds room for a new key, whatever the other ports sent.
+/// Where all offers came by ports whose shares sum to at most the capacity, a port below its share finds room for a new key,
+/// whatever these ports sent. Ports by which nothing came may have any share.
 pub fn room_within_a_share<O: Offer>()
-    ensures admitted { (capacity : ℕ) (shares : List ℕ) (facts : List (Fact O)) (offer : O) → let rules = rules_of O.reading O.Key.cmp capacity shares in
-        AllByRecursion (IsByPort rules.port (length shares)) facts → sum shares ≤ capacity
-        → rules.port offer < length shares → rules.is_down offer ≡ false
+    ensures admitted { (capacity : ℕ) (shares ports : List ℕ) (facts : List (Fact O)) (offer : O) → let rules = rules_of O.reading O.Key.cmp capacity shares in
+        IsSharedBy rules ports (facts ++ Offered offer ∷ []) → rules.is_down offer ≡ false
         → record_of O.reading.key O.Key.cmp (O.reading.key offer) (alive rules (marked rules facts)) ≡ None
         → count_by rules.port (rules.port offer) (alive rules (marked rules facts)) < rules.share (rules.port offer)
         → taken rules O.eq facts offer ≡ Admitted }
-    ensures records { (capacity : ℕ) (shares : List ℕ) (facts : List (Fact O)) (records : List (Held O)) (offer : O) → let rules = rules_of O.reading O.Key.cmp capacity shares in
-        Stands rules records facts → AllByRecursion (IsByPort rules.port (length shares)) facts → sum shares ≤ capacity
-        → rules.port offer < length shares → rules.is_down offer ≡ false
+    ensures records { (capacity : ℕ) (shares ports : List ℕ) (facts : List (Fact O)) (records : List (Held O)) (offer : O) → let rules = rules_of O.reading O.Key.cmp capacity shares in
+        Stands rules records facts → IsSharedBy rules ports (facts ++ Offered offer ∷ []) → rules.is_down offer ≡ false
         → record_of O.reading.key O.Key.cmp (O.reading.key offer) records ≡ None
         → count_by rules.port (rules.port offer) records < rules.share (rules.port offer)
         → taken rules O.eq facts offer ≡ Admitted }

@@ -1,12 +1,13 @@
 -- Two ports share a table of three: port 0 may have two records, port 1 one. What a port at its share may still do, and
--- what it may not; then shares of another size.
-use Rattle.std.proofs.Common.{◌≡◌, List, [], ◌∷◌, ◌++◌, false, true, refl}
+-- what it may not; then shares of another size, and a port without a limit.
+use Rattle.std.proofs.Common.{◌≡◌, List, [], ◌∷◌, ◌++◌, false, true, refl, arith}
 use Rattle.ipx_table.specs.Reading.{count_by}
 use Rattle.ipx_table.specs.Facts.{Fact, Offered, Second}
+use Rattle.ipx_table.specs.Shares.{IsSharedBy}
 use Rattle.ipx_table.specs.declared.held.Held.{Held}
 use Rattle.ipx_table.specs.declared.taken.Taken.{Taken}
 use Rattle.ipx_table.specs.declared.taken.Taken.TheVariants.{Withdrawn, Refreshed, Replaced, Worse, Admitted, Full}
-use Rattle.ipx_table.proofs.examples.Ways.{Way, way_by, held, offered, alive_shared, answer_shared}
+use Rattle.ipx_table.proofs.examples.Ways.{Way, way_by, held, offered, shared_ways, alive_shared, answer_shared}
 
 abbrev alive_now : List (Fact Way) → List (Held Way)
 alive_now facts = alive_shared 3 (2 ∷ 1 ∷ []) facts
@@ -137,6 +138,24 @@ without_a_share_it_has_the_capacity = refl
 
 pub a_port_without_a_share_leaves_no_room : answer_shared 2 (1 ∷ []) (offered (three_by_the_other ∷ four_by_the_other ∷ [])) one ≡ Full
 a_port_without_a_share_leaves_no_room = refl
+
+-- ---- three ports, and no limit to the one in the middle
+
+-- it may fill the table, but as long as it offers nothing the other two share it
+abbrev beside_no_limit : List (Fact Way) → Way → Taken
+beside_no_limit facts w = answer_shared 2 (1 ∷ 65535 ∷ 1 ∷ []) facts w
+
+abbrev three_by_the_last : Way
+three_by_the_last = way_by 2 3 0xCC 4 9
+
+pub first_and_last_share_the_table : IsSharedBy (shared_ways 2 (1 ∷ 65535 ∷ 1 ∷ [])) (0 ∷ 2 ∷ []) (offered (one ∷ three_by_the_last ∷ []))
+first_and_last_share_the_table = record { came = (refl, (refl, tt)); fit = omega arith }
+
+pub the_last_finds_room : beside_no_limit (offered (one ∷ [])) three_by_the_last ≡ Admitted
+the_last_finds_room = refl
+
+pub the_unlimited_port_takes_it : beside_no_limit (offered (one ∷ four_by_the_other ∷ [])) three_by_the_last ≡ Full
+the_unlimited_port_takes_it = refl
 
 pub each_port_is_counted : count_by (λ (w : Way). w.port) 0 (alive_now all_at_share) ≡ 2
 each_port_is_counted = refl

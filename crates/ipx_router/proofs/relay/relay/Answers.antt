@@ -1,4 +1,4 @@
-use Rattle.std.proofs.Common.{◌≡◌, ◌∙◌, ap, true}
+use Rattle.std.proofs.Common.{◌≡◌, ◌∙◌, sym, ap, true, [], append-nil, arith}
 use Rattle.ipx_router.specs.Facts.{offers}
 use Rattle.ipx_router.specs.Relay.{relay_why}
 use Rattle.ipx_router.proofs.RelayCalls.{drops, sends_none, lets_pass, sends_on}
@@ -31,3 +31,6 @@ returns-in-Err-clause-sends g c =
     let runs : c.args.running ≡ true = c.if-not-running.false in
     sends_none c.args.ports.now c.args.up.now routes c.args.number c.args.packet.now c.args.running c.args.outbox.now c.in-Err.why
     (ap (λ b. relay_why c.args.ports.now c.args.up.now routes b c.args.number c.args.packet.now) runs ∙ c.in-Err.ensures.refused)
+
+pub returns-in-Err-clause-bounds : goal.returns-in-Err-clause-bounds
+returns-in-Err-clause-bounds g c = record { packets = []; appended = sym (append-nil c.args.outbox.now.sent); few = omega arith; short = tt }

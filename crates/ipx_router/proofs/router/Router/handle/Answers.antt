@@ -41,7 +41,7 @@ pub returns-clause-service_shares : goal.returns-clause-service_shares
 returns-clause-service_shares g c = (c.stays_within.ensures c.dispatch.new.self c.dispatch.ensures.follows).service_shares
 
 pub returns-clause-route_room : goal.returns-clause-route_room
-returns-clause-route_room g c = λ fits h on stands. (c.stays_within.ensures c.dispatch.new.self c.dispatch.ensures.follows).route_room h on stands fits
+returns-clause-route_room g c = (c.stays_within.ensures c.dispatch.new.self c.dispatch.ensures.follows).route_room
 
 pub returns-clause-service_room : goal.returns-clause-service_room
-returns-clause-service_room g c = λ fits h on stands. (c.stays_within.ensures c.dispatch.new.self c.dispatch.ensures.follows).service_room h on stands fits
+returns-clause-service_room g c = (c.stays_within.ensures c.dispatch.new.self c.dispatch.ensures.follows).service_room
