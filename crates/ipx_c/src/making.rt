@@ -1,5 +1,6 @@
 //! Making and freeing, as C asks for it.
 ghost use Rattle.std.specs.Prelude.{◌≡◌, ◌≤◌, map, length, None, IfOk, IfErr};
+ghost use Rattle.std.specs.List.{AllByRecursion};
 ghost use Rattle.ipx_router.specs.Port.{IsPort};
 ghost use Rattle.ipx_c.specs.Codes.{fault_code};
 ghost use Rattle.ipx_c.specs.Makes.{IsBad, IsFirstBad, IsMade, IsUnmade, Makes};
@@ -50,6 +51,7 @@ pub extern "C" fn ipxr_version() -> u32
 }
 
 /// A router of the ports that have these values.
+#[tactic(auto, using(crate::proofs::Unmade::unmade))]
 fn made(alloc: Global, values: &[PortValues]) -> Result<Box<Machine>, Fault>
     ensures made { IfOk result (λ machine. IsMade values.now machine.value) }
     ensures unmade { IfErr result (IsUnmade values.now) }
@@ -76,6 +78,7 @@ fn made(alloc: Global, values: &[PortValues]) -> Result<Box<Machine>, Fault>
 fn ports_of(values: &[PortValues]) -> Result<ArrayVec<Port, MOST_PORTS>, PortFault>
     requires { length values.now ≤ most_ports }
     ensures ports { IfOk result (λ ports. ports.items ≡ map port_of values.now) }
+    ensures each { IfOk result (λ ports. AllByRecursion IsPort (map port_of values.now)) }
     ensures bad { IfErr result (IsFirstBad values.now) }
 {
     let mut ports = ArrayVec::new();
