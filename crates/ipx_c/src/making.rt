@@ -9,7 +9,7 @@ ghost use Rattle.ipx_c.specs.Values.{port_of};
 
 use crate::code::{DONE, fault_code};
 use crate::fault::Fault;
-use crate::handle::Handle;
+use crate::handle::{Handle, put_in, taken_out};
 use crate::machine::{MOST_PORTS, Machine, SizedRouter};
 use crate::values::PortValues;
 use arrayvec::ArrayVec;
@@ -27,7 +27,8 @@ pub extern "C" fn ipxr_make(alloc: Global, handle: &mut Handle, ports: &[PortVal
 {
     match made(alloc, ports) {
         Ok(machine) => {
-            *handle = Handle::of(machine);
+            free(alloc, handle);
+            put_in(handle, machine);
             DONE
         }
         Err(fault) => fault_code(fault),
@@ -39,7 +40,7 @@ pub extern "C" fn ipxr_make(alloc: Global, handle: &mut Handle, ports: &[PortVal
 pub extern "C" fn ipxr_free(alloc: Global, handle: &mut Handle)
     ensures { handle.new.cell.machine ≡ None }
 {
-    *handle = Handle::none(alloc);
+    free(alloc, handle);
 }
 
 /// The version of the interface.
@@ -48,6 +49,15 @@ pub extern "C" fn ipxr_version() -> u32
     ensures { result ≡ version }
 {
     VERSION
+}
+
+/// Frees the machine of a handle, if it has one. That it is freed, and not forgotten, is `drop`'s doing: no clause says it.
+fn free(alloc: Global, handle: &mut Handle)
+    ensures { handle.new.cell.machine ≡ None }
+{
+    if let Some(machine) = taken_out(alloc, handle) {
+        drop(machine);
+    }
 }
 
 /// A router of the ports that have these values.
