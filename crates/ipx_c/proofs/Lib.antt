@@ -1,2 +1,3 @@
 mod FirstBad
 mod MachineBox
+mod Unmade

@@ -8,7 +8,7 @@ use Rattle.std_heap.specs.contracts.GlobalAllocator.TheImpl.{ghosts, dict}
 use Rattle.std_heap.proofs.Global.TheLaws as global
 use Rattle.ipx_c.specs.contracts.machine.Machine as Machine
 use Rattle.ipx_c.proofs.machine.Machine.TheLaws as machine
-use Rattle.ipx_c.specs.contracts.parts.Parts as Parts
+use Rattle.ipx_c.specs.contracts.cell.Parts as Parts
 use Rattle.ipx_c.specs.contracts.cell.Cell as Cell
 
 abbrev pub boxed : Bx

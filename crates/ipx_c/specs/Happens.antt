@@ -1,9 +1,12 @@
 -- What an event does to what a handle has.
 use Rattle.std.specs.Prelude.{◌≡◌, ℤ, [], ◌∷◌, ◌++◌, Option, None, Some, Result, Ok, Err}
+use Rattle.ipx_router.specs.Bounds.{most_length}
 use Rattle.ipx_router.specs.History.{Event, History, IsOnPort}
-use Rattle.ipx_router.specs.Needs.{HasRoomFor}
+use Rattle.ipx_router.specs.Needs.{HasRoomFor, packets_needed}
+use Rattle.ipx_router.specs.Outbox.{AppendsAtMost}
 use Rattle.ipx_router.specs.Outcomes.{outcome}
 use Rattle.ipx_router.specs.Sends.{sends}
+use Rattle.ipx_router.specs.Shares.{IsWithinCapacity, WithinRouteShares, WithinServiceShares}
 use Rattle.ipx_router.specs.Stands.{StandsFor}
 use Rattle.ipx_router.specs.declared.outcome.Outcome.{Outcome}
 use Rattle.ipx_c.specs.Codes.{fault_code, code_of}
@@ -17,7 +20,8 @@ abbrev pub Stands : Machine → History → Type 0
 Stands machine history = StandsFor most_routes most_services machine.router history
 
 -- the router took the event: whatever history it stood for, it stands for that history with the event, what the event sends is
--- appended to what is to be sent, and the outcome is the event's. Its ports are the same
+-- appended to what is to be sent, and the outcome is the event's. Its ports are the same. Whatever the history, the event sends at
+-- most the stated number of packets, none longer than stated, and the tables stay within their sizes and the ports' shares
 pub record Took (m n : Machine) (event : Event) (became : Outcome) : Type 0 where
   pub on_port : IsOnPort m.router.ports event
   pub ports : n.router.ports ≡ m.router.ports
@@ -25,6 +29,10 @@ pub record Took (m n : Machine) (event : Event) (became : Outcome) : Type 0 wher
   pub sends : (history : History) → Stands m history
       → n.outbox.sent ≡ m.outbox.sent ++ sends m.router.ports most_routes most_services history event
   pub outcome : (history : History) → Stands m history → became ≡ outcome m.router.ports most_routes history event
+  pub bounds : AppendsAtMost (packets_needed m.router event) (most_length event) m.outbox.sent n.outbox.sent
+  pub capacity : IsWithinCapacity most_routes most_services n.router
+  pub route_shares : WithinRouteShares n.router.ports n.router.routes
+  pub service_shares : WithinServiceShares n.router.ports n.router.services
 
 -- the router and what is to be sent are as they were
 pub record IsSame (m n : Machine) : Type 0 where

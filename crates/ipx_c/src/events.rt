@@ -5,7 +5,7 @@ ghost use Rattle.ipx_c.specs.Happens.{Happens};
 
 use crate::code::{code_of, fault_code};
 use crate::fault::Fault;
-use crate::handle::{Handle, taken_out};
+use crate::handle::{Handle, put_in, taken_out};
 use ipx_router::Event;
 use std::alloc::Global;
 
@@ -65,6 +65,6 @@ fn give(alloc: Global, handle: &mut Handle, event: Event<'_>) -> i32
         return fault_code(Fault::NoRouter);
     };
     let became = machine.take(event);
-    *handle = Handle::of(machine);
+    put_in(handle, machine);
     code_of(became)
 }

@@ -4,11 +4,10 @@ ghost use Rattle.std.specs.Option.{option_map};
 
 use crate::cell::Cell;
 use crate::machine::Machine;
-use crate::parts::Parts;
 use std::alloc::Global;
 use std::mem::replace;
 
-/// A machine, or none. All bytes 0 are a handle without one.
+/// A machine, or none. All bytes 0 are a handle without one. It isn't `Drop`, so no call can let go of a machine that one has.
 #[repr(C)]
 pub struct Handle {
     made: bool,
@@ -33,7 +32,7 @@ impl Handle {
     {
         Handle {
             made: true,
-            cell: Cell::of_parts(Parts::of(machine)),
+            cell: Cell::of(machine),
         }
     }
 
@@ -43,17 +42,19 @@ impl Handle {
     {
         let Handle { made, cell } = self;
         if made {
-            Some(cell.into_parts().into_box())
+            Some(cell.into_box())
         } else {
-            drop(cell);
+            cell.close();
             None
         }
     }
-}
 
-impl Drop for Handle {
-    fn drop(self) {
-        drop(self.into_box());
+    /// Ends a handle without a machine.
+    fn close(self)
+        requires { self.cell.machine ≡ None }
+    {
+        let Handle { made: _, cell } = self;
+        cell.close();
     }
 }
 
@@ -63,4 +64,13 @@ pub(crate) fn taken_out(alloc: Global, handle: &mut Handle) -> Option<Box<Machin
     ensures empty { handle.new.cell.machine ≡ None }
 {
     replace(handle, Handle::none(alloc)).into_box()
+}
+
+/// Puts a machine into a handle that has none.
+pub(crate) fn put_in(handle: &mut Handle, machine: Box<Machine>)
+    requires { handle.old.cell.machine ≡ None }
+    ensures { handle.new.cell.machine ≡ Some machine.value }
+{
+    let empty = replace(handle, Handle::of(machine));
+    empty.close();
 }

@@ -5,7 +5,9 @@
 //!   was taken (`Happens`), a router was made (`Makes`), a packet was copied out (`Copies`), a record was read (`Reads`). Below 0
 //!   nothing happened.
 //! - How many ports, routes and services a router can have stands in `machine`, and in `specs/Sizes`.
-//! - `parts` and `cell` are the only places with a raw pointer; their proofs, and those alone, are walks by hand.
+//! - `cell` is the only place with a raw pointer; its proofs, and those alone, are walks by hand.
+//! - A handle isn't `Drop`: what doesn't hand its machine on, or put it into an empty one, doesn't compile or isn't proved. So no
+//!   call loses a router. That `ipxr_free` and `ipxr_make` free is one line in `making`, `drop(machine)`, which no clause can say.
 #![tactic(auto)]
 
 mod cell;
@@ -15,7 +17,6 @@ mod fault;
 mod handle;
 mod machine;
 mod making;
-mod parts;
 mod reading;
 mod sending;
 mod values;

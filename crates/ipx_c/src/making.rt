@@ -1,5 +1,6 @@
 //! Making and freeing, as C asks for it.
 ghost use Rattle.std.specs.Prelude.{◌≡◌, ◌≤◌, map, length, None, IfOk, IfErr};
+ghost use Rattle.std.specs.List.{AllByRecursion};
 ghost use Rattle.ipx_router.specs.Port.{IsPort};
 ghost use Rattle.ipx_c.specs.Codes.{fault_code};
 ghost use Rattle.ipx_c.specs.Makes.{IsBad, IsFirstBad, IsMade, IsUnmade, Makes};
@@ -8,7 +9,7 @@ ghost use Rattle.ipx_c.specs.Values.{port_of};
 
 use crate::code::{DONE, fault_code};
 use crate::fault::Fault;
-use crate::handle::Handle;
+use crate::handle::{Handle, put_in, taken_out};
 use crate::machine::{MOST_PORTS, Machine, SizedRouter};
 use crate::values::PortValues;
 use arrayvec::ArrayVec;
@@ -26,7 +27,8 @@ pub extern "C" fn ipxr_make(alloc: Global, handle: &mut Handle, ports: &[PortVal
 {
     match made(alloc, ports) {
         Ok(machine) => {
-            *handle = Handle::of(machine);
+            free(alloc, handle);
+            put_in(handle, machine);
             DONE
         }
         Err(fault) => fault_code(fault),
@@ -38,7 +40,7 @@ pub extern "C" fn ipxr_make(alloc: Global, handle: &mut Handle, ports: &[PortVal
 pub extern "C" fn ipxr_free(alloc: Global, handle: &mut Handle)
     ensures { handle.new.cell.machine ≡ None }
 {
-    *handle = Handle::none(alloc);
+    free(alloc, handle);
 }
 
 /// The version of the interface.
@@ -49,7 +51,17 @@ pub extern "C" fn ipxr_version() -> u32
     VERSION
 }
 
+/// Frees the machine of a handle, if it has one. That it is freed, and not forgotten, is `drop`'s doing: no clause says it.
+fn free(alloc: Global, handle: &mut Handle)
+    ensures { handle.new.cell.machine ≡ None }
+{
+    if let Some(machine) = taken_out(alloc, handle) {
+        drop(machine);
+    }
+}
+
 /// A router of the ports that have these values.
+#[tactic(auto, using(crate::proofs::Unmade::unmade))]
 fn made(alloc: Global, values: &[PortValues]) -> Result<Box<Machine>, Fault>
     ensures made { IfOk result (λ machine. IsMade values.now machine.value) }
     ensures unmade { IfErr result (IsUnmade values.now) }
@@ -76,6 +88,7 @@ fn made(alloc: Global, values: &[PortValues]) -> Result<Box<Machine>, Fault>
 fn ports_of(values: &[PortValues]) -> Result<ArrayVec<Port, MOST_PORTS>, PortFault>
     requires { length values.now ≤ most_ports }
     ensures ports { IfOk result (λ ports. ports.items ≡ map port_of values.now) }
+    ensures each { IfOk result (λ ports. AllByRecursion IsPort (map port_of values.now)) }
     ensures bad { IfErr result (IsFirstBad values.now) }
 {
     let mut ports = ArrayVec::new();

@@ -5,7 +5,7 @@ ghost use Rattle.ipx_c.specs.Values.{route_record, service_record};
 
 use crate::code::{DONE, fault_code};
 use crate::fault::Fault;
-use crate::handle::{Handle, taken_out};
+use crate::handle::{Handle, put_in, taken_out};
 use crate::machine::Machine;
 use crate::values::{RouteRecord, ServiceRecord};
 use ipx_router::{RouteOffer, ServiceOffer};
@@ -22,7 +22,7 @@ pub extern "C" fn ipxr_is_running(alloc: Global, handle: &mut Handle) -> i32
         return fault_code(Fault::NoRouter);
     };
     let answer = i32::from(machine.router.is_running());
-    *handle = Handle::of(machine);
+    put_in(handle, machine);
     answer
 }
 
@@ -36,7 +36,7 @@ pub extern "C" fn ipxr_is_up(alloc: Global, handle: &mut Handle, port: u8) -> i3
         return fault_code(Fault::NoRouter);
     };
     let answer = up_code(&machine, port);
-    *handle = Handle::of(machine);
+    put_in(handle, machine);
     answer
 }
 
@@ -60,7 +60,7 @@ pub extern "C" fn ipxr_routes(alloc: Global, handle: &mut Handle) -> usize
         return 0;
     };
     let count = machine.router.routes();
-    *handle = Handle::of(machine);
+    put_in(handle, machine);
     count
 }
 
@@ -74,7 +74,7 @@ pub extern "C" fn ipxr_services(alloc: Global, handle: &mut Handle) -> usize
         return 0;
     };
     let count = machine.router.services();
-    *handle = Handle::of(machine);
+    put_in(handle, machine);
     count
 }
 
@@ -94,7 +94,7 @@ pub extern "C" fn ipxr_route(
         return fault_code(Fault::NoRouter);
     };
     let found = machine.router.route_at(index);
-    *handle = Handle::of(machine);
+    put_in(handle, machine);
     let Some(held) = found else {
         return fault_code(Fault::NoRecord);
     };
@@ -118,7 +118,7 @@ pub extern "C" fn ipxr_service(
         return fault_code(Fault::NoRouter);
     };
     let found = machine.router.service_at(index);
-    *handle = Handle::of(machine);
+    put_in(handle, machine);
     let Some(held) = found else {
         return fault_code(Fault::NoRecord);
     };

@@ -4,7 +4,7 @@ ghost use Rattle.ipx_c.specs.Copies.{IsCleared, sent_count, packet_at, told_afte
 
 use crate::code::{DONE, fault_code};
 use crate::fault::Fault;
-use crate::handle::{Handle, taken_out};
+use crate::handle::{Handle, put_in, taken_out};
 use crate::machine::Machine;
 use crate::values::PacketSent;
 use std::alloc::Global;
@@ -19,7 +19,7 @@ pub extern "C" fn ipxr_sent(alloc: Global, handle: &mut Handle) -> usize
         return 0;
     };
     let count = machine.outbox.len();
-    *handle = Handle::of(machine);
+    put_in(handle, machine);
     count
 }
 
@@ -41,7 +41,7 @@ pub extern "C" fn ipxr_get(
         return fault_code(Fault::NoRouter);
     };
     let answer = copy_out(&machine, index, sent, buffer);
-    *handle = Handle::of(machine);
+    put_in(handle, machine);
     answer
 }
 
@@ -84,5 +84,5 @@ pub extern "C" fn ipxr_clear(alloc: Global, handle: &mut Handle)
         return;
     };
     machine.outbox.clear();
-    *handle = Handle::of(machine);
+    put_in(handle, machine);
 }

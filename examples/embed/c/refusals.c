@@ -5,55 +5,12 @@
  * sanitizers: they see what is lost or used wrongly. */
 #include <stdbool.h>
 #include <stdio.h>
-#include <stdlib.h>
 #include <string.h>
 
+#include "counted.h"
 #include "ipxr.h"
 
-/* Blocks as the library asks for them; include/heap.c says what each does. */
-struct block {
-    bool there;
-    unsigned char *at;
-};
-
-static unsigned char nowhere[1];
-static long until_refused; /* allocations until the one that is refused */
-static long in_use;        /* blocks that weren't freed */
-
-static bool is_refused(void)
-{
-    return --until_refused == 0;
-}
-
-struct block rattle_alloc(size_t size, size_t alignment)
-{
-    struct block block = {false, nowhere};
-    if (!is_refused()) {
-        block.there = true;
-        block.at = malloc(size == 0 ? alignment : size);
-        in_use++;
-    }
-    return block;
-}
-
-struct block rattle_realloc(unsigned char *old, size_t kept, size_t size, size_t alignment)
-{
-    struct block block = {false, nowhere};
-    (void)kept;
-    if (!is_refused()) {
-        block.there = true;
-        block.at = realloc(old, size == 0 ? alignment : size);
-    }
-    return block;
-}
-
-void rattle_dealloc(unsigned char *at)
-{
-    in_use--;
-    free(at);
-}
-
-static int refusals;
+static long told;   /* answers that memory was refused */
 static int changed; /* refused calls that changed something: there are none */
 
 /* What a refused call must leave as it was. */
@@ -124,7 +81,7 @@ static void insist(ipxr *router, event *call)
     struct seen before = look(router);
     if (call(router) != IPXR_OUT_OF_MEMORY)
         return;
-    refusals++;
+    told++;
     if (!is_same(before, look(router)))
         changed++;
     if (call(router) < 0)
@@ -133,17 +90,17 @@ static void insist(ipxr *router, event *call)
 
 int main(void)
 {
-    int rounds = 0;
-    int refused;
+    long rounds = 0;
+    long before;
     do {
         ipxr router = {0};
-        refused = refusals;
+        before = refused;
         until_refused = ++rounds;
         for (size_t k = 0; k < sizeof EVENTS / sizeof *EVENTS; k++)
             insist(&router, EVENTS[k]);
         ipxr_free(&router);
-    } while (refusals > refused);
-    printf("each allocation was refused once: %s\n", refusals == rounds - 1 && refusals > 1 ? "yes" : "no");
+    } while (refused > before);
+    printf("each allocation was refused once: %s\n", refused == rounds - 1 && refused > 1 && told == refused ? "yes" : "no");
     printf("refused calls that changed something: %d\n", changed);
     printf("blocks that weren't freed: %ld\n", in_use);
     return 0;

@@ -40,11 +40,11 @@ use Rattle.std_alloc.proofs.BoxSteps.Steps.{box_out, box_in}
 use Rattle.std_alloc.specs.contracts.boxed.Box.into_raw_with_allocator as IntoRaw
 use Rattle.std_alloc.proofs.boxed.Box.into_raw_with_allocator.Symbol as into_raw_symbol
 use Rattle.std_alloc.proofs.boxed.Box.into_raw_with_allocator.Met as into_raw_met
-use Rattle.ipx_c.specs.contracts.parts.Parts as Parts
-use Rattle.ipx_c.specs.contracts.parts.Parts.of as Contracted
-use Rattle.ipx_c.specs.contracts.parts.Parts.of.Key.{name as symbol}
-use Rattle.ipx_c.proofs.parts.Parts.of.Statement as stated
-use Rattle.ipx_c.proofs.parts.Parts.of.Code as code
+use Rattle.ipx_c.specs.contracts.cell.Parts as Parts
+use Rattle.ipx_c.specs.contracts.cell.Parts.of as Contracted
+use Rattle.ipx_c.specs.contracts.cell.Parts.of.Key.{name as symbol}
+use Rattle.ipx_c.proofs.cell.Parts.of.Statement as stated
+use Rattle.ipx_c.proofs.cell.Parts.of.Code as code
 
 module _ (E : Bx) (dx : Dict) where
   abbrev args : Args

@@ -38,11 +38,11 @@ use Rattle.std_alloc.proofs.BoxSteps.Steps.{box_out, box_in}
 use Rattle.std_alloc.specs.contracts.boxed.Box.from_raw as FromRaw
 use Rattle.std_alloc.proofs.boxed.Box.from_raw.Symbol as from_raw_symbol
 use Rattle.std_alloc.proofs.boxed.Box.from_raw.Met as from_raw_met
-use Rattle.ipx_c.specs.contracts.parts.Parts as Parts
-use Rattle.ipx_c.specs.contracts.parts.Parts.into_box as Contracted
-use Rattle.ipx_c.specs.contracts.parts.Parts.into_box.Key.{name as symbol}
-use Rattle.ipx_c.proofs.parts.Parts.into_box.Statement as stated
-use Rattle.ipx_c.proofs.parts.Parts.into_box.Code as code
+use Rattle.ipx_c.specs.contracts.cell.Parts as Parts
+use Rattle.ipx_c.specs.contracts.cell.Parts.into_box as Contracted
+use Rattle.ipx_c.specs.contracts.cell.Parts.into_box.Key.{name as symbol}
+use Rattle.ipx_c.proofs.cell.Parts.into_box.Statement as stated
+use Rattle.ipx_c.proofs.cell.Parts.into_box.Code as code
 
 -- what is left after the call: its result is returned
 abbrev ending : Body
