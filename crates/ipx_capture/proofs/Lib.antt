@@ -5,4 +5,5 @@ pub mod Heading
 pub mod Pieces
 pub mod Reading
 pub mod Taken
+pub mod WholeFrame
 pub mod examples

@@ -20,8 +20,10 @@ mod order;
 mod standing;
 mod taking;
 mod window;
+mod writing;
 
 pub use crate::capture::{Capture, Captured};
 pub use crate::capture_fault::CaptureFault;
 pub use crate::framing::frame;
-pub use crate::kinds::Frame;
+pub use crate::kinds::{Frame, FrameKind};
+pub use crate::writing::{SHORTEST_FRAME, write_frame};
