@@ -7,6 +7,7 @@
 #include <unistd.h>
 
 #include "card.h"
+#include "clock.h"
 #include "datagram.h"
 
 static bool is_connection(const cable *it)
@@ -67,6 +68,7 @@ bool cable_has_more(const cable *it)
 
 static void disconnect(cable *it)
 {
+    it->was_lost = it->was_lost || it->stream.is_connected;
     close_any(&it->fd);
     stream_clear(&it->stream);
 }
@@ -82,10 +84,22 @@ static void accept_newest(cable *it)
     it->stream.is_connected = true;
 }
 
+bool cable_was_lost(cable *it)
+{
+    bool was_lost = it->was_lost;
+    it->was_lost = false;
+    return was_lost;
+}
+
 static void connect_again(cable *it)
 {
-    if (it->fd < 0)
+    uint64_t now = clock_now();
+    if (it->fd < 0 && it->tried != 0 && now - it->tried < 1000)
+        return;
+    if (it->fd < 0) {
         it->fd = connection_begin(&it->set->remote);
+        it->tried = now;
+    }
     int state = it->fd < 0 ? -1 : connection_state(it->fd);
     if (state < 0)
         disconnect(it);

@@ -17,6 +17,8 @@ typedef struct cable {
     int fd;                     /* what is read and written, or -1 */
     int listener;               /* where connections come in, or -1 */
     stream stream;              /* what of a connection is under way */
+    bool was_lost;              /* a connection was, since one looked */
+    uint64_t tried;             /* milliseconds of the clock when a connection was begun last */
     unsigned index;             /* of the TAP or the interface */
     struct sockaddr_in local;   /* where the socket is, with the port that it took */
     uint8_t card[6];            /* the interface's own address */
@@ -41,7 +43,10 @@ ssize_t cable_receive(cable *it, uint8_t *bytes, size_t room, struct sockaddr_in
 bool cable_send(cable *it, const uint8_t *bytes, size_t length);
 bool cable_send_to(cable *it, const struct sockaddr_in *to, const uint8_t *bytes, size_t length);
 
-/* Whether it can carry something now. Connections that are lost are tried again, and interfaces looked for. */
+/* Whether it can carry something now. Connections that are lost are tried again, once a second, and interfaces looked for. */
 bool cable_is_up(cable *it);
+
+/* Whether a connection was lost since this was asked last; there may be another already. */
+bool cable_was_lost(cable *it);
 
 #endif

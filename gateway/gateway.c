@@ -98,10 +98,14 @@ static void look_at(gateway *it, network *on, bool is_up)
 
 static void look_at_cable(gateway *it, cable *at)
 {
-    bool is_up = cable_is_up(at);
-    for (size_t k = 0; k < it->count; k++)
-        if (it->networks[k].cable == at)
-            look_at(it, &it->networks[k], is_up);
+    bool is_up = cable_is_up(at), was_lost = cable_was_lost(at);
+    for (size_t k = 0; k < it->count; k++) {
+        if (it->networks[k].cable != at)
+            continue;
+        if (was_lost)
+            look_at(it, &it->networks[k], false);
+        look_at(it, &it->networks[k], is_up);
+    }
 }
 
 static network *first_on(gateway *it, const cable *at)
