@@ -35,6 +35,8 @@ bool is_for_here(const network *on, const uint8_t *packet)
 void gateway_send(network *on, const uint8_t *node, const uint8_t *packet, size_t length)
 {
     char to[WORDS], from[WORDS];
+    if (!on->is_up)
+        return; /* (the router said it before it heard that the link is lost) */
     if (notes_events())
         note("out %08" PRIX32 " %s > %s type %u length %zu", on->set->network, address_at(packet + AT_FROM_NETWORK, from),
              address_at(packet + AT_TO_NETWORK, to), packet[AT_TYPE], length);

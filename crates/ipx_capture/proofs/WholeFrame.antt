@@ -1,12 +1,11 @@
 -- A frame that is written piece by piece.
-use Rattle.std.proofs.Common.{◌≡◌, ℕ, ◌+◌, ◌-◌, List, ◌++◌, length, drop, replicate, ap, ◌∙◌, arith, refl, length-append, subst}
-use Rattle.std.specs.Int.{to_be_bytes, w16}
+use Rattle.std.proofs.Common.{◌≡◌, ℕ, ◌+◌, List, ◌++◌, length, drop, arith, length-append}
 use Rattle.ipx_wire.specs.Put.{PutsAt}
 use Rattle.ipx_wire.proofs.Puts.{then, whole_put}
 
 -- six pieces one behind the other
 pub whole_frame : {old a b c d e new : List ℕ} (to from field front packet pad : List ℕ) (size : ℕ)
-    → length to ≡ 6 → length from ≡ 6 → length field ≡ 2 → 14 + (length front + length packet) + length pad ≡ size
+    → length to ≡ 6 → length from ≡ 6 → length field ≡ 2 → 14 + length front + length packet + length pad ≡ size
     → PutsAt old 0 to a → PutsAt a 6 from b → PutsAt b 12 field c → PutsAt c 14 front d
     → PutsAt d (14 + length front) packet e → PutsAt e (14 + length front + length packet) pad new
     → new ≡ to ++ from ++ field ++ front ++ packet ++ pad ++ drop size old

@@ -44,9 +44,13 @@ may_carry Snap packet = true
 abbrev pub carried : Kind → List ℕ → ℕ
 carried kind packet = length (front_of kind) + length packet
 
+-- where its packet ends
+abbrev pub used : Kind → List ℕ → ℕ
+used kind packet = 14 + length (front_of kind) + length packet
+
 -- zeros up to the shortest frame
 abbrev pub padding : Kind → List ℕ → List ℕ
-padding kind packet = replicate (shortest_frame - (14 + carried kind packet)) 0
+padding kind packet = replicate (shortest_frame - used kind packet) 0
 
 -- the whole frame: from whom it is stands behind to whom
 unfoldable pub written : Kind → List ℕ → List ℕ → List ℕ → List ℕ
@@ -55,7 +59,7 @@ written kind to from packet =
 
 -- how long it is
 abbrev pub written_size : Kind → List ℕ → ℕ
-written_size kind packet = 14 + carried kind packet + (shortest_frame - (14 + carried kind packet))
+written_size kind packet = used kind packet + (shortest_frame - used kind packet)
 
 -- whether a kind can carry a packet
 abbrev pub is_carried : Kind → List ℕ → Bool
