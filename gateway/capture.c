@@ -5,8 +5,8 @@
 #include <string.h>
 #include <time.h>
 
-#include "frames.h"
 #include "ipx.h"
+#include "ipxr.h"
 
 static FILE *file;
 

@@ -16,7 +16,7 @@
 #include <unistd.h>
 
 #include "datagram.h"
-#include "frames.h"
+#include "ipxr.h"
 
 /* Asks the system about an interface, or tells it. */
 static bool ask(unsigned long what, const char *name, struct ifreq *about)
@@ -68,14 +68,14 @@ int tap_open(const char *name, unsigned *index)
 }
 
 /* The frames that a socket hears: those of the type, those that begin with FFFFh behind a length, or those of 802.2. */
-static uint16_t protocol_of(int32_t kind)
+static uint16_t protocol_of(uint8_t kind)
 {
     if (kind == IPXR_FRAME_ETHERNET2)
         return htons(ETH_P_IPX);
     return htons(kind == IPXR_FRAME_RAW ? ETH_P_802_3 : ETH_P_802_2);
 }
 
-bool interface_again(int fd, int32_t kind, unsigned index)
+bool interface_again(int fd, uint8_t kind, unsigned index)
 {
     struct sockaddr_ll at = {0};
     at.sll_family = AF_PACKET;
@@ -84,7 +84,7 @@ bool interface_again(int fd, int32_t kind, unsigned index)
     return bind(fd, (const struct sockaddr *)&at, sizeof at) == 0;
 }
 
-int interface_open(const char *name, int32_t kind, unsigned *index, uint8_t card[6])
+int interface_open(const char *name, uint8_t kind, unsigned *index, uint8_t card[6])
 {
     struct ifreq about = {0};
     if (!ask(SIOCGIFHWADDR, name, &about))

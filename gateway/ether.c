@@ -2,7 +2,6 @@
 
 #include "capture.h"
 #include "extend.h"
-#include "frames.h"
 #include "ipx.h"
 
 void ether_send(network *on, const uint8_t *node, const uint8_t *packet, size_t length)
@@ -18,7 +17,7 @@ void ether_send(network *on, const uint8_t *node, const uint8_t *packet, size_t 
 }
 
 /* The network that has frames of a kind on a cable; where none has, the cable's first, and *is_there is false. */
-static network *network_of(gateway *it, const cable *on, int32_t kind, bool *is_there)
+static network *network_of(gateway *it, const cable *on, uint8_t kind, bool *is_there)
 {
     network *first = NULL;
     for (size_t k = 0; k < it->count; k++) {
@@ -33,7 +32,7 @@ static network *network_of(gateway *it, const cable *on, int32_t kind, bool *is_
 }
 
 /* Whether another cable on the same interface hears frames of a kind. */
-static bool is_heard_beside(const gateway *it, const cable *on, int32_t kind)
+static bool is_heard_beside(const gateway *it, const cable *on, uint8_t kind)
 {
     for (size_t k = 0; k < it->count; k++)
         if (it->networks[k].cable != on && same_link(it->networks[k].set, on->set) && it->networks[k].set->kind == kind)
@@ -56,7 +55,7 @@ void ether_hear(gateway *it, cable *on, const uint8_t *frame, size_t length)
 {
     bool is_there = false;
     size_t front = 0;
-    int32_t kind = ipxr_frame_read(frame, length < MOST_RECEIVED ? length : MOST_RECEIVED, &front);
+    uint8_t kind = ipxr_frame_read(frame, length < MOST_RECEIVED ? length : MOST_RECEIVED, &front);
     network *at = network_of(it, on, kind, &is_there);
     if (kind != IPXR_NO_FRAME && !is_there && is_heard_beside(it, on, kind))
         return;

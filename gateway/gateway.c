@@ -10,7 +10,6 @@
 #include "capture.h"
 #include "clock.h"
 #include "ether.h"
-#include "frames.h"
 #include "ipx.h"
 #include "note.h"
 #include "tunnel.h"

@@ -6,7 +6,6 @@
 #include <stdlib.h>
 #include <string.h>
 
-#include "frames.h"
 #include "ipx.h"
 #include "words.h"
 
@@ -32,7 +31,7 @@ static const struct {
 } KINDS[] = {{"", 1424}, {"ethernet2", 1500}, {"raw", 1500}, {"llc", 1497}, {"snap", 1492}};
 #define KIND_WORDS "raw, ethernet2, llc or snap"
 
-const char *kind_word(int32_t kind)
+const char *kind_word(uint8_t kind)
 {
     return KINDS[kind].word;
 }
@@ -188,7 +187,7 @@ static bool read_kind(reader *r, network_setting *it)
     if (it->type == LINK_DOSBOX)
         return true;
     const char *word = taken(r);
-    for (int32_t kind = IPXR_FRAME_ETHERNET2; word != NULL && kind <= IPXR_FRAME_SNAP; kind++)
+    for (uint8_t kind = IPXR_FRAME_ETHERNET2; word != NULL && kind <= IPXR_FRAME_SNAP; kind++)
         if (strcmp(word, KINDS[kind].word) == 0) {
             it->kind = kind;
             return true;

@@ -35,7 +35,7 @@ typedef struct network_setting {
     struct sockaddr_in local;  /* where datagrams and connections come in */
     struct sockaddr_in remote; /* where they go */
     char name[IF_NAMESIZE];       /* of a TAP or an interface */
-    int32_t kind;              /* of its frames; IPXR_NO_FRAME in the tunnel */
+    uint8_t kind;              /* of its frames; IPXR_NO_FRAME in the tunnel */
     bool has_node;             /* whether the line says the gateway's node there */
     uint8_t node[6];
     uint16_t sockets[MOST_SOCKETS]; /* whose broadcasts are extended */
@@ -55,7 +55,7 @@ size_t settings_read(settings *it, FILE *file, const char *name, FILE *complaint
 bool same_link(const network_setting *a, const network_setting *b);
 
 /* The words of a kind of frame, and of a link with its addresses or name. */
-const char *kind_word(int32_t kind);
+const char *kind_word(uint8_t kind);
 void link_words(const network_setting *it, char *words, size_t room);
 
 #endif

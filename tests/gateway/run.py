@@ -2,9 +2,11 @@
 import socket
 import sys
 
+import dosbox
 import links
 import troubles
 import tunnel
+import wires
 import words
 
 
@@ -21,7 +23,7 @@ def main():
     if not has_loopback():
         print("left out: gateway: all tests (no sockets on the loopback address)\n0 passed, 0 failed")
         return 0
-    counts = [it.main() for it in (words, tunnel, links, troubles)]
+    counts = [it.main() for it in (words, tunnel, links, troubles, wires, dosbox)]
     passed, failed = sum(it.passed for it in counts), sum(it.failed for it in counts)
     print(f"{passed} passed, {failed} failed")
     return 1 if failed else 0

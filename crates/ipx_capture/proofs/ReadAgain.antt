@@ -1,9 +1,9 @@
 -- A frame that was written is read again: its kind, and the packet with its padding.
-use Rattle.std.proofs.Common.{◌≡◌, ℕ, ◌+◌, ◌<◌, ◌≤◌, true, List, [], ◌∷◌, ◌++◌, length, drop, refl, ap, subst, sym, ◌∙◌, arith, Some, length-append, append_assoc, append-nil}
+use Rattle.std.proofs.Common.{◌≡◌, ℕ, ◌<◌, ◌≤◌, true, List, [], ◌∷◌, ◌++◌, length, drop, refl, ap, subst, sym, ◌∙◌, arith, Some, length-append, append_assoc, append-nil}
 use Rattle.std.proofs.lemmas.Nat.{from_be_bytes-to_be_bytes_2}
 use Rattle.std.specs.Int.{from_be_bytes, to_be_bytes, w16}
 use Rattle.ipx_capture.specs.Frame.{Kind, EthernetII, Raw, Llc, Snap, IsCounted, IsFrame, frame_of}
-use Rattle.ipx_capture.specs.Written.{front_of, field_of, may_carry, carried, padding, written, most_carried}
+use Rattle.ipx_capture.specs.Written.{front_of, may_carry, carried, padding, written, most_carried}
 use Rattle.ipx_capture.proofs.Frames.{beginning, frame_only}
 
 twelve_of : (to from : List ℕ) → length to ≡ 6 → length from ≡ 6 → length (to ++ from) ≡ 12

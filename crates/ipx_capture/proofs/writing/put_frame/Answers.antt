@@ -1,4 +1,4 @@
-use Rattle.std.proofs.Common.{◌≡◌, ◌+◌, ◌-◌, ◌≤◌, ◌++◌, arith, length, drop, refl, sym, subst, List, ℕ, replicate}
+use Rattle.std.proofs.Common.{◌≡◌, ◌+◌, ◌-◌, arith, length, refl, subst, List, ℕ, replicate}
 use Rattle.std.specs.Int.{to_be_bytes, w16}
 use Rattle.ipx_wire.specs.Put.{PutsAt}
 use Rattle.ipx_capture.specs.Written.{kind_of, front_of, field_of, carried, padding, written, written_size}
