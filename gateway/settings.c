@@ -324,9 +324,9 @@ static bool cut(reader *r, char *line)
 
 static void read_line(reader *r, char *line)
 {
-    if (!cut(r, line) || r->count == 0)
+    const char *word = cut(r, line) ? taken(r) : NULL;
+    if (word == NULL)
         return;
-    const char *word = taken(r);
     if (strcmp(word, "network") == 0)
         read_network_line(r);
     else if (strcmp(word, "extend") == 0)

@@ -72,8 +72,8 @@ static bool is_registration(const uint8_t *bytes, size_t length)
 /* Whether the packet's source is the client that sent it. One that doesn't know its network yet names none. */
 static bool names_itself(const network *on, const uint8_t *bytes, const uint8_t *node)
 {
-    uint32_t network = get32(bytes + AT_FROM_NETWORK);
-    return same_node(bytes + AT_FROM_NODE, node) && (network == 0 || network == on->set->network);
+    uint32_t from = get32(bytes + AT_FROM_NETWORK);
+    return same_node(bytes + AT_FROM_NODE, node) && (from == 0 || from == on->set->network);
 }
 
 /* What a cable would do: the packet comes to its node, or to all. */

@@ -4,6 +4,7 @@ import sys
 
 import dosbox
 import links
+import pc
 import troubles
 import tunnel
 import wires
@@ -23,7 +24,7 @@ def main():
     if not has_loopback():
         print("left out: gateway: all tests (no sockets on the loopback address)\n0 passed, 0 failed")
         return 0
-    counts = [it.main() for it in (words, tunnel, links, troubles, wires, dosbox)]
+    counts = [it.main() for it in (words, tunnel, links, troubles, wires, dosbox, pc)]
     passed, failed = sum(it.passed for it in counts), sum(it.failed for it in counts)
     print(f"{passed} passed, {failed} failed")
     return 1 if failed else 0
