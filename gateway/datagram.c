@@ -4,6 +4,7 @@
 #include <fcntl.h>
 #include <netinet/tcp.h>
 #include <poll.h>
+#include <stdbool.h>
 #include <stddef.h>
 #include <sys/socket.h>
 #include <unistd.h>
@@ -65,7 +66,8 @@ int listener_open(struct sockaddr_in *local)
     int fd = unwaiting(socket(AF_INET, SOCK_STREAM, 0));
     if (fd < 0)
         return -1;
-    return kept_if(setsockopt(fd, SOL_SOCKET, SO_REUSEADDR, &yes, sizeof yes) == 0 && is_bound(fd, local) && listen(fd, MOST_WAITING) == 0, fd);
+    bool is_well = setsockopt(fd, SOL_SOCKET, SO_REUSEADDR, &yes, sizeof yes) == 0 && is_bound(fd, local);
+    return kept_if(is_well && listen(fd, MOST_WAITING) == 0, fd);
 }
 
 /* Frames go out at once. */

@@ -2,14 +2,14 @@
 
 #include <arpa/inet.h>
 #include <errno.h>
-#include <stdarg.h>
 #include <stdlib.h>
 #include <string.h>
 
 #include "ipx.h"
+#include "reader.h"
 #include "words.h"
 
-enum { MOST_WORDS = 32, SHORTEST_LONGEST = 576 };
+enum { SHORTEST_LONGEST = 576 };
 
 /* The default route and all networks: numbers that no network has. */
 #define FIRST_RESERVED 0xFFFFFFFEu
@@ -36,70 +36,28 @@ const char *kind_word(uint8_t kind)
     return KINDS[kind].word;
 }
 
-/* The line that is being read. */
-typedef struct {
-    const char *name;          /* of the file */
-    FILE *complaints;
-    size_t faults;
-    size_t line;               /* its number, from 1 */
-    char *words[MOST_WORDS];
-    size_t count;
-    size_t next;               /* the word that is read next */
-    settings *into;
-} reader;
-
-/* ---- Faults ---- */
-
-/* Tells what is wrong with a word of this line, or with its end where the word is NULL. Returns false for who says so. */
-static bool fault(reader *r, const char *word, const char *format, ...)
-{
-    va_list rest;
-    va_start(rest, format);
-    fprintf(r->complaints, "%s:%zu: ", r->name, r->line);
-    if (word != NULL)
-        fprintf(r->complaints, "'%s': ", word);
-    else
-        fprintf(r->complaints, "the line ends: ");
-    vfprintf(r->complaints, format, rest);
-    fputc('\n', r->complaints);
-    va_end(rest);
-    r->faults++;
-    return false;
-}
-
-/* The next word, or NULL where there is none. */
-static const char *taken(reader *r)
-{
-    return r->next < r->count ? r->words[r->next++] : NULL;
-}
-
-static bool ends(reader *r)
-{
-    return r->next == r->count || fault(r, r->words[r->next], "expected nothing more");
-}
-
 /* ---- The words of a network ---- */
 
 static bool read_network(reader *r, network_setting *it)
 {
-    const char *word = taken(r);
+    const char *word = reader_word(r);
     if (word == NULL || !is_hexadecimal(word, 8, &it->network) || it->network == 0 || it->network >= FIRST_RESERVED)
-        return fault(r, word, "expected the number of a network, 1 to FFFFFFFD");
+        return reader_fault(r, word, "expected the number of a network, 1 to FFFFFFFD");
     for (size_t k = 0; k < r->into->count; k++)
         if (r->into->networks[k].network == it->network)
-            return fault(r, word, "expected another network, this one is that of line %zu", r->into->networks[k].line);
+            return reader_fault(r, word, "expected another network, this one is that of line %zu", r->into->networks[k].line);
     return true;
 }
 
 static bool read_cost_and_longest(reader *r, network_setting *it)
 {
     uint32_t cost, longest;
-    const char *word = taken(r);
+    const char *word = reader_word(r);
     if (word == NULL || !is_number(word, 65535, &cost) || cost == 0)
-        return fault(r, word, "expected the cost in ticks, 1 to 65535");
-    word = taken(r);
+        return reader_fault(r, word, "expected the cost in ticks, 1 to 65535");
+    word = reader_word(r);
     if (word == NULL || !is_number(word, LONGEST, &longest) || longest < SHORTEST_LONGEST)
-        return fault(r, word, "expected the bytes of the longest packet, %d to %d", SHORTEST_LONGEST, LONGEST);
+        return reader_fault(r, word, "expected the bytes of the longest packet, %d to %d", SHORTEST_LONGEST, LONGEST);
     it->cost = (uint16_t)cost;
     it->longest = (uint16_t)longest;
     return true;
@@ -112,12 +70,12 @@ static bool read_shares(reader *r, network_setting *it)
     it->routes = it->services = IPXR_NO_LIMIT;
     if (r->next == r->count || r->words[r->next][0] < '0' || r->words[r->next][0] > '9')
         return true;
-    const char *word = taken(r);
+    const char *word = reader_word(r);
     if (!is_number(word, 65535, &routes))
-        return fault(r, word, "expected the most routes, 0 to 65535");
-    word = taken(r);
+        return reader_fault(r, word, "expected the most routes, 0 to 65535");
+    word = reader_word(r);
     if (word == NULL || !is_number(word, 65535, &services))
-        return fault(r, word, "expected the most services, 0 to 65535");
+        return reader_fault(r, word, "expected the most services, 0 to 65535");
     it->routes = (uint16_t)routes;
     it->services = (uint16_t)services;
     return true;
@@ -125,17 +83,17 @@ static bool read_shares(reader *r, network_setting *it)
 
 static bool read_address(reader *r, struct sockaddr_in *at, bool is_remote)
 {
-    const char *word = taken(r);
+    const char *word = reader_word(r);
     if (word == NULL || !is_address(word, at) || (is_remote && at->sin_port == 0))
-        return fault(r, word, "expected an address and a port, as 127.0.0.1:%s", is_remote ? "5001" : "5001, or a port alone");
+        return reader_fault(r, word, "expected an address and a port, as 127.0.0.1:%s", is_remote ? "5001" : "5001, or a port alone");
     return true;
 }
 
 static bool read_name(reader *r, network_setting *it)
 {
-    const char *word = taken(r);
+    const char *word = reader_word(r);
     if (word == NULL || strlen(word) >= sizeof it->name || strchr(word, '/') != NULL)
-        return fault(r, word, "expected the name of %s, of at most %zu letters",
+        return reader_fault(r, word, "expected the name of %s, of at most %zu letters",
                      it->type == LINK_TAP ? "a TAP" : "an interface", sizeof it->name - 1);
     strcpy(it->name, word);
     return true;
@@ -144,24 +102,24 @@ static bool read_name(reader *r, network_setting *it)
 /* `listen ADDRESS` or `connect ADDRESS`. */
 static bool read_connection(reader *r, network_setting *it)
 {
-    const char *word = taken(r);
+    const char *word = reader_word(r);
     if (word != NULL && strcmp(word, "listen") == 0)
         return read_address(r, &it->local, false);
     if (word == NULL || strcmp(word, "connect") != 0)
-        return fault(r, word, "expected listen or connect");
+        return reader_fault(r, word, "expected listen or connect");
     it->type = LINK_QEMU_CONNECT;
     return read_address(r, &it->remote, true);
 }
 
 static bool read_type(reader *r, network_setting *it)
 {
-    const char *word = taken(r);
+    const char *word = reader_word(r);
     for (size_t k = 0; word != NULL && k < sizeof LINKS / sizeof *LINKS; k++)
         if (strcmp(word, LINKS[k].word) == 0) {
             it->type = LINKS[k].type;
             return true;
         }
-    return fault(r, word, "expected %s", LINK_WORDS);
+    return reader_fault(r, word, "expected %s", LINK_WORDS);
 }
 
 static bool read_link(reader *r, network_setting *it)
@@ -186,13 +144,13 @@ static bool read_kind(reader *r, network_setting *it)
     it->kind = IPXR_NO_FRAME;
     if (it->type == LINK_DOSBOX)
         return true;
-    const char *word = taken(r);
+    const char *word = reader_word(r);
     for (uint8_t kind = IPXR_FRAME_ETHERNET2; word != NULL && kind <= IPXR_FRAME_SNAP; kind++)
         if (strcmp(word, KINDS[kind].word) == 0) {
             it->kind = kind;
             return true;
         }
-    return fault(r, word, "expected the kind of frames: %s", KIND_WORDS);
+    return reader_fault(r, word, "expected the kind of frames: %s", KIND_WORDS);
 }
 
 /* `node NODE`, where the gateway has no card of its own there. */
@@ -200,12 +158,12 @@ static bool read_node(reader *r, network_setting *it)
 {
     if (r->next == r->count || it->type == LINK_DOSBOX || it->type == LINK_INTERFACE)
         return true;
-    const char *word = taken(r);
+    const char *word = reader_word(r);
     if (strcmp(word, "node") != 0)
-        return fault(r, word, "expected node, or nothing more");
-    word = taken(r);
+        return reader_fault(r, word, "expected node, or nothing more");
+    word = reader_word(r);
     if (word == NULL || !is_node(word, it->node) || (it->node[0] & 1) != 0 || memcmp(it->node, "\0\0\0\0\0", sizeof it->node) == 0)
-        return fault(r, word, "expected a node, twelve digits, as 02005E000001, whose first byte is even");
+        return reader_fault(r, word, "expected a node, twelve digits, as 02005E000001, whose first byte is even");
     it->has_node = true;
     return true;
 }
@@ -243,11 +201,11 @@ static bool is_single(reader *r, const network_setting *it)
         const network_setting *other = &r->into->networks[k];
         bool is_shared = same_link(it, other) && it->type != LINK_DOSBOX;
         if (is_shared && it->kind == other->kind)
-            return fault(r, kind_word(it->kind), "expected another kind of frames, line %zu has these there", other->line);
+            return reader_fault(r, kind_word(it->kind), "expected another kind of frames, line %zu has these there", other->line);
         if (!is_shared && takes_the_same(it, other)) {
             char words[32];
             address_words(&it->local, words, sizeof words);
-            return fault(r, words, "expected another address, line %zu has this one", other->line);
+            return reader_fault(r, words, "expected another address, line %zu has this one", other->line);
         }
     }
     return true;
@@ -258,7 +216,7 @@ static bool fits(reader *r, const network_setting *it)
     char longest[8];
     snprintf(longest, sizeof longest, "%u", it->longest);
     return it->longest <= KINDS[it->kind].longest ||
-           fault(r, longest, "expected the bytes of the longest packet, %d to %d on this link", SHORTEST_LONGEST, KINDS[it->kind].longest);
+           reader_fault(r, longest, "expected the bytes of the longest packet, %d to %d on this link", SHORTEST_LONGEST, KINDS[it->kind].longest);
 }
 
 /* ---- Lines ---- */
@@ -268,11 +226,11 @@ static void read_network_line(reader *r)
     network_setting it = {0};
     it.line = r->line;
     if (r->into->count == IPXR_MOST_PORTS) {
-        fault(r, r->words[0], "expected at most %d networks", IPXR_MOST_PORTS);
+        reader_fault(r, r->words[0], "expected at most %d networks", IPXR_MOST_PORTS);
         return;
     }
     if (read_network(r, &it) && read_cost_and_longest(r, &it) && read_shares(r, &it) && read_link(r, &it) && read_kind(r, &it) &&
-        is_single(r, &it) && fits(r, &it) && read_node(r, &it) && ends(r))
+        is_single(r, &it) && fits(r, &it) && read_node(r, &it) && reader_ends(r))
         r->into->networks[r->into->count++] = it;
 }
 
@@ -289,42 +247,27 @@ static void read_extend_line(reader *r)
 {
     uint32_t socket;
     if (r->into->count == 0) {
-        fault(r, r->words[0], "expected below the line of a network");
+        reader_fault(r, r->words[0], "expected below the line of a network");
         return;
     }
     network_setting *it = &r->into->networks[r->into->count - 1];
     do {
-        const char *word = taken(r);
+        const char *word = reader_word(r);
         if (word == NULL || !is_hexadecimal(word, 4, &socket) || socket == 0 || names_socket(it, socket)) {
-            fault(r, word, "expected a socket that isn't named yet, 1 to FFFF");
+            reader_fault(r, word, "expected a socket that isn't named yet, 1 to FFFF");
             return;
         }
         if (it->socket_count == MOST_SOCKETS) {
-            fault(r, word, "expected at most %d sockets", MOST_SOCKETS);
+            reader_fault(r, word, "expected at most %d sockets", MOST_SOCKETS);
             return;
         }
         it->sockets[it->socket_count++] = (uint16_t)socket;
     } while (r->next < r->count);
 }
 
-/* Cuts a line into its words, up to a #. Returns false where there are too many. */
-static bool cut(reader *r, char *line)
-{
-    static const char BLANKS[] = " \t\r\n\v\f";
-    char *rest;
-    line[strcspn(line, "#")] = '\0';
-    r->count = r->next = 0;
-    for (char *word = strtok_r(line, BLANKS, &rest); word != NULL; word = strtok_r(NULL, BLANKS, &rest)) {
-        if (r->count == MOST_WORDS)
-            return fault(r, word, "expected at most %d words", MOST_WORDS);
-        r->words[r->count++] = word;
-    }
-    return true;
-}
-
 static void read_line(reader *r, char *line)
 {
-    const char *word = cut(r, line) ? taken(r) : NULL;
+    const char *word = reader_cut(r, line) ? reader_word(r) : NULL;
     if (word == NULL)
         return;
     if (strcmp(word, "network") == 0)
@@ -332,7 +275,7 @@ static void read_line(reader *r, char *line)
     else if (strcmp(word, "extend") == 0)
         read_extend_line(r);
     else
-        fault(r, word, "expected network or extend");
+        reader_fault(r, word, "expected network or extend");
 }
 
 /* Reads all lines; returns false where memory or the file fails. */
@@ -344,7 +287,7 @@ static bool read_lines(reader *r, FILE *file)
     while (errno = 0, (length = getline(&line, &room, file)) >= 0) {
         r->line++;
         if (strlen(line) != (size_t)length)
-            fault(r, line, "expected text, there is a byte 0 behind it");
+            reader_fault(r, line, "expected text, there is a byte 0 behind it");
         else
             read_line(r, line);
     }

@@ -18,6 +18,7 @@ BUILD = os.path.join(TOP, "build")
 PROGRAM = os.path.join(BUILD, "ipxr-gateway")
 SANITIZED = os.path.join(BUILD, "ipxr-gateway-sanitized")
 TROUBLED = os.path.join(BUILD, "ipxr-gateway-troubled")
+FAST = os.path.join(BUILD, "ipxr-gateway-fast")
 
 PATIENCE = 10  # seconds until a test gives up
 QUIET = 0.3  # seconds in which nothing may come

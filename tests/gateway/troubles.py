@@ -7,7 +7,7 @@ import subprocess
 import time
 
 from frames import Station, Tcp, Udp
-from lab import (PATIENCE, TROUBLED, Client, Counts, Gateway, address, reaches, rip_response, sap_response, tunnels)
+from lab import (FAST, PATIENCE, TROUBLED, Client, Counts, Gateway, address, reaches, rip_response, sap_response, tunnels)
 
 # Each call, the faults that it gives, and how many times it is let fail: the first time, the second, ..
 CALLS = [
@@ -91,30 +91,39 @@ def each_fails():
             one_fails(name, fault, which)
 
 
+def advertise(client):
+    """A client advertises 50 routes and 7 services."""
+    client.send(rip_response(0x10, client.node, [(0xBE00 + k, 1, 2) for k in range(50)]))
+    client.send(sap_response(0x10, client.node, [(4, f"SERVER{k}", 0xBE00, bytes(5) + b"\1", 0x451, 2) for k in range(7)]))
+
+
 def an_hour():
     """After an hour by the clock, with packets of all kinds, it has no more memory than after some minutes."""
-    card = Udp()
-    text = tunnels(2) + f"network 30 1 1490 qemu-udp 0 {card.port} llc\n"
-    with Gateway(text, environment={"TROUBLE_SPEED": "400"}, program=TROUBLED.replace("troubled", "fast")) as gate:
-        card.to = gate.ports[0x30]
+    with Gateway(tunnels(2), FAST, environment={"TROUBLE_SPEED": "400"}) as gate:
         a, b = Client(gate.ports[0x10]), Client(gate.ports[0x20])
-        began, early = time.monotonic(), None
-        while time.monotonic() - began < 9.5:
-            a.send(rip_response(0x10, a.node, [(0xBE00 + k, 1, 2) for k in range(50)]))
-            a.send(sap_response(0x10, a.node, [(4, f"SERVER{k}", 0xBE00, bytes(5) + b"\1", 0x451, 2) for k in range(7)]))
-            assert reaches(a, b, os.urandom(1000), tries=5) and reaches(b, a, os.urandom(100), tries=5)
-            a.say(address(0, b"\xff" * 6, 0x4003), bytes(32), kind=20)
-            if early is None and time.monotonic() - began > 2:
+        began, early, passed = time.monotonic(), None, 0
+        while passed <= 3600:
+            for _ in range(10):
+                advertise(a)
+                assert reaches(a, b, os.urandom(1000), tries=5) and reaches(b, a, os.urandom(100), tries=5)
+                a.say(address(0, b"\xff" * 6, 0x4003), bytes(32), kind=20)
+            passed = int(re.search(r"report after (\d+) s", gate.report())[1])
+            if early is None and passed > 600:
                 early = gate.memory()
-        report = gate.report()
-        assert int(re.search(r"report after (\d+) s", report)[1]) > 3600, report[:40]
-        assert "routes: 50" in report and "services: 7" in report, "what is advertised again doesn't expire"
+            assert time.monotonic() - began < 10 * PATIENCE
         assert gate.memory() <= early + 64, f"{gate.memory()} KB, {early} KB before"
+        # (half a second is three minutes here: on a busy machine it takes more than one try)
+        for _ in range(100):
+            advertise(a)
+            report = gate.report()
+            if "routes: 50" in report and "services: 7" in report:
+                return
+        raise AssertionError("what is advertised again isn't there")
 
 
 def full_tables():
     """With full tables a minute's broadcast goes out whole on 8 networks, and packets pass meanwhile."""
-    with Gateway(tunnels(8), environment={"TROUBLE_SPEED": "20"}, program=TROUBLED.replace("troubled", "fast")) as gate:
+    with Gateway(tunnels(8), environment={"TROUBLE_SPEED": "20"}, program=FAST) as gate:
         clients = [Client(gate.ports[n]) for n in sorted(gate.ports)]
         a, b = clients[:2]
         b.udp.setsockopt(socket.SOL_SOCKET, socket.SO_RCVBUF, 8 << 20)
