@@ -177,13 +177,13 @@ static void attend(gateway *it, cable *at, const struct pollfd *polls, nfds_t co
         receive(it, at);
 }
 
-void gateway_turn(gateway *it)
+void gateway_turn(gateway *it, bool waits)
 {
     struct pollfd polls[2 * IPXR_MOST_PORTS];
     nfds_t first[IPXR_MOST_PORTS + 1] = {0};
     for (size_t k = 0; k < it->cable_count; k++)
         first[k + 1] = first[k] + cable_waits(&it->cables[k], polls + first[k]);
-    if (poll(polls, first[it->cable_count], patience(it)) >= 0)
+    if (poll(polls, first[it->cable_count], waits ? patience(it) : 0) >= 0)
         for (size_t k = 0; k < it->cable_count; k++)
             attend(it, &it->cables[k], polls + first[k], first[k + 1] - first[k]);
     let_seconds_pass(it);

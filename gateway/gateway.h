@@ -33,8 +33,8 @@ typedef struct gateway {
 /* Opens everything and starts the router. Returns false where something can't be opened, which is told on standard error. */
 bool gateway_start(gateway *it, const settings *set);
 
-/* Waits for what comes, at most to the next second; hands it on, and lets seconds pass. */
-void gateway_turn(gateway *it);
+/* Hands on what has come, and lets seconds pass. Where it waits, something comes first, or a signal or the next second. */
+void gateway_turn(gateway *it, bool waits);
 
 /* Stops the router, which tells its neighbours, and closes everything. */
 void gateway_stop(gateway *it);

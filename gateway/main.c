@@ -95,9 +95,12 @@ static int route(const options *it, const settings *set)
     if (!gateway_start(&gate, set))
         return CANNOT_OPEN;
     while (!is_over) {
-        gateway_turn(&gate);
-        if (is_asked) {
+        /* (what came before somebody asked is in the report) */
+        bool was_asked = is_asked != 0;
+        if (was_asked)
             is_asked = 0;
+        gateway_turn(&gate, !was_asked);
+        if (was_asked) {
             capture_flush();
             gateway_report(&gate);
         }
