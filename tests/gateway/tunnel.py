@@ -1,10 +1,13 @@
 """Clients of DOSBox' tunnel, by sockets on this machine's own addresses."""
 import os
 import struct
+import subprocess
 import time
 
-from lab import (EVERYONE, GAME, GATEWAY, NOBODY, Client, Counts, Gateway, address, is_routers, packet, reaches, rip_response,
+from lab import (EVERYONE, GAME, GATEWAY, NOBODY, PATIENCE, TOP, Client, Counts, Gateway, address, is_routers, packet, reaches, rip_response,
                  sap_response, socket_of, tunnels)
+
+DECODER = os.path.join(TOP, "crates", "ipxr", "out", "ipxr")  # (where it is built)
 
 
 def two_clients():
@@ -197,6 +200,10 @@ def the_capture():
             place += 16 + kept
         assert place == len(bytes_) and all(len(it) >= 60 and it[12:14] == b"\x81\x37" for it in packets)
         assert sum(b"captured" in it for it in packets) == 2, "once on each network"
+        if os.path.exists(DECODER):
+            run = subprocess.run([DECODER, "decode", path], capture_output=True, timeout=PATIENCE, check=False)
+            lines = [it for it in run.stdout.decode().splitlines() if it.startswith("record ")]
+            assert run.returncode == 0 and len(lines) == len(packets) and all(" EthernetII " in it for it in lines), run
 
 
 def main():
