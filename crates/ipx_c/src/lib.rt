@@ -5,6 +5,7 @@
 //!   was taken (`Happens`), a router was made (`Makes`), a packet was copied out (`Copies`), a record was read (`Reads`). Below 0
 //!   nothing happened.
 //! - How many ports, routes and services a router can have stands in `machine`, and in `specs/Sizes`.
+//! - Frames of Ethernet are read and written as `ipx_capture` does, by the numbers of their kinds (`Kinds`).
 //! - `parts` and `cell` are the only places with a raw pointer; their proofs, and those alone, are walks by hand.
 #![tactic(auto)]
 
@@ -12,6 +13,7 @@ mod cell;
 mod code;
 mod events;
 mod fault;
+mod frames;
 mod handle;
 mod machine;
 mod making;
@@ -25,6 +27,7 @@ pub use crate::events::{
     ipxr_packet, ipxr_port_down, ipxr_port_up, ipxr_second, ipxr_start, ipxr_stop,
 };
 pub use crate::fault::Fault;
+pub use crate::frames::{ipxr_frame_read, ipxr_frame_write};
 pub use crate::handle::Handle;
 pub use crate::machine::Machine;
 pub use crate::making::{ipxr_free, ipxr_make, ipxr_version};

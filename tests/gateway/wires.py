@@ -1,0 +1,145 @@
+"""Ethernet interfaces and TAPs, in a network of the test's own: nothing of this machine's network is touched."""
+import os
+import shutil
+import subprocess
+import sys
+import time
+
+from frames import KINDS, Packets, Station
+from lab import Client, Counts, Gateway, left_out, reaches, tunnels
+from links import both_ways, made_up
+
+STATION = bytes.fromhex("020000000AA1")
+INSIDE = "--inside"
+
+
+def ip(*words):
+    run = subprocess.run(["ip", *words], stdout=subprocess.DEVNULL, stderr=subprocess.PIPE, check=False)
+    assert run.returncode == 0, run.stderr.decode()
+
+
+def make_pair():
+    """A pair of interfaces, each the other's far end: v0 is the gateway's."""
+    ip("link", "add", "v0", "type", "veth", "peer", "name", "v1")
+    for name in ("v0", "v1"):
+        ip("link", "set", name, "up")
+
+
+def until(gate, words, patience=5):
+    """Waits until the report has some words."""
+    end = time.monotonic() + patience
+    while words not in gate.report():
+        assert time.monotonic() < end, f"never: {words}"
+        time.sleep(0.05)
+
+
+def all_kinds():
+    """Hosts on one cable, each by its kind of frame, are four networks: each reaches a DOSBox, and the other hosts."""
+    make_pair()
+    text = tunnels(1) + "".join(f"network {20 + k} 1 1490 interface v0 {kind}\n" for k, kind in enumerate(KINDS))
+    with Gateway(text) as gate:
+        node = bytes.fromhex(next(it for it in gate.lines if "interface v0" in it)[-12:])
+        far = Client(gate.ports[0x10])
+        hosts = [Station(Packets("v1"), kind, 0x20 + k, STATION[:5] + bytes([k]), node) for k, kind in enumerate(KINDS)]
+        for host in hosts:
+            both_ways(gate, host, far)
+        for one in hosts:
+            for other in hosts:
+                assert one is other or reaches(one, other), f"{one.kind} to {other.kind}"
+        report = gate.report()
+        assert all(gate.counted(0x20 + k, what, report) == 0 for k in range(4) for what in ("no IPX", "another kind of frame"))
+    ip("link", "del", "v0")
+
+
+def a_cable_is_pulled():
+    """A cable that is pulled, a card that is switched off, and one that is taken out: the network is down; it comes back."""
+    make_pair()
+    with Gateway(tunnels(1) + "network 20 1 1490 interface v0 raw\n") as gate:
+        far = Client(gate.ports[0x10])
+        for off, on in (("v1", "v1"), ("v0", "v0")):
+            ip("link", "set", off, "down")
+            until(gate, "network 00000020 down")
+            ip("link", "set", on, "up")
+            until(gate, "network 00000020 up")
+        ip("link", "del", "v0")
+        until(gate, "network 00000020 down")
+        node = gate.lines[1][-12:]
+        make_pair()
+        ip("link", "set", "v0", "address", ":".join(node[k : k + 2] for k in range(0, 12, 2)))
+        until(gate, "network 00000020 up")
+        host = Station(Packets("v1"), "raw", 0x20, STATION, bytes.fromhex(node))
+        both_ways(gate, host, far)
+    ip("link", "del", "v0")
+
+
+def a_tap():
+    """A TAP: the gateway makes it, switches it on, and is another station on its cable; two kinds of frames share it."""
+    with Gateway(tunnels(1) + "network 20 1 1490 tap ipx0 raw\nnetwork 30 1 1490 tap ipx0 snap\n") as gate:
+        far = Client(gate.ports[0x10])
+        a = Station(Packets("ipx0"), "raw", 0x20, STATION, made_up(0x20))
+        b = Station(Packets("ipx0"), "snap", 0x30, STATION, made_up(0x30))
+        until(gate, "network 00000030 up")
+        both_ways(gate, a, far)
+        both_ways(gate, b, far)
+        assert reaches(a, b) and reaches(b, a)
+        ip("link", "set", "ipx0", "down")
+        until(gate, "network 00000020 down")
+        ip("link", "set", "ipx0", "up")
+        until(gate, "network 00000020 up")
+        both_ways(gate, Station(Packets("ipx0"), "raw", 0x20, STATION, made_up(0x20)), far)
+        ip("link", "del", "ipx0")
+        time.sleep(1.2)
+        until(gate, "network 00000020 up")  # (it is made again)
+        both_ways(gate, Station(Packets("ipx0"), "raw", 0x20, STATION, made_up(0x20)), far)
+
+
+def can(test):
+    """Whether a thing can be done here."""
+    try:
+        test()
+    except (AssertionError, OSError):
+        return False
+    return True
+
+
+def inside():
+    """In the network of its own."""
+    counts = Counts()
+    ip("link", "set", "lo", "up")
+    if can(lambda: ip("link", "add", "v0", "type", "veth", "peer", "name", "v1")):
+        ip("link", "del", "v0")
+        counts.run(all_kinds)
+        counts.run(a_cable_is_pulled)
+    else:
+        left_out("interfaces", "no pair of them can be made")
+    if can(lambda: os.close(os.open("/dev/net/tun", os.O_RDWR))):
+        counts.run(a_tap)
+    else:
+        left_out("TAPs", "the device for them can't be opened")
+    print(f"{counts.passed} passed, {counts.failed} failed")
+
+
+def main():
+    counts = Counts()
+    if not shutil.which("ip") or not shutil.which("unshare"):
+        left_out("interfaces and TAPs", "no ip or no unshare")
+        return counts
+    # (root needs no other user; who isn't is root in a namespace of his own)
+    ways = (["unshare", "-n"], ["unshare", "-rn"])
+    way = next((it for it in ways if subprocess.run([*it, "true"], stderr=subprocess.DEVNULL, check=False).returncode == 0), None)
+    if way is None:
+        left_out("interfaces and TAPs", "no network of the test's own can be made")
+        return counts
+    run = subprocess.run([*way, sys.executable, os.path.realpath(__file__), INSIDE], stdout=subprocess.PIPE, check=False)
+    *lines, last = run.stdout.decode().splitlines() or [""]
+    print("\n".join(lines), flush=True)
+    words = last.split()
+    counts.passed, counts.failed = (int(words[0]), int(words[2])) if len(words) == 4 else (0, 1)
+    return counts
+
+
+if __name__ == "__main__":
+    if sys.argv[1:] == [INSIDE]:
+        inside()
+    else:
+        main()
