@@ -32,7 +32,7 @@ static client *longest_silent(clients *it)
 {
     client *found = &it->list[0];
     for (size_t k = 1; k < it->count; k++)
-        if (it->list[k].heard < found->heard)
+        if (it->list[k].turn < found->turn)
             found = &it->list[k];
     return found;
 }
@@ -50,5 +50,6 @@ client *client_heard(clients *it, const uint8_t node[6], uint64_t now, bool *is_
     }
     memcpy(found->node, node, NODE);
     found->heard = now;
+    found->turn = it->turns++;
     return found;
 }

@@ -13,11 +13,13 @@
 typedef struct client {
     uint8_t node[6];
     uint64_t heard; /* milliseconds of the clock when it was heard last */
+    uint64_t turn;  /* how many had been heard then: of two in one millisecond too it tells who was silent longer */
 } client;
 
 typedef struct clients {
     client list[MOST_CLIENTS];
     size_t count;
+    uint64_t turns;
 } clients;
 
 /* The node of an address, and the address of a node. */

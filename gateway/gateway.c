@@ -275,6 +275,10 @@ bool gateway_start(gateway *it, const settings *set)
         return false;
     }
     it->began = clock_now();
+    if (it->began == 0) {
+        fprintf(stderr, "ipxr-gateway: the clock can't be read: %s\n", strerror(errno));
+        return false;
+    }
     tell_start(it);
     for (size_t k = 0; k < it->cable_count; k++)
         look_at_cable(it, &it->cables[k]);
