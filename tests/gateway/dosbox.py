@@ -9,7 +9,7 @@ import time
 from lab import BUILD, TOP, Client, Counts, Gateway, left_out, tunnels
 
 DOS = os.path.join(TOP, "tests", "gateway", "dos")
-MOST = 90  # seconds until a DOSBox is taken for lost
+MOST = 300  # seconds until a DOSBox is taken for lost
 CONFIGURATION = """[sdl]
 output=surface
 [mixer]

@@ -4,7 +4,7 @@ import socket
 import struct
 import time
 
-from lab import EVERYONE, GAME, PATIENCE, address, is_routers, packet
+from lab import EVERYONE, GAME, LIMIT, ROOM, address, is_routers, packet
 
 KINDS = ("ethernet2", "raw", "llc", "snap")
 FRONTS = {"raw": b"", "llc": b"\xe0\xe0\x03", "snap": b"\xaa\xaa\x03\0\0\0\x81\x37"}
@@ -44,6 +44,7 @@ class Udp:
 
     def __init__(self, port=0):
         self.socket = socket.socket(socket.AF_INET, socket.SOCK_DGRAM)
+        self.socket.setsockopt(socket.SOL_SOCKET, socket.SO_RCVBUF, ROOM)
         self.socket.bind(("127.0.0.1", port))
         self.port = self.socket.getsockname()[1]
         self.to = None
@@ -85,11 +86,15 @@ class Tcp:
 
 
 class Packets:
-    """The other end of an interface: a packet socket on the peer of a veth pair, or on the host's end of a TAP."""
+    """The other end of an interface: a packet socket on the peer of a veth pair, or on the host's end of a TAP. It hears the frames
+    of a kind that come in."""
 
-    def __init__(self, name):
-        self.socket = socket.socket(socket.AF_PACKET, socket.SOCK_RAW, socket.htons(3))
-        self.socket.bind((name, 0))
+    PROTOCOLS = {"ethernet2": 0x8137, "raw": 1, "llc": 4, "snap": 4}
+
+    def __init__(self, name, kind):
+        self.socket = socket.socket(socket.AF_PACKET, socket.SOCK_RAW, 0)
+        self.socket.setsockopt(socket.SOL_SOCKET, socket.SO_RCVBUF, ROOM)
+        self.socket.bind((name, self.PROTOCOLS[kind]))
 
     def fileno(self):
         return self.socket.fileno()
@@ -98,8 +103,7 @@ class Packets:
         self.socket.send(bytes_)
 
     def receive(self):
-        bytes_, (_, _, kind, _, _) = self.socket.recvfrom(65536)
-        return [bytes_] if kind != socket.PACKET_OUTGOING else []
+        return [self.socket.recv(65536)]
 
 
 class Station:
@@ -116,9 +120,9 @@ class Station:
         """Sends a packet by the gateway, or to a node of the wire."""
         self.wire.send(frame(self.kind, node or self.gateway, self.node, packet(to, self.at(), data, **how)))
 
-    def hear(self, wanted=lambda it: not is_routers(it), patience=PATIENCE):
+    def hear(self, wanted=lambda it: not is_routers(it), patience=LIMIT):
         """The next packet that is wanted, of those for this station; or None."""
-        until = time.monotonic() + patience
+        end = time.monotonic() + patience
         while True:
             while self.waiting:
                 bytes_ = self.waiting.pop(0)
@@ -126,7 +130,7 @@ class Station:
                     found = unframed(self.kind, bytes_)
                     if found is not None and wanted(found):
                         return found
-            ready, _, _ = select.select([self.wire], [], [], max(0, until - time.monotonic()))
+            ready, _, _ = select.select([self.wire], [], [], max(0, end - time.monotonic()))
             if not ready:
                 return None
             self.waiting += self.wire.receive()

@@ -1,9 +1,14 @@
 """What the tests of the gateway share: gateways that are started and asked, packets, clients of DOSBox' tunnel, and a count of
 what went well.
 
+No test depends on how fast the machine is. A test waits for what is to happen, and LIMIT ends it only where it fails. That nothing
+comes is shown by what comes next: what is said in order is heard in order. Where a test needs hours, it sets the clock itself.
+
 The programs lie in build/, where tools/gateway puts them.
 """
+import itertools
 import os
+import random
 import re
 import select
 import signal
@@ -20,8 +25,9 @@ SANITIZED = os.path.join(BUILD, "ipxr-gateway-sanitized")
 TROUBLED = os.path.join(BUILD, "ipxr-gateway-troubled")
 FAST = os.path.join(BUILD, "ipxr-gateway-fast")
 
-PATIENCE = 10  # seconds until a test gives up
-QUIET = 0.3  # seconds in which nothing may come
+LIMIT = 60  # seconds until a test that fails gives up
+AGAIN = 0.5  # seconds until something is said again, where it may have been lost
+ROOM = 1 << 20  # bytes that a socket of a test keeps, as far as the system allows it, while the test looks elsewhere
 EVERYONE = b"\xff" * 6
 NOBODY = bytes(6)
 GATEWAY = bytes([0, 0, 0, 0, 0, 1])  # its node on a network of the tunnel
@@ -123,11 +129,11 @@ class Gateway:
             if found:
                 self.ports[int(found[1], 16)] = int(found[2] or 0)
 
-    def line(self, patience=PATIENCE):
+    def line(self):
         """The next line of its output."""
-        until = time.monotonic() + patience
+        end = time.monotonic() + LIMIT
         while b"\n" not in self.rest:
-            ready, _, _ = select.select([self.run.stdout], [], [], max(0, until - time.monotonic()))
+            ready, _, _ = select.select([self.run.stdout], [], [], max(0, end - time.monotonic()))
             piece = os.read(self.run.stdout.fileno(), 65536) if ready else b""
             if not piece:
                 self.run.kill()
@@ -144,7 +150,7 @@ class Gateway:
         return lines
 
     def report(self):
-        """What it says when it is asked, as one text."""
+        """What it says when it is asked, as one text: of all that came before, and after all seconds that have passed."""
         self.run.send_signal(signal.SIGUSR1)
         return "\n".join(self.lines_to("end of report"))
 
@@ -155,15 +161,23 @@ class Gateway:
         found = re.search(rf"(?:^|\W){re.escape(what)}:? (\d+)", part)
         return int(found[1]) if found else 0
 
+    def until(self, words):
+        """Waits until its report has some words. Returns the report."""
+        return until(lambda: (lambda report: words in report and report)(self.report()), words)
+
+    def until_counted(self, network, what, number):
+        """Waits until a network has counted so many."""
+        until(lambda: self.counted(network, what) == number, f"{number} {what}")
+
     def memory(self):
-        """Kilobytes that it has."""
+        """Kilobytes of its own that it has, files that it shares with others aside."""
         with open(f"/proc/{self.run.pid}/status", encoding="utf-8") as it:
-            return int(re.search(r"VmRSS:\s+(\d+)", it.read())[1])
+            return int(re.search(r"RssAnon:\s+(\d+)", it.read())[1])
 
     def end(self, number=signal.SIGTERM, status=0):
         """Ends it, and sees that it complained of nothing. Returns all that it said."""
         self.run.send_signal(number)
-        out, complaint = self.run.communicate(timeout=PATIENCE)
+        out, complaint = self.run.communicate(timeout=LIMIT)
         assert self.run.returncode == status, f"it ended with {self.run.returncode}: {complaint.decode()}"
         assert status != 0 or not complaint, complaint.decode()
         return "\n".join(self.lines) + (self.rest + out).decode()
@@ -181,6 +195,26 @@ class Gateway:
         self.folder.cleanup()
 
 
+class Clock:
+    """A clock that the test sets: for gateways that are built with calls in front of the system's own."""
+
+    def __init__(self):
+        self.folder = tempfile.TemporaryDirectory()
+        self.name = os.path.join(self.folder.name, "clock")
+        self.passed = 0
+        self.let_pass(0)
+
+    def environment(self):
+        return {"TROUBLE_CLOCK": self.name}
+
+    def let_pass(self, seconds):
+        """Some seconds more have passed."""
+        self.passed += seconds
+        with open(f"{self.name}.new", "w", encoding="ascii") as it:
+            it.write(str(1000 + self.passed))
+        os.replace(f"{self.name}.new", self.name)
+
+
 # ---- Clients of the tunnel ----
 
 
@@ -189,6 +223,7 @@ class Client:
 
     def __init__(self, port, host="127.0.0.1", registers=True):
         self.udp = socket.socket(socket.AF_INET, socket.SOCK_DGRAM)
+        self.udp.setsockopt(socket.SOL_SOCKET, socket.SO_RCVBUF, ROOM)
         self.udp.bind((host, 0))
         self.udp.connect(("127.0.0.1", port))
         own, own_port = self.udp.getsockname()
@@ -213,32 +248,86 @@ class Client:
     def say(self, to, data, **how):
         self.send(packet(to, self.at(), data, **how))
 
-    def hear(self, wanted=lambda it: not is_routers(it), patience=PATIENCE):
+    def hear(self, wanted=lambda it: not is_routers(it), patience=LIMIT):
         """The next packet that is wanted, or None."""
-        until = time.monotonic() + patience
+        end = time.monotonic() + patience
         while True:
-            ready, _, _ = select.select([self.udp], [], [], max(0, until - time.monotonic()))
+            ready, _, _ = select.select([self.udp], [], [], max(0, end - time.monotonic()))
             if not ready:
                 return None
             bytes_ = self.udp.recv(65536)
             if wanted(bytes_):
                 return bytes_
 
-    def is_quiet(self):
-        return self.hear(patience=QUIET) is None
-
     def close(self):
         self.udp.close()
 
 
-def reaches(one, other, data=b"hello", tries=1, **how):
-    """Whether what one says comes to the other, and the packet as it came."""
-    for _ in range(tries):
-        one.say(other.at(), data, **how)
-        heard = other.hear(lambda it: not is_routers(it) and it[30:] == data, patience=PATIENCE / tries)
+FRESH = itertools.count()
+
+
+def fresh():
+    """Bytes that weren't said before."""
+    return b"packet %d" % next(FRESH)
+
+
+def says(one, other, data, patience=LIMIT, **how):
+    """What one says once, as it comes to the other, or None."""
+    one.say(other.at(), data, **how)
+    return other.hear(lambda it: not is_routers(it) and it[30:] == data, patience)
+
+
+def reaches(one, other, data=None, **how):
+    """Whether what one says comes to the other, and the packet as it came. Nothing may be lost."""
+    return says(one, other, fresh() if data is None else data, **how)
+
+
+def reaches_again(one, other):
+    """The same where something may be lost: it is said again, as a program would."""
+    data, end = fresh(), time.monotonic() + LIMIT
+    while time.monotonic() < end:
+        heard = says(one, other, data, AGAIN)
         if heard is not None:
             return heard
     return None
+
+
+def comes_next(one, other):
+    """Whether what one says now is the next that comes to the other: nothing else came before."""
+    data = fresh()
+    one.say(other.at(), data)
+    heard = other.hear()
+    return heard is not None and heard[30:] == data
+
+
+def until(holds, what):
+    """Waits until something holds. Returns what it returned."""
+    end = time.monotonic() + LIMIT
+    while True:
+        found = holds()
+        if found:
+            return found
+        assert time.monotonic() < end, f"never: {what}"
+        time.sleep(0.01)
+
+
+def is_free(port):
+    with socket.socket(socket.AF_INET, socket.SOCK_DGRAM) as udp, socket.socket() as tcp:
+        try:
+            udp.bind(("127.0.0.1", port))
+            tcp.bind(("127.0.0.1", port))
+        except OSError:
+            return False
+    return True
+
+
+def free_ports(count):
+    """Ports that are free, and that the system gives to nobody who asks for any: so they are free still when they are named."""
+    with open("/proc/sys/net/ipv4/ip_local_port_range", encoding="ascii") as it:
+        first, last = (int(word) for word in it.read().split())
+    ports = [it for it in range(10000, 65536) if not first <= it <= last] or list(range(10000, 65536))
+    random.shuffle(ports)
+    return list(itertools.islice(filter(is_free, ports), count))
 
 
 def tunnels(count, first=0x10, extra=""):

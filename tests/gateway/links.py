@@ -1,9 +1,8 @@
 """Cards of emulators: frames in datagrams and on connections, by the four kinds."""
 import socket
-import time
 
 from frames import KINDS, Station, Tcp, Udp, frame
-from lab import EVERYONE, GAME, Client, Counts, Gateway, address, is_routers, packet, reaches, tunnels
+from lab import EVERYONE, GAME, LIMIT, Client, Counts, Gateway, address, comes_next, free_ports, is_routers, packet, reaches, tunnels
 
 STATION = bytes.fromhex("020000000AA1")
 
@@ -13,17 +12,31 @@ def made_up(network):
     return b"\x02I" + network.to_bytes(4, "big")
 
 
-def free_port(kind=socket.SOCK_DGRAM):
-    with socket.socket(socket.AF_INET, kind) as it:
-        it.bind(("127.0.0.1", 0))
-        return it.getsockname()[1]
-
-
 def listening():
     it = socket.socket()
+    it.settimeout(LIMIT)
     it.bind(("127.0.0.1", 0))
     it.listen()
     return it
+
+
+def connected(gate, network, kind, last=1):
+    """A station that connects to the gateway, and its connection. It is heard as soon as the router has greeted it."""
+    connection = socket.create_connection(("127.0.0.1", gate.ports[network]))
+    station = Station(Tcp(connection), kind, network, STATION[:5] + bytes([last]), made_up(network))
+    assert station.hear(is_routers) is not None, "the router greets a link that comes up"
+    return station, connection
+
+
+def is_closed(connection):
+    """Waits until the other end has closed a connection."""
+    connection.settimeout(LIMIT)
+    try:
+        while connection.recv(65536):
+            pass
+    except ConnectionResetError:
+        pass
+    return True
 
 
 def both_ways(gate, station, far):
@@ -53,10 +66,9 @@ def datagrams():
 def two_networks_on_a_link():
     """Two networks share a link by different kinds of frames; each hears its own, and both hear each other by the gateway."""
     wire = Udp()
-    local = free_port()
-    text = "".join(f"network {n} 1 1490 qemu-udp {local} {wire.port} {kind}\n" for n, kind in ((20, "raw"), (30, "llc")))
+    (wire.to,) = free_ports(1)
+    text = "".join(f"network {n} 1 1490 qemu-udp {wire.to} {wire.port} {kind}\n" for n, kind in ((20, "raw"), (30, "llc")))
     with Gateway(text) as gate:
-        wire.to = gate.ports[0x20]
         a = Station(wire, "raw", 0x20, STATION, made_up(0x20))
         b = Station(wire, "llc", 0x30, STATION, made_up(0x30))
         assert reaches(a, b) and reaches(b, a)
@@ -93,42 +105,31 @@ def a_connection_comes():
         far = Client(gate.ports[0x10])
         assert "network 00000020 down" in gate.report()
         for _ in range(3):
-            connection = socket.create_connection(("127.0.0.1", gate.ports[0x20]))
-            station = Station(Tcp(connection), "snap", 0x20, STATION, made_up(0x20))
-            assert station.hear(is_routers) is not None, "the router greets a link that comes up"
+            station, connection = connected(gate, 0x20, "snap")
             both_ways(gate, station, far)
             assert "network 00000020 up" in gate.report()
             connection.close()
             far.say(station.at(), b"?")
-            until = time.monotonic() + 5
-            while "network 00000020 down" not in gate.report() and time.monotonic() < until:
-                pass
-            assert "network 00000020 down" in gate.report()
+            gate.until("network 00000020 down")
 
 
 def a_newer_connection():
     """A newer connection takes the place of an older one; frames come in pieces; what isn't frames ends it."""
     with Gateway(tunnels(1) + "network 20 1 1490 qemu-tcp listen 0 raw\n") as gate:
         far = Client(gate.ports[0x10])
-        older = socket.create_connection(("127.0.0.1", gate.ports[0x20]))
-        newer = socket.create_connection(("127.0.0.1", gate.ports[0x20]))
-        station = Station(Tcp(newer), "raw", 0x20, STATION, made_up(0x20))
-        assert reaches(far, station, tries=3)
-        older.settimeout(5)
-        while older.recv(65536):
-            pass
+        _, older = connected(gate, 0x20, "raw")
+        station, newer = connected(gate, 0x20, "raw", last=2)
+        assert reaches(far, station) and is_closed(older)
         whole = frame("raw", station.gateway, STATION, packet(far.at(), station.at(), b"pieces"))
         for byte in len(whole).to_bytes(4, "big") + whole:
-            newer.send(bytes([byte]))
+            newer.sendall(bytes([byte]))
         assert far.hear()[30:] == b"pieces"
-        newer.send((len(whole).to_bytes(4, "big") + whole) * 200)
+        newer.sendall((len(whole).to_bytes(4, "big") + whole) * 200)
         assert all(far.hear()[30:] == b"pieces" for _ in range(200))
-        newer.send(b"GET / HTTP/1.0\r\n\r\n")
-        newer.settimeout(5)
-        while newer.recv(65536):
-            pass
-        again = Station(Tcp(socket.create_connection(("127.0.0.1", gate.ports[0x20]))), "raw", 0x20, STATION, made_up(0x20))
-        assert reaches(far, again, tries=3)
+        newer.sendall(b"GET / HTTP/1.0\r\n\r\n")
+        assert is_closed(newer)
+        again, _ = connected(gate, 0x20, "raw", last=3)
+        assert reaches(far, again)
 
 
 def a_connection_goes():
@@ -157,7 +158,7 @@ def extended():
         station.say(address(0, EVERYONE, GAME), b"from the wire", node=EVERYONE)
         assert far.hear() == packet(address(0x10, EVERYONE, GAME), station.at(), b"from the wire")
         wire.send(frame("raw", EVERYONE, STATION, packet(address(0, EVERYONE, GAME), address(0, STATION, GAME), b"lost")))
-        assert far.is_quiet() and gate.counted(0x20, "not extended") == 1
+        assert comes_next(station, far) and gate.counted(0x20, "not extended") == 1
 
 
 def main():

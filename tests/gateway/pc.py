@@ -3,14 +3,14 @@ import os
 import shutil
 import subprocess
 import tempfile
+import time
 
-from lab import GAME, PATIENCE, TOP, Client, Counts, Gateway, address, left_out, packet, tunnels
-from links import free_port, listening
+from lab import AGAIN, GAME, TOP, Client, Counts, Gateway, address, free_ports, left_out, packet, tunnels
 
 SOURCE = os.path.join(TOP, "tests", "gateway", "pc", "boot.asm")
 PROGRAMS = ("qemu-system-i386", "qemu-system-x86_64")
 NODE = bytes.fromhex("525400123456")
-TRIES = 60
+MOST = 300  # seconds until a PC is taken for lost
 
 
 class Pc:
@@ -36,11 +36,12 @@ class Pc:
 
 
 def is_answered(client, pc, data):
-    """Whether the PC sends a packet back, though not at once: it has to boot."""
-    for _ in range(TRIES):
+    """Whether the PC sends a packet back, though not at once: it has to boot. What it sent back before may still come."""
+    end = time.monotonic() + MOST
+    while time.monotonic() < end:
         assert pc.run.poll() is None, "QEMU has ended: " + pc.run.stderr.read().decode()
         client.say(address(0x30, NODE, GAME), data)
-        heard = client.hear(patience=PATIENCE / 20)
+        heard = client.hear(lambda it: it[30:] == data, AGAIN)
         if heard is not None:
             return heard == packet(client.at(), address(0x30, NODE, GAME), data, control=1)
     return False
@@ -62,16 +63,14 @@ def inet(kind, port):
 
 def datagrams():
     """A PC in QEMU answers a DOSBox' client, its frames in datagrams (-netdev dgram, and the older -netdev socket)."""
-    gate, card = free_port(), free_port()
+    gate, card = free_ports(2)
     tried(f"qemu-udp {gate} {card}", f"dgram,{inet('local', card)},{inet('remote', gate)}")
     tried(f"qemu-udp {gate} {card}", f"socket,udp=127.0.0.1:{gate},localaddr=127.0.0.1:{card}")
 
 
 def connections():
     """The same by connections, which QEMU begins or the gateway (-netdev stream, and the older -netdev socket)."""
-    place = listening()
-    port = place.getsockname()[1]
-    place.close()
+    (port,) = free_ports(1)
     tried(f"qemu-tcp listen {port}", f"stream,{inet('addr', port)}")
     tried(f"qemu-tcp listen {port}", f"socket,connect=127.0.0.1:{port}")
     tried(f"qemu-tcp connect {port}", f"stream,server=on,{inet('addr', port)}")

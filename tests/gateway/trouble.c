@@ -1,9 +1,10 @@
-/* For the tests: the gateway with calls of the system that fail, and a clock that runs faster. It is linked in front of the system's own
- * by --wrap, so it goes along with the sanitizers.
+/* For the tests: the gateway with calls of the system that fail, and a clock that the test sets. It is linked in front of the system's
+ * own by --wrap, so it goes along with the sanitizers.
  *
  *     TROUBLE_CALL=NAME TROUBLE_AT=N TROUBLE_ERRNO=E   the Nth call of that name fails, once, with that errno
- *     TROUBLE_SPEED=N                                  the monotonic clock runs N times as fast */
+ *     TROUBLE_CLOCK=FILE                               the monotonic clock stands at the second that the file says */
 #include <errno.h>
+#include <fcntl.h>
 #include <net/if.h>
 #include <netinet/in.h>
 #include <poll.h>
@@ -14,6 +15,7 @@
 #include <string.h>
 #include <sys/socket.h>
 #include <time.h>
+#include <unistd.h>
 
 static unsigned long number_of(const char *name)
 {
@@ -53,7 +55,9 @@ TROUBLED(ssize_t, recvfrom, -1, (int a, void *b, size_t c, int d, struct sockadd
 TROUBLED(ssize_t, send, -1, (int a, const void *b, size_t c, int d), (a, b, c, d))
 TROUBLED(ssize_t, sendto, -1, (int a, const void *b, size_t c, int d, const struct sockaddr *e, socklen_t f), (a, b, c, d, e, f))
 TROUBLED(int, poll, -1, (struct pollfd *a, nfds_t b, int c), (a, b, c))
-TROUBLED(int, close, -1, (int a), (a))
+TROUBLED(ssize_t, read, -1, (int a, void *b, size_t c), (a, b, c))
+TROUBLED(ssize_t, write, -1, (int a, const void *b, size_t c), (a, b, c))
+TROUBLED(unsigned, if_nametoindex, 0, (const char *a), (a))
 TROUBLED(FILE *, fopen, NULL, (const char *a, const char *b), (a, b))
 TROUBLED(size_t, fwrite, 0, (const void *a, size_t b, size_t c, FILE *d), (a, b, c, d))
 TROUBLED(int, fflush, EOF, (FILE *a), (a))
@@ -72,22 +76,58 @@ int __wrap_fcntl(int fd, int what, ...)
     return fails("fcntl") ? -1 : __real_fcntl(fd, what, value);
 }
 
+/* (a close that fails has closed all the same) */
+int __real_close(int fd);
+int __wrap_close(int fd);
+int __wrap_close(int fd)
+{
+    bool is_bad = fails("close");
+    int why = errno, answer = __real_close(fd);
+    errno = is_bad ? why : errno;
+    return is_bad ? -1 : answer;
+}
+
+int __real_open(const char *name, int how, ...);
+int __wrap_open(const char *name, int how, ...);
+int __wrap_open(const char *name, int how, ...)
+{
+    va_list rest;
+    va_start(rest, how);
+    int mode = how & O_CREAT ? va_arg(rest, int) : 0;
+    va_end(rest);
+    return fails("open") ? -1 : __real_open(name, how, mode);
+}
+
+int __real_ioctl(int fd, unsigned long what, ...);
+int __wrap_ioctl(int fd, unsigned long what, ...);
+int __wrap_ioctl(int fd, unsigned long what, ...)
+{
+    va_list rest;
+    va_start(rest, what);
+    void *value = va_arg(rest, void *);
+    va_end(rest);
+    return fails("ioctl") ? -1 : __real_ioctl(fd, what, value);
+}
+
+/* The second that a file says, in digits. */
+static int read_clock(const char *name, struct timespec *now)
+{
+    char digits[32] = {0};
+    int fd = __real_open(name, O_RDONLY);
+    bool is_read = fd >= 0 && __real_read(fd, digits, sizeof digits - 1) > 0;
+    if (fd >= 0)
+        __real_close(fd);
+    now->tv_sec = (time_t)strtol(digits, NULL, 10);
+    now->tv_nsec = 0;
+    return is_read ? 0 : -1;
+}
+
 int __real_clock_gettime(clockid_t which, struct timespec *now);
 int __wrap_clock_gettime(clockid_t which, struct timespec *now);
 int __wrap_clock_gettime(clockid_t which, struct timespec *now)
 {
-    static struct timespec first;
-    unsigned long speed = number_of("TROUBLE_SPEED");
+    const char *name = getenv("TROUBLE_CLOCK");
     if (fails("clock_gettime"))
         return -1;
-    int answer = __real_clock_gettime(which, now);
-    if (answer != 0 || which != CLOCK_MONOTONIC || speed == 0)
-        return answer;
-    if (first.tv_sec == 0)
-        first = *now;
-    long long passed = (now->tv_sec - first.tv_sec) * 1000000000LL + now->tv_nsec - first.tv_nsec;
-    passed *= (long long)speed;
-    now->tv_sec = first.tv_sec + (time_t)(passed / 1000000000LL);
-    now->tv_nsec = passed % 1000000000LL;
-    return answer;
+    return name != NULL && which == CLOCK_MONOTONIC ? read_clock(name, now) : __real_clock_gettime(which, now);
 }

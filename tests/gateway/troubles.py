@@ -1,13 +1,14 @@
-"""Calls of the system that fail, each once; and time that goes faster."""
+"""Calls of the system that fail, each once; and hours that the test lets pass."""
 import errno
-import os
 import re
 import socket
 import subprocess
 import time
 
 from frames import Station, Tcp, Udp
-from lab import (FAST, PATIENCE, TROUBLED, Client, Counts, Gateway, address, reaches, rip_response, sap_response, tunnels)
+from lab import (EVERYONE, FAST, GAME, LIMIT, TROUBLED, Client, Clock, Counts, Gateway, address, reaches, reaches_again, rip_response, sap_response,
+                 tunnels, until)
+from links import listening
 
 # Each call, the faults that it gives, and how many times it is let fail: the first time, the second, ..
 CALLS = [
@@ -46,8 +47,21 @@ def configuration(card, place):
     )
 
 
+def is_heard(gate, listener):
+    """Whether a card that connects, and again where it is put out, reaches a client."""
+    end = time.monotonic() + LIMIT
+    while time.monotonic() < end:
+        try:
+            with socket.create_connection(("127.0.0.1", gate.ports[0x40])) as connection:
+                station = Station(Tcp(connection), "raw", 0x40, bytes.fromhex("020000000AA2"), b"\x02I\0\0\0\x40")
+                return reaches_again(station, listener)
+        except ConnectionError:
+            continue
+    return False
+
+
 def goes_on(gate, card):
-    """Whether everybody hears everybody, though not at the first try."""
+    """Sees that everybody hears everybody, though not at the first try."""
     a, b = Client(gate.ports[0x10], registers=False), Client(gate.ports[0x20], registers=False)
     a.network, b.network = 0x10, 0x20
     card.to = gate.ports[0x30]
@@ -55,33 +69,38 @@ def goes_on(gate, card):
     for one, other in ((a, b), (b, station), (station, a)):
         # (the first packet of a client tells the gateway that it is there)
         other.say(one.at(), b"I am here")
-        time.sleep(0.01)
-        assert reaches(one, other, tries=10), f"{one} doesn't reach {other}"
-    connection = socket.create_connection(("127.0.0.1", gate.ports[0x40]))
-    station = Station(Tcp(connection), "raw", 0x40, bytes.fromhex("020000000AA2"), b"\x02I\0\0\0\x40")
-    assert reaches(station, b, tries=10), "a connection isn't heard"
-    connection.close()
+        assert reaches_again(one, other), f"{one} doesn't reach {other}"
+    assert is_heard(gate, b), "a connection isn't heard"
+
+
+def ends_well(gate, which):
+    """Ends a gateway that had trouble; it may have told that its capture ended."""
+    gate.run.terminate()
+    _, complaint = gate.run.communicate(timeout=LIMIT)
+    text = complaint.decode()
+    assert gate.run.returncode == 0, f"{which}: it ended with {gate.run.returncode}: {text}"
+    assert not text or re.fullmatch(r"ipxr-gateway: the capture (ends|can't be closed): .*\n", text), f"{which}: {text}"
+    gate.folder.cleanup()
+
+
+def troubled(text, name, fault, which):
+    """A gateway of which one call fails; None where it can't start for that, and says why."""
+    environment = {"TROUBLE_CALL": name, "TROUBLE_AT": str(which), "TROUBLE_ERRNO": str(fault)}
+    try:
+        return Gateway(text, TROUBLED, ["--pcap", "/dev/null"], environment)
+    except AssertionError as stop:
+        why = str(stop).partition("nothing more: ")[2]
+        assert re.match(r"(ipxr-gateway|\S+gateway\.conf|/dev/null): \S", why) and "Sanitizer" not in why, f"{name} {which}: {stop}"
+        return None
 
 
 def one_fails(name, fault, which):
-    """A run in which one call fails: it can't start, and says why; or it goes on. Returns whether the call was made at all."""
-    card, place = Udp(), socket.socket()
-    place.bind(("127.0.0.1", 0))
-    place.listen()
-    environment = {"TROUBLE_CALL": name, "TROUBLE_AT": str(which), "TROUBLE_ERRNO": str(fault)}
-    try:
-        gate = Gateway(configuration(card, place), TROUBLED, ["--pcap", "/dev/null"], environment)
-    except AssertionError as stop:
-        text = str(stop).partition("nothing more: ")[2]
-        assert re.match(r"(ipxr-gateway|\S+gateway\.conf|/dev/null): \S", text) and "Sanitizer" not in text, f"{name} {which}: {stop}"
-        return
-    goes_on(gate, card)
-    gate.run.terminate()
-    _, complaint = gate.run.communicate(timeout=PATIENCE)
-    text = complaint.decode()
-    assert gate.run.returncode == 0, f"{name} {which}: it ended with {gate.run.returncode}: {text}"
-    assert not text or re.fullmatch(r"ipxr-gateway: the capture (ends|can't be closed): .*\n", text), f"{name} {which}: {text}"
-    gate.folder.cleanup()
+    """A run in which one call fails: it can't start, and says why; or it goes on."""
+    card, place = Udp(), listening()
+    gate = troubled(configuration(card, place), name, fault, which)
+    if gate is not None:
+        goes_on(gate, card)
+        ends_well(gate, f"{name} {which}")
 
 
 def each_fails():
@@ -91,58 +110,67 @@ def each_fails():
             one_fails(name, fault, which)
 
 
-def advertise(client):
-    """A client advertises 50 routes and 7 services."""
-    client.send(rip_response(0x10, client.node, [(0xBE00 + k, 1, 2) for k in range(50)]))
-    client.send(sap_response(0x10, client.node, [(4, f"SERVER{k}", 0xBE00, bytes(5) + b"\1", 0x451, 2) for k in range(7)]))
+ROUTES, SERVICES = 2048, 1024  # what the tables have room for
+
+
+def advertise(client, routes, services):
+    """A client advertises routes and services, of which a packet has 50 and 7."""
+    for first in range(0, routes, 50):
+        numbers = range(first, min(first + 50, routes))
+        client.send(rip_response(0x10, client.node, [(0x1000 + k, 1, 2) for k in numbers]))
+    for first in range(0, services, 7):
+        numbers = range(first, min(first + 7, services))
+        client.send(sap_response(0x10, client.node, [(4, f"S{k:04}", 0x1000, bytes(5) + b"\1", 0x451, 2) for k in numbers]))
+
+
+def is_held(gate, routes, services):
+    report = gate.report()
+    return f"routes: {routes}\n" in report and f"services: {services}\n" in report
 
 
 def an_hour():
-    """After an hour by the clock, with packets of all kinds, it has no more memory than after some minutes."""
-    with Gateway(tunnels(2), FAST, environment={"TROUBLE_SPEED": "400"}) as gate:
+    """Records are gone in the 180th second, and after an hour, with packets of all kinds, it has no more memory than after some minutes."""
+    clock = Clock()
+    with Gateway(tunnels(2), FAST, environment=clock.environment()) as gate:
         a, b = Client(gate.ports[0x10]), Client(gate.ports[0x20])
-        began, early, passed = time.monotonic(), None, 0
-        while passed <= 3600:
-            for _ in range(10):
-                advertise(a)
-                assert reaches(a, b, os.urandom(1000), tries=5) and reaches(b, a, os.urandom(100), tries=5)
-                a.say(address(0, b"\xff" * 6, 0x4003), bytes(32), kind=20)
-            passed = int(re.search(r"report after (\d+) s", gate.report())[1])
-            if early is None and passed > 600:
+        for minutes in range(0, 60, 10):
+            for _ in range(30):
+                advertise(a, 50, 7)
+                assert reaches(a, b) and reaches(b, a)
+                a.say(address(0, EVERYONE, GAME), bytes(32), kind=20)
+                clock.let_pass(10)
+                assert is_held(gate, 50, 7)
+            clock.let_pass(169)
+            assert is_held(gate, 50, 7), "for 179 seconds"
+            clock.let_pass(1)
+            assert is_held(gate, 0, 0), "in the 180th second all are gone"
+            clock.let_pass(130)
+            if minutes == 10:
                 early = gate.memory()
-            assert time.monotonic() - began < 10 * PATIENCE
+        assert f"report after {60 * 60} s\n" in gate.report()
         assert gate.memory() <= early + 64, f"{gate.memory()} KB, {early} KB before"
-        # (half a second is three minutes here: on a busy machine it takes more than one try)
-        for _ in range(100):
-            advertise(a)
-            report = gate.report()
-            if "routes: 50" in report and "services: 7" in report:
-                return
-        raise AssertionError("what is advertised again isn't there")
 
 
 def full_tables():
     """With full tables a minute's broadcast goes out whole on 8 networks, and packets pass meanwhile."""
-    with Gateway(tunnels(8), environment={"TROUBLE_SPEED": "20"}, program=FAST) as gate:
+    clock = Clock()
+    with Gateway(tunnels(8), FAST, environment=clock.environment()) as gate:
         clients = [Client(gate.ports[n]) for n in sorted(gate.ports)]
         a, b = clients[:2]
-        b.udp.setsockopt(socket.SOL_SOCKET, socket.SO_RCVBUF, 8 << 20)
-        for first in range(0, 2048, 50):
-            a.send(rip_response(0x10, a.node, [(0x1000 + k, 1, 2) for k in range(first, min(first + 50, 2048))]))
-            time.sleep(0.001)
-        for first in range(0, 1024, 7):
-            a.send(sap_response(0x10, a.node, [(4, f"S{k:04}", 0x1000, bytes(5) + b"\1", 0x451, 2) for k in range(first, min(first + 7, 1024))]))
-            time.sleep(0.001)
+        # (what is too much at once for a socket is lost, and advertised again)
+        until(lambda: advertise(a, ROUTES, SERVICES) or is_held(gate, ROUTES, SERVICES), "full tables")
         report = gate.report()
-        assert "routes: 2048\n" in report and "services: 1024\n" in report, report[-9000:][:200]
-        before = gate.counted(0x80, "out", report)
-        until = time.monotonic() + PATIENCE
-        while gate.counted(0x80, "out") < before + 2048 // 50 + 1024 // 7 and time.monotonic() < until:
-            a.send(rip_response(0x10, a.node, [(0x1000, 1, 2)]))
-            assert reaches(a, b, tries=5)
+        before = {n: gate.counted(n, "out", report) for n in gate.ports}
+        for _ in range(60):
+            clock.let_pass(1)
+            assert reaches_again(a, b)
+        whole = ROUTES // 50 + 1 + SERVICES // 7 + 1
         report = gate.report()
-        assert gate.counted(0x80, "out", report) >= before + 2048 // 50 + 1024 // 7
-        assert gate.counted(0x80, "not sent", report) == 0
+        for network, count in before.items():
+            # (a's own routes and services are not told on its network, but those of the gateway)
+            least = 1 if network == 0x10 else whole
+            assert gate.counted(network, "out", report) >= count + least, (network, report[:2000])
+            assert gate.counted(network, "not sent", report) == 0
 
 
 def main():

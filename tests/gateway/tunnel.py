@@ -2,10 +2,9 @@
 import os
 import struct
 import subprocess
-import time
 
-from lab import (EVERYONE, GAME, GATEWAY, NOBODY, PATIENCE, TOP, Client, Counts, Gateway, address, is_routers, packet, reaches, rip_response,
-                 sap_response, socket_of, tunnels)
+from lab import (EVERYONE, GAME, GATEWAY, LIMIT, NOBODY, TOP, Client, Counts, Gateway, address, comes_next, free_ports, is_routers, packet,
+                 reaches, reaches_again, rip_response, sap_response, socket_of, tunnels)
 
 DECODER = os.path.join(TOP, "crates", "ipxr", "out", "ipxr")  # (where it is built)
 
@@ -21,7 +20,7 @@ def two_clients():
         a.say(address(0, EVERYONE, GAME), bytes(32) + b"all", kind=20)
         heard = b.hear()
         assert heard is not None and heard[30:34] == struct.pack(">I", 0x10) and heard[62:] == b"all"
-        assert a.is_quiet(), "nothing comes back to who sent it"
+        assert comes_next(b, a), "nothing comes back to who sent it"
 
 
 def three_clients():
@@ -33,39 +32,36 @@ def three_clients():
         a.say(address(0xFFFFFFFF, EVERYONE, GAME), b"two")
         assert b.hear()[30:] == b"two" and c.hear()[30:] == b"two"
         a.say(b.at(), b"three")
-        assert b.hear()[30:] == b"three" and c.is_quiet() and a.is_quiet()
+        assert b.hear()[30:] == b"three" and comes_next(b, c) and comes_next(b, a)
 
 
 def seventy_clients():
     """Of 70 clients the 64 that were heard last are there; one that left comes again by what it sends."""
     with Gateway(tunnels(2)) as gate:
-        clients = []
-        for _ in range(70):
-            clients.append(Client(gate.ports[0x10]))
-            time.sleep(0.002)
+        clients = [Client(gate.ports[0x10]) for _ in range(70)]
         far = Client(gate.ports[0x20])
         assert gate.counted(0x10, "clients") == 64
-        assert reaches(far, clients[69])
-        far.say(clients[0].at(), b"gone")
-        assert clients[0].is_quiet()
-        assert reaches(clients[0], far) and reaches(far, clients[0])
+        for client in clients[:6]:
+            far.say(client.at(), b"gone")
+        assert all(comes_next(far, it) for it in clients[6:])
+        assert gate.counted(0x10, "no such client") == 6
+        assert reaches(clients[0], far) and comes_next(far, clients[0]), "what was for it while it was gone is lost"
+        far.say(clients[6].at(), b"gone")
+        assert reaches(far, clients[7]) and gate.counted(0x10, "no such client") == 7
         assert gate.counted(0x10, "clients") == 64
 
 
 def starts_again():
     """A gateway that is killed and started again hears its clients, who don't register again."""
-    text = tunnels(2)
-    with Gateway(text) as gate:
+    with Gateway("".join(f"network {n} 1 1424 dosbox {port}\n" for n, port in zip((10, 20), free_ports(2)))) as gate:
         a, b = Client(gate.ports[0x10]), Client(gate.ports[0x20])
         assert reaches(a, b)
-        program, ports = gate.program, gate.ports
         gate.run.kill()
         gate.run.communicate()
-        with open(gate.configuration, "w", encoding="utf-8") as it:
-            it.write("".join(f"network {n:X} 1 1424 dosbox {port}\n" for n, port in ports.items()))
-        gate.start(program)
+        gate.start(gate.program)
         b.say(address(0, EVERYONE, GAME), b"here")
-        assert reaches(a, b, tries=3) and reaches(b, a, tries=3)
+        gate.until_counted(0x20, "clients", 1)
+        assert reaches(a, b) and reaches(b, a)
 
 
 def control_is_cleared():
@@ -84,11 +80,11 @@ def false_sources():
         a.send(packet(b.at(), c.at(), b"c?"))
         a.send(packet(b.at(), address(0x99, a.node, GAME), b"c?"))
         a.send(packet(b.at(), address(0x10, GATEWAY, GAME), b"c?"))
-        assert b.is_quiet()
+        assert comes_next(a, b)
         assert gate.counted(0x10, "source of another") == 3
         stranger = Client(gate.ports[0x10], registers=False)
         stranger.send(packet(b.at(), c.at(), b"c?"))
-        assert b.is_quiet() and gate.counted(0x10, "clients") == 2
+        assert comes_next(a, b) and gate.counted(0x10, "clients") == 2
 
 
 def ping():
@@ -109,15 +105,14 @@ def all_sizes():
         a, b = Client(gate.ports[0x10]), Client(gate.ports[0x20])
         for size in (0, 1, 17, 18, 29):
             a.send(packet(b.at(), a.at())[:size])
-        assert gate.counted(0x10, "drop Malformed:Short") == 5
         a.send(packet(b.at(), a.at(), length=29))
         a.send(packet(b.at(), a.at(), length=31))
-        assert b.is_quiet()
+        assert comes_next(a, b) and gate.counted(0x10, "drop Malformed:Short") == 5
         for size in (30, 31, 576, 1423, 1424):
             assert len(reaches(a, b, os.urandom(size - 30))) == size
         for size in (1425, 2047, 2048, 2049, 9000, 65507):
             a.say(b.at(), bytes(size - 30))
-        assert b.is_quiet() and gate.counted(0x10, "longer than the link carries") == 6
+        assert comes_next(a, b) and gate.counted(0x10, "longer than the link carries") == 6
         a.send(packet(b.at(), a.at(), b"padded", length=34) + bytes(20))
         assert b.hear()[30:] == b"padd"
 
@@ -129,7 +124,7 @@ def nobody_there():
         a.say(address(0x10, b"\x7f\0\0\1\0\1", GAME), b"?")
         a.say(address(0x20, b"\x7f\0\0\1\0\1", GAME), b"?")
         a.say(address(0x99, b"\x7f\0\0\1\0\1", GAME), b"?")
-        assert b.is_quiet()
+        assert comes_next(a, b)
         report = gate.report()
         assert gate.counted(0x10, "no such client", report) == 1 and gate.counted(0x20, "no such client", report) == 1
         assert gate.counted(0x10, "drop NoRoute", report) == 1
@@ -157,12 +152,12 @@ def extended():
         a.say(address(0, EVERYONE, GAME), b"game")
         heard = b.hear()
         assert heard == packet(address(0x20, EVERYONE, GAME), a.at(), b"game"), heard.hex()
-        assert b.is_quiet() and a.is_quiet() and c.is_quiet()
-        assert reaches(b, a, b"answer")
+        assert comes_next(a, b) and comes_next(b, a) and comes_next(a, c)
         b.send(packet(address(0x20, EVERYONE, GAME), a.at(), b"game"))  # (as another gateway would, from its own node)
+        assert comes_next(b, a)
         a.say(address(0, EVERYONE, 0x4004), b"other")
         a.say(address(0x10, EVERYONE, GAME), bytes(32) + b"type 20", kind=20)
-        assert [it[5] for it in iter(lambda: b.hear(patience=0.3), None)] == [20]
+        assert b.hear()[5] == 20 and comes_next(a, b)
         assert gate.counted(0x20, "extended") == 1
 
 
@@ -178,7 +173,7 @@ def flood():
             a.say(address(0, EVERYONE, GAME), b"flood")
         for _ in range(200):
             Client(gate.ports[0x10], registers=False).send(packet(address(0, NOBODY, 2), address(0, NOBODY, 2), kind=0))
-        assert reaches(a, b, tries=5) and reaches(b, a, tries=5)
+        assert reaches_again(a, b) and reaches_again(b, a)
 
 
 def the_capture():
@@ -201,7 +196,7 @@ def the_capture():
         assert place == len(bytes_) and all(len(it) >= 60 and it[12:14] == b"\x81\x37" for it in packets)
         assert sum(b"captured" in it for it in packets) == 2, "once on each network"
         if os.path.exists(DECODER):
-            run = subprocess.run([DECODER, "decode", path], capture_output=True, timeout=PATIENCE, check=False)
+            run = subprocess.run([DECODER, "decode", path], capture_output=True, timeout=LIMIT, check=False)
             lines = [it for it in run.stdout.decode().splitlines() if it.startswith("record ")]
             assert run.returncode == 0 and len(lines) == len(packets) and all(" EthernetII " in it for it in lines), run
 

@@ -1,13 +1,15 @@
 """Ethernet interfaces and TAPs, in a network of the test's own: nothing of this machine's network is touched."""
+import errno
 import os
 import shutil
+import socket
 import subprocess
 import sys
-import time
 
 from frames import KINDS, Packets, Station
-from lab import Client, Counts, Gateway, left_out, reaches, tunnels
+from lab import AGAIN, Client, Counts, Gateway, left_out, reaches, reaches_again, says, tunnels, until
 from links import both_ways, made_up
+from troubles import ends_well, troubled
 
 STATION = bytes.fromhex("020000000AA1")
 INSIDE = "--inside"
@@ -25,14 +27,6 @@ def make_pair():
         ip("link", "set", name, "up")
 
 
-def until(gate, words, patience=5):
-    """Waits until the report has some words."""
-    end = time.monotonic() + patience
-    while words not in gate.report():
-        assert time.monotonic() < end, f"never: {words}"
-        time.sleep(0.05)
-
-
 def all_kinds():
     """Hosts on one cable, each by its kind of frame, are four networks: each reaches a DOSBox, and the other hosts."""
     make_pair()
@@ -40,7 +34,9 @@ def all_kinds():
     with Gateway(text) as gate:
         node = bytes.fromhex(next(it for it in gate.lines if "interface v0" in it)[-12:])
         far = Client(gate.ports[0x10])
-        hosts = [Station(Packets("v1"), kind, 0x20 + k, STATION[:5] + bytes([k]), node) for k, kind in enumerate(KINDS)]
+        for network in range(0x20, 0x24):
+            gate.until(f"network {network:08X} up")
+        hosts = [Station(Packets("v1", kind), kind, 0x20 + k, STATION[:5] + bytes([k]), node) for k, kind in enumerate(KINDS)]
         for host in hosts:
             both_ways(gate, host, far)
         for one in hosts:
@@ -58,39 +54,90 @@ def a_cable_is_pulled():
         far = Client(gate.ports[0x10])
         for off, on in (("v1", "v1"), ("v0", "v0")):
             ip("link", "set", off, "down")
-            until(gate, "network 00000020 down")
+            gate.until("network 00000020 down")
             ip("link", "set", on, "up")
-            until(gate, "network 00000020 up")
+            gate.until("network 00000020 up")
         ip("link", "del", "v0")
-        until(gate, "network 00000020 down")
+        gate.until("network 00000020 down")
         node = gate.lines[1][-12:]
         make_pair()
         ip("link", "set", "v0", "address", ":".join(node[k : k + 2] for k in range(0, 12, 2)))
-        until(gate, "network 00000020 up")
-        host = Station(Packets("v1"), "raw", 0x20, STATION, bytes.fromhex(node))
+        gate.until("network 00000020 up")
+        host = Station(Packets("v1", "raw"), "raw", 0x20, STATION, bytes.fromhex(node))
         both_ways(gate, host, far)
     ip("link", "del", "v0")
+
+
+def behind_tap(kind, network):
+    return Station(Packets("ipx0", kind), kind, network, STATION, made_up(network))
 
 
 def a_tap():
     """A TAP: the gateway makes it, switches it on, and is another station on its cable; two kinds of frames share it."""
     with Gateway(tunnels(1) + "network 20 1 1490 tap ipx0 raw\nnetwork 30 1 1490 tap ipx0 snap\n") as gate:
         far = Client(gate.ports[0x10])
-        a = Station(Packets("ipx0"), "raw", 0x20, STATION, made_up(0x20))
-        b = Station(Packets("ipx0"), "snap", 0x30, STATION, made_up(0x30))
-        until(gate, "network 00000030 up")
+        gate.until("network 00000030 up")
+        a, b = behind_tap("raw", 0x20), behind_tap("snap", 0x30)
         both_ways(gate, a, far)
         both_ways(gate, b, far)
         assert reaches(a, b) and reaches(b, a)
         ip("link", "set", "ipx0", "down")
-        until(gate, "network 00000020 down")
+        gate.until("network 00000020 down")
         ip("link", "set", "ipx0", "up")
-        until(gate, "network 00000020 up")
-        both_ways(gate, Station(Packets("ipx0"), "raw", 0x20, STATION, made_up(0x20)), far)
+        gate.until("network 00000020 up")
+        both_ways(gate, behind_tap("raw", 0x20), far)
+        numbers = {index for index, _ in socket.if_nameindex()}
         ip("link", "del", "ipx0")
-        time.sleep(1.2)
-        until(gate, "network 00000020 up")  # (it is made again)
-        both_ways(gate, Station(Packets("ipx0"), "raw", 0x20, STATION, made_up(0x20)), far)
+        until(lambda: any(name == "ipx0" and index not in numbers for index, name in socket.if_nameindex()), "it is made again")
+        gate.until("network 00000020 up")
+        both_ways(gate, behind_tap("raw", 0x20), far)
+
+
+# Each call that only cards and TAPs make, or make in another way, its fault, and how many times it is let fail.
+CALLS = [
+    ("open", errno.EMFILE, 1),
+    ("ioctl", errno.EPERM, 12),
+    ("socket", errno.EMFILE, 8),
+    ("bind", errno.ENODEV, 2),
+    ("if_nametoindex", errno.ENODEV, 6),
+    ("read", errno.EIO, 3),
+    ("write", errno.EIO, 3),
+    ("recv", errno.ENETDOWN, 3),
+    ("send", errno.ENETDOWN, 3),
+    ("close", errno.EIO, 3),
+]
+
+
+def is_well(far):
+    """Whether packets go there and back behind the TAP that is there now. Where the gateway couldn't switch it on, somebody else does."""
+    try:
+        ip("link", "set", "ipx0", "up")
+        station = behind_tap("snap", 0x30)
+        return says(station, far, b"there", AGAIN) and says(far, station, b"back", AGAIN)
+    except (AssertionError, OSError):
+        return False  # (it is just made again)
+
+
+def one_fails(name, fault, which):
+    """A run with a card and a TAP in which one call fails: it can't start, and says why; or it goes on."""
+    gate = troubled(tunnels(1) + "network 20 1 1490 interface v0 raw\nnetwork 30 1 1490 tap ipx0 snap\n", name, fault, which)
+    if gate is None:
+        return
+    node = bytes.fromhex(next(it for it in gate.lines if "interface v0" in it)[-12:])
+    far = Client(gate.ports[0x10])
+    host = Station(Packets("v1", "raw"), "raw", 0x20, STATION, node)
+    assert reaches_again(host, far) and reaches_again(far, host), f"{name} {which}: the card"
+    until(lambda: is_well(far), f"{name} {which}: the TAP")
+    ends_well(gate, f"{name} {which}")
+
+
+def each_fails():
+    """Each call of the system that cards and TAPs make fails once: the gateway doesn't start and says why, or goes on."""
+    make_pair()
+    for name, fault, times in CALLS:
+        for which in range(1, times + 1):
+            one_fails(name, fault, which)
+    ip("link", "del", "v0")
 
 
 def can(test):
@@ -106,7 +153,8 @@ def inside():
     """In the network of its own."""
     counts = Counts()
     ip("link", "set", "lo", "up")
-    if can(lambda: ip("link", "add", "v0", "type", "veth", "peer", "name", "v1")):
+    has_pairs = can(lambda: ip("link", "add", "v0", "type", "veth", "peer", "name", "v1"))
+    if has_pairs:
         ip("link", "del", "v0")
         counts.run(all_kinds)
         counts.run(a_cable_is_pulled)
@@ -114,6 +162,8 @@ def inside():
         left_out("interfaces", "no pair of them can be made")
     if can(lambda: os.close(os.open("/dev/net/tun", os.O_RDWR))):
         counts.run(a_tap)
+        if has_pairs:
+            counts.run(each_fails)
     else:
         left_out("TAPs", "the device for them can't be opened")
     print(f"{counts.passed} passed, {counts.failed} failed")

@@ -3,7 +3,7 @@ import difflib
 import os
 import subprocess
 
-from lab import BUILD, PROGRAM, SANITIZED, TOP, Counts, Gateway, tunnels
+from lab import BUILD, LIMIT, PROGRAM, SANITIZED, TOP, Counts, Gateway, tunnels
 
 HERE = os.path.join(TOP, "tests", "gateway")
 
@@ -11,7 +11,7 @@ HERE = os.path.join(TOP, "tests", "gateway")
 def asked(*words, stdin=b"", folder=HERE):
     """What the program says to words that don't let it route: status, output, complaint."""
     program = SANITIZED if os.path.exists(SANITIZED) else PROGRAM
-    run = subprocess.run([program, *words], input=stdin, capture_output=True, timeout=10, cwd=folder)
+    run = subprocess.run([program, *words], input=stdin, capture_output=True, timeout=LIMIT, cwd=folder)
     return run.returncode, run.stdout.decode(), run.stderr.decode(errors="replace")
 
 

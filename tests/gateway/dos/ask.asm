@@ -2,6 +2,8 @@
 ; come back, and a packet of type 20 to all. It prints what it hears.
 %include "ipx.inc"
 
+PATIENCE equ    18 * 120        ; ticks until what must come is taken for lost
+
 main:   cld
         mov     dx, wire(4004h)
         call    find
@@ -49,7 +51,7 @@ routes: mov     dx, wire(453h)
         mov     cx, 10
         mov     al, 1
         call    send
-        mov     ax, 90
+        mov     ax, PATIENCE
         call    hear
         jc      .end
         mov     ax, [in_packet + LENGTH]
@@ -72,8 +74,8 @@ routes: mov     dx, wire(453h)
         loop    .next
 .end:   jmp     listen
 
-; Asks for the nearest service of type 4 until there is an answer, and prints it. Carry is set where there is none in a minute.
-service: mov    byte [left], 60
+; Asks for the nearest service of type 4 until there is an answer, and prints it. Carry is set where there is none in some minutes.
+service: mov    byte [left], 250
 .again: mov     dx, wire(452h)
         call    to_all
         mov     word [out_packet + HEADER], wire(3)
@@ -120,6 +122,22 @@ local:  mov     si, server
         call    field
         jmp     line
 
+; Waits for a packet of the service. Others are let go, as a second answer to the question for it. Carry is set where none came.
+answer: mov     ax, PATIENCE
+        call    hear
+        jc      .end
+        push    ds
+        pop     es
+        mov     si, in_packet + SOURCE
+        mov     di, server
+        mov     cx, 12
+        repe    cmpsb
+        clc
+        je      .end
+        call    listen
+        jmp     answer
+.end:   ret
+
 ; Sends AX bytes to the service, and prints what comes back: its length, transport control, and whether it is the same.
 try:    push    ax
         mov     si, server
@@ -137,8 +155,7 @@ try:    push    ax
         push    cx
         mov     al, 4
         call    send
-        mov     ax, 90
-        call    hear
+        call    answer
         pop     cx
         jc      lost
         mov     dx, echoed
@@ -177,8 +194,7 @@ all:    mov     dx, wire(4003h)
         mov     cx, 34
         mov     al, 20
         call    send
-        mov     ax, 90
-        call    hear
+        call    answer
         jc      lost
         mov     dx, crossed
         call    print

@@ -11,7 +11,7 @@ main:   cld
         call    field
         call    line
         call    listen
-        mov     byte [left], 60
+        mov     byte [left], 250
 .offer: dec     byte [left]
         jz      .end
         call    offer
@@ -21,7 +21,6 @@ main:   cld
         cmp     byte [in_packet + HEADER], 'Q'
         je      .end
         call    back
-        call    listen
         jmp     .next
 .end:   mov     dx, leaves
         call    print
@@ -42,7 +41,7 @@ offer:  mov     dx, wire(452h)
         mov     al, 4
         jmp     send
 
-; The packet that came, back to its source.
+; The packet that came, back to its source. It listens again before it sends: the next packet may follow at once.
 back:   mov     si, in_packet + SOURCE
         call    to_si
         mov     cx, [in_packet + LENGTH]
@@ -52,6 +51,7 @@ back:   mov     si, in_packet + SOURCE
         mov     si, in_packet + HEADER
         mov     di, out_packet + HEADER
         rep     movsb
+        call    listen
         pop     cx
         mov     al, 4
         jmp     send
