@@ -59,22 +59,25 @@ void gateway_send_all(gateway *it)
     ipxr_clear(&it->router);
 }
 
-static void note_heard(const network *on, const uint8_t *packet, size_t length, int32_t became)
+void gateway_note(const network *on, const uint8_t *packet, size_t length, const char *became)
 {
-    char to[WORDS] = "?", from[WORDS] = "?", words[WORDS];
+    char to[WORDS] = "?", from[WORDS] = "?";
+    if (!notes_events())
+        return;
     if (length >= HEADER) {
         address_at(packet + AT_FROM_NETWORK, from);
         address_at(packet + AT_TO_NETWORK, to);
     }
     note("in %08" PRIX32 " %s > %s type %d length %zu: %s", on->set->network, from, to, length >= HEADER ? packet[AT_TYPE] : -1, length,
-         answer_words(became, words));
+         became);
 }
 
 void gateway_hear(gateway *it, network *on, const uint8_t *packet, size_t length)
 {
+    char words[WORDS];
     int32_t became = ipxr_packet(&it->router, (uint8_t)(on - it->networks), packet, length);
     if (notes_events())
-        note_heard(on, packet, length, became);
+        gateway_note(on, packet, length, answer_words(became, words));
     if (became < 0)
         gateway_lose(on, NO_MEMORY);
     else if (IPXR_DROPPED(became))

@@ -56,6 +56,9 @@ void gateway_send(network *on, const uint8_t *node, const uint8_t *packet, size_
 /* A packet that goes no further, and why. */
 void gateway_lose(network *on, reason why);
 
+/* A line for a packet that came on a network, and what became of it, where events are told. */
+void gateway_note(const network *on, const uint8_t *packet, size_t length, const char *became);
+
 /* Whether a header's destination is on the network where the packet came: no network, that one, or all. */
 bool is_for_here(const network *on, const uint8_t *packet);
 

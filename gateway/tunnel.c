@@ -80,14 +80,17 @@ static bool names_itself(const network *on, const uint8_t *bytes, const uint8_t 
 static void hand_on(gateway *it, network *on, const uint8_t *packet, size_t length, const uint8_t *node)
 {
     const uint8_t *to = packet + AT_TO_NODE;
-    bool is_ping = get16(packet + AT_TO_SOCKET) == TUNNEL_SOCKET && is_broadcast(to);
-    if (is_broadcast(to) || !same_node(to, on->node))
+    bool is_to_all = is_broadcast(to), is_to_gateway = same_node(to, on->node);
+    bool is_ping = get16(packet + AT_TO_SOCKET) == TUNNEL_SOCKET && is_to_all;
+    if (!is_to_gateway)
         tunnel_send(on, to, node, packet, length);
     if (is_ping)
         send_own(on, node);
-    else if (is_broadcast(to))
+    else if (is_to_all)
         extend(it, on, packet, length);
-    if (!is_ping && (is_broadcast(to) || same_node(to, on->node)))
+    if (is_ping || !(is_to_all || is_to_gateway))
+        gateway_note(on, packet, length, "handed on");
+    else
         gateway_hear(it, on, packet, length);
 }
 

@@ -182,10 +182,10 @@ def the_capture():
         gate.end()
         path = os.path.join(gate.folder.name, "pcap")
         gate.start(gate.program, ["--pcap", path, "--log"])
-        a, b = Client(gate.ports[0x10]), Client(gate.ports[0x20])
-        assert reaches(a, b, b"captured")
+        a, b, c = Client(gate.ports[0x10]), Client(gate.ports[0x20]), Client(gate.ports[0x10])
+        assert reaches(a, b, b"captured") and reaches(a, c)
         log = gate.end()
-        assert " in 00000010 " in log and ": forwarded" in log and " comes to 00000010" in log, log
+        assert " in 00000010 " in log and ": forwarded" in log and ": handed on" in log and " comes to 00000010" in log, log
         with open(path, "rb") as it:
             bytes_ = it.read()
         place, packets = 24, []
