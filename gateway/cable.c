@@ -38,7 +38,7 @@ const char *cable_open(cable *it, const network_setting *set)
         return it->fd < 0 ? "can't open the TAP" : NULL;
     default:
         it->fd = interface_open(set->name, set->kind, &it->index, it->card);
-        return it->fd < 0 ? "can't open the interface" : NULL;
+        return it->fd >= 0 ? NULL : errno == EPROTOTYPE ? "it isn't Ethernet" : "can't open the interface";
     }
 }
 

@@ -19,6 +19,7 @@ typedef struct reader {
     char *words[MOST_WORDS];
     size_t count;
     size_t next;               /* the word that is read next */
+    bool is_below_wrong;       /* the last line of a network was wrong */
     settings *into;
 } reader;
 

@@ -42,7 +42,7 @@ static bool read_network(reader *r, network_setting *it)
 {
     const char *word = reader_word(r);
     if (word == NULL || !is_hexadecimal(word, 8, &it->network) || it->network == 0 || it->network >= FIRST_RESERVED)
-        return reader_fault(r, word, "expected the number of a network, 1 to FFFFFFFD");
+        return reader_fault(r, word, "expected the number of a network in hexadecimal digits, 1 to FFFFFFFD");
     for (size_t k = 0; k < r->into->count; k++)
         if (r->into->networks[k].network == it->network)
             return reader_fault(r, word, "expected another network, this one is that of line %zu", r->into->networks[k].line);
@@ -85,7 +85,7 @@ static bool read_address(reader *r, struct sockaddr_in *at, bool is_remote)
 {
     const char *word = reader_word(r);
     if (word == NULL || !is_address(word, at) || (is_remote && at->sin_port == 0))
-        return reader_fault(r, word, "expected an address and a port, as 127.0.0.1:%s", is_remote ? "5001" : "5001, or a port alone");
+        return reader_fault(r, word, "expected an address in numbers and a port, as 127.0.0.1:5001%s", is_remote ? "" : ", or a port alone");
     return true;
 }
 
@@ -225,13 +225,16 @@ static void read_network_line(reader *r)
 {
     network_setting it = {0};
     it.line = r->line;
+    r->is_below_wrong = true;
     if (r->into->count == IPXR_MOST_PORTS) {
         reader_fault(r, r->words[0], "expected at most %d networks", IPXR_MOST_PORTS);
         return;
     }
     if (read_network(r, &it) && read_cost_and_longest(r, &it) && read_shares(r, &it) && read_link(r, &it) && read_kind(r, &it) &&
-        is_single(r, &it) && fits(r, &it) && read_node(r, &it) && reader_ends(r))
+        is_single(r, &it) && fits(r, &it) && read_node(r, &it) && reader_ends(r)) {
         r->into->networks[r->into->count++] = it;
+        r->is_below_wrong = false;
+    }
 }
 
 static bool names_socket(const network_setting *it, uint32_t socket)
@@ -242,10 +245,12 @@ static bool names_socket(const network_setting *it, uint32_t socket)
     return false;
 }
 
-/* The sockets of the network above. */
+/* The sockets of the network above; they aren't looked at where its line is wrong. */
 static void read_extend_line(reader *r)
 {
     uint32_t socket;
+    if (r->is_below_wrong)
+        return;
     if (r->into->count == 0) {
         reader_fault(r, r->words[0], "expected below the line of a network");
         return;
@@ -254,7 +259,7 @@ static void read_extend_line(reader *r)
     do {
         const char *word = reader_word(r);
         if (word == NULL || !is_hexadecimal(word, 4, &socket) || socket == 0 || names_socket(it, socket)) {
-            reader_fault(r, word, "expected a socket that isn't named yet, 1 to FFFF");
+            reader_fault(r, word, "expected a socket in hexadecimal digits, 1 to FFFF, that isn't named yet");
             return;
         }
         if (it->socket_count == MOST_SOCKETS) {

@@ -60,7 +60,7 @@ def what_cannot_be_opened():
         text = f"network 20 1 1424 dosbox {gate.ports[0x10]}\n".encode()
         status, _, complaint = asked("/dev/stdin", stdin=text)
         assert status == 1 and "line 1: dosbox 127.0.0.1:" in complaint and complaint.endswith(": Address already in use\n")
-    for link, what in (("interface nowhere0 raw", "can't open the interface"), ("interface lo raw", "can't open the interface")):
+    for link, what in (("interface nowhere0 raw", "can't open the interface"), ("interface lo raw", "it isn't Ethernet")):
         status, _, complaint = asked("/dev/stdin", stdin=f"network 20 1 1424 {link}\n".encode())
         assert status == 1 and f"line 1: {link}: {what}: " in complaint, complaint
     assert asked("--pcap", os.path.join(BUILD, "no", "file"), "/dev/stdin", stdin=tunnels(1).encode())[0] == 1
