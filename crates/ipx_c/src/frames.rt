@@ -9,9 +9,13 @@ use ipx_wire::Node;
 
 /// The numbers of the kinds.
 const NO_FRAME: u8 = 0;
+
 const ETHERNET_II: u8 = 1;
+
 const RAW: u8 = 2;
+
 const LLC: u8 = 3;
+
 const SNAP: u8 = 4;
 
 /// The kind of a frame, and with how many bytes before it the packet stands there.

@@ -33,9 +33,10 @@ is_frame EthernetII to from packet six six2 may few = record {
   layout = append_assoc (to ++ from ++ (0x81 ∷ 0x37 ∷ []) ++ []) packet (padding EthernetII packet)
       ∙ ap (λ (l : List ℕ). l ++ (packet ++ padding EthernetII packet)) (append-nil (to ++ from ++ (0x81 ∷ 0x37 ∷ [])));
 }
-is_frame Raw to from packet six six2 may few =
-    (counted [] to from packet (padding Raw packet) (carried Raw packet) six six2 few,
-     (drop 2 packet ++ padding Raw packet, ap (λ (l : List ℕ). l ++ padding Raw packet) (beginning (0xFF ∷ 0xFF ∷ []) packet may)))
+is_frame Raw to from packet six six2 may few = (
+  counted [] to from packet (padding Raw packet) (carried Raw packet) six six2 few,
+  (drop 2 packet ++ padding Raw packet, ap (λ (l : List ℕ). l ++ padding Raw packet) (beginning (0xFF ∷ 0xFF ∷ []) packet may)),
+)
 is_frame Llc to from packet six six2 may few =
     counted (front_of Llc) to from packet (padding Llc packet) (carried Llc packet) six six2 few
 is_frame Snap to from packet six six2 may few =

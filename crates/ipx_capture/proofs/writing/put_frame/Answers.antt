@@ -16,10 +16,10 @@ returns c =
     let four = subst (λ (l : List ℕ). PutsAt c.put_field.new.out 14 l c.put.new.out) front c.put.ensures in
     let five = subst (λ (l : List ℕ). PutsAt c.put.new.out (14 + length l) packet c.put-2.new.out) front c.put-2.ensures in
     let zeros : c.padding.result.now ≡ padding kind packet =
-        subst (λ (l : List ℕ). c.padding.result.now ≡ replicate (60 - (14 + length l + length packet)) 0) front
-          (subst (λ (n : ℕ). c.padding.result.now ≡ replicate n 0) c.saturating_sub.ensures c.padding.ensures) in
+    subst (λ (l : List ℕ). c.padding.result.now ≡ replicate (60 - (14 + length l + length packet)) 0) front
+    (subst (λ (n : ℕ). c.padding.result.now ≡ replicate n 0) c.saturating_sub.ensures c.padding.ensures) in
     let six = subst (λ (l : List ℕ). PutsAt c.put-2.new.out (14 + length l + length packet) c.padding.result.now c.put-3.new.out) front c.put-3.ensures in
     let last = subst (λ (z : List ℕ). PutsAt c.put-2.new.out (14 + length (front_of kind) + length packet) z c.put-3.new.out) zeros six in
     whole_frame c.args.to.0 c.args.from.0 field (front_of kind) packet (padding kind packet) (written_size kind packet)
-      c.put_node.ensures.size c.put_node-2.ensures.size refl (omega (arith, length-replicate {A = ℕ} (60 - (14 + length (front_of kind) + length packet)) 0))
-      c.put_node.ensures.bytes c.put_node-2.ensures.bytes c.put_field.ensures.bytes four five last
+    c.put_node.ensures.size c.put_node-2.ensures.size refl (omega (arith, length-replicate {A = ℕ} (60 - (14 + length (front_of kind) + length packet)) 0))
+    c.put_node.ensures.bytes c.put_node-2.ensures.bytes c.put_field.ensures.bytes four five last
