@@ -4,15 +4,15 @@ use Rattle.std.proofs.lemmas.Bool.{cases_Bool, true≢false, leb-false}
 use Rattle.std.specs.Str.{bytes_eq}
 use Rattle.ipx_cmd.specs.Instruction.{Instruction, NextPort, Starts, Stops, ShowsRoutes, ShowsServices, next_port}
 use Rattle.ipx_cmd.specs.Line.{◌>>=◌, or_fault, no_more, line_words}
-use Rattle.ipx_cmd.specs.Script.{line_meaning, words_meaning, command_meaning, port_meaning, port_allowed, port_of, second_meaning, number_meaning, in_meaning, alone, later_meaning, most_seconds, most_number}
-use Rattle.ipx_cmd.specs.Words.{only_one, only_two, port_words, number_of, number_between, bytes_of}
+use Rattle.ipx_cmd.specs.Script.{line_meaning, words_meaning, command_meaning, port_meaning, port_allowed, port_of, count_meaning, second_meaning, number_meaning, in_meaning, alone, later_meaning, most_number}
+use Rattle.ipx_cmd.specs.Words.{only_two, port_words, number_of, bytes_of}
 use Rattle.ipx_cmd.specs.declared.command.NamedPort.{NamedPort}
 use Rattle.ipx_cmd.specs.declared.command.Stage.{Stage}
 use Rattle.ipx_cmd.specs.declared.fault.LineFault.{LineFault}
 use Rattle.ipx_cmd.specs.declared.fault.LineFault.TheVariants.{Words, Number, Hex}
 
 abbrev is_next : Instruction → Bool
-is_next (NextPort network node cost longest routes services) = true
+is_next (NextPort values) = true
 is_next i = false
 
 abbrev names : Result Instruction LineFault → Bool
@@ -33,7 +33,7 @@ if_never true x y one other = one
 if_never false x y one other = other
 
 second_never : (arguments : List (List ℕ)) → names (second_meaning arguments) ≡ false
-second_never arguments = bind_never (or_fault Words (only_one arguments)) _ (λ word. bind_never (or_fault Number (number_between 1 most_seconds word)) _ (λ count. refl))
+second_never arguments = bind_never (count_meaning arguments) _ (λ count. refl)
 
 in_never : (arguments : List (List ℕ)) → names (in_meaning arguments) ≡ false
 in_never arguments = bind_never (or_fault Words (only_two arguments)) _ (λ two.
@@ -74,7 +74,7 @@ port_or_other false x y never e = absurd (true≢false (sym e ∙ never))
 
 command_allowed : (stage : Stage) (name : List ℕ) (arguments : List (List ℕ)) → names (command_meaning stage name arguments) ≡ true → port_allowed stage ≡ Ok tt
 command_allowed stage name arguments e =
-    allowed_inside (or_fault Words (port_words arguments)) (port_allowed stage) (λ named _. port_of named.0 named.1 named.2 named.3 named.4)
+    allowed_inside (or_fault Words (port_words arguments)) (port_allowed stage) (λ named _. port_of named.0 named.1 named.2 named.3 named.4 >>= (λ values. Ok (NextPort values)))
     (port_or_other (bytes_eq name (codes "port")) (port_meaning stage arguments) _ (other_never name arguments) e)
 
 some_names : (r : Result Instruction LineFault) → names_some (r >>= (λ i. Ok (Some i))) ≡ true → names r ≡ true

@@ -5,7 +5,7 @@ use Rattle.clap.specs.Simple.{is_simple, subcommand_of}
 use Rattle.clap.specs.Lexer.{long_of, short_of}
 use Rattle.clap.specs.Takes.{takes}
 use Rattle.clap.proofs.OnLiterals.{clap_on_literals}
-use Rattle.ipx_cmd.specs.Chosen.{IsAsked, IsOffered, command_line, is_plain, word_of}
+use Rattle.ipx_cmd.specs.Chosen.{IsAsked, command_line, is_plain, word_of}
 use Rattle.ipx_cmd.specs.declared.chosen.Run.{Run}
 use Rattle.ipx_cmd.specs.declared.chosen.Run.TheVariants.{Replay, Internet, Decode}
 
@@ -26,58 +26,58 @@ pub simple : is_simple command_line ≡ true
 unfolding clap_on_literals
 simple = refl
 
-reads-none : (run : Run) → IsOffered run → Reads run (word_of run ∷ []) None
+reads-none : (run : Run) → Reads run (word_of run ∷ []) None
 unfolding clap_on_literals
-reads-none Replay is = (refl, refl, refl)
-reads-none Decode is = (refl, refl, refl)
-reads-none Internet is = absurd is
+reads-none Replay = (refl, refl, refl)
+reads-none Decode = (refl, refl, refl)
+reads-none Internet = (refl, refl, refl)
 
-reads-after : (run : Run) → IsOffered run → (file : Text) → Reads run (word_of run ∷ codes "--" ∷ file ∷ []) (Some file)
+reads-after : (run : Run) → (file : Text) → Reads run (word_of run ∷ codes "--" ∷ file ∷ []) (Some file)
 unfolding clap_on_literals
-reads-after Replay is file = (refl, refl, refl)
-reads-after Decode is file = (refl, refl, refl)
-reads-after Internet is file = absurd is
+reads-after Replay file = (refl, refl, refl)
+reads-after Decode file = (refl, refl, refl)
+reads-after Internet file = (refl, refl, refl)
 
-reads-empty : (run : Run) → IsOffered run → Reads run (word_of run ∷ [] ∷ []) (Some [])
+reads-empty : (run : Run) → Reads run (word_of run ∷ [] ∷ []) (Some [])
 unfolding clap_on_literals
-reads-empty Replay is = (refl, refl, refl)
-reads-empty Decode is = (refl, refl, refl)
-reads-empty Internet is = absurd is
+reads-empty Replay = (refl, refl, refl)
+reads-empty Decode = (refl, refl, refl)
+reads-empty Internet = (refl, refl, refl)
 
-reads-hyphen : (run : Run) → IsOffered run → Reads run (word_of run ∷ codes "-" ∷ []) (Some (codes "-"))
+reads-hyphen : (run : Run) → Reads run (word_of run ∷ codes "-" ∷ []) (Some (codes "-"))
 unfolding clap_on_literals
-reads-hyphen Replay is = (refl, refl, refl)
-reads-hyphen Decode is = (refl, refl, refl)
-reads-hyphen Internet is = absurd is
+reads-hyphen Replay = (refl, refl, refl)
+reads-hyphen Decode = (refl, refl, refl)
+reads-hyphen Internet = (refl, refl, refl)
 
-reads-plain : (run : Run) → IsOffered run → (file : Text) → bytes_eq file (codes "--") ≡ false → long_of file ≡ None → short_of file ≡ None
+reads-plain : (run : Run) → (file : Text) → bytes_eq file (codes "--") ≡ false → long_of file ≡ None → short_of file ≡ None
     → Reads run (word_of run ∷ file ∷ []) (Some file)
 unfolding clap_on_literals
-reads-plain Replay is file other long short = (rw (other, long, short) refl, rw (other, long, short) refl, refl)
-reads-plain Decode is file other long short = (rw (other, long, short) refl, rw (other, long, short) refl, refl)
-reads-plain Internet is file other long short = absurd is
+reads-plain Replay file other long short = (rw (other, long, short) refl, rw (other, long, short) refl, refl)
+reads-plain Decode file other long short = (rw (other, long, short) refl, rw (other, long, short) refl, refl)
+reads-plain Internet file other long short = (rw (other, long, short) refl, rw (other, long, short) refl, refl)
 
-no_option : (run : Run) → IsOffered run → (first : ℕ) (more : Text) → (first == 45) ≡ false → Reads run (word_of run ∷ (first ∷ more) ∷ []) (Some (first ∷ more))
-no_option run is first more other = reads-plain run is (first ∷ more) (rw other refl) (rw other refl) (rw other refl)
+no_option : (run : Run) → (first : ℕ) (more : Text) → (first == 45) ≡ false → Reads run (word_of run ∷ (first ∷ more) ∷ []) (Some (first ∷ more))
+no_option run first more other = reads-plain run (first ∷ more) (rw other refl) (rw other refl) (rw other refl)
 
-alone : (run : Run) → IsOffered run → (first : ℕ) (hyphen : Bool) → (first == 45) ≡ hyphen → Reads run (word_of run ∷ (first ∷ []) ∷ []) (Some (first ∷ []))
-alone run is first true e = subst (λ (x : ℕ). Reads run (word_of run ∷ (x ∷ []) ∷ []) (Some (x ∷ []))) (sym (eqb-true first 45 e)) (reads-hyphen run is)
-alone run is first false e = no_option run is first [] e
+alone : (run : Run) → (first : ℕ) (hyphen : Bool) → (first == 45) ≡ hyphen → Reads run (word_of run ∷ (first ∷ []) ∷ []) (Some (first ∷ []))
+alone run first true e = subst (λ (x : ℕ). Reads run (word_of run ∷ (x ∷ []) ∷ []) (Some (x ∷ []))) (sym (eqb-true first 45 e)) (reads-hyphen run)
+alone run first false e = no_option run first [] e
 
 unhyphened : (first : Bool) → not first ≡ true → first ≡ false
 unhyphened true plain = absurd cc
 unhyphened false plain = refl
 
-named : (run : Run) → IsOffered run → (file : Text) → is_plain file ≡ true → Reads run (word_of run ∷ file ∷ []) (Some file)
-named run is [] plain = reads-empty run is
-named run is (first ∷ []) plain = alone run is first (first == 45) refl
-named run is (first ∷ second ∷ more) plain = no_option run is first (second ∷ more) (unhyphened (first == 45) plain)
+named : (run : Run) → (file : Text) → is_plain file ≡ true → Reads run (word_of run ∷ file ∷ []) (Some file)
+named run [] plain = reads-empty run
+named run (first ∷ []) plain = alone run first (first == 45) refl
+named run (first ∷ second ∷ more) plain = no_option run first (second ∷ more) (unhyphened (first == 45) plain)
 
 -- each form of a request for a run
-pub reads : (run : Run) → IsOffered run → (words : List Text) (file : Option Text) → IsAsked run words file → Reads run words file
-reads run is words None e = subst (λ (ws : List Text). Reads run ws None) (sym e) (reads-none run is)
-reads run is words (Some file) (inl asked) = subst (λ (ws : List Text). Reads run ws (Some file)) (sym asked.0) (named run is file asked.1)
-reads run is words (Some file) (inr e) = subst (λ (ws : List Text). Reads run ws (Some file)) (sym e) (reads-after run is file)
+pub reads : (run : Run) → (words : List Text) (file : Option Text) → IsAsked run words file → Reads run words file
+reads run words None e = subst (λ (ws : List Text). Reads run ws None) (sym e) (reads-none run)
+reads run words (Some file) (inl asked) = subst (λ (ws : List Text). Reads run ws (Some file)) (sym asked.0) (named run file asked.1)
+reads run words (Some file) (inr e) = subst (λ (ws : List Text). Reads run ws (Some file)) (sym e) (reads-after run file)
 
 -- the file that stands in the rows of the subcommand that was met
 pub found : (rows : List Row) (met : Option (Text × List Row)) (file : Option Text) → Some rows ≡ option_map (λ p. p.1) met

@@ -128,7 +128,7 @@ continues_front acts state bytes more = elim (goes acts state bytes) [
 ]
 
 -- and is just that where it ends at a line that is wrong
-pub continues_whole : {S : Type 0} (acts : Step S) (state : S) (bytes more : List ℕ) → is_bad (of_front acts state bytes).ended ≡ true
+continues_whole : {S : Type 0} (acts : Step S) (state : S) (bytes more : List ℕ) → is_bad (of_front acts state bytes).ended ≡ true
     → (of_script acts state (bytes ++ more) ≡ of_front acts state bytes) × ((of_front acts state bytes).ended ≡ BadInput)
 continues_whole acts state bytes more bad = elim (goes acts state bytes) [
   | inl r ↦
@@ -136,3 +136,13 @@ continues_whole acts state bytes more bad = elim (goes acts state bytes) [
       absurd cc
   | inr s ↦ (s.ends.is is_any takes_any more ∙ sym (front_ends acts state bytes s.said s.ends), ap (λ (t : Transcript). t.ended) (front_ends acts state bytes s.said s.ends))
 ]
+
+pub continues_text : {S : Type 0} (acts : Step S) (state : S) (bytes more : List ℕ) → is_bad (of_front acts state bytes).ended ≡ true
+    → (of_script acts state (bytes ++ more)).text ≡ (of_front acts state bytes).text
+continues_text acts state bytes more bad = ap (λ (t : Transcript). t.text) (continues_whole acts state bytes more bad).0
+
+pub continues_end : {S : Type 0} (acts : Step S) (state : S) (bytes more : List ℕ) → is_bad (of_front acts state bytes).ended ≡ true
+    → (of_script acts state (bytes ++ more)).ended ≡ BadInput
+continues_end acts state bytes more bad =
+    let whole = continues_whole acts state bytes more bad in
+    ap (λ (t : Transcript). t.ended) whole.0 ∙ whole.1

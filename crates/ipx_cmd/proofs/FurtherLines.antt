@@ -1,13 +1,20 @@
--- Bytes behind those of a script for one router.
-use Rattle.std.proofs.Common.{ℕ, List, ◌∙◌, ap}
-use Rattle.ipx_cmd.specs.Continues.{ScriptContinues}
+-- Bytes behind those of a script, for one router or for an internet.
+use Rattle.std.proofs.Common.{ℕ, List}
+use Rattle.ipx_cmd.specs.Continues.{InternetContinues, ScriptContinues}
+use Rattle.ipx_cmd.specs.InternetMachine.{acts as internet_acts, nothing_yet as no_routers}
 use Rattle.ipx_cmd.specs.Machine.{acts, nothing_yet}
-use Rattle.ipx_cmd.specs.Playing.{Transcript}
-use Rattle.ipx_cmd.proofs.Continued.{continues_front, continues_whole}
+use Rattle.ipx_cmd.proofs.Continued.{continues_front, continues_text, continues_end}
 
 pub script_continues : (bytes more : List ℕ) → ScriptContinues bytes more
 script_continues bytes more = record {
   front = continues_front acts nothing_yet bytes more;
-  whole = λ bad. ap (λ (t : Transcript). t.text) (continues_whole acts nothing_yet bytes more bad).0;
-  bad = λ bad. let whole = continues_whole acts nothing_yet bytes more bad in ap (λ (t : Transcript). t.ended) whole.0 ∙ whole.1;
+  whole = continues_text acts nothing_yet bytes more;
+  bad = continues_end acts nothing_yet bytes more;
+}
+
+pub internet_continues : (bytes more : List ℕ) → InternetContinues bytes more
+internet_continues bytes more = record {
+  front = continues_front internet_acts no_routers bytes more;
+  whole = continues_text internet_acts no_routers bytes more;
+  bad = continues_end internet_acts no_routers bytes more;
 }

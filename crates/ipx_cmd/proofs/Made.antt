@@ -1,6 +1,6 @@
 -- When values make a port, and ports a router.
-use Rattle.std.proofs.Common.{◌≡◌, ◌≢◌, ℕ, ◌<◌, ◌≤◌, ◌==◌, ◌||◌, nat_le, nat_lt, Bool, true, false, if◌then◌else◌, List, [], ◌∷◌, length, refl, sym, ap, subst, ◌∙◌, inl, inr, arith, Ok, Err}
-use Rattle.std.proofs.lemmas.Bool.{cases_Bool, lt-ltb, le-ltb, le-leb, lt-leb, eq-eqb, ne_eqb, or_from, or_parts, eqb-false}
+use Rattle.std.proofs.Common.{◌≡◌, ◌≢◌, ℕ, ◌<◌, ◌≤◌, ◌==◌, ◌||◌, nat_le, nat_lt, Bool, true, false, if◌then◌else◌, List, [], ◌∷◌, length, refl, sym, ap, subst, ◌∙◌, inl, inr, arith, Result, Ok, Err, is_ok}
+use Rattle.std.proofs.lemmas.Bool.{cases_Bool, lt-ltb, le-ltb, le-leb, lt-leb, eq-eqb, ne_eqb, or_from, or_parts, eqb-false, true≢false}
 use Rattle.std.specs.Cmp.Lexicographic.{same_text}
 use Rattle.std.specs.List.{AllByRecursion, list_any}
 use Rattle.ipx_router.specs.Numbers.{default_route, least_longest, whole_share}
@@ -13,6 +13,7 @@ use Rattle.ipx_router.specs.declared.ports_fault.PortsFault.TheVariants.{NoPort,
 use Rattle.ipx_wire.specs.declared.node.Node.{Node}
 use Rattle.ipx_cmd.specs.Making.{is_reserved, named_port, meet, named_router, worded}
 use Rattle.ipx_cmd.specs.PortWord.{port_fault, ports_fault}
+use Rattle.ipx_cmd.specs.declared.fault.LineFault.{LineFault}
 
 -- ---- tests one after the other
 
@@ -43,6 +44,24 @@ port_ok values long cost some ordinary other =
     (passed (values.cost == 0) _ _ (Ok values) (ne_eqb values.cost 0 (λ e. omega (arith, e, cost)))
     (passed (is_reserved values.network.0) _ _ (Ok values) (not_reserved values.network.0 some ordinary)
     (passed (same_node values.node broadcast) _ _ (Ok values) (not_all values.node other) refl)))
+    )
+
+-- a port that is made has those values
+past_fault : (b : Bool) (fault : PortFault) (rest : Result Port PortFault) (made : Port) → Ok made ≡ worded port_fault (if b then Err fault else rest) → Ok made ≡ worded port_fault rest
+past_fault true fault rest made e = absurd (true≢false (ap is_ok e))
+past_fault false fault rest made e = e
+
+abbrev made_or : Port → Result Port LineFault → Port
+made_or other (Ok made) = made
+made_or other (Err fault) = other
+
+pub port_is : (values made : Port) → Ok made ≡ named_port values → made ≡ values
+port_is values made e =
+    ap (made_or values) (
+    past_fault (same_node values.node broadcast) BadNode _ made
+    (past_fault (is_reserved values.network.0) BadNetwork _ made
+    (past_fault (values.cost == 0) Cost _ made
+    (past_fault (nat_lt values.longest least_longest) Longest _ made e)))
     )
 
 -- and here they don't

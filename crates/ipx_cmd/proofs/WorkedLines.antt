@@ -14,7 +14,14 @@ abbrev after : Stage
 after = record { made = true; ports = 2 }
 
 -- digits of either case, and the largest numbers
-pub a_port : line_meaning (before 0) (codes "port 0000000a 0000000000B1 1 65535") ≡ Ok (Some (NextPort 10 (0 ∷ 0 ∷ 0 ∷ 0 ∷ 0 ∷ 177 ∷ []) 1 65535 65535 65535))
+pub a_port : line_meaning (before 0) (codes "port 0000000a 0000000000B1 1 65535") ≡ Ok (Some (NextPort (record {
+  network = record { 0 = 10 };
+  node = record { 0 = 0 ∷ 0 ∷ 0 ∷ 0 ∷ 0 ∷ 177 ∷ [] };
+  cost = 1;
+  longest = 65535;
+  route_share = 65535;
+  service_share = 65535;
+})))
 unfolding hex_on_literals
 a_port = refl
 

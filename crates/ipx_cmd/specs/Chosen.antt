@@ -1,5 +1,5 @@
 -- What the words after the program's name ask for.
-use Rattle.std.specs.Prelude.{◌≡◌, ◌⊎◌, ⊤, ◌==◌, ℕ, Bool, true, not, List, [], ◌∷◌, Option, Some, None, Result, MatchResult, codes, option_map, string_bytes}
+use Rattle.std.specs.Prelude.{◌≡◌, ◌⊎◌, ◌==◌, ℕ, Bool, true, not, List, [], ◌∷◌, Option, Some, None, Result, MatchResult, codes, option_map, string_bytes}
 use Rattle.clap.specs.Words.{App, new_app, new_rule, with_rule, with_subcommand}
 use Rattle.ipx_cmd.specs.declared.chosen.Chosen.{Chosen}
 use Rattle.ipx_cmd.specs.declared.chosen.ChooseFault.{ChooseFault}
@@ -18,12 +18,6 @@ abbrev pub word_of : Run → List ℕ
 word_of Replay = codes "replay"
 word_of Internet = codes "internet"
 word_of Decode = codes "decode"
-
--- the program has this run
-abbrev pub IsOffered : Run → Type 0
-IsOffered Replay = ⊤
-IsOffered Internet = ⊥
-IsOffered Decode = ⊤
 
 -- the words ask for a run: its word alone, that and a FILE of a plain name, or that, `--` and a FILE of any name
 abbrev pub IsAsked : Run → List (List ℕ) → Option (List ℕ) → Type 0
@@ -46,4 +40,5 @@ abbrev pub command_line : App
 command_line =
     let top = new_app (codes "ipxr") in
     let bare : App = record top { top = record top.top { no_binary_name = true; subcommand_required = true } } in
-    with_subcommand (with_subcommand bare (file_command (word_of Replay)).top) (file_command (word_of Decode)).top
+    let scripts = with_subcommand (with_subcommand bare (file_command (word_of Replay)).top) (file_command (word_of Internet)).top in
+    with_subcommand scripts (file_command (word_of Decode)).top

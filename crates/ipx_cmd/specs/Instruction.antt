@@ -1,12 +1,13 @@
 -- What a line asks for, without memory.
 use Rattle.std.specs.Prelude.{ℕ, List}
+use Rattle.ipx_router.specs.Port.{Port as PortValues}
 use Rattle.ipx_cmd.specs.declared.command.Command.{Command}
 use Rattle.ipx_cmd.specs.declared.command.NamedPort.{NamedPort}
 use Rattle.ipx_cmd.specs.declared.command.Command.TheVariants.{Port, Start, Stop, Second, In, Down, Up, Routes, Services}
 
 -- what a line asks for: the router's next port, an event of it, or what is in one of its tables
 pub data Instruction : Type 0 where
-  NextPort : (network : ℕ) (node : List ℕ) (cost longest routes services : ℕ) → Instruction
+  NextPort : (values : PortValues) → Instruction
   Starts : Instruction
   Stops : Instruction
   Passes : (seconds : ℕ) → Instruction
@@ -16,9 +17,20 @@ pub data Instruction : Type 0 where
   ShowsRoutes : Instruction
   ShowsServices : Instruction
 
+-- the values that a line names
+abbrev pub values_of : NamedPort → PortValues
+values_of named = record {
+  network = named.network;
+  node = named.node;
+  cost = named.cost;
+  longest = named.longest;
+  route_share = named.routes;
+  service_share = named.services;
+}
+
 -- the next port, as a line names it
 abbrev pub next_port : NamedPort → Instruction
-next_port p = NextPort p.network.0 p.node.0 p.cost p.longest p.routes p.services
+next_port named = NextPort (values_of named)
 
 -- what a command asks for; the bytes of a packet lie in a buffer
 abbrev pub instruction_of : List ℕ → Command → Instruction

@@ -9,6 +9,9 @@ pub mod Ended
 pub mod EventText
 pub mod Fault
 pub mod Instruction
+pub mod InternetMachine
+pub mod InternetStands
+pub mod InternetText
 pub mod KindWord
 pub mod Leads
 pub mod Line
@@ -17,6 +20,7 @@ pub mod Machine
 pub mod MachineStands
 pub mod Making
 pub mod Moved
+pub mod OrderLine
 pub mod Output
 pub mod PacketText
 pub mod Played
@@ -24,12 +28,14 @@ pub mod Playing
 pub mod PortWord
 pub mod RecordText
 pub mod Replayed
+pub mod Request
 pub mod RipText
 pub mod Said
 pub mod SapText
 pub mod Script
 pub mod ServiceWords
 pub mod Shown
+pub mod Simulated
 pub mod Stretch
 pub mod TableText
 pub mod Words

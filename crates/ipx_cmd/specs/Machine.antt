@@ -58,7 +58,7 @@ events_of (Passes seconds) = replicate seconds Second
 events_of (Arrives port bytes) = Packet port bytes ∷ []
 events_of (GoesDown port) = PortDown port ∷ []
 events_of (ComesUp port) = PortUp port ∷ []
-events_of (NextPort network node cost longest routes services) = []
+events_of (NextPort values) = []
 events_of ShowsRoutes = []
 events_of ShowsServices = []
 
@@ -89,14 +89,7 @@ obeys ports history instruction = if has_ports (length ports) instruction then O
 -- what is done that a line asks for; a line that is skipped does nothing
 abbrev pub does : Standing → Option Instruction → Led
 does standing None = Ok (standing, [])
-does standing (Some (NextPort network node cost longest routes services)) = name_port standing (record {
-  network = record { 0 = network };
-  node = record { 0 = node };
-  cost = cost;
-  longest = longest;
-  route_share = routes;
-  service_share = services;
-})
+does standing (Some (NextPort values)) = name_port standing values
 does standing (Some instruction) = do
   history ← past_of standing
   obeys standing.ports history instruction

@@ -9,7 +9,6 @@ use Rattle.ipx_router.specs.declared.ports_fault.PortsFault.{PortsFault}
 use Rattle.ipx_router.specs.declared.ports_fault.PortsFault.TheVariants.{NoPort, TooMany, SameNetwork}
 use Rattle.ipx_cmd.specs.PortWord.{port_fault, ports_fault}
 use Rattle.ipx_cmd.specs.Script.{most_ports}
-use Rattle.ipx_cmd.specs.declared.command.NamedPort.{NamedPort}
 use Rattle.ipx_cmd.specs.declared.fault.LineFault.{LineFault}
 
 -- a number that no port's network may have: that of the local network, of the default route or of all routes
@@ -22,17 +21,6 @@ worded word (Ok made) = Ok made
 worded word (Err fault) = Err (word fault)
 
 -- ---- a port
-
--- the values that a line names
-abbrev pub values_of : NamedPort → Port
-values_of named = record {
-  network = named.network;
-  node = named.node;
-  cost = named.cost;
-  longest = named.longest;
-  route_share = named.routes;
-  service_share = named.services;
-}
 
 -- the port of those values
 abbrev pub port_made : Port → Result Port PortFault

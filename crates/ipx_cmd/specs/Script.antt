@@ -9,6 +9,7 @@ use Rattle.ipx_cmd.specs.Line.{◌>>=◌, or_fault, line_words, no_more}
 use Rattle.ipx_wire.specs.Digits.{network_of, node_of}
 use Rattle.ipx_cmd.specs.Words.{only_one, only_two, port_words, number_of, number_between, bytes_of}
 use Rattle.ipx_router.specs.Numbers.{whole_share}
+use Rattle.ipx_router.specs.Port.{Port}
 
 -- the most ports of a router of the program
 abbrev pub most_ports : ℕ
@@ -36,28 +37,41 @@ shares_of (Some named) = do
   services ← or_fault Number (number_of most_value named.1)
   Ok (routes, services)
 
--- the port that four words name, with the shares behind them
-abbrev pub port_of : List ℕ → List ℕ → List ℕ → List ℕ → Option (List ℕ × List ℕ) → Result Instruction LineFault
+-- the values of a port that four words name, with the shares behind them
+abbrev pub port_of : List ℕ → List ℕ → List ℕ → List ℕ → Option (List ℕ × List ℕ) → Result Port LineFault
 port_of network_word node_word cost_word longest_word share_words = do
   network ← or_fault Network (network_of network_word)
   node ← or_fault Node (node_of node_word)
   cost ← or_fault Number (number_of most_value cost_word)
   longest ← or_fault Number (number_of most_value longest_word)
   shares ← shares_of share_words
-  Ok (NextPort network node cost longest shares.0 shares.1)
+  Ok (record {
+    network = record { 0 = network };
+    node = record { 0 = node };
+    cost = cost;
+    longest = longest;
+    route_share = shares.0;
+    service_share = shares.1;
+  })
 
 -- `port NET NODE COST LONGEST`, or with ROUTES SERVICES behind it, by the words after the first
 abbrev pub port_meaning : Stage → List (List ℕ) → Result Instruction LineFault
 port_meaning stage arguments = do
   named ← or_fault Words (port_words arguments)
   _ ← port_allowed stage
-  port_of named.0 named.1 named.2 named.3 named.4
+  values ← port_of named.0 named.1 named.2 named.3 named.4
+  Ok (NextPort values)
+
+-- the count behind `second`
+abbrev pub count_meaning : List (List ℕ) → Result ℕ LineFault
+count_meaning arguments = do
+  word ← or_fault Words (only_one arguments)
+  or_fault Number (number_between 1 most_seconds word)
 
 -- `second N`: so long a time passes
 abbrev pub second_meaning : List (List ℕ) → Result Instruction LineFault
 second_meaning arguments = do
-  word ← or_fault Words (only_one arguments)
-  count ← or_fault Number (number_between 1 most_seconds word)
+  count ← count_meaning arguments
   Ok (Passes count)
 
 -- the one number behind `down` and `up`

@@ -33,6 +33,16 @@ only_two (a ∷ []) = None
 only_two (a ∷ b ∷ []) = Some (a, b)
 only_two (a ∷ b ∷ c ∷ more) = None
 
+-- the items of a list of just three
+abbrev pub only_three : {X : Type 0} → List X → Option (X × X × X)
+only_three [] = None
+only_three (a ∷ more) = option_map (λ two. (a, two.0, two.1)) (only_two more)
+
+-- the items of a list of just four
+abbrev pub only_four : {X : Type 0} → List X → Option (X × X × X × X)
+only_four [] = None
+only_four (a ∷ more) = option_map (λ three. (a, three.0, three.1, three.2)) (only_three more)
+
 -- the words of a port's shares: none, or two
 abbrev pub share_words : {X : Type 0} → List X → Option (Option (X × X))
 share_words [] = Some None

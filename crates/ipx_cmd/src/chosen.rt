@@ -1,9 +1,9 @@
 //! What the words after the program's name ask for.
 
-ghost use Rattle.std.specs.Prelude.{◌≡◌, ◌↔◌, ℕ, List, Option, Some, IfOk, IfSome, codes, map, option_map, string_bytes};
+ghost use Rattle.std.specs.Prelude.{◌≡◌, ◌↔◌, ℕ, List, Option, Some, IfOk, codes, map, option_map, string_bytes};
 ghost use Rattle.clap.specs.Words.{app_of, first_value, found_of, kind_of, with_subcommand};
 ghost use Rattle.clap.specs.declared.error.kind.ErrorKind.TheVariants.{OutOfMemory};
-ghost use Rattle.ipx_cmd.specs.Chosen.{Chooses, IsAsked, IsOffered, command_line, file_command, word_of};
+ghost use Rattle.ipx_cmd.specs.Chosen.{Chooses, IsAsked, command_line, file_command, word_of};
 ghost use Rattle.ipx_cmd.specs.declared.chosen.ChooseFault.TheVariants.{Memory};
 ghost use Rattle.ipx_cmd.specs.declared.chosen.Run.{Run};
 
@@ -49,12 +49,11 @@ impl From<AllocError> for ChooseFault {
     }
 }
 
-/// Reads the words after the program's name: `replay [FILE]` or `decode [FILE]`.
+/// Reads the words after the program's name: `replay [FILE]`, `internet [FILE]` or `decode [FILE]`.
 ///
 /// A FILE that begins with `-` stands after the word `--`, unless it is `-` alone.
 pub fn choose(alloc: Global, words: &[&str]) -> Result<Chosen, ChooseFault>
-    ensures run { IfOk result (λ chosen. IsOffered chosen.run) }
-    ensures asked { (run : Run) (file : Option (List ℕ)) → IsOffered run → IsAsked run (map (λ word. word.now) words.now) file → Chooses run file result }
+    ensures { (run : Run) (file : Option (List ℕ)) → IsAsked run (map (λ word. word.now) words.now) file → Chooses run file result }
 {
     let matches = match command(alloc)?.try_get_matches_from(words) {
         Ok(matches) => matches,
@@ -72,11 +71,11 @@ pub fn choose(alloc: Global, words: &[&str]) -> Result<Chosen, ChooseFault>
 
 /// The run that a command names.
 fn run_of(verb: &str) -> Option<Run>
-    ensures offered { IfSome result IsOffered }
-    ensures named { (run : Run) → IsOffered run → verb.now ≡ word_of run → result ≡ Some run }
+    ensures { (run : Run) → verb.now ≡ word_of run → result ≡ Some run }
 {
     match verb {
         "replay" => Some(Run::Replay),
+        "internet" => Some(Run::Internet),
         "decode" => Some(Run::Decode),
         _ => None,
     }
@@ -90,7 +89,8 @@ fn command<'a>(alloc: Global) -> Result<Command<'a>, AllocError>
         .no_binary_name(true)
         .subcommand_required(true);
     let with_replay = with_file_command(alloc, top, "replay")?;
-    with_file_command(alloc, with_replay, "decode")
+    let with_internet = with_file_command(alloc, with_replay, "internet")?;
+    with_file_command(alloc, with_internet, "decode")
 }
 
 /// The command line with one command more, which may name a file.

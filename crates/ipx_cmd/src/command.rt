@@ -6,9 +6,9 @@ ghost use Rattle.std.specs.Prelude.{◌≡◌, ℕ, List, codes, IsTrue, IsErrOf
 ghost use Rattle.std.specs.Str.{bytes_eq};
 ghost use Rattle.std.specs.Option.{option_map};
 ghost use Rattle.ipx_cmd.specs.declared.ended.RunFault.{RunFault};
-ghost use Rattle.ipx_cmd.specs.Instruction.{Passes, instruction_of, next_port};
+ghost use Rattle.ipx_cmd.specs.Instruction.{instruction_of, next_port, values_of};
 ghost use Rattle.ipx_cmd.specs.Line.{Answers, AnswersInMemory, Stops};
-ghost use Rattle.ipx_cmd.specs.Script.{line_meaning, command_meaning, port_allowed, shares_of, port_of, port_meaning, second_meaning, number_meaning, later_meaning, packet_of, in_meaning, brings_bytes};
+ghost use Rattle.ipx_cmd.specs.Script.{line_meaning, command_meaning, port_allowed, shares_of, port_of, port_meaning, count_meaning, number_meaning, later_meaning, packet_of, in_meaning, brings_bytes};
 ghost use Rattle.ipx_cmd.specs.Words.{words};
 
 use crate::fault::LineFault;
@@ -101,8 +101,8 @@ fn shares_of(named: Option<(&[u8], &[u8])>) -> Result<(u16, u16), LineFault>
 }
 
 /// The port that words name, read from left to right.
-fn port_of(named: PortWords<'_>) -> Result<NamedPort, LineFault>
-    ensures { Answers next_port result (port_of named.entry.network.now named.entry.node.now named.entry.cost.now named.entry.longest.now (option_map (λ shares. (shares.0.now, shares.1.now)) named.entry.shares)) }
+pub(crate) fn port_of(named: PortWords<'_>) -> Result<NamedPort, LineFault>
+    ensures { Answers values_of result (port_of named.entry.network.now named.entry.node.now named.entry.cost.now named.entry.longest.now (option_map (λ shares. (shares.0.now, shares.1.now)) named.entry.shares)) }
 {
     let network = network(named.network).ok_or(LineFault::Network)?;
     let node = node(named.node).ok_or(LineFault::Node)?;
@@ -129,16 +129,16 @@ fn named_port(stage: Stage, arguments: &[u8]) -> Result<NamedPort, LineFault>
 }
 
 /// The count of `second N`, by the words after the first.
-fn seconds(arguments: &[u8]) -> Result<u32, LineFault>
-    ensures { Answers Passes result (second_meaning (words arguments.now)) }
+pub(crate) fn seconds(arguments: &[u8]) -> Result<u32, LineFault>
+    ensures { Answers (λ count. count) result (count_meaning (words arguments.now)) }
 {
     let word = one_word(arguments).ok_or(LineFault::Words)?;
     number_from_one(word, MOST_SECONDS).ok_or(LineFault::Number)
 }
 
-/// The port of `down PORT` and `up PORT`, by the words after the first.
-fn port_number(arguments: &[u8]) -> Result<u8, LineFault>
-    ensures { Answers (λ port. port) result (number_meaning (words arguments.now)) }
+/// The number of a port or a router, alone behind the first word.
+pub(crate) fn one_number(arguments: &[u8]) -> Result<u8, LineFault>
+    ensures { Answers (λ number. number) result (number_meaning (words arguments.now)) }
 {
     let word = one_word(arguments).ok_or(LineFault::Words)?;
     number_u8(word).ok_or(LineFault::Number)
@@ -200,11 +200,11 @@ fn read_later_command(name: &[u8], arguments: &[u8]) -> Result<Command, LineFaul
     ensures fault { IfErr result (λ fault. later_meaning name.now (words arguments.now) ≡ Err fault) }
 {
     if is_word(name, b"down") {
-        let port = port_number(arguments)?;
+        let port = one_number(arguments)?;
         return Ok(Command::Down { port });
     }
     if is_word(name, b"up") {
-        let port = port_number(arguments)?;
+        let port = one_number(arguments)?;
         return Ok(Command::Up { port });
     }
     if is_word(name, b"routes") {

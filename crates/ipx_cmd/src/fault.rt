@@ -38,6 +38,12 @@ pub(crate) enum LineFault {
     Same,
     /// The port doesn't exist.
     Port,
+    /// The router doesn't exist.
+    Router,
+    /// There are more routers than an internet of the program has.
+    Routers,
+    /// Ports of two routers have one network and one node.
+    SameNode,
 }
 
 /// The one word that the output names the fault by.
@@ -61,6 +67,9 @@ impl fmt::Display for LineFault {
             LineFault::None => f.write_str("none"),
             LineFault::Same => f.write_str("same"),
             LineFault::Port => f.write_str("port"),
+            LineFault::Router => f.write_str("router"),
+            LineFault::Routers => f.write_str("routers"),
+            LineFault::SameNode => f.write_str("samenode"),
         }
     }
 }

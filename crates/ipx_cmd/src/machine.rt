@@ -4,11 +4,11 @@ ghost use Rattle.ipx_router.specs.History.{History};
 ghost use Rattle.ipx_router.specs.Port.{Port as PortValues};
 ghost use Rattle.ipx_router.specs.Stands.{StandsFor};
 ghost use Rattle.ipx_cmd.specs.Acted.{Halted};
-ghost use Rattle.ipx_cmd.specs.Instruction.{instruction_of};
+ghost use Rattle.ipx_cmd.specs.Instruction.{instruction_of, values_of};
 ghost use Rattle.ipx_cmd.specs.Line.{Stops};
 ghost use Rattle.ipx_cmd.specs.Machine.{Standing, events_of, has_ports, instruction_text, nothing_yet, obeys, past_of};
 ghost use Rattle.ipx_cmd.specs.MachineStands.{IsSame, IsStanding, Leads, Makes, reached};
-ghost use Rattle.ipx_cmd.specs.Making.{named_port, values_of};
+ghost use Rattle.ipx_cmd.specs.Making.{named_port};
 ghost use Rattle.ipx_cmd.specs.Said.{Says};
 ghost use Rattle.ipx_cmd.specs.Script.{line_meaning};
 

@@ -12,7 +12,7 @@ use std::fmt::Display;
 
 /// Bytes as one word.
 #[derive(Clone, Copy, Debug)]
-struct HexWord<'a>(&'a [u8]);
+pub(crate) struct HexWord<'a>(pub &'a [u8]);
 
 /// Two upper-case digits for each byte, or `-` where there is none.
 impl<'a> Display for HexWord<'a> {

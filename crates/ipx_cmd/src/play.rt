@@ -1,5 +1,5 @@
-//! A run of `replay`: the script is read in pieces, and the text of the lines that a piece ends is
-//! written before the next piece is asked for.
+//! A run of `replay` or `internet`: the script is read in pieces, and the text of the lines that a piece
+//! ends is written before the next piece is asked for.
 ghost use Rattle.std.specs.Prelude.{◌≡◌, ◌+◌, ◌^◌, ◌<◌, ◌≤◌, ◌++◌, false, [], length, string_bytes, Err, IfErr, IfOk, OnOk, OnErr};
 ghost use Rattle.std.specs.Io.KnownBytes.{IsAtEnd};
 ghost use Rattle.ipx_cmd.specs.Acted.{StaysFine};
@@ -7,6 +7,7 @@ ghost use Rattle.ipx_cmd.specs.Leads.{IsPending};
 ghost use Rattle.ipx_cmd.specs.Output.{fault_text};
 ghost use Rattle.ipx_cmd.specs.Played.{GivenUp, Played, PlayedSoFar};
 ghost use Rattle.ipx_cmd.specs.Replayed.{ReplayGivenUp, Replayed, ReplayedSoFar};
+ghost use Rattle.ipx_cmd.specs.Simulated.{InternetGivenUp, Simulated, SimulatedSoFar};
 ghost use Rattle.ipx_cmd.specs.Stretch.{Answered, Completed, Flushed, GaveUp, Passed, Unfinished};
 ghost use Rattle.ipx_cmd.specs.WroteFront.{IsFaultOf, WroteAll, WroteFront};
 ghost use Rattle.ipx_cmd.specs.declared.ended.Ended.TheVariants.{Done, BadInput};
@@ -14,6 +15,7 @@ ghost use Rattle.ipx_cmd.specs.declared.ended.Ended.TheVariants.{Done, BadInput}
 use crate::ended::{Ended, RunFault};
 use crate::fault::LineFault;
 use crate::halt::Halt;
+use crate::internet_machine::InternetMachine;
 use crate::machine::Machine;
 use crate::output::fault_line;
 use crate::player::{Act, Player};
@@ -47,6 +49,28 @@ pub fn replay<R: Read, W: Write>(
     ensures whole { IfOk result (λ e. e ≡ Done → IsAtEnd intake.new.left) }
 {
     play_script(Machine::new(alloc), alloc, intake, outlet)
+}
+
+/// Plays a script on an internet of routers: reads it from the intake, and writes its text to the outlet.
+///
+/// `BadInput` where a line is refused, which the last line of the text tells. After a fault what was
+/// written is a prefix of the text.
+pub fn internet<R: Read, W: Write>(
+    alloc: Global,
+    intake: &mut Intake<R>,
+    outlet: &mut Outlet<W>,
+) -> Result<Ended, RunFault>
+    requires intake { intake.old.failed ≡ false }
+    requires outlet { outlet.old.failed ≡ false }
+    ensures ok { IfOk result (Simulated intake.old intake.new outlet.old outlet.new) }
+    ensures err { OnErr result (InternetGivenUp intake.old intake.new outlet.old outlet.new) }
+    ensures read { result ≡ Err RunFault.Read → SimulatedSoFar intake.old intake.new outlet.old outlet.new }
+    ensures fault { IfErr result (IsFaultOf intake.new.failed outlet.new.failed) }
+    ensures fine_intake { OnOk result (intake.new.failed ≡ false) }
+    ensures fine_outlet { OnOk result (outlet.new.failed ≡ false) }
+    ensures whole { IfOk result (λ e. e ≡ Done → IsAtEnd intake.new.left) }
+{
+    play_script(InternetMachine::new(alloc), alloc, intake, outlet)
 }
 
 /// Plays a script on a machine that has acted on no line of it yet.

@@ -5,7 +5,7 @@ ghost use Rattle.std.specs.Option.{option_map};
 ghost use Rattle.std.specs.Char.{is_ascii_digit};
 ghost use Rattle.std.specs.Str.{bytes_eq};
 ghost use Rattle.std.specs.Str.Parse.{digits_value};
-ghost use Rattle.ipx_cmd.specs.Words.{is_blank, is_text_byte, words, only_one, only_two, share_words, port_words, is_numeral, number_of, number_between};
+ghost use Rattle.ipx_cmd.specs.Words.{is_blank, is_text_byte, words, only_one, only_two, only_three, only_four, share_words, port_words, is_numeral, number_of, number_between};
 ghost use Rattle.ipx_wire.specs.Digits.{network_of, node_of};
 
 use ipx_wire::{Network, Node};
@@ -112,6 +112,24 @@ pub(crate) fn two_words(line: &[u8]) -> Option<(&[u8], &[u8])>
     let (first, rest) = first_word(line)?;
     let second = one_word(rest)?;
     Some((first, second))
+}
+
+/// The words of a line that has just three.
+pub(crate) fn three_words(line: &[u8]) -> Option<(&[u8], &[u8], &[u8])>
+    ensures { option_map (λ found. (found.0.now, found.1.now, found.2.now)) result ≡ only_three (words line.now) }
+{
+    let (first, rest) = first_word(line)?;
+    let (second, third) = two_words(rest)?;
+    Some((first, second, third))
+}
+
+/// The words of a line that has just four.
+pub(crate) fn four_words(line: &[u8]) -> Option<(&[u8], &[u8], &[u8], &[u8])>
+    ensures { option_map (λ found. (found.0.now, found.1.now, found.2.now, found.3.now)) result ≡ only_four (words line.now) }
+{
+    let (first, rest) = first_word(line)?;
+    let (second, third, fourth) = three_words(rest)?;
+    Some((first, second, third, fourth))
 }
 
 /// The words that name a port: four, and two more where its shares are named.

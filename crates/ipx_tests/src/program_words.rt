@@ -5,13 +5,16 @@ use ipx_cmd::{ChooseFault, Run, choose};
 
 #[test]
 fn runs_on_standard_input_or_a_file(rt: HostRuntime) {
-    let table: [(&[&str], Run, Option<&str>); 9] = [
+    let table: [(&[&str], Run, Option<&str>); 12] = [
         (&["replay"], Run::Replay, None),
         (&["replay", "a"], Run::Replay, Some("a")),
         (&["replay", ""], Run::Replay, Some("")),
         (&["replay", "-"], Run::Replay, Some("-")),
         (&["replay", "--", "-a"], Run::Replay, Some("-a")),
         (&["replay", "decode"], Run::Replay, Some("decode")),
+        (&["internet"], Run::Internet, None),
+        (&["internet", "a"], Run::Internet, Some("a")),
+        (&["internet", "--", "-a"], Run::Internet, Some("-a")),
         (&["decode"], Run::Decode, None),
         (&["decode", "a"], Run::Decode, Some("a")),
         (&["decode", "--", "-a"], Run::Decode, Some("-a")),
@@ -41,7 +44,7 @@ fn refuses_all_other_words(rt: HostRuntime) {
         &["--version"],
         &["help"],
         &["help", "replay"],
-        &["internet"],
+        &["internets"],
         &["decode", "a", "b"],
     ];
     for words in table {

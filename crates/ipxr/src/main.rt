@@ -1,4 +1,5 @@
-//! `ipxr`: replays a script or shows a capture, from a file or from standard input, and writes the result to standard output.
+//! `ipxr`: plays a script on one router or on an internet of routers, or shows a capture, from a file or from standard input,
+//! and writes the result to standard output.
 //!
 //! The words are judged first, then the file is opened, and then the run begins. Whatever stops the program before its end
 //! is one line on standard error and an exit status:
@@ -12,7 +13,9 @@
 //! A run that comes to its end says nothing there: status 0 for good input, 2 for bad input.
 #![tactic(auto)]
 
-use ipx_cmd::{ChooseFault, Chosen, Ended, Run, RunFault, choose, decode, replay, status};
+use ipx_cmd::{
+    ChooseFault, Chosen, Ended, Run, RunFault, choose, decode, internet, replay, status,
+};
 use ipx_wire::{Intake, Outlet};
 use std::alloc::AllocError;
 use std::fs::File;
@@ -109,6 +112,6 @@ fn run_on<R: Read + Drop>(rt: &HostRuntime, run: Run, reader: R) -> Result<Ended
     match run {
         Run::Replay => Ok(replay(rt.alloc(), &mut intake, &mut outlet)?),
         Run::Decode => Ok(decode(rt.alloc(), &mut intake, &mut outlet)?),
-        Run::Internet => Err(Stop::Usage),
+        Run::Internet => Ok(internet(rt.alloc(), &mut intake, &mut outlet)?),
     }
 }

@@ -4,6 +4,7 @@ use crate::damaged::given::PACKETS;
 use crate::router::watched::{A, Watched, fifty};
 use crate::same::same;
 use ipx_router::{Event, Outcome};
+use std::alloc::Global;
 use std::test::Fail;
 
 /// What a flooded router sends in a periodic second: the other network on port 0; on port 1 the fifty routes and the network of
@@ -42,8 +43,8 @@ fn a_flood_of_offers_fills_the_table_once(rt: HostRuntime) -> Result<(), Fail> {
     Ok(())
 }
 
-/// How many packets are made.
-const MADE: u32 = 1_000_000;
+/// How many packets are made from each seed.
+const MADE: u32 = 125_000;
 
 /// How many of them may still ask for memory.
 const FIRST: u32 = 1000;
@@ -79,11 +80,11 @@ fn damaged(chance: &mut Chance) -> ([u8; MOST], usize) {
     (bytes, size)
 }
 
-/// From the thousandth on, no packet asks for memory: the outbox has room for the most that it may send.
-#[test]
-fn a_million_damaged_packets_break_no_bound(rt: HostRuntime) -> Result<(), Fail> {
-    let mut watched = Watched::started(rt.alloc())?;
-    let mut chance = Chance(1);
+/// How many damaged packets break a bound, and whether thousands are dropped and thousands are not. From the thousandth on, no
+/// packet asks for memory: the outbox has room for the most that it may send.
+fn storm(heap: Global, seed: u64) -> Result<(u32, bool), Fail> {
+    let mut watched = Watched::started(heap)?;
+    let mut chance = Chance(seed);
     let (mut wrong, mut dropped) = (0u32, 0u32);
     for number in 0..MADE {
         let (bytes, size) = damaged(&mut chance);
@@ -103,8 +104,55 @@ fn a_million_damaged_packets_break_no_bound(rt: HostRuntime) -> Result<(), Fail>
             dropped = dropped.wrapping_add(1);
         }
     }
-    same(&rt, wrong, 0);
-    // (so both kinds were seen, thousands of times)
-    assert!(rt; dropped > 10_000 && dropped < MADE - 10_000);
+    Ok((wrong, dropped > 10_000 && dropped < MADE - 10_000))
+}
+
+// A million packets in all, in tests of their own, since each test has a minute, on slow machines too.
+
+#[test]
+fn damaged_packets_break_no_bound(rt: HostRuntime) -> Result<(), Fail> {
+    same(&rt, storm(rt.alloc(), 1)?, (0, true));
+    Ok(())
+}
+
+#[test]
+fn damaged_packets_of_a_second_seed_break_no_bound(rt: HostRuntime) -> Result<(), Fail> {
+    same(&rt, storm(rt.alloc(), 2)?, (0, true));
+    Ok(())
+}
+
+#[test]
+fn damaged_packets_of_a_third_seed_break_no_bound(rt: HostRuntime) -> Result<(), Fail> {
+    same(&rt, storm(rt.alloc(), 3)?, (0, true));
+    Ok(())
+}
+
+#[test]
+fn damaged_packets_of_a_fourth_seed_break_no_bound(rt: HostRuntime) -> Result<(), Fail> {
+    same(&rt, storm(rt.alloc(), 4)?, (0, true));
+    Ok(())
+}
+
+#[test]
+fn damaged_packets_of_a_fifth_seed_break_no_bound(rt: HostRuntime) -> Result<(), Fail> {
+    same(&rt, storm(rt.alloc(), 5)?, (0, true));
+    Ok(())
+}
+
+#[test]
+fn damaged_packets_of_a_sixth_seed_break_no_bound(rt: HostRuntime) -> Result<(), Fail> {
+    same(&rt, storm(rt.alloc(), 6)?, (0, true));
+    Ok(())
+}
+
+#[test]
+fn damaged_packets_of_a_seventh_seed_break_no_bound(rt: HostRuntime) -> Result<(), Fail> {
+    same(&rt, storm(rt.alloc(), 7)?, (0, true));
+    Ok(())
+}
+
+#[test]
+fn damaged_packets_of_an_eighth_seed_break_no_bound(rt: HostRuntime) -> Result<(), Fail> {
+    same(&rt, storm(rt.alloc(), 8)?, (0, true));
     Ok(())
 }

@@ -7,28 +7,28 @@ use Rattle.ipx_cmd.proofs.CommandLine.{found, reads, simple, some_same, verb_fir
 use Rattle.ipx_cmd.specs.Chosen.{command_line, word_of}
 use Rattle.ipx_cmd.proofs.chosen.choose.Goals as goal
 
-pub returns-in-Err-clause-asked : goal.returns-in-Err-clause-asked
-returns-in-Err-clause-asked c = λ run file is asked.
+pub returns-in-Err : goal.returns-in-Err
+returns-in-Err c = λ run file asked.
     let words : List (List ℕ) = map (λ word. word.now) c.args.words.now in
-    c.fault_of.ensures.1 (c.in-Err.ensures.passes (ap (λ app. takes app words) c.in_ok-command.ensures ∙ (reads run is words file asked).0))
+    c.fault_of.ensures.1 (c.in-Err.ensures.passes (ap (λ app. takes app words) c.in_ok-command.ensures ∙ (reads run words file asked).0))
 
-pub returns-in_default-run_of-clause-asked : goal.returns-in_default-run_of-clause-asked
-returns-in_default-run_of-clause-asked c = λ run file is asked.
+pub returns-in_default-run_of : goal.returns-in_default-run_of
+returns-in_default-run_of c = λ run file asked.
     let words : List (List ℕ) = map (λ word. word.now) c.args.words.now in
     let line = c.in_ok-command.ensures in
     let met = (c.in-Ok.ensures.matches (ap is_simple line ∙ simple)).1 ∙ ap (λ app. subcommand_of app words) line in
-    let named = c.in-Some.ensures.name ∙ verb_first _ _ _ ∙ ap (option_map (λ p. p.0)) met ∙ (reads run is words file asked).2 in
-    absurd (c.in_default-run_of.not-Some run (c.run_of.ensures.named run is (some_same c.in-Some.verb.now (word_of run) named)))
+    let named = c.in-Some.ensures.name ∙ verb_first _ _ _ ∙ ap (option_map (λ p. p.0)) met ∙ (reads run words file asked).2 in
+    absurd (c.in_default-run_of.not-Some run (c.run_of.ensures run (some_same c.in-Some.verb.now (word_of run) named)))
 
-pub returns-clause-asked : goal.returns-clause-asked
-returns-clause-asked c = λ run file is asked.
+pub returns : goal.returns
+returns c = λ run file asked.
     let words : List (List ℕ) = map (λ word. word.now) c.args.words.now in
     let line = c.in_ok-command.ensures in
     let met = (c.in-Ok.ensures.matches (ap is_simple line ∙ simple)).1 ∙ ap (λ app. subcommand_of app words) line in
-    let named = c.in-Some.ensures.name ∙ verb_first _ _ _ ∙ ap (option_map (λ p. p.0)) met ∙ (reads run is words file asked).2 in
+    let named = c.in-Some.ensures.name ∙ verb_first _ _ _ ∙ ap (option_map (λ p. p.0)) met ∙ (reads run words file asked).2 in
     let rows = c.in-Some.ensures.rows ∙ ap (option_map (λ p. p.1)) met in
     let inner = found_of c.in-Some.inner.now in (
-      some_same c.in-Some-run_of.run' run (sym c.in-Some-run_of.is ∙ c.run_of.ensures.named run is (some_same c.in-Some.verb.now (word_of run) named)),
+      some_same c.in-Some-run_of.run' run (sym c.in-Some-run_of.is ∙ c.run_of.ensures run (some_same c.in-Some.verb.now (word_of run) named)),
       c.in_ok-file.ensures ∙ first_value-rows inner (codes "file")
-          ∙ found (rows_of inner) (subcommand_of command_line words) file rows (reads run is words file asked).1,
+          ∙ found (rows_of inner) (subcommand_of command_line words) file rows (reads run words file asked).1,
     )

@@ -1,5 +1,5 @@
 use Rattle.ipx_cmd.proofs.Further.{continues}
-use Rattle.ipx_cmd.proofs.FurtherLines.{script_continues}
+use Rattle.ipx_cmd.proofs.FurtherLines.{internet_continues, script_continues}
 use Rattle.ipx_cmd.proofs.laws.continues.Goals as goal
 
 pub returns-clause-capture : goal.returns-clause-capture
@@ -7,3 +7,6 @@ returns-clause-capture c = continues
 
 pub returns-clause-script : goal.returns-clause-script
 returns-clause-script c = script_continues
+
+pub returns-clause-internet : goal.returns-clause-internet
+returns-clause-internet c = internet_continues
