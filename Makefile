@@ -2,7 +2,7 @@
 PREFIX ?= /usr/local
 PROGRAM = crates/ipxr/out/ipxr
 
-.PHONY: run try show build embed test edits bench install
+.PHONY: run try show build embed gateway test edits bench install
 
 # Proves and builds all, then plays the worked script and prints what the router sent and learned.
 run: build
@@ -24,6 +24,10 @@ build:
 embed:
 	@tools/embed
 
+# Builds build/ipxr-gateway, which joins DOSBox' networks, cards of emulators and Ethernet. Needs a C compiler; docs/GATEWAY.md.
+gateway:
+	@tools/gateway
+
 # The gate, then every example and transcript. The last line is 'N passed, M failed'.
 test:
 	@tools/test
@@ -36,9 +40,11 @@ edits:
 bench:
 	@tools/bench
 
-# Puts the proved program into PREFIX/bin with its manual page, and the library for C with its header and its pkg-config file.
+# Puts the proved program into PREFIX/bin with its manual page, the library for C with its header and its pkg-config file, and the
+# gateway into PREFIX/sbin with its manual page, an example of a configuration and a unit for systemd.
 install: build
 	install -d $(PREFIX)/bin $(PREFIX)/share/man/man1
 	install -m 755 $(PROGRAM) $(PREFIX)/bin/ipxr
 	install -m 644 docs/ipxr.1 $(PREFIX)/share/man/man1/ipxr.1
 	@tools/embed install $(PREFIX)
+	@tools/gateway install $(PREFIX)

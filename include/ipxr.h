@@ -235,6 +235,32 @@ size_t ipxr_services(ipxr *router);
 int32_t ipxr_route(ipxr *router, size_t index, ipxr_route_record *record);
 int32_t ipxr_service(ipxr *router, size_t index, ipxr_service_record *record);
 
+/* ---- Frames of Ethernet ----
+ * For links that carry frames: a card, a TAP, an emulator's network. They need no router and keep nothing. */
+
+/* How a frame carries an IPX packet. */
+#define IPXR_NO_FRAME 0        /* it carries none */
+#define IPXR_FRAME_ETHERNET2 1 /* its type is 8137h */
+#define IPXR_FRAME_RAW 2       /* behind a length: Novell's own kind, for packets without a checksum (FFFFh there) */
+#define IPXR_FRAME_LLC 3       /* behind a length and the 802.2 header E0 E0 03 */
+#define IPXR_FRAME_SNAP 4      /* behind a length and the 802.2 header AA AA 03 00 00 00 81 37 */
+
+/* Bytes of the shortest and of the longest frame that is written, without the checksum that a card adds. */
+#define IPXR_SHORTEST_FRAME 60
+#define IPXR_LONGEST_FRAME 1514
+
+/* Returns how the frame carries a packet, and tells with how many bytes before it: from there to the frame's end is what
+ * ipxr_packet takes, which finds by itself what is padding. With IPXR_NO_FRAME `front` stays as it was. A frame begins with its
+ * six bytes of destination and six of source; whether it is for you is yours to see. */
+uint8_t ipxr_frame_read(const uint8_t *frame, size_t length, size_t *front);
+
+/* Writes the frame in which a packet is sent to a node from a node: its type, or its length and header, the packet, and zeros up to
+ * IPXR_SHORTEST_FRAME. Returns its length; the rest of the buffer stays as it was. Returns 0, and writes nothing, where `kind` is
+ * none of the four, header and packet are more than 1,500 bytes, the frame is longer than `room`, or a raw frame would carry a packet
+ * with a checksum, since nobody would know it as IPX. */
+size_t ipxr_frame_write(uint8_t kind, const uint8_t to[6], const uint8_t from[6], const uint8_t *packet, size_t length,
+                        uint8_t *frame, size_t room);
+
 /* ---- Words ---- */
 
 /* Copies the words of an answer into `buffer`, which has room for `room` bytes, with a 0 behind them: of an event its outcome, as
@@ -244,7 +270,7 @@ int32_t ipxr_service(ipxr *router, size_t index, ipxr_service_record *record);
 size_t ipxr_word(int32_t answer, uint8_t *buffer, size_t room);
 
 /* The version of this interface: its major number times 65536, plus its minor number. This header is of IPXR_VERSION. */
-#define IPXR_VERSION 65536
+#define IPXR_VERSION 65537
 uint32_t ipxr_version(void);
 
 #ifdef __cplusplus

@@ -6,4 +6,5 @@ pub mod Happens
 pub mod Makes
 pub mod Copies
 pub mod Reads
+pub mod Kinds
 pub mod Words

@@ -14,4 +14,4 @@ most_services = 1024
 
 -- a major number and a minor number
 abbrev pub version : ℕ
-version = 1 * 65536 + 0
+version = 1 * 65536 + 1

@@ -5,6 +5,7 @@
 //!   was taken (`Happens`), a router was made (`Makes`), a packet was copied out (`Copies`), a record was read (`Reads`). Below 0
 //!   nothing happened.
 //! - How many ports, routes and services a router can have stands in `machine`, and in `specs/Sizes`.
+//! - Frames of Ethernet are read and written as `ipx_capture` does, by the numbers of their kinds (`Kinds`).
 //! - `cell` is the only place with a raw pointer; its proofs, and those alone, are walks by hand.
 //! - A handle isn't `Drop`: what doesn't hand its machine on, or put it into an empty one, doesn't compile or isn't proved. So no
 //!   call loses a router. That `ipxr_free` and `ipxr_make` free is one line in `making`, `drop(machine)`, which no clause can say.
@@ -14,6 +15,7 @@ mod cell;
 mod code;
 mod events;
 mod fault;
+mod frames;
 mod handle;
 mod machine;
 mod making;
@@ -26,6 +28,7 @@ pub use crate::events::{
     ipxr_packet, ipxr_port_down, ipxr_port_up, ipxr_second, ipxr_start, ipxr_stop,
 };
 pub use crate::fault::Fault;
+pub use crate::frames::{ipxr_frame_read, ipxr_frame_write};
 pub use crate::handle::Handle;
 pub use crate::machine::Machine;
 pub use crate::making::{ipxr_free, ipxr_make, ipxr_version};

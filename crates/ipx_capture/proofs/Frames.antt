@@ -28,7 +28,7 @@ typed b are h is = record {
 }
 
 -- bytes that begin so are that and the rest
-beginning : (front rest : List ℕ) → begins front rest ≡ true → rest ≡ front ++ drop (length front) rest
+pub beginning : (front rest : List ℕ) → begins front rest ≡ true → rest ≡ front ++ drop (length front) rest
 beginning front rest h =
     sym (take-append-drop (length front) rest) ∙ ap (λ l. l ++ drop (length front) rest) (sym (same_text front (take (length front) rest) (sym h)))
 

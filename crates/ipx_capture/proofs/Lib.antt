@@ -3,6 +3,8 @@ pub mod First
 pub mod Frames
 pub mod Heading
 pub mod Pieces
+pub mod ReadAgain
 pub mod Reading
 pub mod Taken
+pub mod WholeFrame
 pub mod examples

@@ -9,3 +9,4 @@ pub mod Place
 pub mod Reads
 pub mod Taking
 pub mod Window
+pub mod Written

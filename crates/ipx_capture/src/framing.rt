@@ -7,22 +7,22 @@ ghost use Rattle.ipx_capture.specs.Framed.{framed};
 use crate::kinds::Frame;
 
 /// How many bytes stand before what a frame carries: two addresses, and its type or length.
-const HEADER: usize = 14;
+pub(crate) const HEADER: usize = 14;
 
 /// The type of IPX.
-const IPX: u16 = 0x8137;
+pub(crate) const IPX: u16 = 0x8137;
 
 /// From here on the field is a type, under it a length.
 const FIRST_TYPE: u16 = 0x600;
 
 /// The checksum field with which Novell's own kind begins.
-const UNSUMMED: [u8; 2] = [0xFF, 0xFF];
+pub(crate) const UNSUMMED: [u8; 2] = [0xFF, 0xFF];
 
 /// The 802.2 header of IPX by its access points.
-const LLC: [u8; 3] = [0xE0, 0xE0, 0x03];
+pub(crate) const LLC: [u8; 3] = [0xE0, 0xE0, 0x03];
 
 /// The 802.2 header of a protocol, which is 8137h.
-const SNAP: [u8; 8] = [0xAA, 0xAA, 0x03, 0x00, 0x00, 0x00, 0x81, 0x37];
+pub(crate) const SNAP: [u8; 8] = [0xAA, 0xAA, 0x03, 0x00, 0x00, 0x00, 0x81, 0x37];
 
 /// Finds the IPX bytes of an Ethernet frame.
 ///

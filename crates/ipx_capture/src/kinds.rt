@@ -14,3 +14,16 @@ pub enum Frame<'a> {
     /// It carries no IPX packet.
     Other,
 }
+
+/// A kind of frame that carries IPX packets, as [`Frame`] tells them apart.
+#[derive(Clone, Copy, Debug, PartialEq, Eq)]
+pub enum FrameKind {
+    /// By its type.
+    EthernetII,
+    /// Behind a length alone: only packets without a checksum.
+    Raw,
+    /// Behind a length and access points.
+    Llc,
+    /// Behind a length and the name of the protocol.
+    Snap,
+}

@@ -3,7 +3,8 @@
 //!
 //! - `Capture` gives the records that the bytes of its reader are, one by one, whatever pieces these come in, in both
 //!   byte orders and with both kinds of time; and it tells the end or the fault that stands behind the last of them.
-//! - `frame` finds the IPX bytes of a frame: one of four kinds, or `Other`.
+//! - `frame` finds the IPX bytes of a frame: one of four kinds, or `Other`. `write_frame` writes a frame of a kind for a packet, which is
+//!   read again.
 //! - A record that lies in the buffer is lent, not copied. The buffer grows only for a longer record, so memory
 //!   doesn't depend on the size of the file.
 //!
@@ -20,8 +21,10 @@ mod order;
 mod standing;
 mod taking;
 mod window;
+mod writing;
 
 pub use crate::capture::{Capture, Captured};
 pub use crate::capture_fault::CaptureFault;
 pub use crate::framing::frame;
-pub use crate::kinds::Frame;
+pub use crate::kinds::{Frame, FrameKind};
+pub use crate::writing::{SHORTEST_FRAME, write_frame};

@@ -1,0 +1,106 @@
+/* (Linux alone has these) */
+#define _DEFAULT_SOURCE
+#include "card.h"
+
+#include <arpa/inet.h>
+#include <errno.h>
+#include <fcntl.h>
+#include <linux/if_ether.h>
+#include <linux/if_packet.h>
+#include <linux/if_tun.h>
+#include <net/if.h>
+#include <net/if_arp.h>
+#include <string.h>
+#include <sys/ioctl.h>
+#include <sys/socket.h>
+#include <unistd.h>
+
+#include "datagram.h"
+#include "ipxr.h"
+
+/* Asks the system about an interface, or tells it. */
+static bool ask(unsigned long what, const char *name, struct ifreq *about)
+{
+    int fd = socket(AF_INET, SOCK_DGRAM, 0);
+    strncpy(about->ifr_name, name, sizeof about->ifr_name - 1);
+    bool is_told = fd >= 0 && ioctl(fd, what, about) == 0;
+    int why = errno;
+    close_any(&fd);
+    errno = why;
+    return is_told;
+}
+
+unsigned interface_up(const char *name)
+{
+    struct ifreq about = {0};
+    if (!ask(SIOCGIFFLAGS, name, &about) || !(about.ifr_flags & IFF_UP) || !(about.ifr_flags & IFF_RUNNING))
+        return 0;
+    return if_nametoindex(name);
+}
+
+/* Switches an interface on. Who may not is told nothing: somebody else may do it later. */
+static void switch_on(const char *name)
+{
+    struct ifreq about = {0};
+    if (ask(SIOCGIFFLAGS, name, &about) && !(about.ifr_flags & IFF_UP)) {
+        about.ifr_flags |= IFF_UP;
+        (void)ask(SIOCSIFFLAGS, name, &about);
+    }
+}
+
+int tap_open(const char *name, unsigned *index)
+{
+    struct ifreq about = {0};
+    int fd = open("/dev/net/tun", O_RDWR | O_NONBLOCK | O_CLOEXEC);
+    if (fd < 0)
+        return -1;
+    about.ifr_flags = IFF_TAP | IFF_NO_PI;
+    strncpy(about.ifr_name, name, sizeof about.ifr_name - 1);
+    if (ioctl(fd, TUNSETIFF, &about) < 0) {
+        int why = errno;
+        close_any(&fd);
+        errno = why;
+        return -1;
+    }
+    switch_on(name);
+    *index = if_nametoindex(name);
+    return fd;
+}
+
+/* The frames that a socket hears: those of the type, those that begin with FFFFh behind a length, or those of 802.2. */
+static uint16_t protocol_of(uint8_t kind)
+{
+    if (kind == IPXR_FRAME_ETHERNET2)
+        return htons(ETH_P_IPX);
+    return htons(kind == IPXR_FRAME_RAW ? ETH_P_802_3 : ETH_P_802_2);
+}
+
+bool interface_again(int fd, uint8_t kind, unsigned index)
+{
+    struct sockaddr_ll at = {0};
+    at.sll_family = AF_PACKET;
+    at.sll_protocol = protocol_of(kind);
+    at.sll_ifindex = (int)index;
+    return bind(fd, (const struct sockaddr *)&at, sizeof at) == 0;
+}
+
+int interface_open(const char *name, uint8_t kind, unsigned *index, uint8_t card[6])
+{
+    struct ifreq about = {0};
+    if (!ask(SIOCGIFHWADDR, name, &about))
+        return -1;
+    if (about.ifr_hwaddr.sa_family != ARPHRD_ETHER) {
+        errno = EPROTOTYPE;
+        return -1;
+    }
+    memcpy(card, about.ifr_hwaddr.sa_data, 6);
+    *index = if_nametoindex(name);
+    /* (without a protocol it hears nothing before it is bound) */
+    int fd = *index == 0 ? -1 : socket(AF_PACKET, SOCK_RAW | SOCK_NONBLOCK | SOCK_CLOEXEC, 0);
+    if (fd >= 0 && !interface_again(fd, kind, *index)) {
+        int why = errno;
+        close_any(&fd);
+        errno = why;
+    }
+    return fd;
+}

@@ -1,0 +1,40 @@
+#include "counts.h"
+
+#include <inttypes.h>
+
+#include "note.h"
+
+static const char *const WORDS_OF[REASONS] = {
+    [TOO_LONG] = "longer than the link carries",
+    [FALSE_SOURCE] = "source of another",
+    [NO_CLIENT] = "no such client",
+    [NO_IPX] = "no IPX",
+    [OTHER_KIND] = "another kind of frame",
+    [FOR_ANOTHER] = "for another node",
+    [OWN_FRAME] = "own frame",
+    [NO_MEMORY] = "out of memory",
+    [NOT_EXTENDED] = "not extended",
+    [NOT_SENT] = "not sent",
+};
+
+const char *reason_words(reason why)
+{
+    return WORDS_OF[why];
+}
+
+void count_drop(counts *it, int32_t answer)
+{
+    if (answer / 100 < MOST_HUNDREDS && answer % 100 < MOST_REST)
+        it->dropped[answer / 100][answer % 100]++;
+}
+
+void counts_show(const counts *it, FILE *file)
+{
+    char words[WORDS];
+    for (int why = 0; why < REASONS; why++)
+        if (it->lost[why] > 0)
+            fprintf(file, "  lost: %s: %" PRIu64 "\n", WORDS_OF[why], it->lost[why]);
+    for (int answer = 0; answer < MOST_HUNDREDS * 100; answer++)
+        if (answer % 100 < MOST_REST && it->dropped[answer / 100][answer % 100] > 0)
+            fprintf(file, "  %s: %" PRIu64 "\n", answer_words(answer, words), it->dropped[answer / 100][answer % 100]);
+}

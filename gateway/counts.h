@@ -1,0 +1,42 @@
+/* What is counted on a network: packets in and out, and each that was lost, by its reason. */
+#ifndef COUNTS_H
+#define COUNTS_H
+
+#include <stdint.h>
+#include <stdio.h>
+
+/* Why the gateway lets go of a packet before the router hears it, or behind the router. */
+typedef enum {
+    TOO_LONG,      /* longer than what the link carries */
+    FALSE_SOURCE,  /* it names the address of another as its source */
+    NO_CLIENT,     /* for a node of the tunnel that nobody has */
+    NO_IPX,        /* a frame without an IPX packet */
+    OTHER_KIND,    /* a frame of a kind that no network has there */
+    FOR_ANOTHER,   /* a frame for another node of the cable */
+    OWN_FRAME,     /* a frame of the gateway's own that came back */
+    NO_MEMORY,     /* the router had no memory for what it would have sent */
+    NOT_EXTENDED,  /* a broadcast that is extended, too long for another network, or its source doesn't know its network */
+    NOT_SENT,      /* the system refused what was to be sent */
+    REASONS,
+} reason;
+
+/* The numbers of the router's reasons: hundreds, and the rest. */
+enum { MOST_HUNDREDS = 19, MOST_REST = 5 };
+
+typedef struct counts {
+    uint64_t in;  /* packets that came, by the link */
+    uint64_t out; /* packets that were sent; a broadcast to several clients is one */
+    uint64_t extended; /* copies of broadcasts that were handed to this network */
+    uint64_t lost[REASONS];
+    uint64_t dropped[MOST_HUNDREDS][MOST_REST]; /* by the router */
+} counts;
+
+const char *reason_words(reason why);
+
+/* Counts a drop of the router, by its number. */
+void count_drop(counts *it, int32_t answer);
+
+/* A line for each reason for which something was lost. */
+void counts_show(const counts *it, FILE *file);
+
+#endif

@@ -1,0 +1,77 @@
+#include "ether.h"
+
+#include "capture.h"
+#include "extend.h"
+#include "ipx.h"
+
+void ether_send(network *on, const uint8_t *node, const uint8_t *packet, size_t length)
+{
+    uint8_t frame[IPXR_LONGEST_FRAME];
+    size_t whole = ipxr_frame_write(on->set->kind, node, on->node, packet, length, frame, sizeof frame);
+    if (whole == 0 || !cable_send(on->cable, frame, whole)) {
+        gateway_lose(on, NOT_SENT);
+        return;
+    }
+    on->counts.out++;
+    capture_frame(frame, whole);
+}
+
+/* The network that has frames of a kind on a cable; where none has, the cable's first, and *is_there is false. */
+static network *network_of(gateway *it, const cable *on, uint8_t kind, bool *is_there)
+{
+    network *first = NULL;
+    for (size_t k = 0; k < it->count; k++) {
+        network *at = &it->networks[k];
+        *is_there = at->cable == on && at->set->kind == kind;
+        if (*is_there)
+            return at;
+        if (at->cable == on && first == NULL)
+            first = at;
+    }
+    return first;
+}
+
+/* Whether another cable on the same interface hears frames of a kind. */
+static bool is_heard_beside(const gateway *it, const cable *on, uint8_t kind)
+{
+    for (size_t k = 0; k < it->count; k++)
+        if (it->networks[k].cable != on && same_link(it->networks[k].set, on->set) && it->networks[k].set->kind == kind)
+            return true;
+    return false;
+}
+
+/* A packet came for the gateway or for all. */
+static void hear_packet(gateway *it, network *on, const uint8_t *packet, size_t length)
+{
+    if (has_length(packet, length)) {
+        length = get16(packet + AT_LENGTH);
+        if (is_broadcast(packet + AT_TO_NODE) && is_for_here(on, packet) && length <= LONGEST)
+            extend(it, on, packet, length);
+    }
+    gateway_hear(it, on, packet, length);
+}
+
+void ether_hear(gateway *it, cable *on, const uint8_t *frame, size_t length)
+{
+    bool is_there = false;
+    size_t front = 0;
+    uint8_t kind = ipxr_frame_read(frame, length < MOST_RECEIVED ? length : MOST_RECEIVED, &front);
+    network *at = network_of(it, on, kind, &is_there);
+    if (kind != IPXR_NO_FRAME && !is_there && is_heard_beside(it, on, kind))
+        return;
+    at->counts.in++;
+    if (kind == IPXR_NO_FRAME)
+        gateway_lose(at, NO_IPX);
+    else if (!is_there)
+        gateway_lose(at, OTHER_KIND);
+    else if (length > IPXR_LONGEST_FRAME)
+        gateway_lose(at, TOO_LONG);
+    else if (same_node(frame + NODE, at->node))
+        gateway_lose(at, OWN_FRAME);
+    else if (!is_broadcast(frame) && !same_node(frame, at->node))
+        gateway_lose(at, FOR_ANOTHER);
+    else {
+        capture_frame(frame, length);
+        hear_packet(it, at, frame + front, length - front);
+    }
+}

@@ -1,0 +1,300 @@
+#include "gateway.h"
+
+#include <arpa/inet.h>
+#include <errno.h>
+#include <inttypes.h>
+#include <poll.h>
+#include <stdio.h>
+#include <string.h>
+
+#include "capture.h"
+#include "clock.h"
+#include "ether.h"
+#include "ipx.h"
+#include "note.h"
+#include "tunnel.h"
+
+/* Frames and datagrams that one cable gives before the next has its turn. */
+enum { MOST_AT_ONCE = 64 };
+
+/* ---- Packets ---- */
+
+void gateway_lose(network *on, reason why)
+{
+    on->counts.lost[why]++;
+    note("lost on %08" PRIX32 ": %s", on->set->network, reason_words(why));
+}
+
+bool is_for_here(const network *on, const uint8_t *packet)
+{
+    uint32_t to = get32(packet + AT_TO_NETWORK);
+    return to == 0 || to == EVERY_NETWORK || to == on->set->network;
+}
+
+void gateway_send(network *on, const uint8_t *node, const uint8_t *packet, size_t length)
+{
+    char to[WORDS], from[WORDS];
+    if (!on->is_up)
+        return; /* (the router said it before it heard that the link is lost) */
+    if (notes_events())
+        note("out %08" PRIX32 " %s > %s type %u length %zu", on->set->network, address_at(packet + AT_FROM_NETWORK, from),
+             address_at(packet + AT_TO_NETWORK, to), packet[AT_TYPE], length);
+    if (on->set->type == LINK_DOSBOX) {
+        capture_packet(packet, length, on->node);
+        tunnel_send(on, node, NULL, packet, length);
+    } else {
+        ether_send(on, node, packet, length);
+    }
+}
+
+void gateway_send_all(gateway *it)
+{
+    size_t count = ipxr_sent(&it->router);
+    for (size_t k = 0; k < count; k++) {
+        ipxr_packet_sent sent;
+        uint8_t packet[LONGEST];
+        if (ipxr_get(&it->router, k, &sent, packet, sizeof packet) == 0)
+            gateway_send(&it->networks[sent.port], sent.node, packet, sent.length);
+    }
+    ipxr_clear(&it->router);
+}
+
+void gateway_note(const network *on, const uint8_t *packet, size_t length, const char *became)
+{
+    char to[WORDS] = "?", from[WORDS] = "?";
+    if (!notes_events())
+        return;
+    if (length >= HEADER) {
+        address_at(packet + AT_FROM_NETWORK, from);
+        address_at(packet + AT_TO_NETWORK, to);
+    }
+    note("in %08" PRIX32 " %s > %s type %d length %zu: %s", on->set->network, from, to, length >= HEADER ? packet[AT_TYPE] : -1, length,
+         became);
+}
+
+void gateway_hear(gateway *it, network *on, const uint8_t *packet, size_t length)
+{
+    char words[WORDS];
+    int32_t became = ipxr_packet(&it->router, (uint8_t)(on - it->networks), packet, length);
+    if (notes_events())
+        gateway_note(on, packet, length, answer_words(became, words));
+    if (became < 0)
+        gateway_lose(on, NO_MEMORY);
+    else if (IPXR_DROPPED(became))
+        count_drop(&on->counts, became);
+    gateway_send_all(it);
+}
+
+/* ---- Turns ---- */
+
+/* Tells the router where a network's link was lost, or is there again. */
+static void look_at(gateway *it, network *on, bool is_up)
+{
+    uint8_t port = (uint8_t)(on - it->networks);
+    if (on->is_up == is_up)
+        return;
+    if ((is_up ? ipxr_port_up(&it->router, port) : ipxr_port_down(&it->router, port)) < 0)
+        return; /* (no memory: it is tried again with the next look) */
+    on->is_up = is_up;
+    note("network %08" PRIX32 " is %s", on->set->network, is_up ? "up" : "down");
+    gateway_send_all(it);
+}
+
+static void look_at_cable(gateway *it, cable *at)
+{
+    bool is_up = cable_is_up(at), was_lost = cable_was_lost(at);
+    for (size_t k = 0; k < it->count; k++) {
+        if (it->networks[k].cable != at)
+            continue;
+        if (was_lost)
+            look_at(it, &it->networks[k], false);
+        look_at(it, &it->networks[k], is_up);
+    }
+}
+
+static network *first_on(gateway *it, const cable *at)
+{
+    size_t k = 0;
+    while (it->networks[k].cable != at)
+        k++;
+    return &it->networks[k];
+}
+
+/* What came on a cable, as far as it is its turn. */
+static void receive(gateway *it, cable *at)
+{
+    uint8_t bytes[MOST_RECEIVED];
+    struct sockaddr_in from = {0};
+    for (int k = 0; k < MOST_AT_ONCE && at->fd >= 0; k++) {
+        ssize_t length = cable_receive(at, bytes, sizeof bytes, &from);
+        if (length < 0) {
+            if (errno != EAGAIN)
+                look_at_cable(it, at);
+            return;
+        }
+        if (at->set->type == LINK_DOSBOX)
+            tunnel_hear(it, first_on(it, at), bytes, (size_t)length, &from);
+        else
+            ether_hear(it, at, bytes, (size_t)length);
+    }
+}
+
+/* Each second that passed since the last turn, late ones too. */
+static void let_seconds_pass(gateway *it)
+{
+    uint64_t passed = (clock_now() - it->began) / 1000;
+    if (it->told >= passed)
+        return;
+    for (size_t k = 0; k < it->cable_count; k++)
+        look_at_cable(it, &it->cables[k]);
+    for (; it->told < passed; it->told++) {
+        if (ipxr_second(&it->router) < 0)
+            break; /* (no memory: the second is given again) */
+        gateway_send_all(it);
+    }
+    capture_flush();
+}
+
+/* Milliseconds to the next second; none where something is there already. */
+static int patience(const gateway *it)
+{
+    uint64_t next = it->began + (it->told + 1) * 1000, now = clock_now();
+    for (size_t k = 0; k < it->cable_count; k++)
+        if (cable_has_more(&it->cables[k]))
+            return 0;
+    return now < next ? (int)(next - now) : 0;
+}
+
+/* Hears a cable, of which `polls` tells what is there. */
+static void attend(gateway *it, cable *at, const struct pollfd *polls, nfds_t count)
+{
+    bool has_changed = false, has_come = cable_has_more(at);
+    for (nfds_t k = 0; k < count; k++) {
+        bool is_packet = polls[k].fd == at->fd && polls[k].revents == POLLIN;
+        has_come = has_come || polls[k].revents != 0;
+        has_changed = has_changed || (polls[k].revents != 0 && !is_packet);
+    }
+    if (has_changed)
+        look_at_cable(it, at);
+    if (has_come)
+        receive(it, at);
+}
+
+void gateway_turn(gateway *it, bool waits)
+{
+    struct pollfd polls[2 * IPXR_MOST_PORTS];
+    nfds_t first[IPXR_MOST_PORTS + 1] = {0};
+    for (size_t k = 0; k < it->cable_count; k++)
+        first[k + 1] = first[k] + cable_waits(&it->cables[k], polls + first[k]);
+    if (poll(polls, first[it->cable_count], waits ? patience(it) : 0) >= 0)
+        for (size_t k = 0; k < it->cable_count; k++)
+            attend(it, &it->cables[k], polls + first[k], first[k + 1] - first[k]);
+    let_seconds_pass(it);
+}
+
+/* ---- Start and end ---- */
+
+/* The gateway's node on a network: the card's own address, what the line says, or one that is made up: of the tunnel one that no
+ * datagram comes from, else one that the network's number makes its own. */
+static void choose_node(network *on)
+{
+    static const uint8_t of_tunnel[NODE] = {0, 0, 0, 0, 0, 1};
+    uint8_t made_up[NODE] = {0x02, 'I'};
+    put32(made_up + 2, on->set->network);
+    const uint8_t *node = on->set->type == LINK_DOSBOX      ? of_tunnel
+                          : on->set->type == LINK_INTERFACE ? on->cable->card
+                          : on->set->has_node               ? on->set->node
+                                                            : made_up;
+    memcpy(on->node, node, NODE);
+}
+
+/* The cable of a network: one that is open already, where two networks share it. Each network of an interface has a socket of its own. */
+static cable *cable_of(gateway *it, const network_setting *set)
+{
+    for (size_t k = 0; k < it->cable_count; k++)
+        if (set->type != LINK_INTERFACE && same_link(it->cables[k].set, set))
+            return &it->cables[k];
+    cable *made = &it->cables[it->cable_count++];
+    const char *fault = cable_open(made, set);
+    if (fault == NULL)
+        return made;
+    char words[128];
+    link_words(set, words, sizeof words);
+    fprintf(stderr, "ipxr-gateway: line %zu: %s: %s: %s\n", set->line, words, fault, strerror(errno));
+    return NULL;
+}
+
+static bool open_all(gateway *it, const settings *set)
+{
+    for (size_t k = 0; k < set->count; k++) {
+        network *on = &it->networks[it->count++];
+        on->set = &set->networks[k];
+        on->cable = cable_of(it, on->set);
+        if (on->cable == NULL)
+            return false;
+        choose_node(on);
+        on->is_up = true;
+    }
+    return true;
+}
+
+static int32_t make(gateway *it)
+{
+    ipxr_port ports[IPXR_MOST_PORTS] = {{0}};
+    for (size_t k = 0; k < it->count; k++) {
+        const network_setting *set = it->networks[k].set;
+        ports[k].network = set->network;
+        memcpy(ports[k].node, it->networks[k].node, NODE);
+        ports[k].cost = set->cost;
+        ports[k].longest = set->longest;
+        ports[k].routes = set->routes;
+        ports[k].services = set->services;
+    }
+    int32_t made = ipxr_make(&it->router, ports, it->count);
+    return made < 0 ? made : ipxr_start(&it->router);
+}
+
+/* Where each network is: the port of an address that was taken free, and the gateway's node. */
+static void tell_start(const gateway *it)
+{
+    for (size_t k = 0; k < it->count; k++) {
+        char words[128], node[WORDS];
+        network_setting taken = *it->networks[k].set;
+        taken.local = it->networks[k].cable->local;
+        link_words(&taken, words, sizeof words);
+        printf("network %08" PRIX32 " on %s, node %s\n", taken.network, words, node_words(it->networks[k].node, node));
+    }
+}
+
+bool gateway_start(gateway *it, const settings *set)
+{
+    char words[WORDS];
+    memset(it, 0, sizeof *it);
+    if (!open_all(it, set))
+        return false;
+    int32_t made = make(it);
+    if (made < 0) {
+        fprintf(stderr, "ipxr-gateway: %s\n", answer_words(made, words));
+        return false;
+    }
+    it->began = clock_now();
+    if (it->began == 0) {
+        fprintf(stderr, "ipxr-gateway: the clock can't be read: %s\n", strerror(errno));
+        return false;
+    }
+    tell_start(it);
+    for (size_t k = 0; k < it->cable_count; k++)
+        look_at_cable(it, &it->cables[k]);
+    gateway_send_all(it);
+    return true;
+}
+
+void gateway_stop(gateway *it)
+{
+    ipxr_stop(&it->router);
+    gateway_send_all(it);
+    ipxr_free(&it->router);
+    for (size_t k = 0; k < it->cable_count; k++)
+        cable_close(&it->cables[k]);
+    capture_close();
+}

@@ -1,0 +1,65 @@
+/* The gateway: one router, its networks, and the cables that carry them. */
+#ifndef GATEWAY_H
+#define GATEWAY_H
+
+#include <stdbool.h>
+
+#include "cable.h"
+#include "clients.h"
+#include "counts.h"
+#include "ipxr.h"
+#include "settings.h"
+
+/* A network: the router's port of the same number. */
+typedef struct network {
+    const network_setting *set;
+    cable *cable;
+    uint8_t node[6]; /* the gateway's own there */
+    bool is_up;
+    counts counts;
+    clients clients; /* of DOSBox' tunnel */
+} network;
+
+typedef struct gateway {
+    ipxr router;
+    network networks[IPXR_MOST_PORTS];
+    size_t count;
+    cable cables[IPXR_MOST_PORTS];
+    size_t cable_count;
+    uint64_t began; /* milliseconds of the clock at the start */
+    uint64_t told;  /* seconds that the router has heard of since */
+} gateway;
+
+/* Opens everything and starts the router. Returns false where something can't be opened, which is told on standard error. */
+bool gateway_start(gateway *it, const settings *set);
+
+/* Hands on what has come, and lets seconds pass. Where it waits, something comes first, or a signal or the next second. */
+void gateway_turn(gateway *it, bool waits);
+
+/* Stops the router, which tells its neighbours, and closes everything. */
+void gateway_stop(gateway *it);
+
+/* What it knows and what it has counted, on standard output. */
+void gateway_report(gateway *it);
+
+/* ---- Between its parts ---- */
+
+/* The router hears a packet that came on a network, and what it has to say is sent. */
+void gateway_hear(gateway *it, network *on, const uint8_t *packet, size_t length);
+
+/* Sends what the router has to send. */
+void gateway_send_all(gateway *it);
+
+/* Sends a packet on a network, to a node there or to all. */
+void gateway_send(network *on, const uint8_t *node, const uint8_t *packet, size_t length);
+
+/* A packet that goes no further, and why. */
+void gateway_lose(network *on, reason why);
+
+/* A line for a packet that came on a network, and what became of it, where events are told. */
+void gateway_note(const network *on, const uint8_t *packet, size_t length, const char *became);
+
+/* Whether a header's destination is on the network where the packet came: no network, that one, or all. */
+bool is_for_here(const network *on, const uint8_t *packet);
+
+#endif

@@ -1,0 +1,130 @@
+/* ipxr-gateway: routes IPX between DOSBox' tunnels, the cards of emulators, TAPs and Ethernet. */
+#include <errno.h>
+#include <signal.h>
+#include <stdio.h>
+#include <string.h>
+
+#include "capture.h"
+#include "gateway.h"
+#include "note.h"
+#include "settings.h"
+
+/* Exit statuses: something can't be opened; the configuration is wrong; the command line is. */
+enum { CANNOT_OPEN = 1, WRONG_CONFIGURATION = 2, WRONG_USE = 64 };
+
+static volatile sig_atomic_t is_over;
+static volatile sig_atomic_t is_asked;
+
+static void end(int number)
+{
+    (void)number;
+    is_over = 1;
+}
+
+static void ask(int number)
+{
+    (void)number;
+    is_asked = 1;
+}
+
+static void on_signal(int number, void (*does)(int))
+{
+    struct sigaction how = {0};
+    how.sa_handler = does;
+    sigaction(number, &how, NULL);
+}
+
+/* What the command line says. */
+typedef struct {
+    bool is_check, is_help, is_log;
+    const char *capture;
+    const char *configuration;
+} options;
+
+static bool read_options(options *it, int count, char **words)
+{
+    for (int k = 1; k < count; k++) {
+        if (strcmp(words[k], "--check") == 0)
+            it->is_check = true;
+        else if (strcmp(words[k], "--help") == 0)
+            it->is_help = true;
+        else if (strcmp(words[k], "--log") == 0)
+            it->is_log = true;
+        else if (strcmp(words[k], "--pcap") == 0 && k + 1 < count)
+            it->capture = words[++k];
+        else if (words[k][0] != '-' && it->configuration == NULL)
+            it->configuration = words[k];
+        else
+            return false;
+    }
+    return it->is_help || it->configuration != NULL;
+}
+
+static void show_use(FILE *file)
+{
+    fprintf(file, "ipxr-gateway [--log] [--pcap FILE] CONFIG   routes until it is told to stop\n"
+                  "ipxr-gateway --check CONFIG                 says what is wrong with a configuration\n");
+}
+
+static int read_configuration(settings *set, const char *name)
+{
+    FILE *file = fopen(name, "r");
+    if (file == NULL) {
+        fprintf(stderr, "%s: can't be opened: %s\n", name, strerror(errno));
+        return CANNOT_OPEN;
+    }
+    size_t faults = settings_read(set, file, name, stderr);
+    fclose(file);
+    return faults == 0 ? 0 : WRONG_CONFIGURATION;
+}
+
+static int route(const options *it, const settings *set)
+{
+    static gateway gate;
+    on_signal(SIGINT, end);
+    on_signal(SIGTERM, end);
+    on_signal(SIGHUP, end);
+    on_signal(SIGUSR1, ask);
+    on_signal(SIGPIPE, SIG_IGN);
+    if (it->is_log)
+        note_events();
+    if (it->capture != NULL && !capture_open(it->capture)) {
+        fprintf(stderr, "ipxr-gateway: %s: can't be opened: %s\n", it->capture, strerror(errno));
+        return CANNOT_OPEN;
+    }
+    if (!gateway_start(&gate, set))
+        return CANNOT_OPEN;
+    while (!is_over) {
+        /* (what came before somebody asked is in the report) */
+        bool was_asked = is_asked != 0;
+        if (was_asked)
+            is_asked = 0;
+        gateway_turn(&gate, !was_asked);
+        if (was_asked) {
+            capture_flush();
+            gateway_report(&gate);
+        }
+    }
+    gateway_report(&gate);
+    gateway_stop(&gate);
+    return 0;
+}
+
+int main(int count, char **words)
+{
+    static settings set;
+    options it = {0};
+    if (!read_options(&it, count, words) || it.is_help) {
+        show_use(it.is_help ? stdout : stderr);
+        return it.is_help ? 0 : WRONG_USE;
+    }
+    setvbuf(stdout, NULL, _IOLBF, BUFSIZ);
+    int fault = read_configuration(&set, it.configuration);
+    if (fault != 0)
+        return fault;
+    if (it.is_check) {
+        printf("%s: %zu %s, nothing wrong\n", it.configuration, set.count, set.count == 1 ? "network" : "networks");
+        return 0;
+    }
+    return route(&it, &set);
+}

@@ -1,0 +1,343 @@
+#include "settings.h"
+
+#include <arpa/inet.h>
+#include <errno.h>
+#include <stdlib.h>
+#include <string.h>
+
+#include "ipx.h"
+#include "reader.h"
+#include "words.h"
+
+enum { SHORTEST_LONGEST = 576 };
+
+/* The default route and all networks: numbers that no network has. */
+#define FIRST_RESERVED 0xFFFFFFFEu
+
+/* The words that a person may write for a link, and the longest packet that it carries. */
+static const struct {
+    const char *word;
+    link_type type;
+} LINKS[] = {
+    {"dosbox", LINK_DOSBOX},   {"qemu-udp", LINK_QEMU_UDP},   {"qemu-tcp", LINK_QEMU_LISTEN},
+    {"tap", LINK_TAP},         {"interface", LINK_INTERFACE},
+};
+#define LINK_WORDS "dosbox, qemu-udp, qemu-tcp, tap or interface"
+
+/* The kinds of frames, and bytes of the longest packet in each; the first stands for the tunnel. */
+static const struct {
+    const char *word;
+    uint16_t longest;
+} KINDS[] = {{"", 1424}, {"ethernet2", 1500}, {"raw", 1500}, {"llc", 1497}, {"snap", 1492}};
+#define KIND_WORDS "raw, ethernet2, llc or snap"
+
+const char *kind_word(uint8_t kind)
+{
+    return KINDS[kind].word;
+}
+
+/* ---- The words of a network ---- */
+
+static bool read_network(reader *r, network_setting *it)
+{
+    const char *word = reader_word(r);
+    if (word == NULL || !is_hexadecimal(word, 8, &it->network) || it->network == 0 || it->network >= FIRST_RESERVED)
+        return reader_fault(r, word, "expected the number of a network in hexadecimal digits, 1 to FFFFFFFD");
+    for (size_t k = 0; k < r->into->count; k++)
+        if (r->into->networks[k].network == it->network)
+            return reader_fault(r, word, "expected another network, this one is that of line %zu", r->into->networks[k].line);
+    return true;
+}
+
+static bool read_cost_and_longest(reader *r, network_setting *it)
+{
+    uint32_t cost, longest;
+    const char *word = reader_word(r);
+    if (word == NULL || !is_number(word, 65535, &cost) || cost == 0)
+        return reader_fault(r, word, "expected the cost in ticks, 1 to 65535");
+    word = reader_word(r);
+    if (word == NULL || !is_number(word, LONGEST, &longest) || longest < SHORTEST_LONGEST)
+        return reader_fault(r, word, "expected the bytes of the longest packet, %d to %d", SHORTEST_LONGEST, LONGEST);
+    it->cost = (uint16_t)cost;
+    it->longest = (uint16_t)longest;
+    return true;
+}
+
+/* Both shares, where the next word is a number. */
+static bool read_shares(reader *r, network_setting *it)
+{
+    uint32_t routes, services;
+    it->routes = it->services = IPXR_NO_LIMIT;
+    if (r->next == r->count || r->words[r->next][0] < '0' || r->words[r->next][0] > '9')
+        return true;
+    const char *word = reader_word(r);
+    if (!is_number(word, 65535, &routes))
+        return reader_fault(r, word, "expected the most routes, 0 to 65535");
+    word = reader_word(r);
+    if (word == NULL || !is_number(word, 65535, &services))
+        return reader_fault(r, word, "expected the most services, 0 to 65535");
+    it->routes = (uint16_t)routes;
+    it->services = (uint16_t)services;
+    return true;
+}
+
+static bool read_address(reader *r, struct sockaddr_in *at, bool is_remote)
+{
+    const char *word = reader_word(r);
+    if (word == NULL || !is_address(word, at) || (is_remote && at->sin_port == 0))
+        return reader_fault(r, word, "expected an address in numbers and a port, as 127.0.0.1:5001%s", is_remote ? "" : ", or a port alone");
+    return true;
+}
+
+static bool read_name(reader *r, network_setting *it)
+{
+    const char *word = reader_word(r);
+    if (word == NULL || strlen(word) >= sizeof it->name || strchr(word, '/') != NULL)
+        return reader_fault(r, word, "expected the name of %s, of at most %zu letters",
+                     it->type == LINK_TAP ? "a TAP" : "an interface", sizeof it->name - 1);
+    strcpy(it->name, word);
+    return true;
+}
+
+/* `listen ADDRESS` or `connect ADDRESS`. */
+static bool read_connection(reader *r, network_setting *it)
+{
+    const char *word = reader_word(r);
+    if (word != NULL && strcmp(word, "listen") == 0)
+        return read_address(r, &it->local, false);
+    if (word == NULL || strcmp(word, "connect") != 0)
+        return reader_fault(r, word, "expected listen or connect");
+    it->type = LINK_QEMU_CONNECT;
+    return read_address(r, &it->remote, true);
+}
+
+static bool read_type(reader *r, network_setting *it)
+{
+    const char *word = reader_word(r);
+    for (size_t k = 0; word != NULL && k < sizeof LINKS / sizeof *LINKS; k++)
+        if (strcmp(word, LINKS[k].word) == 0) {
+            it->type = LINKS[k].type;
+            return true;
+        }
+    return reader_fault(r, word, "expected %s", LINK_WORDS);
+}
+
+static bool read_link(reader *r, network_setting *it)
+{
+    if (!read_type(r, it))
+        return false;
+    switch (it->type) {
+    case LINK_DOSBOX:
+        return read_address(r, &it->local, false);
+    case LINK_QEMU_UDP:
+        return read_address(r, &it->local, false) && read_address(r, &it->remote, true);
+    case LINK_QEMU_LISTEN:
+    case LINK_QEMU_CONNECT:
+        return read_connection(r, it);
+    default:
+        return read_name(r, it);
+    }
+}
+
+static bool read_kind(reader *r, network_setting *it)
+{
+    it->kind = IPXR_NO_FRAME;
+    if (it->type == LINK_DOSBOX)
+        return true;
+    const char *word = reader_word(r);
+    for (uint8_t kind = IPXR_FRAME_ETHERNET2; word != NULL && kind <= IPXR_FRAME_SNAP; kind++)
+        if (strcmp(word, KINDS[kind].word) == 0) {
+            it->kind = kind;
+            return true;
+        }
+    return reader_fault(r, word, "expected the kind of frames: %s", KIND_WORDS);
+}
+
+/* `node NODE`, where the gateway has no card of its own there. */
+static bool read_node(reader *r, network_setting *it)
+{
+    if (r->next == r->count || it->type == LINK_DOSBOX || it->type == LINK_INTERFACE)
+        return true;
+    const char *word = reader_word(r);
+    if (strcmp(word, "node") != 0)
+        return reader_fault(r, word, "expected node, or nothing more");
+    word = reader_word(r);
+    if (word == NULL || !is_node(word, it->node) || (it->node[0] & 1) != 0 || memcmp(it->node, "\0\0\0\0\0", sizeof it->node) == 0)
+        return reader_fault(r, word, "expected a node, twelve digits, as 02005E000001, whose first byte is even");
+    it->has_node = true;
+    return true;
+}
+
+/* ---- What the words say together ---- */
+
+static void address_words(const struct sockaddr_in *at, char *words, size_t room)
+{
+    char host[INET_ADDRSTRLEN];
+    snprintf(words, room, "%s:%u", inet_ntop(AF_INET, &at->sin_addr, host, sizeof host), ntohs(at->sin_port));
+}
+
+static bool same_address(const struct sockaddr_in *a, const struct sockaddr_in *b)
+{
+    return a->sin_addr.s_addr == b->sin_addr.s_addr && a->sin_port == b->sin_port;
+}
+
+bool same_link(const network_setting *a, const network_setting *b)
+{
+    return a->type == b->type && strcmp(a->name, b->name) == 0 && same_address(&a->remote, &b->remote) &&
+           same_address(&a->local, &b->local) && (a->local.sin_port != 0 || a->type == LINK_QEMU_CONNECT || a->name[0] != '\0');
+}
+
+/* Whether two links would take one address of this machine. */
+static bool takes_the_same(const network_setting *a, const network_setting *b)
+{
+    bool both_datagrams = (a->type == LINK_DOSBOX || a->type == LINK_QEMU_UDP) && (b->type == LINK_DOSBOX || b->type == LINK_QEMU_UDP);
+    bool both_listen = a->type == LINK_QEMU_LISTEN && b->type == LINK_QEMU_LISTEN;
+    return (both_datagrams || both_listen) && a->local.sin_port != 0 && same_address(&a->local, &b->local);
+}
+
+static bool is_single(reader *r, const network_setting *it)
+{
+    for (size_t k = 0; k < r->into->count; k++) {
+        const network_setting *other = &r->into->networks[k];
+        bool is_shared = same_link(it, other) && it->type != LINK_DOSBOX;
+        if (is_shared && it->kind == other->kind)
+            return reader_fault(r, kind_word(it->kind), "expected another kind of frames, line %zu has these there", other->line);
+        if (!is_shared && takes_the_same(it, other)) {
+            char words[32];
+            address_words(&it->local, words, sizeof words);
+            return reader_fault(r, words, "expected another address, line %zu has this one", other->line);
+        }
+    }
+    return true;
+}
+
+static bool fits(reader *r, const network_setting *it)
+{
+    char longest[8];
+    snprintf(longest, sizeof longest, "%u", it->longest);
+    return it->longest <= KINDS[it->kind].longest ||
+           reader_fault(r, longest, "expected the bytes of the longest packet, %d to %d on this link", SHORTEST_LONGEST, KINDS[it->kind].longest);
+}
+
+/* ---- Lines ---- */
+
+static void read_network_line(reader *r)
+{
+    network_setting it = {0};
+    it.line = r->line;
+    r->is_below_wrong = true;
+    if (r->into->count == IPXR_MOST_PORTS) {
+        reader_fault(r, r->words[0], "expected at most %d networks", IPXR_MOST_PORTS);
+        return;
+    }
+    if (read_network(r, &it) && read_cost_and_longest(r, &it) && read_shares(r, &it) && read_link(r, &it) && read_kind(r, &it) &&
+        is_single(r, &it) && fits(r, &it) && read_node(r, &it) && reader_ends(r)) {
+        r->into->networks[r->into->count++] = it;
+        r->is_below_wrong = false;
+    }
+}
+
+static bool names_socket(const network_setting *it, uint32_t socket)
+{
+    for (size_t k = 0; k < it->socket_count; k++)
+        if (it->sockets[k] == socket)
+            return true;
+    return false;
+}
+
+/* The sockets of the network above; they aren't looked at where its line is wrong. */
+static void read_extend_line(reader *r)
+{
+    uint32_t socket;
+    if (r->is_below_wrong)
+        return;
+    if (r->into->count == 0) {
+        reader_fault(r, r->words[0], "expected below the line of a network");
+        return;
+    }
+    network_setting *it = &r->into->networks[r->into->count - 1];
+    do {
+        const char *word = reader_word(r);
+        if (word == NULL || !is_hexadecimal(word, 4, &socket) || socket == 0 || names_socket(it, socket)) {
+            reader_fault(r, word, "expected a socket in hexadecimal digits, 1 to FFFF, that isn't named yet");
+            return;
+        }
+        if (it->socket_count == MOST_SOCKETS) {
+            reader_fault(r, word, "expected at most %d sockets", MOST_SOCKETS);
+            return;
+        }
+        it->sockets[it->socket_count++] = (uint16_t)socket;
+    } while (r->next < r->count);
+}
+
+static void read_line(reader *r, char *line)
+{
+    const char *word = reader_cut(r, line) ? reader_word(r) : NULL;
+    if (word == NULL)
+        return;
+    if (strcmp(word, "network") == 0)
+        read_network_line(r);
+    else if (strcmp(word, "extend") == 0)
+        read_extend_line(r);
+    else
+        reader_fault(r, word, "expected network or extend");
+}
+
+/* Reads all lines; returns false where memory or the file fails. */
+static bool read_lines(reader *r, FILE *file)
+{
+    char *line = NULL;
+    size_t room = 0;
+    ssize_t length;
+    while (errno = 0, (length = getline(&line, &room, file)) >= 0) {
+        r->line++;
+        if (strlen(line) != (size_t)length)
+            reader_fault(r, line, "expected text, there is a byte 0 behind it");
+        else
+            read_line(r, line);
+    }
+    free(line);
+    return !ferror(file) && errno == 0;
+}
+
+size_t settings_read(settings *it, FILE *file, const char *name, FILE *complaints)
+{
+    reader r = {.name = name, .complaints = complaints, .into = it};
+    memset(it, 0, sizeof *it);
+    if (!read_lines(&r, file)) {
+        fprintf(complaints, "%s: can't be read: %s\n", name, strerror(errno));
+        r.faults++;
+    } else if (r.faults == 0 && it->count == 0) {
+        fprintf(complaints, "%s: expected a line that begins with network\n", name);
+        r.faults++;
+    }
+    return r.faults;
+}
+
+/* ---- What a link is called ---- */
+
+void link_words(const network_setting *it, char *words, size_t room)
+{
+    char local[32], remote[32];
+    address_words(&it->local, local, sizeof local);
+    address_words(&it->remote, remote, sizeof remote);
+    const char *kind = kind_word(it->kind);
+    switch (it->type) {
+    case LINK_DOSBOX:
+        snprintf(words, room, "dosbox %s", local);
+        break;
+    case LINK_QEMU_UDP:
+        snprintf(words, room, "qemu-udp %s %s %s", local, remote, kind);
+        break;
+    case LINK_QEMU_LISTEN:
+        snprintf(words, room, "qemu-tcp listen %s %s", local, kind);
+        break;
+    case LINK_QEMU_CONNECT:
+        snprintf(words, room, "qemu-tcp connect %s %s", remote, kind);
+        break;
+    case LINK_TAP:
+    case LINK_INTERFACE:
+        snprintf(words, room, "%s %s %s", it->type == LINK_TAP ? "tap" : "interface", it->name, kind);
+        break;
+    }
+}

@@ -1,0 +1,61 @@
+/* What a configuration says. Nothing is opened while it is read, and nothing of it is used unless all of it is right. */
+#ifndef SETTINGS_H
+#define SETTINGS_H
+
+#include <net/if.h>
+#include <netinet/in.h>
+#include <stdbool.h>
+#include <stddef.h>
+#include <stdint.h>
+#include <stdio.h>
+
+#include "ipxr.h"
+
+/* The most sockets that a network's `extend` may name. */
+#define MOST_SOCKETS 16
+
+/* What carries a network. */
+typedef enum {
+    LINK_DOSBOX,      /* datagrams of DOSBox' tunnel: the gateway is its server */
+    LINK_QEMU_UDP,    /* a frame a datagram, from and to one address */
+    LINK_QEMU_LISTEN,  /* frames with their length in front, on a connection that comes in */
+    LINK_QEMU_CONNECT, /* the same on a connection that goes out */
+    LINK_TAP,         /* frames of a TAP */
+    LINK_INTERFACE,   /* frames of an Ethernet interface */
+} link_type;
+
+/* A network, as its line says it. */
+typedef struct network_setting {
+    size_t line;               /* the number of the line, for messages */
+    uint32_t network;
+    uint16_t cost;             /* ticks */
+    uint16_t longest;          /* bytes of the longest packet */
+    uint16_t routes, services; /* shares of the tables, or IPXR_NO_LIMIT */
+    link_type type;
+    struct sockaddr_in local;  /* where datagrams and connections come in */
+    struct sockaddr_in remote; /* where they go */
+    char name[IF_NAMESIZE];       /* of a TAP or an interface */
+    uint8_t kind;              /* of its frames; IPXR_NO_FRAME in the tunnel */
+    bool has_node;             /* whether the line says the gateway's node there */
+    uint8_t node[6];
+    uint16_t sockets[MOST_SOCKETS]; /* whose broadcasts are extended */
+    size_t socket_count;
+} network_setting;
+
+typedef struct settings {
+    network_setting networks[IPXR_MOST_PORTS];
+    size_t count;
+} settings;
+
+/* Reads a configuration. Returns how many faults there are; each has been told on `complaints` with its line and word, and what
+ * was expected. `name` is the file's, for the messages. */
+size_t settings_read(settings *it, FILE *file, const char *name, FILE *complaints);
+
+/* Whether two networks are on one link, which is opened once for both. */
+bool same_link(const network_setting *a, const network_setting *b);
+
+/* The words of a kind of frame, and of a link with its addresses or name. */
+const char *kind_word(uint8_t kind);
+void link_words(const network_setting *it, char *words, size_t room);
+
+#endif

@@ -1,0 +1,335 @@
+"""What the tests of the gateway share: gateways that are started and asked, packets, clients of DOSBox' tunnel, and a count of
+what went well.
+
+No test depends on how fast the machine is. A test waits for what is to happen, and LIMIT ends it only where it fails. That nothing
+comes is shown by what comes next: what is said in order is heard in order. Where a test needs hours, it sets the clock itself.
+
+The programs lie in build/, where tools/gateway puts them.
+"""
+import itertools
+import os
+import random
+import re
+import select
+import signal
+import socket
+import struct
+import subprocess
+import tempfile
+import time
+
+TOP = os.path.dirname(os.path.dirname(os.path.dirname(os.path.realpath(__file__))))
+BUILD = os.path.join(TOP, "build")
+PROGRAM = os.path.join(BUILD, "ipxr-gateway")
+SANITIZED = os.path.join(BUILD, "ipxr-gateway-sanitized")
+TROUBLED = os.path.join(BUILD, "ipxr-gateway-troubled")
+FAST = os.path.join(BUILD, "ipxr-gateway-fast")
+
+LIMIT = 60  # seconds until a test that fails gives up
+AGAIN = 0.5  # seconds until something is said again, where it may have been lost
+ROOM = 1 << 20  # bytes that a socket of a test keeps, as far as the system allows it, while the test looks elsewhere
+EVERYONE = b"\xff" * 6
+NOBODY = bytes(6)
+GATEWAY = bytes([0, 0, 0, 0, 0, 1])  # its node on a network of the tunnel
+GAME = 0x4003
+RIP, SAP = 0x453, 0x452
+
+
+class Counts:
+    """What went well and what didn't, told as it happens."""
+
+    def __init__(self):
+        self.passed = self.failed = 0
+
+    def run(self, test):
+        """Runs a test: a function whose name and first line tell what it shows."""
+        name = test.__doc__.splitlines()[0].rstrip(".")
+        try:
+            test()
+        except (AssertionError, OSError, subprocess.SubprocessError, IndexError, KeyError) as fault:
+            self.failed += 1
+            print(f"FAILED  gateway: {name}\n        {type(fault).__name__}: {fault}", flush=True)
+        else:
+            self.passed += 1
+            print(f"ok      gateway: {name}", flush=True)
+
+
+def left_out(what, why):
+    print(f"left out: gateway: {what} ({why})", flush=True)
+
+
+# ---- Packets ----
+
+
+def address(network, node, port):
+    return struct.pack(">I6sH", network, node, port)
+
+
+def packet(to, source, data=b"", kind=4, control=0, length=None):
+    """A packet with addresses of twelve bytes."""
+    size = 30 + len(data) if length is None else length
+    return struct.pack(">HHBB", 0xFFFF, size, control, kind) + to + source + data
+
+
+def rip_response(source_network, node, routes):
+    data = struct.pack(">H", 2) + b"".join(struct.pack(">IHH", *it) for it in routes)
+    return packet(address(source_network, EVERYONE, RIP), address(source_network, node, RIP), data, kind=1)
+
+
+def sap_response(source_network, node, services):
+    """Each service: type, name, network, node, socket, hops."""
+    data = struct.pack(">H", 2)
+    for kind, name, network, at, port, hops in services:
+        data += struct.pack(">H48sI6sHH", kind, name.encode(), network, at, port, hops)
+    return packet(address(source_network, EVERYONE, SAP), address(source_network, node, SAP), data, kind=4)
+
+
+def source_of(bytes_):
+    return bytes_[18:30]
+
+
+def socket_of(bytes_):
+    return int.from_bytes(bytes_[16:18], "big")
+
+
+def is_routers(bytes_):
+    """Whether it is of routers among themselves."""
+    return int.from_bytes(bytes_[28:30], "big") in (RIP, SAP)
+
+
+# ---- The gateway ----
+
+
+class Gateway:
+    """A gateway that runs, with the ports that its networks took."""
+
+    def __init__(self, text, program=None, options=(), environment=None):
+        self.folder = tempfile.TemporaryDirectory()
+        self.configuration = os.path.join(self.folder.name, "gateway.conf")
+        with open(self.configuration, "w", encoding="utf-8") as it:
+            it.write(text)
+        self.networks = sum(line.startswith("network") for line in text.splitlines())
+        self.start(program or (SANITIZED if os.path.exists(SANITIZED) else PROGRAM), options, environment)
+
+    def start(self, program, options=(), environment=None):
+        self.program = program
+        self.lines = []
+        self.run = subprocess.Popen(
+            [program, *options, self.configuration],
+            stdin=subprocess.DEVNULL,
+            stdout=subprocess.PIPE,
+            stderr=subprocess.PIPE,
+            env={**os.environ, **(environment or {})},
+        )
+        self.rest = b""
+        self.ports = {}
+        while len(self.ports) < self.networks:
+            line = self.line()
+            found = re.match(r"network (\w{8}) on (?:\S+) (?:listen )?(?:127[\d.]+:(\d+))?", line)
+            if found:
+                self.ports[int(found[1], 16)] = int(found[2] or 0)
+
+    def line(self):
+        """The next line of its output."""
+        end = time.monotonic() + LIMIT
+        while b"\n" not in self.rest:
+            ready, _, _ = select.select([self.run.stdout], [], [], max(0, end - time.monotonic()))
+            piece = os.read(self.run.stdout.fileno(), 65536) if ready else b""
+            if not piece:
+                self.run.kill()
+                raise AssertionError(f"the gateway says nothing more: {self.run.stderr.read().decode()}")
+            self.rest += piece
+        line, self.rest = self.rest.split(b"\n", 1)
+        self.lines.append(line.decode())
+        return self.lines[-1]
+
+    def lines_to(self, last):
+        lines = []
+        while not lines or lines[-1] != last:
+            lines.append(self.line())
+        return lines
+
+    def report(self):
+        """What it says when it is asked, as one text: of all that came before, and after all seconds that have passed."""
+        self.run.send_signal(signal.SIGUSR1)
+        return "\n".join(self.lines_to("end of report"))
+
+    def counted(self, network, what, report=None):
+        """A number of a network in the report, 0 where it isn't there."""
+        text = report or self.report()
+        part = text.split(f"network {network:08X} ", 1)[1].split("\nnetwork ", 1)[0].split("\nroutes:", 1)[0]
+        found = re.search(rf"(?:^|\W){re.escape(what)}:? (\d+)", part)
+        return int(found[1]) if found else 0
+
+    def until(self, words):
+        """Waits until its report has some words. Returns the report."""
+        return until(lambda: (lambda report: words in report and report)(self.report()), words)
+
+    def until_counted(self, network, what, number):
+        """Waits until a network has counted so many."""
+        until(lambda: self.counted(network, what) == number, f"{number} {what}")
+
+    def memory(self):
+        """Kilobytes of its own that it has, files that it shares with others aside."""
+        with open(f"/proc/{self.run.pid}/status", encoding="utf-8") as it:
+            return int(re.search(r"RssAnon:\s+(\d+)", it.read())[1])
+
+    def end(self, number=signal.SIGTERM, status=0):
+        """Ends it, and sees that it complained of nothing. Returns all that it said."""
+        self.run.send_signal(number)
+        out, complaint = self.run.communicate(timeout=LIMIT)
+        assert self.run.returncode == status, f"it ended with {self.run.returncode}: {complaint.decode()}"
+        assert status != 0 or not complaint, complaint.decode()
+        return "\n".join(self.lines) + (self.rest + out).decode()
+
+    def __enter__(self):
+        return self
+
+    def __exit__(self, kind, *_):
+        if self.run.poll() is None:
+            if kind is None:
+                self.end()
+            else:
+                self.run.kill()
+                self.run.communicate()
+        self.folder.cleanup()
+
+
+class Clock:
+    """A clock that the test sets: for gateways that are built with calls in front of the system's own."""
+
+    def __init__(self):
+        self.folder = tempfile.TemporaryDirectory()
+        self.name = os.path.join(self.folder.name, "clock")
+        self.passed = 0
+        self.let_pass(0)
+
+    def environment(self):
+        return {"TROUBLE_CLOCK": self.name}
+
+    def let_pass(self, seconds):
+        """Some seconds more have passed."""
+        self.passed += seconds
+        with open(f"{self.name}.new", "w", encoding="ascii") as it:
+            it.write(str(1000 + self.passed))
+        os.replace(f"{self.name}.new", self.name)
+
+
+# ---- Clients of the tunnel ----
+
+
+class Client:
+    """A DOSBox, as far as the gateway sees it."""
+
+    def __init__(self, port, host="127.0.0.1", registers=True):
+        self.udp = socket.socket(socket.AF_INET, socket.SOCK_DGRAM)
+        self.udp.setsockopt(socket.SOL_SOCKET, socket.SO_RCVBUF, ROOM)
+        self.udp.bind((host, 0))
+        self.udp.connect(("127.0.0.1", port))
+        own, own_port = self.udp.getsockname()
+        self.node = socket.inet_aton(own) + struct.pack(">H", own_port)
+        self.network = 0
+        if registers:
+            self.register()
+
+    def register(self):
+        self.send(packet(address(0, NOBODY, 2), address(0, NOBODY, 2), kind=0))
+        answer = self.hear(lambda it: socket_of(it) == 2)
+        assert answer is not None, "nobody answers a registration"
+        assert answer[10:16] == self.node and len(answer) == 30
+        self.network = int.from_bytes(answer[6:10], "big")
+
+    def at(self, port=GAME):
+        return address(self.network, self.node, port)
+
+    def send(self, bytes_):
+        self.udp.send(bytes_)
+
+    def say(self, to, data, **how):
+        self.send(packet(to, self.at(), data, **how))
+
+    def hear(self, wanted=lambda it: not is_routers(it), patience=LIMIT):
+        """The next packet that is wanted, or None."""
+        end = time.monotonic() + patience
+        while True:
+            ready, _, _ = select.select([self.udp], [], [], max(0, end - time.monotonic()))
+            if not ready:
+                return None
+            bytes_ = self.udp.recv(65536)
+            if wanted(bytes_):
+                return bytes_
+
+    def close(self):
+        self.udp.close()
+
+
+FRESH = itertools.count()
+
+
+def fresh():
+    """Bytes that weren't said before."""
+    return b"packet %d" % next(FRESH)
+
+
+def says(one, other, data, patience=LIMIT, **how):
+    """What one says once, as it comes to the other, or None."""
+    one.say(other.at(), data, **how)
+    return other.hear(lambda it: not is_routers(it) and it[30:] == data, patience)
+
+
+def reaches(one, other, data=None, **how):
+    """Whether what one says comes to the other, and the packet as it came. Nothing may be lost."""
+    return says(one, other, fresh() if data is None else data, **how)
+
+
+def reaches_again(one, other):
+    """The same where something may be lost: it is said again, as a program would."""
+    data, end = fresh(), time.monotonic() + LIMIT
+    while time.monotonic() < end:
+        heard = says(one, other, data, AGAIN)
+        if heard is not None:
+            return heard
+    return None
+
+
+def comes_next(one, other):
+    """Whether what one says now is the next that comes to the other: nothing else came before."""
+    data = fresh()
+    one.say(other.at(), data)
+    heard = other.hear()
+    return heard is not None and heard[30:] == data
+
+
+def until(holds, what):
+    """Waits until something holds. Returns what it returned."""
+    end = time.monotonic() + LIMIT
+    while True:
+        found = holds()
+        if found:
+            return found
+        assert time.monotonic() < end, f"never: {what}"
+        time.sleep(0.01)
+
+
+def is_free(port):
+    with socket.socket(socket.AF_INET, socket.SOCK_DGRAM) as udp, socket.socket() as tcp:
+        try:
+            udp.bind(("127.0.0.1", port))
+            tcp.bind(("127.0.0.1", port))
+        except OSError:
+            return False
+    return True
+
+
+def free_ports(count):
+    """Ports that are free, and that the system gives to nobody who asks for any: so they are free still when they are named."""
+    with open("/proc/sys/net/ipv4/ip_local_port_range", encoding="ascii") as it:
+        first, last = (int(word) for word in it.read().split())
+    ports = [it for it in range(10000, 65536) if not first <= it <= last] or list(range(10000, 65536))
+    random.shuffle(ports)
+    return list(itertools.islice(filter(is_free, ports), count))
+
+
+def tunnels(count, first=0x10, extra=""):
+    """A configuration of some networks of the tunnel."""
+    return "".join(f"network {first + 0x10 * k:X} 1 1424 dosbox 127.0.0.1:0\n{extra}" for k in range(count))

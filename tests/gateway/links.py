@@ -1,0 +1,172 @@
+"""Cards of emulators: frames in datagrams and on connections, by the four kinds."""
+import socket
+
+from frames import KINDS, Station, Tcp, Udp, frame
+from lab import EVERYONE, GAME, LIMIT, Client, Counts, Gateway, address, comes_next, free_ports, is_routers, packet, reaches, tunnels
+
+STATION = bytes.fromhex("020000000AA1")
+
+
+def made_up(network):
+    """The gateway's node where nothing says it."""
+    return b"\x02I" + network.to_bytes(4, "big")
+
+
+def listening():
+    it = socket.socket()
+    it.settimeout(LIMIT)
+    it.bind(("127.0.0.1", 0))
+    it.listen()
+    return it
+
+
+def connected(gate, network, kind, last=1):
+    """A station that connects to the gateway, and its connection. It is heard as soon as the router has greeted it."""
+    connection = socket.create_connection(("127.0.0.1", gate.ports[network]))
+    station = Station(Tcp(connection), kind, network, STATION[:5] + bytes([last]), made_up(network))
+    assert station.hear(is_routers) is not None, "the router greets a link that comes up"
+    return station, connection
+
+
+def is_closed(connection):
+    """Waits until the other end has closed a connection."""
+    connection.settimeout(LIMIT)
+    try:
+        while connection.recv(65536):
+            pass
+    except ConnectionResetError:
+        pass
+    return True
+
+
+def both_ways(gate, station, far):
+    """A packet goes there and back; short ones padded, the longest whole; then type 20."""
+    for size in (0, 1, 15, 16, 17, 500, 1300):
+        data = bytes(k % 251 for k in range(size))
+        assert reaches(far, station, data), f"{size} bytes to {station.kind}"
+        assert reaches(station, far, data), f"{size} bytes from {station.kind}"
+    station.say(address(0, EVERYONE, GAME), bytes(32) + b"all", node=EVERYONE, kind=20)
+    assert far.hear()[62:] == b"all"
+
+
+def datagrams():
+    """A card that sends a frame a datagram reaches a DOSBox by each kind of frame, the node said or made up."""
+    for kind in KINDS:
+        wire = Udp()
+        node = bytes.fromhex("02005E0000F1") if kind == "llc" else made_up(0x20)
+        said = " node 02:00:5e:00:00:f1" if kind == "llc" else ""
+        text = tunnels(1) + f"network 20 1 1490 qemu-udp 0 127.0.0.1:{wire.port} {kind}{said}\n"
+        with Gateway(text) as gate:
+            wire.to = gate.ports[0x20]
+            station = Station(wire, kind, 0x20, STATION, node)
+            far = Client(gate.ports[0x10])
+            both_ways(gate, station, far)
+
+
+def two_networks_on_a_link():
+    """Two networks share a link by different kinds of frames; each hears its own, and both hear each other by the gateway."""
+    wire = Udp()
+    (wire.to,) = free_ports(1)
+    text = "".join(f"network {n} 1 1490 qemu-udp {wire.to} {wire.port} {kind}\n" for n, kind in ((20, "raw"), (30, "llc")))
+    with Gateway(text) as gate:
+        a = Station(wire, "raw", 0x20, STATION, made_up(0x20))
+        b = Station(wire, "llc", 0x30, STATION, made_up(0x30))
+        assert reaches(a, b) and reaches(b, a)
+        wire.send(frame("snap", EVERYONE, STATION, packet(b.at(), a.at())))
+        wire.send(frame("raw", EVERYONE, STATION, b"\0\0" + packet(b.at(), a.at())[2:]))
+        wire.send(frame("raw", b"\x02\0\0\0\0\x99", STATION, packet(b.at(), a.at())))
+        wire.send(frame("raw", EVERYONE, made_up(0x20), packet(b.at(), a.at())))
+        wire.send(b"short")
+        wire.send(b"")
+        assert reaches(a, b)
+        report = gate.report()
+        for what, count in (("another kind of frame", 1), ("no IPX", 3), ("for another node", 1), ("own frame", 1)):
+            assert gate.counted(0x20, what, report) == count, (what, report)
+
+
+def long_frames():
+    """Frames of any length are heard, cut or dropped, and the next one is heard."""
+    wire = Udp()
+    with Gateway(tunnels(1) + f"network 20 1 1500 qemu-udp 0 {wire.port} ethernet2\n") as gate:
+        wire.to = gate.ports[0x20]
+        station, far = Station(wire, "ethernet2", 0x20, STATION, made_up(0x20)), Client(gate.ports[0x10])
+        for size in (1471, 2000, 2018, 2019, 9000, 60000):
+            station.say(far.at(), bytes(size))
+        assert reaches(station, far)
+        report = gate.report()
+        assert gate.counted(0x20, "longer than the link carries", report) == 6, report
+        station.say(far.at(), bytes(1470))
+        assert reaches(station, far) and gate.counted(0x20, "drop TooLong") == 1
+
+
+def a_connection_comes():
+    """A card that connects is heard; the link is down before and after, and its network unreachable."""
+    with Gateway(tunnels(1) + "network 20 1 1490 qemu-tcp listen 0 snap\n") as gate:
+        far = Client(gate.ports[0x10])
+        assert "network 00000020 down" in gate.report()
+        for _ in range(3):
+            station, connection = connected(gate, 0x20, "snap")
+            both_ways(gate, station, far)
+            assert "network 00000020 up" in gate.report()
+            connection.close()
+            far.say(station.at(), b"?")
+            gate.until("network 00000020 down")
+
+
+def a_newer_connection():
+    """A newer connection takes the place of an older one; frames come in pieces; what isn't frames ends it."""
+    with Gateway(tunnels(1) + "network 20 1 1490 qemu-tcp listen 0 raw\n") as gate:
+        far = Client(gate.ports[0x10])
+        _, older = connected(gate, 0x20, "raw")
+        station, newer = connected(gate, 0x20, "raw", last=2)
+        assert reaches(far, station) and is_closed(older)
+        whole = frame("raw", station.gateway, STATION, packet(far.at(), station.at(), b"pieces"))
+        for byte in len(whole).to_bytes(4, "big") + whole:
+            newer.sendall(bytes([byte]))
+        assert far.hear()[30:] == b"pieces"
+        newer.sendall((len(whole).to_bytes(4, "big") + whole) * 200)
+        assert all(far.hear()[30:] == b"pieces" for _ in range(200))
+        newer.sendall(b"GET / HTTP/1.0\r\n\r\n")
+        assert is_closed(newer)
+        again, _ = connected(gate, 0x20, "raw", last=3)
+        assert reaches(far, again)
+
+
+def a_connection_goes():
+    """The gateway connects where it is told to, again when the other end comes back."""
+    place = listening()
+    port = place.getsockname()[1]
+    with Gateway(tunnels(1) + f"network 20 1 1490 qemu-tcp connect {port} llc\n") as gate:
+        far = Client(gate.ports[0x10])
+        for _ in range(2):
+            connection, _ = place.accept()
+            station = Station(Tcp(connection), "llc", 0x20, STATION, made_up(0x20))
+            assert station.hear(is_routers)
+            both_ways(gate, station, far)
+            connection.close()
+
+
+def extended():
+    """A broadcast of a DOSBox is handed to a wire, and one of the wire to DOSBox, where both name its socket."""
+    wire = Udp()
+    text = tunnels(1, extra="extend 4003\n") + f"network 20 1 1490 qemu-udp 0 {wire.port} raw\nextend 4003 4004\n"
+    with Gateway(text) as gate:
+        wire.to = gate.ports[0x20]
+        station, far = Station(wire, "raw", 0x20, STATION, made_up(0x20)), Client(gate.ports[0x10])
+        far.say(address(0, EVERYONE, GAME), b"from DOSBox")
+        assert station.hear() == packet(address(0x20, EVERYONE, GAME), far.at(), b"from DOSBox")
+        station.say(address(0, EVERYONE, GAME), b"from the wire", node=EVERYONE)
+        assert far.hear() == packet(address(0x10, EVERYONE, GAME), station.at(), b"from the wire")
+        wire.send(frame("raw", EVERYONE, STATION, packet(address(0, EVERYONE, GAME), address(0, STATION, GAME), b"lost")))
+        assert comes_next(station, far) and gate.counted(0x20, "not extended") == 1
+
+
+def main():
+    counts = Counts()
+    for test in (datagrams, two_networks_on_a_link, long_frames, a_connection_comes, a_newer_connection, a_connection_goes, extended):
+        counts.run(test)
+    return counts
+
+
+if __name__ == "__main__":
+    main()

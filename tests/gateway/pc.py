@@ -1,0 +1,93 @@
+"""A real QEMU: a PC whose boot sector drives an NE2000 and sends packets back."""
+import os
+import shutil
+import subprocess
+import tempfile
+import time
+
+from lab import AGAIN, GAME, TOP, Client, Counts, Gateway, address, free_ports, left_out, packet, tunnels
+
+SOURCE = os.path.join(TOP, "tests", "gateway", "pc", "boot.asm")
+PROGRAMS = ("qemu-system-i386", "qemu-system-x86_64")
+NODE = bytes.fromhex("525400123456")
+MOST = 300  # seconds until a PC is taken for lost
+
+
+class Pc:
+    """A PC that runs until it is left."""
+
+    def __init__(self, folder, netdev):
+        program = next(it for it in PROGRAMS if shutil.which(it))
+        boot = os.path.join(folder, "boot")
+        subprocess.run(["nasm", "-f", "bin", "-o", boot, SOURCE], check=True)
+        mac = ":".join(f"{it:02x}" for it in NODE)
+        words = ["-nodefaults", "-display", "none", "-vga", "none", "-accel", "tcg", "-m", "16", "-drive", f"if=floppy,format=raw,file={boot}"]
+        words += ["-netdev", netdev.replace(",", ",id=n,", 1)]
+        words += ["-device", f"ne2k_isa,netdev=n,iobase=0x300,irq=9,mac={mac}"]
+        how = {"stdin": subprocess.DEVNULL, "stdout": subprocess.DEVNULL, "stderr": subprocess.PIPE}
+        self.run = subprocess.Popen([program, *words], **how)
+
+    def __enter__(self):
+        return self
+
+    def __exit__(self, *_):
+        self.run.kill()
+        self.complaint = self.run.communicate()[1].decode()
+
+
+def is_answered(client, pc, data):
+    """Whether the PC sends a packet back, though not at once: it has to boot. What it sent back before may still come."""
+    end = time.monotonic() + MOST
+    while time.monotonic() < end:
+        assert pc.run.poll() is None, "QEMU has ended: " + pc.run.stderr.read().decode()
+        client.say(address(0x30, NODE, GAME), data)
+        heard = client.hear(lambda it: it[30:] == data, AGAIN)
+        if heard is not None:
+            return heard == packet(client.at(), address(0x30, NODE, GAME), data, control=1)
+    return False
+
+
+def tried(link, netdev):
+    """A PC by one kind of link: packets of several lengths come back."""
+    with tempfile.TemporaryDirectory() as folder, Gateway(tunnels(1) + f"network 30 1 1500 {link} raw\n") as gate:
+        client = Client(gate.ports[0x10])
+        with Pc(folder, netdev) as pc:
+            for size in (0, 1, 17, 546, 1394):
+                assert is_answered(client, pc, bytes(k % 251 for k in range(size))), f"{size} bytes by {link}"
+        assert gate.counted(0x30, "no IPX") == 0
+
+
+def inet(kind, port):
+    return f"{kind}.type=inet,{kind}.host=127.0.0.1,{kind}.port={port}"
+
+
+def datagrams():
+    """A PC in QEMU answers a DOSBox' client, its frames in datagrams (-netdev dgram, and the older -netdev socket)."""
+    gate, card = free_ports(2)
+    tried(f"qemu-udp {gate} {card}", f"dgram,{inet('local', card)},{inet('remote', gate)}")
+    tried(f"qemu-udp {gate} {card}", f"socket,udp=127.0.0.1:{gate},localaddr=127.0.0.1:{card}")
+
+
+def connections():
+    """The same by connections, which QEMU begins or the gateway (-netdev stream, and the older -netdev socket)."""
+    (port,) = free_ports(1)
+    tried(f"qemu-tcp listen {port}", f"stream,{inet('addr', port)}")
+    tried(f"qemu-tcp listen {port}", f"socket,connect=127.0.0.1:{port}")
+    tried(f"qemu-tcp connect {port}", f"stream,server=on,{inet('addr', port)}")
+    tried(f"qemu-tcp connect {port}", f"socket,listen=127.0.0.1:{port}")
+
+
+def main():
+    counts = Counts()
+    if not any(shutil.which(it) for it in PROGRAMS):
+        left_out("a PC in QEMU", f"no {PROGRAMS[0]}")
+    elif not shutil.which("nasm"):
+        left_out("a PC in QEMU", "no nasm")
+    else:
+        counts.run(datagrams)
+        counts.run(connections)
+    return counts
+
+
+if __name__ == "__main__":
+    main()

@@ -1,0 +1,133 @@
+/* For the tests: the gateway with calls of the system that fail, and a clock that the test sets. It is linked in front of the system's
+ * own by --wrap, so it goes along with the sanitizers.
+ *
+ *     TROUBLE_CALL=NAME TROUBLE_AT=N TROUBLE_ERRNO=E   the Nth call of that name fails, once, with that errno
+ *     TROUBLE_CLOCK=FILE                               the monotonic clock stands at the second that the file says */
+#include <errno.h>
+#include <fcntl.h>
+#include <net/if.h>
+#include <netinet/in.h>
+#include <poll.h>
+#include <stdarg.h>
+#include <stdbool.h>
+#include <stdio.h>
+#include <stdlib.h>
+#include <string.h>
+#include <sys/socket.h>
+#include <time.h>
+#include <unistd.h>
+
+static unsigned long number_of(const char *name)
+{
+    const char *text = getenv(name);
+    return text != NULL ? strtoul(text, NULL, 10) : 0;
+}
+
+/* Whether this call is the one that fails. */
+static bool fails(const char *name)
+{
+    static unsigned long count;
+    const char *which = getenv("TROUBLE_CALL");
+    if (which == NULL || strcmp(which, name) != 0 || ++count != number_of("TROUBLE_AT"))
+        return false;
+    errno = (int)number_of("TROUBLE_ERRNO");
+    return true;
+}
+
+#define TROUBLED(type, name, bad, params, args) \
+    type __real_##name params;                  \
+    type __wrap_##name params;                  \
+    type __wrap_##name params                   \
+    {                                           \
+        return fails(#name) ? bad : __real_##name args; \
+    }
+
+TROUBLED(int, socket, -1, (int a, int b, int c), (a, b, c))
+TROUBLED(int, bind, -1, (int a, const struct sockaddr *b, socklen_t c), (a, b, c))
+TROUBLED(int, getsockname, -1, (int a, struct sockaddr *b, socklen_t *c), (a, b, c))
+TROUBLED(int, setsockopt, -1, (int a, int b, int c, const void *d, socklen_t e), (a, b, c, d, e))
+TROUBLED(int, getsockopt, -1, (int a, int b, int c, void *d, socklen_t *e), (a, b, c, d, e))
+TROUBLED(int, connect, -1, (int a, const struct sockaddr *b, socklen_t c), (a, b, c))
+TROUBLED(int, listen, -1, (int a, int b), (a, b))
+TROUBLED(int, accept, -1, (int a, struct sockaddr *b, socklen_t *c), (a, b, c))
+TROUBLED(ssize_t, recv, -1, (int a, void *b, size_t c, int d), (a, b, c, d))
+TROUBLED(ssize_t, recvfrom, -1, (int a, void *b, size_t c, int d, struct sockaddr *e, socklen_t *f), (a, b, c, d, e, f))
+TROUBLED(ssize_t, send, -1, (int a, const void *b, size_t c, int d), (a, b, c, d))
+TROUBLED(ssize_t, sendto, -1, (int a, const void *b, size_t c, int d, const struct sockaddr *e, socklen_t f), (a, b, c, d, e, f))
+TROUBLED(int, poll, -1, (struct pollfd *a, nfds_t b, int c), (a, b, c))
+TROUBLED(ssize_t, read, -1, (int a, void *b, size_t c), (a, b, c))
+TROUBLED(ssize_t, write, -1, (int a, const void *b, size_t c), (a, b, c))
+TROUBLED(unsigned, if_nametoindex, 0, (const char *a), (a))
+TROUBLED(FILE *, fopen, NULL, (const char *a, const char *b), (a, b))
+TROUBLED(size_t, fwrite, 0, (const void *a, size_t b, size_t c, FILE *d), (a, b, c, d))
+TROUBLED(int, fflush, EOF, (FILE *a), (a))
+TROUBLED(ssize_t, getline, -1, (char **a, size_t *b, FILE *c), (a, b, c))
+TROUBLED(void *, malloc, NULL, (size_t a), (a))
+TROUBLED(void *, realloc, NULL, (void *a, size_t b), (a, b))
+
+int __real_fcntl(int fd, int what, ...);
+int __wrap_fcntl(int fd, int what, ...);
+int __wrap_fcntl(int fd, int what, ...)
+{
+    va_list rest;
+    va_start(rest, what);
+    long value = va_arg(rest, long);
+    va_end(rest);
+    return fails("fcntl") ? -1 : __real_fcntl(fd, what, value);
+}
+
+/* (a close that fails has closed all the same) */
+int __real_close(int fd);
+int __wrap_close(int fd);
+int __wrap_close(int fd)
+{
+    bool is_bad = fails("close");
+    int why = errno, answer = __real_close(fd);
+    errno = is_bad ? why : errno;
+    return is_bad ? -1 : answer;
+}
+
+int __real_open(const char *name, int how, ...);
+int __wrap_open(const char *name, int how, ...);
+int __wrap_open(const char *name, int how, ...)
+{
+    va_list rest;
+    va_start(rest, how);
+    int mode = how & O_CREAT ? va_arg(rest, int) : 0;
+    va_end(rest);
+    return fails("open") ? -1 : __real_open(name, how, mode);
+}
+
+int __real_ioctl(int fd, unsigned long what, ...);
+int __wrap_ioctl(int fd, unsigned long what, ...);
+int __wrap_ioctl(int fd, unsigned long what, ...)
+{
+    va_list rest;
+    va_start(rest, what);
+    void *value = va_arg(rest, void *);
+    va_end(rest);
+    return fails("ioctl") ? -1 : __real_ioctl(fd, what, value);
+}
+
+/* The second that a file says, in digits. */
+static int read_clock(const char *name, struct timespec *now)
+{
+    char digits[32] = {0};
+    int fd = __real_open(name, O_RDONLY);
+    bool is_read = fd >= 0 && __real_read(fd, digits, sizeof digits - 1) > 0;
+    if (fd >= 0)
+        __real_close(fd);
+    now->tv_sec = (time_t)strtol(digits, NULL, 10);
+    now->tv_nsec = 0;
+    return is_read ? 0 : -1;
+}
+
+int __real_clock_gettime(clockid_t which, struct timespec *now);
+int __wrap_clock_gettime(clockid_t which, struct timespec *now);
+int __wrap_clock_gettime(clockid_t which, struct timespec *now)
+{
+    const char *name = getenv("TROUBLE_CLOCK");
+    if (fails("clock_gettime"))
+        return -1;
+    return name != NULL && which == CLOCK_MONOTONIC ? read_clock(name, now) : __real_clock_gettime(which, now);
+}

@@ -1,0 +1,184 @@
+"""Calls of the system that fail, each once; and hours that the test lets pass."""
+import errno
+import re
+import socket
+import subprocess
+import time
+
+from frames import Station, Tcp, Udp
+from lab import (EVERYONE, FAST, GAME, LIMIT, TROUBLED, Client, Clock, Counts, Gateway, address, reaches, reaches_again, rip_response, sap_response,
+                 tunnels, until)
+from links import listening
+
+# Each call, the faults that it gives, and how many times it is let fail: the first time, the second, ..
+CALLS = [
+    ("socket", errno.EMFILE, 5),
+    ("bind", errno.EADDRINUSE, 4),
+    ("getsockname", errno.ENOBUFS, 4),
+    ("setsockopt", errno.ENOBUFS, 5),
+    ("getsockopt", errno.ENOBUFS, 2),
+    ("fcntl", errno.EINVAL, 8),
+    ("connect", errno.ENETUNREACH, 2),
+    ("listen", errno.EADDRINUSE, 1),
+    ("accept", errno.EMFILE, 2),
+    ("recv", errno.ENETDOWN, 3),
+    ("recvfrom", errno.ENETDOWN, 4),
+    ("recvfrom", errno.EINTR, 2),
+    ("send", errno.ENETDOWN, 3),
+    ("sendto", errno.ENOBUFS, 4),
+    ("poll", errno.ENOMEM, 4),
+    ("poll", errno.EINTR, 2),
+    ("close", errno.EIO, 3),
+    ("clock_gettime", errno.EINVAL, 4),
+    ("fopen", errno.EACCES, 2),
+    ("fwrite", errno.ENOSPC, 4),
+    ("fflush", errno.ENOSPC, 2),
+    ("getline", errno.ENOMEM, 3),
+    ("malloc", errno.ENOMEM, 6),
+    ("realloc", errno.ENOMEM, 3),
+]
+
+
+def configuration(card, place):
+    return tunnels(2) + (
+        f"network 30 1 1490 qemu-udp 0 {card.port} llc\n"
+        f"network 40 1 1490 qemu-tcp listen 0 raw\n"
+        f"network 50 1 1490 qemu-tcp connect {place.getsockname()[1]} raw\n"
+    )
+
+
+def is_heard(gate, listener):
+    """Whether a card that connects, and again where it is put out, reaches a client."""
+    end = time.monotonic() + LIMIT
+    while time.monotonic() < end:
+        try:
+            with socket.create_connection(("127.0.0.1", gate.ports[0x40])) as connection:
+                station = Station(Tcp(connection), "raw", 0x40, bytes.fromhex("020000000AA2"), b"\x02I\0\0\0\x40")
+                return reaches_again(station, listener)
+        except ConnectionError:
+            continue
+    return False
+
+
+def goes_on(gate, card):
+    """Sees that everybody hears everybody, though not at the first try."""
+    a, b = Client(gate.ports[0x10], registers=False), Client(gate.ports[0x20], registers=False)
+    a.network, b.network = 0x10, 0x20
+    card.to = gate.ports[0x30]
+    station = Station(card, "llc", 0x30, bytes.fromhex("020000000AA1"), b"\x02I\0\0\0\x30")
+    for one, other in ((a, b), (b, station), (station, a)):
+        # (the first packet of a client tells the gateway that it is there)
+        other.say(one.at(), b"I am here")
+        assert reaches_again(one, other), f"{one} doesn't reach {other}"
+    assert is_heard(gate, b), "a connection isn't heard"
+
+
+def ends_well(gate, which):
+    """Ends a gateway that had trouble; it may have told that its capture ended."""
+    gate.run.terminate()
+    _, complaint = gate.run.communicate(timeout=LIMIT)
+    text = complaint.decode()
+    assert gate.run.returncode == 0, f"{which}: it ended with {gate.run.returncode}: {text}"
+    assert not text or re.fullmatch(r"ipxr-gateway: the capture (ends|can't be closed): .*\n", text), f"{which}: {text}"
+    gate.folder.cleanup()
+
+
+def troubled(text, name, fault, which):
+    """A gateway of which one call fails; None where it can't start for that, and says why."""
+    environment = {"TROUBLE_CALL": name, "TROUBLE_AT": str(which), "TROUBLE_ERRNO": str(fault)}
+    try:
+        return Gateway(text, TROUBLED, ["--pcap", "/dev/null"], environment)
+    except AssertionError as stop:
+        why = str(stop).partition("nothing more: ")[2]
+        assert re.match(r"(ipxr-gateway|\S+gateway\.conf|/dev/null): \S", why) and "Sanitizer" not in why, f"{name} {which}: {stop}"
+        return None
+
+
+def one_fails(name, fault, which):
+    """A run in which one call fails: it can't start, and says why; or it goes on."""
+    card, place = Udp(), listening()
+    gate = troubled(configuration(card, place), name, fault, which)
+    if gate is not None:
+        goes_on(gate, card)
+        ends_well(gate, f"{name} {which}")
+
+
+def each_fails():
+    """Each call of the system fails once: the gateway doesn't start and says why, or goes on, under the sanitizers."""
+    for name, fault, times in CALLS:
+        for which in range(1, times + 1):
+            one_fails(name, fault, which)
+
+
+ROUTES, SERVICES = 2048, 1024  # what the tables have room for
+
+
+def advertise(client, routes, services):
+    """A client advertises routes and services, of which a packet has 50 and 7."""
+    for first in range(0, routes, 50):
+        numbers = range(first, min(first + 50, routes))
+        client.send(rip_response(0x10, client.node, [(0x1000 + k, 1, 2) for k in numbers]))
+    for first in range(0, services, 7):
+        numbers = range(first, min(first + 7, services))
+        client.send(sap_response(0x10, client.node, [(4, f"S{k:04}", 0x1000, bytes(5) + b"\1", 0x451, 2) for k in numbers]))
+
+
+def is_held(gate, routes, services):
+    report = gate.report()
+    return f"routes: {routes}\n" in report and f"services: {services}\n" in report
+
+
+def an_hour():
+    """Records are gone in the 180th second, and after an hour, with packets of all kinds, it has no more memory than after some minutes."""
+    clock = Clock()
+    with Gateway(tunnels(2), FAST, environment=clock.environment()) as gate:
+        a, b = Client(gate.ports[0x10]), Client(gate.ports[0x20])
+        for minutes in range(0, 60, 10):
+            for _ in range(30):
+                advertise(a, 50, 7)
+                assert reaches(a, b) and reaches(b, a)
+                a.say(address(0, EVERYONE, GAME), bytes(32), kind=20)
+                clock.let_pass(10)
+                assert is_held(gate, 50, 7)
+            clock.let_pass(169)
+            assert is_held(gate, 50, 7), "for 179 seconds"
+            clock.let_pass(1)
+            assert is_held(gate, 0, 0), "in the 180th second all are gone"
+            clock.let_pass(130)
+            if minutes == 10:
+                early = gate.memory()
+        assert f"report after {60 * 60} s\n" in gate.report()
+        assert gate.memory() <= early + 64, f"{gate.memory()} KB, {early} KB before"
+
+
+def full_tables():
+    """With full tables a minute's broadcast goes out whole on 8 networks, and packets pass meanwhile."""
+    clock = Clock()
+    with Gateway(tunnels(8), FAST, environment=clock.environment()) as gate:
+        clients = [Client(gate.ports[n]) for n in sorted(gate.ports)]
+        a, b = clients[:2]
+        # (what is too much at once for a socket is lost, and advertised again)
+        until(lambda: advertise(a, ROUTES, SERVICES) or is_held(gate, ROUTES, SERVICES), "full tables")
+        report = gate.report()
+        before = {n: gate.counted(n, "out", report) for n in gate.ports}
+        for _ in range(60):
+            clock.let_pass(1)
+            assert reaches_again(a, b)
+        whole = ROUTES // 50 + 1 + SERVICES // 7 + 1
+        report = gate.report()
+        for network, count in before.items():
+            # (a's own routes and services are not told on its network, but those of the gateway)
+            least = 1 if network == 0x10 else whole
+            assert gate.counted(network, "out", report) >= count + least, (network, report[:2000])
+            assert gate.counted(network, "not sent", report) == 0
+
+
+def main():
+    counts = Counts()
+    for test in (each_fails, an_hour, full_tables):
+        counts.run(test)
+    return counts
+
+
+if __name__ == "__main__":
+    main()

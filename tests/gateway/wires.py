@@ -1,0 +1,195 @@
+"""Ethernet interfaces and TAPs, in a network of the test's own: nothing of this machine's network is touched."""
+import errno
+import os
+import shutil
+import socket
+import subprocess
+import sys
+
+from frames import KINDS, Packets, Station
+from lab import AGAIN, Client, Counts, Gateway, left_out, reaches, reaches_again, says, tunnels, until
+from links import both_ways, made_up
+from troubles import ends_well, troubled
+
+STATION = bytes.fromhex("020000000AA1")
+INSIDE = "--inside"
+
+
+def ip(*words):
+    run = subprocess.run(["ip", *words], stdout=subprocess.DEVNULL, stderr=subprocess.PIPE, check=False)
+    assert run.returncode == 0, run.stderr.decode()
+
+
+def make_pair():
+    """A pair of interfaces, each the other's far end: v0 is the gateway's."""
+    ip("link", "add", "v0", "type", "veth", "peer", "name", "v1")
+    for name in ("v0", "v1"):
+        ip("link", "set", name, "up")
+
+
+def all_kinds():
+    """Hosts on one cable, each by its kind of frame, are four networks: each reaches a DOSBox, and the other hosts."""
+    make_pair()
+    text = tunnels(1) + "".join(f"network {20 + k} 1 1490 interface v0 {kind}\n" for k, kind in enumerate(KINDS))
+    with Gateway(text) as gate:
+        node = bytes.fromhex(next(it for it in gate.lines if "interface v0" in it)[-12:])
+        far = Client(gate.ports[0x10])
+        for network in range(0x20, 0x24):
+            gate.until(f"network {network:08X} up")
+        hosts = [Station(Packets("v1", kind), kind, 0x20 + k, STATION[:5] + bytes([k]), node) for k, kind in enumerate(KINDS)]
+        for host in hosts:
+            both_ways(gate, host, far)
+        for one in hosts:
+            for other in hosts:
+                assert one is other or reaches(one, other), f"{one.kind} to {other.kind}"
+        report = gate.report()
+        assert all(gate.counted(0x20 + k, what, report) == 0 for k in range(4) for what in ("no IPX", "another kind of frame"))
+    ip("link", "del", "v0")
+
+
+def a_cable_is_pulled():
+    """A cable that is pulled, a card that is switched off, and one that is taken out: the network is down; it comes back."""
+    make_pair()
+    with Gateway(tunnels(1) + "network 20 1 1490 interface v0 raw\n") as gate:
+        far = Client(gate.ports[0x10])
+        for off, on in (("v1", "v1"), ("v0", "v0")):
+            ip("link", "set", off, "down")
+            gate.until("network 00000020 down")
+            ip("link", "set", on, "up")
+            gate.until("network 00000020 up")
+        ip("link", "del", "v0")
+        gate.until("network 00000020 down")
+        node = gate.lines[1][-12:]
+        make_pair()
+        ip("link", "set", "v0", "address", ":".join(node[k : k + 2] for k in range(0, 12, 2)))
+        gate.until("network 00000020 up")
+        host = Station(Packets("v1", "raw"), "raw", 0x20, STATION, bytes.fromhex(node))
+        both_ways(gate, host, far)
+    ip("link", "del", "v0")
+
+
+def behind_tap(kind, network):
+    return Station(Packets("ipx0", kind), kind, network, STATION, made_up(network))
+
+
+def a_tap():
+    """A TAP: the gateway makes it, switches it on, and is another station on its cable; two kinds of frames share it."""
+    with Gateway(tunnels(1) + "network 20 1 1490 tap ipx0 raw\nnetwork 30 1 1490 tap ipx0 snap\n") as gate:
+        far = Client(gate.ports[0x10])
+        gate.until("network 00000030 up")
+        a, b = behind_tap("raw", 0x20), behind_tap("snap", 0x30)
+        both_ways(gate, a, far)
+        both_ways(gate, b, far)
+        assert reaches(a, b) and reaches(b, a)
+        ip("link", "set", "ipx0", "down")
+        gate.until("network 00000020 down")
+        ip("link", "set", "ipx0", "up")
+        gate.until("network 00000020 up")
+        both_ways(gate, behind_tap("raw", 0x20), far)
+        numbers = {index for index, _ in socket.if_nameindex()}
+        ip("link", "del", "ipx0")
+        until(lambda: any(name == "ipx0" and index not in numbers for index, name in socket.if_nameindex()), "it is made again")
+        gate.until("network 00000020 up")
+        both_ways(gate, behind_tap("raw", 0x20), far)
+
+
+# Each call that only cards and TAPs make, or make in another way, its fault, and how many times it is let fail.
+CALLS = [
+    ("open", errno.EMFILE, 1),
+    ("ioctl", errno.EPERM, 12),
+    ("socket", errno.EMFILE, 8),
+    ("bind", errno.ENODEV, 2),
+    ("if_nametoindex", errno.ENODEV, 6),
+    ("read", errno.EIO, 3),
+    ("write", errno.EIO, 3),
+    ("recv", errno.ENETDOWN, 3),
+    ("send", errno.ENETDOWN, 3),
+    ("close", errno.EIO, 3),
+]
+
+
+def is_well(far):
+    """Whether packets go there and back behind the TAP that is there now. Where the gateway couldn't switch it on, somebody else does."""
+    try:
+        ip("link", "set", "ipx0", "up")
+        station = behind_tap("snap", 0x30)
+        return says(station, far, b"there", AGAIN) and says(far, station, b"back", AGAIN)
+    except (AssertionError, OSError):
+        return False  # (it is just made again)
+
+
+def one_fails(name, fault, which):
+    """A run with a card and a TAP in which one call fails: it can't start, and says why; or it goes on."""
+    gate = troubled(tunnels(1) + "network 20 1 1490 interface v0 raw\nnetwork 30 1 1490 tap ipx0 snap\n", name, fault, which)
+    if gate is None:
+        return
+    node = bytes.fromhex(next(it for it in gate.lines if "interface v0" in it)[-12:])
+    far = Client(gate.ports[0x10])
+    host = Station(Packets("v1", "raw"), "raw", 0x20, STATION, node)
+    assert reaches_again(host, far) and reaches_again(far, host), f"{name} {which}: the card"
+    until(lambda: is_well(far), f"{name} {which}: the TAP")
+    ends_well(gate, f"{name} {which}")
+
+
+def each_fails():
+    """Each call of the system that cards and TAPs make fails once: the gateway doesn't start and says why, or goes on."""
+    make_pair()
+    for name, fault, times in CALLS:
+        for which in range(1, times + 1):
+            one_fails(name, fault, which)
+    ip("link", "del", "v0")
+
+
+def can(test):
+    """Whether a thing can be done here."""
+    try:
+        test()
+    except (AssertionError, OSError):
+        return False
+    return True
+
+
+def inside():
+    """In the network of its own."""
+    counts = Counts()
+    ip("link", "set", "lo", "up")
+    has_pairs = can(lambda: ip("link", "add", "v0", "type", "veth", "peer", "name", "v1"))
+    if has_pairs:
+        ip("link", "del", "v0")
+        counts.run(all_kinds)
+        counts.run(a_cable_is_pulled)
+    else:
+        left_out("interfaces", "no pair of them can be made")
+    if can(lambda: os.close(os.open("/dev/net/tun", os.O_RDWR))):
+        counts.run(a_tap)
+        if has_pairs:
+            counts.run(each_fails)
+    else:
+        left_out("TAPs", "the device for them can't be opened")
+    print(f"{counts.passed} passed, {counts.failed} failed")
+
+
+def main():
+    counts = Counts()
+    if not shutil.which("ip") or not shutil.which("unshare"):
+        left_out("interfaces and TAPs", "no ip or no unshare")
+        return counts
+    # (root needs no other user; who isn't is root in a namespace of his own)
+    ways = (["unshare", "-n"], ["unshare", "-rn"])
+    way = next((it for it in ways if subprocess.run([*it, "true"], stderr=subprocess.DEVNULL, check=False).returncode == 0), None)
+    if way is None:
+        left_out("interfaces and TAPs", "no network of the test's own can be made")
+        return counts
+    run = subprocess.run([*way, sys.executable, os.path.realpath(__file__), INSIDE], stdout=subprocess.PIPE, check=False)
+    *lines, last = run.stdout.decode().splitlines() or [""]
+    print("\n".join(lines), flush=True)
+    words = last.split()
+    counts.passed, counts.failed = (int(words[0]), int(words[2])) if len(words) == 4 else (0, 1)
+    return counts
+
+
+if __name__ == "__main__":
+    if sys.argv[1:] == [INSIDE]:
+        inside()
+    else:
+        main()

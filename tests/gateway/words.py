@@ -1,0 +1,77 @@
+"""The configuration and the command line."""
+import difflib
+import os
+import subprocess
+
+from lab import BUILD, LIMIT, PROGRAM, SANITIZED, TOP, Counts, Gateway, tunnels
+
+HERE = os.path.join(TOP, "tests", "gateway")
+
+
+def asked(*words, stdin=b"", folder=HERE):
+    """What the program says to words that don't let it route: status, output, complaint."""
+    program = SANITIZED if os.path.exists(SANITIZED) else PROGRAM
+    run = subprocess.run([program, *words], input=stdin, capture_output=True, timeout=LIMIT, cwd=folder)
+    return run.returncode, run.stdout.decode(), run.stderr.decode(errors="replace")
+
+
+def each_wrong_line():
+    """Each wrong line of a configuration is told with its number, its word and what was expected."""
+    status, out, complaint = asked("--check", "wrong.conf")
+    with open(os.path.join(HERE, "wrong.out"), encoding="utf-8") as it:
+        kept = it.read()
+    differs = "\n".join(difflib.unified_diff(kept.splitlines(), complaint.splitlines(), lineterm="", n=0))
+    assert (status, out, differs) == (2, "", ""), differs
+
+
+def nothing_is_opened():
+    """A wrong configuration is told without --check too, and nothing is opened."""
+    status, out, complaint = asked("/dev/stdin", stdin=b"network 10 1 1424 dosbox 0\nnetwork 20 1 1424 dosbox x\n")
+    assert (status, out) == (2, "") and complaint.startswith("/dev/stdin:2: 'x': expected an address"), complaint
+
+
+def no_configuration():
+    """A file that isn't there, an empty one, one with a byte 0, and words that the program doesn't know."""
+    assert asked("--check", "nowhere")[::2] == (1, "nowhere: can't be opened: No such file or directory\n")
+    assert asked("--check", "/dev/stdin")[::2] == (2, "/dev/stdin: expected a line that begins with network\n")
+    status, _, complaint = asked("--check", "/dev/stdin", stdin=b"network 10\0 1 1424 dosbox 0\n")
+    assert status == 2 and "expected text" in complaint
+    assert asked("--check", "..")[0] == 2
+    for words in ((), ("--check",), ("--no", "wrong.conf"), ("wrong.conf", "wrong.conf"), ("--pcap",)):
+        assert asked(*words)[::2] == (64, asked("--help")[1]), words
+    assert asked("--help")[0] == 0
+
+
+def what_is_right():
+    """What is right is told so: the example, 32 networks, shares, blanks, comments, the last line without its end."""
+    example = os.path.join(TOP, "gateway", "example.conf")
+    assert asked("--check", example)[:2] == (0, f"{example}: 3 networks, nothing wrong\n")
+    many = tunnels(32).encode()
+    assert asked("--check", "/dev/stdin", stdin=many)[:2] == (0, "/dev/stdin: 32 networks, nothing wrong\n")
+    status, _, complaint = asked("--check", "/dev/stdin", stdin=many + b"network FF 1 1424 dosbox 0\n")
+    assert status == 2 and complaint == "/dev/stdin:33: 'network': expected at most 32 networks\n"
+    text = b"\t network  FFFFFFFD 65535 1424 0 65535 dosbox :0 # a comment\r\n\n#\nextend FFFF 1"
+    assert asked("--check", "/dev/stdin", stdin=text)[:2] == (0, "/dev/stdin: 1 network, nothing wrong\n")
+
+
+def what_cannot_be_opened():
+    """What can't be opened is told with its line, and the gateway ends."""
+    with Gateway(tunnels(1)) as gate:
+        text = f"network 20 1 1424 dosbox {gate.ports[0x10]}\n".encode()
+        status, _, complaint = asked("/dev/stdin", stdin=text)
+        assert status == 1 and "line 1: dosbox 127.0.0.1:" in complaint and complaint.endswith(": Address already in use\n")
+    for link, what in (("interface nowhere0 raw", "can't open the interface"), ("interface lo raw", "it isn't Ethernet")):
+        status, _, complaint = asked("/dev/stdin", stdin=f"network 20 1 1424 {link}\n".encode())
+        assert status == 1 and f"line 1: {link}: {what}: " in complaint, complaint
+    assert asked("--pcap", os.path.join(BUILD, "no", "file"), "/dev/stdin", stdin=tunnels(1).encode())[0] == 1
+
+
+def main():
+    counts = Counts()
+    for test in (each_wrong_line, nothing_is_opened, no_configuration, what_is_right, what_cannot_be_opened):
+        counts.run(test)
+    return counts
+
+
+if __name__ == "__main__":
+    main()
