@@ -12,7 +12,7 @@ run: build
 try:
 	@cd crates/ipxr && rt try -- replay <stdin
 
-# Proves ipx_show, the first program to read, and shows two packets with it.
+# Proves ipx_show, the first program to read, and shows nine packets with it.
 show:
 	@tools/show
 
