@@ -1,8 +1,9 @@
 # Needs the Rattle toolchain (its command rt, and the Python that it runs on) and nothing else.
 PREFIX ?= /usr/local
 PROGRAM = crates/ipxr/out/ipxr
+MINUTES ?= 60
 
-.PHONY: run try show build embed gateway test edits bench install
+.PHONY: run try show build embed gateway test edits fuzz bench install
 
 # Proves and builds all, then plays the worked script and prints what the router sent and learned.
 run: build
@@ -35,6 +36,11 @@ test:
 # Tries every must-fail edit, or with CRATE=NAME those of one crate. The last line is 'N refused, M not refused'.
 edits:
 	@tools/edits $(CRATE)
+
+# Plays made-up bytes to the built program and to the library for C, for MINUTES in all. With afl++ where it is installed; needs a C
+# compiler. docs/PROVED.md tells what came. The last line is 'N inputs, M crashes'.
+fuzz: build embed
+	@tools/fuzz $(MINUTES)
 
 # Proves, builds and runs the measurements; docs/SPEED.md tells what they gave.
 bench:
