@@ -3,7 +3,7 @@ PREFIX ?= /usr/local
 PROGRAM = crates/ipxr/out/ipxr
 MINUTES ?= 60
 
-.PHONY: run try show build embed gateway test edits fuzz bench install
+.PHONY: run try show build embed aarch64 windows gateway test edits fuzz bench install
 
 # Proves and builds all, then plays the worked script and prints what the router sent and learned.
 run: build
@@ -21,9 +21,14 @@ show:
 build:
 	@tools/build
 
-# Proves the library for C, and puts build/libipxr.a and its header there. Needs a C compiler.
+# Proves the library for C, and puts build/libipxr.a and its header there, for any x86-64, or for later ones as by CPU=x86-64-v3.
+# Needs a C compiler.
 embed:
 	@tools/embed
+
+# The same for 64-bit Linux on ARM, and for Windows: build/aarch64, build/windows. Needs a compiler for it; docs/EMBED.md.
+aarch64 windows:
+	@tools/platforms $@
 
 # Builds build/ipxr-gateway, which joins DOSBox' networks, cards of emulators and Ethernet. Needs a C compiler; docs/GATEWAY.md.
 gateway:
