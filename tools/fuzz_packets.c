@@ -40,7 +40,8 @@ static int32_t make(ipxr *router, size_t count)
 {
     ipxr_port ports[4];
     for (size_t k = 0; k < count; k++) {
-        const ipxr_port port = {(uint32_t)(k + 1) << 4, {0, 0, 0, 0, 0, (uint8_t)(k + 1)}, (uint16_t)(k + 1), (uint16_t)(576 + 924 * (k % 2)), 1000, 500};
+        uint8_t number = (uint8_t)(k + 1);
+        const ipxr_port port = {(uint32_t)number << 4, {0, 0, 0, 0, 0, number}, number, k % 2 ? 1500 : 576, 1000, 500};
         ports[k] = port;
     }
     return ipxr_make(router, ports, count);
