@@ -29,7 +29,7 @@
  *  7. No two arguments of one call overlap, and no other code writes there during the call.
  *  8. malloc, realloc and free belong to one allocator (include/heap.c), and are not changed while a router is there.
  *  9. No call from a signal handler, nor in the child of a fork of a process with threads.
- * 10. The stack has room for a call: a thread of yours has IPXR_STACK bytes. A call without room runs over the stack's end.
+ * 10. The stack has room for a call, as that of a thread with IPXR_STACK bytes has. A call without room runs over its end.
  *
  * Everything else is answered with a number: a handle without a router, a second free, a port, a packet or a record that
  * there is not, a buffer too short for a packet, ports that make no router, memory that is refused.
@@ -73,7 +73,7 @@ extern "C" {
 /* Room for the words of any answer, with the 0 behind them. */
 #define IPXR_MOST_WORD 32
 
-/* Bytes of stack that a thread needs which makes these calls: what a call takes at most, as measured, and as much again. */
+/* Bytes of stack for a thread that makes these calls: what a call takes at most, as measured, and half as much again. */
 #define IPXR_STACK 1048576
 
 /* ---- What became of an event: 0 and above. ipxr_word tells the word of each. ---- */
