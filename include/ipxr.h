@@ -269,6 +269,9 @@ size_t ipxr_frame_write(uint8_t kind, const uint8_t to[6], const uint8_t from[6]
  * number of this page has no words: 0 is returned. IPXR_MOST_WORD bytes are always enough. */
 size_t ipxr_word(int32_t answer, uint8_t *buffer, size_t room);
 
+/* The release that this header is from: its first two numbers are the version of this interface. */
+#define IPXR_RELEASE "1.1.0"
+
 /* The version of this interface: its major number times 65536, plus its minor number. This header is of IPXR_VERSION. */
 #define IPXR_VERSION 65537
 uint32_t ipxr_version(void);
