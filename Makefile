@@ -42,7 +42,7 @@ bench:
 
 # Puts what the gate proved and built into dist/: the archive of a release and Debian's packages, with their sums; docs/RELEASES.md.
 # DRAFT=1 makes a draft where the gate wasn't run on this commit.
-dist: build gateway
+dist:
 	@tools/dist $(if $(DRAFT),--draft)
 
 # What make test leaves out of releases since it takes minutes: two copies give one sum, lintian, and the packages in a fresh root.

@@ -69,12 +69,14 @@ def control(name, release, kilobytes):
 def changes(name, release):
     """The package's own list of changes, in Debian's form."""
     date = email.utils.formatdate(release.time)
-    text = f"{name} ({release.version}) unstable; urgency=medium\n\n  * CHANGELOG.md of the package ipxr says what changed.\n\n -- {release.author}  {date}\n"
+    said = "  * CHANGELOG.md of the package ipxr says what changed."
+    text = f"{name} ({release.version}) unstable; urgency=medium\n\n{said}\n\n -- {release.author}  {date}\n"
     return gzip.compress(text.encode(), 9, mtime=0)
 
 
-def of_package(name, piece):
-    """A piece as the package has it: manual pages are compressed."""
+def of_package(piece):
+    """A piece as the package has it: manual pages are compressed, and zsh looks where Debian puts what packages bring."""
+    piece = piece._replace(place=piece.place.replace("zsh/site-functions", "zsh/vendor-completions"))
     if not piece.place.startswith("share/man/"):
         return piece
     return piece._replace(place=piece.place + ".gz", content=gzip.compress(piece.content, 9, mtime=0))
@@ -82,9 +84,10 @@ def of_package(name, piece):
 
 def installed(name, pages, release):
     """All files of a package below usr/."""
-    found = [of_package(name, it) for it in layout.pieces("/usr", LIB, UNITS, "/usr") if it.package == name]
+    found = [of_package(it) for it in layout.pieces("/usr", LIB, UNITS, "/usr") if it.package == name]
     doc = f"share/doc/{name}"
-    found += [layout.Piece(name, f"{doc}/copyright", NO_LICENCE.encode()), layout.Piece(name, f"{doc}/changelog.gz", changes(name, release))]
+    texts = {"copyright": NO_LICENCE.encode(), "changelog.gz": changes(name, release)}
+    found += [layout.Piece(name, f"{doc}/{it}", text) for it, text in texts.items()]
     if name == "ipxr":
         found += [it._replace(place=f"{doc}/{it.place}") for it in pages]
     return found
@@ -97,6 +100,12 @@ def extras(name, release):
     return {"shlibs": f"libipxr 1 libipxr1 (>= {release.version})\n", "triggers": "activate-noawait ldconfig\n"}
 
 
+def sums(pieces):
+    """The sums of a package's files, as dpkg keeps them."""
+    files = sorted((it for it in pieces if not it.link), key=lambda it: it.place)
+    return "".join(f"{hashlib.md5(it.content).hexdigest()}  usr/{it.place}\n" for it in files)
+
+
 def package(name, pieces, release):
     """The bytes of a package."""
     with tempfile.TemporaryDirectory() as folder:
@@ -105,8 +114,8 @@ def package(name, pieces, release):
         for it in pieces:
             layout.put(it, f"{root}/usr")
         os.makedirs(f"{root}/DEBIAN")
-        sums = "".join(f"{hashlib.md5(it.content).hexdigest()}  usr/{it.place}\n" for it in sorted(pieces, key=lambda it: it.place) if not it.link)
-        texts = {"control": control(name, release, sum(len(it.content) for it in pieces) // 1024 + 1), "md5sums": sums, **extras(name, release)}
+        kilobytes = sum(len(it.content) for it in pieces) // 1024 + 1
+        texts = {"control": control(name, release, kilobytes), "md5sums": sums(pieces), **extras(name, release)}
         for file, text in texts.items():
             layout.put(layout.Piece(name, file, text.encode()), f"{root}/DEBIAN")
         words = ["dpkg-deb", "--root-owner-group", "-Zxz", "--build", root, f"{folder}/made.deb"]

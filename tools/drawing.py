@@ -3,6 +3,7 @@ import html
 
 FONT = "font-family='DejaVu Sans, Verdana, sans-serif'"
 INK, PALE, ALARM, PAPER = "#222222", "#b8b8b8", "#c0262d", "#ffffff"
+HEAD = "viewBox='0 0 10 10' refX='9' refY='5' markerWidth='11' markerHeight='11' markerUnits='userSpaceOnUse' orient='auto'"
 # One for each level, so that two that follow each other differ for eyes that see few colours too.
 LEVELS = ["#0b5394", "#e07b00", "#2e8b57", "#8e44ad", "#b8860b", "#c2185b", "#00838f", "#5d4037"]
 
@@ -45,8 +46,8 @@ class Drawing:
         self.covers((right - whole, y - size), (right, y + size))
         more = " font-weight='bold'" if bold else ""
         more += f" stroke='{PAPER}' stroke-width='4' paint-order='stroke'" if halo else ""
-        shown = html.escape(text, quote=False)
-        self.parts.append(f"<text x='{x:.1f}' y='{y + size * 0.35:.1f}' font-size='{size}' fill='{colour}' text-anchor='{anchor}'{more}>{shown}</text>")
+        place = f"x='{x:.1f}' y='{y + size * 0.35:.1f}' font-size='{size}' text-anchor='{anchor}'"
+        self.parts.append(f"<text {place} fill='{colour}'{more}>{html.escape(text, quote=False)}</text>")
 
     def disc(self, x, y, colour, text):
         """A number in a disc."""
@@ -56,17 +57,14 @@ class Drawing:
 
     def whole(self, margin=16):
         """The text of the file."""
-        wide, high = self.right - self.left + 2 * margin, self.bottom - self.top + 2 * margin
-        size = f"width='{wide:.0f}' height='{high:.0f}' viewBox='{self.left - margin:.0f} {self.top - margin:.0f} {wide:.0f} {high:.0f}'"
+        left, top = f"{self.left - margin:.0f}", f"{self.top - margin:.0f}"
+        wide, high = f"{self.right - self.left + 2 * margin:.0f}", f"{self.bottom - self.top + 2 * margin:.0f}"
+        size = f"width='{wide}' height='{high}' viewBox='{left} {top} {wide} {high}'"
         used = {part.split("url(#arrow")[1][:6] for part in self.parts if "url(#arrow" in part}
-        heads = "".join(
-            f"<marker id='arrow{it}' viewBox='0 0 10 10' refX='9' refY='5' markerWidth='11' markerHeight='11' markerUnits='userSpaceOnUse' orient='auto'>"
-            f"<path d='M0,1 L10,5 L0,9 z' fill='#{it}'/></marker>"
-            for it in sorted(used)
-        )
+        heads = "".join(f"<marker id='arrow{it}' {HEAD}><path d='M0,1 L10,5 L0,9 z' fill='#{it}'/></marker>" for it in sorted(used))
         title = html.escape(self.title, quote=False)
         body = "\n".join(self.parts)
         return (
             f"<svg xmlns='http://www.w3.org/2000/svg' {size} {FONT}>\n<title>{title}</title>\n<defs>{heads}</defs>\n"
-            f"<rect x='{self.left - margin:.0f}' y='{self.top - margin:.0f}' width='{wide:.0f}' height='{high:.0f}' fill='{PAPER}'/>\n{body}\n</svg>\n"
+            f"<rect x='{left}' y='{top}' width='{wide}' height='{high}' fill='{PAPER}'/>\n{body}\n</svg>\n"
         )

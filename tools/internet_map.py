@@ -113,18 +113,23 @@ class Map:
                 self.drawing.box(x, y, max(34, width_of(name) + 14), 22, corner=11)
                 self.drawing.words(x, y, name)
 
+    def outward(self, start, over, end):
+        """On which side of a way the outside of the picture is: 1 or -1."""
+        middle = [sum(it[i] for it in self.place.values()) / len(self.place) for i in (0, 1)]
+        return 1 if (start[1] - end[1]) * (over[0] - middle[0]) + (end[0] - start[0]) * (over[1] - middle[1]) >= 0 else -1
+
     def draw_copy(self, copy, parent, level, before, others):
-        """The way of a packet from router to router, or from its network to the first, beside the others on the same line. Returns where its
-        number stands."""
+        """The way of a packet from router to router, or from its network to the first, beside the others on the same line. Returns where
+        its number stands."""
         is_upward = not parent or parent.router < copy.router
-        aside = min(30, 330 / others) * before * (1 if is_upward else -1)
         network = ("network", self.internet.routers[copy.router][copy.port])
         end, over = self.place["router", copy.router], self.place[network]
         colour = LEVELS[level % len(LEVELS)]
         if parent is None:
-            way = outside(curve(over, [(over[i] + end[i]) / 2 for i in (0, 1)], end, aside), end)[6:]
+            way = outside(curve(over, [(over[i] + end[i]) / 2 for i in (0, 1)], end, 0), end)[6:]
         else:
             start = self.place["router", parent.router]
+            aside = min(30, 330 / others) * before * self.outward(start, over, end)
             way = outside(curve(start, over, end, aside), start, end)
         self.drawing.line(way, colour, 2.5, arrow=True)
         share = 0.76 - 0.16 * (before % 4)
@@ -151,8 +156,9 @@ class Map:
             x, y = left + 310 * (k // 12), top + 24 * (k % 12)
             self.drawing.disc(x, y, LEVELS[level % len(LEVELS)], str(it.number))
             came = self.internet.routers[it.router][it.port]
-            lost = it.outcome not in ("Forwarded", "Propagated", "Local")
-            self.drawing.words(x + 18, y, f"router {self.internet.names[it.router]}, from network {came}: {it.outcome}", 13, ALARM if lost else INK, "start")
+            colour = INK if it.outcome in ("Forwarded", "Propagated", "Local") else ALARM
+            said = f"router {self.internet.names[it.router]}, from network {came}: {it.outcome}"
+            self.drawing.words(x + 18, y, said, 13, colour, "start")
 
     def whole(self, copies=()):
         """The picture, with the ways of a trace behind routers and networks, and their numbers before them."""

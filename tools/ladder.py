@@ -166,8 +166,12 @@ def script_parties(rows, networks):
     found = sorted_parties(rows)
     first = [it for it in found if it.startswith(f"{networks[0]}.")] + [it for it in found if it == f"all of {networks[0]}"]
     others = [it for it in found if it not in first and it != "router"]
-    by_network = sorted(others, key=lambda it: (networks.index(n) if (n := re.sub(r"^all of |\..*", "", it)) in networks else 99, not it.startswith("all")))
-    return [*first, "router", *by_network]
+
+    def order(party):
+        network = re.sub(r"^all of |\..*", "", party)
+        return networks.index(network) if network in networks else len(networks), not party.startswith("all")
+
+    return [*first, "router", *sorted(others, key=order)]
 
 
 def of_script(file):
@@ -215,7 +219,8 @@ def drawn(file, rows, parties):
     right, bottom = LEFT + 140 + LANE * (len(parties) - 1), TOP + ROW * len(rows)
     for name, x in place.items():
         drawing.line([(x, TOP - 22), (x, bottom)], PALE, 1)
-        drawing.box(x, TOP - 34, width_of(name, 13) + 18, 26, "#e8eef7" if name == "router" else "#ffffff", corner=3 if name == "router" else 12)
+        fill, corner = ("#e8eef7", 3) if name == "router" else ("#ffffff", 12)
+        drawing.box(x, TOP - 34, width_of(name, 13) + 18, 26, fill, corner=corner)
         drawing.words(x, TOP - 34, name, 13, bold=name == "router")
     last = None
     for k, row in enumerate(rows):

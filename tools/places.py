@@ -6,26 +6,30 @@ import subprocess
 ROUNDS = 200
 
 
+def reached(start, near):
+    """The number of lines from a point to each that can be reached."""
+    found, waiting = {start: 0}, [start]
+    for at in waiting:
+        for it in sorted(near[at] - found.keys()):
+            found[it] = found[at] + 1
+            waiting.append(it)
+    return found
+
+
 def distances(points, lines):
-    """The number of lines between any two points; points without a way are far apart."""
+    """The number of lines between any two points; points without a way between them are farther apart than any others."""
     near = {it: set() for it in points}
     for one, other in lines:
         near[one].add(other)
         near[other].add(one)
-    found = {}
-    for start in points:
-        reached, front = {start: 0}, [start]
-        while front:
-            front = [it for at in front for it in sorted(near[at]) if reached.setdefault(it, reached[at] + 1) == reached[at] + 1 and it not in front]
-            front = [it for k, it in enumerate(front) if it not in front[:k] and (start, it) not in found]
-            found.update({(start, it): reached[it] for it in front})
-    far = max(found.values(), default=1) + 1
-    return {(a, b): found.get((a, b), far) for a in points for b in points if a != b}
+    found = {(start, it): far for start in points for it, far in reached(start, near).items()}
+    farthest = max(found.values(), default=0) + 1
+    return {(a, b): found.get((a, b), farthest) for a in points for b in points if a != b}
 
 
 def plain(points, lines):
-    """Places that are as far from each other as there are lines between them, as nearly as can be: from a circle, each point is moved again
-    and again to where the others want it."""
+    """Places that are as far from each other as there are lines between them, as nearly as can be: from a circle, each point is
+    moved again and again to where the others want it."""
     wanted = distances(points, lines)
     turn = 2 * math.pi / max(len(points), 1)
     place = {it: (math.cos(turn * k) * len(points) / 4, math.sin(turn * k) * len(points) / 4) for k, it in enumerate(points)}

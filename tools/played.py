@@ -54,7 +54,7 @@ def moment(second, words, text):
 
 
 def moments(lines):
-    """The commands of a script one by one; seconds in which something is sent stand by themselves."""
+    """The commands of a script one by one, up to the first wrong line; seconds in which something is sent stand by themselves."""
     played, text, clock = [], "", 0
 
     def more(line):
@@ -69,7 +69,10 @@ def moments(lines):
         if not words or words[0].startswith("#"):
             continue
         if words[0] != "second":
-            yield moment(clock, words, more(line))
+            new = more(line)
+            if new.startswith("line "):
+                return
+            yield moment(clock, words, new)
             continue
         before, new = len(text), more(line)
         if not new:
