@@ -1,12 +1,12 @@
 """A ladder: who sent what to whom, and when. Each party has a line downwards, each packet an arrow."""
-import re
 import struct
 from typing import NamedTuple
 
 import played
 from drawing import ALARM, INK, PALE, Drawing, width_of
 
-LANE, ROW, LEFT, TOP = 230, 32, 70, 56
+LANE, NARROW_LANE, ROW, LEFT, TOP = 190, 150, 32, 60, 56
+MANY = 7
 COLOURS = {"rip": "#0b5394", "sap": "#2e8b57", "crossed": "#8e44ad", "": "#5d4037"}
 ALL = "FFFFFFFFFFFF"
 
@@ -34,9 +34,9 @@ def entry(line):
     words = line.split()
     if words[0] == "net":
         hops = int(words[3])
-        far = "" if hops == 65535 else ": gone" if hops >= 16 else f": {hops} hop{'s' * (hops != 1)}"
+        far = "" if hops == 65535 else " gone" if hops >= 16 else f" ({hops})"
         return ("all" if words[1] == "F" * 8 else short(words[1])) + far
-    return f"{words[2]}: gone" if words[-1] == "16" else words[2]
+    return f"{words[2]} gone" if words[-1] == "16" else words[2]
 
 
 def entries(lines):
@@ -52,15 +52,16 @@ def told(head, details):
         where = "" if target[1] == ALL else f" for {short(target[0])}.{short(target[1])}"
         return "", f"type {head[8]}{where}, {head[10]} bytes"
     words = details[0].split()
+    name = "type 20" if words[0] == "crossed" else words[0].upper()
     if "bad" in words:
-        return words[0], f"{words[0].upper()}, bad: {words[-1]}"
+        return words[0], f"{name}, bad: {words[-1]}"
     if words[0] == "crossed":
         crossed = " ".join(short(it) for it in words[1:]) or "nothing"
-        return "crossed", f"type 20, crossed {crossed}"
+        return "crossed", f"{name}, crossed {crossed}"
     if len(words) > 2:
         asked = "all" if words[2] == "FFFF" else f"type {short(words[2])}"
-        return "sap", f"SAP {words[1].replace('-', ' ')}: {asked}"
-    return words[0], f"{words[0].upper()} {words[1].replace('-', ' ')}: {entries(details[1:])}"
+        return "sap", f"{name} {words[1].replace('-', ' ')} {asked}"
+    return words[0], f"{name} {words[1].replace('-', ' ')} {entries(details[1:])}"
 
 
 def records(text):
@@ -141,18 +142,26 @@ def heard(packet):
     return f"{short(packet[36:44])}.{short(packet[44:56])}" if len(packet) >= 60 else "?"
 
 
+def came(moment):
+    """The packet of a moment in which one came."""
+    return moment.words[2].replace("-", "").upper() if moment.words[0] == "in" else None
+
+
+def reached(sent, networks):
+    """The party to which a packet was sent."""
+    network = networks[sent.port]
+    return f"all of {network}" if sent.node == ALL else f"{network}.{short(sent.node)}"
+
+
 def of_moment(it, networks, labels):
     """The arrows of a command: what came in, and what was sent for it."""
-    if it.words[0] == "in":
-        packet = "" if it.words[2] == "-" else it.words[2].upper()
-        kind, text = labels.pop(0)
-        yield Row(it.second, heard(packet), "router", kind, text, it.dropped)
+    if came(it) is not None:
+        yield Row(it.second, heard(came(it)), "router", *labels.pop(0), it.dropped)
     elif it.words[0] in ("start", "stop", "down", "up"):
         ports = f" port {it.words[1]}, network {networks[int(it.words[1])]}" if len(it.words) > 1 else ""
         yield Row(it.second, "", "", "", it.words[0] + ports, it.dropped)
     for sent in it.sent:
-        network = networks[sent.port]
-        yield Row(it.second, "router", f"all of {network}" if sent.node == ALL else f"{network}.{short(sent.node)}", *labels.pop(0))
+        yield Row(it.second, "router", reached(sent, networks), *labels.pop(0))
 
 
 def labels_of(shown):
@@ -161,17 +170,25 @@ def labels_of(shown):
         yield told(head, details) if is_packet(head) else ("", "no packet")
 
 
-def script_parties(rows, networks):
-    """The parties on each side of the router: those of the first port's network on the left, the others on the right."""
-    found = sorted_parties(rows)
-    first = [it for it in found if it.startswith(f"{networks[0]}.")] + [it for it in found if it == f"all of {networks[0]}"]
-    others = [it for it in found if it not in first and it != "router"]
+def sides(moments, networks):
+    """The port by which each party is met first."""
+    found = {}
+    for it in moments:
+        if came(it) is not None:
+            found.setdefault(heard(came(it)), int(it.words[1]))
+        for sent in it.sent:
+            found.setdefault(reached(sent, networks), sent.port)
+    return found
 
-    def order(party):
-        network = re.sub(r"^all of |\..*", "", party)
-        return networks.index(network) if network in networks else len(networks), not party.startswith("all")
 
-    return [*first, "router", *sorted(others, key=order)]
+def script_parties(found):
+    """The parties on each side of the router: those at the first port on the left, the others on the right; those that stand for all are
+    nearest to it."""
+    left = [it for it, port in found.items() if port == 0]
+    right = [it for it in found if it not in left]
+    left.sort(key=lambda it: it.startswith("all"))
+    right.sort(key=lambda it: (found[it], not it.startswith("all")))
+    return [*left, "router", *right]
 
 
 def of_script(file):
@@ -180,11 +197,11 @@ def of_script(file):
     moments = [*played.moments(lines)]
     frames = []
     for it in moments:
-        came = [played.frame(it.words[2].replace("-", ""))] if it.words[0] == "in" else []
-        frames += [(it.second, packet) for packet in [*came, *(played.frame(sent.packet, sent.node) for sent in it.sent)]]
+        frames += [(it.second, played.frame(came(it)))] if came(it) is not None else []
+        frames += [(it.second, played.frame(sent.packet, sent.node)) for sent in it.sent]
     labels = [*labels_of(records(played.said("decode", read=played.capture(frames))))]
     rows = [row for it in moments for row in of_moment(it, networks, labels)]
-    return drawn(file, rows, script_parties(rows, networks))
+    return drawn(file, rows, script_parties(sides(moments, networks)))
 
 
 # ---- Drawing ----
@@ -194,7 +211,15 @@ def at_second(second):
     return f"{second:.3f}".rstrip("0").rstrip(".") + " s"
 
 
+def shortened(text, room):
+    """A text that has room, without its end if need be."""
+    while width_of(text, 11) > room and len(text) > 8:
+        text = text[: -2 if text.endswith("…") else -1].rstrip(" ,.(") + "…"
+    return text
+
+
 def draw_row(drawing, row, y, place, right):
+    """An arrow with its words, or an event of the router across all."""
     if not row.start:
         drawing.line([(LEFT, y), (right, y)], PALE, 1, "2 4")
         drawing.words((LEFT + right) / 2, y, row.text + (f": dropped, {row.lost}" if row.lost else ""), 12, INK, halo=True)
@@ -203,11 +228,7 @@ def draw_row(drawing, row, y, place, right):
     aside = 4 if end > start else -4
     colour = COLOURS.get(row.kind, COLOURS[""])
     drawing.line([(start + aside, y), (end - aside, y)], colour, 2, arrow=True)
-    text = row.text
-    room = max(abs(end - start), LANE) - 24
-    while width_of(text, 11) > room and len(text) > 8:
-        text = text[: -2 if text.endswith("…") else -1].rstrip(" ,.") + "…"
-    drawing.words((start + end) / 2, y - 10, text, 11, colour, halo=True)
+    drawing.words((start + end) / 2, y - 10, shortened(row.text, abs(end - start) - 8), 11, colour, halo=True)
     if row.lost:
         drawing.words(end + 2 * aside, y + 1, f"✕ {row.lost}", 11, ALARM, "start" if aside > 0 else "end", halo=True)
 
@@ -215,8 +236,9 @@ def draw_row(drawing, row, y, place, right):
 def drawn(file, rows, parties):
     """The ladder of some rows."""
     drawing = Drawing(file.rpartition("/")[2])
-    place = {it: LEFT + 70 + LANE * k for k, it in enumerate(parties)}
-    right, bottom = LEFT + 140 + LANE * (len(parties) - 1), TOP + ROW * len(rows)
+    lane = LANE if len(parties) < MANY else NARROW_LANE
+    place = {it: LEFT + 60 + lane * k for k, it in enumerate(parties)}
+    right, bottom = LEFT + 120 + lane * (len(parties) - 1), TOP + ROW * len(rows)
     for name, x in place.items():
         drawing.line([(x, TOP - 22), (x, bottom)], PALE, 1)
         fill, corner = ("#e8eef7", 3) if name == "router" else ("#ffffff", 12)
