@@ -10,7 +10,7 @@ LEVELS = ["#0b5394", "#e07b00", "#2e8b57", "#8e44ad", "#b8860b", "#c2185b", "#00
 
 def width_of(text, size=13):
     """About how wide a word is."""
-    return len(text) * size * 0.6
+    return len(text) * size * 0.57
 
 
 class Drawing:

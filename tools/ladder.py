@@ -5,8 +5,9 @@ from typing import NamedTuple
 import played
 from drawing import ALARM, INK, PALE, Drawing, width_of
 
-LANE, NARROW_LANE, ROW, LEFT, TOP = 190, 150, 32, 60, 56
-MANY = 7
+ROW, LEFT, TOP = 32, 60, 56
+# A lane is as wide as these allow, and so that all lanes together are no wider than the third if they can.
+WIDEST, NARROWEST, WIDTH = 190, 150, 1340
 COLOURS = {"rip": "#0b5394", "sap": "#2e8b57", "crossed": "#8e44ad", "": "#5d4037"}
 ALL = "FFFFFFFFFFFF"
 
@@ -35,7 +36,7 @@ def entry(line):
     if words[0] == "net":
         hops = int(words[3])
         far = "" if hops == 65535 else " gone" if hops >= 16 else f" ({hops})"
-        return ("all" if words[1] == "F" * 8 else short(words[1])) + far
+        return {"FFFFFFFF": "all", "FFFFFFFE": "default"}.get(words[1], short(words[1])) + far
     return f"{words[2]} gone" if words[-1] == "16" else words[2]
 
 
@@ -53,6 +54,7 @@ def told(head, details):
         return "", f"type {head[8]}{where}, {head[10]} bytes"
     words = details[0].split()
     name = "type 20" if words[0] == "crossed" else words[0].upper()
+    what = words[1].replace("general-", "").replace("-", " ") if len(words) > 1 else ""
     if "bad" in words:
         return words[0], f"{name}, bad: {words[-1]}"
     if words[0] == "crossed":
@@ -60,8 +62,8 @@ def told(head, details):
         return "crossed", f"{name}, crossed {crossed}"
     if len(words) > 2:
         asked = "all" if words[2] == "FFFF" else f"type {short(words[2])}"
-        return "sap", f"{name} {words[1].replace('-', ' ')} {asked}"
-    return words[0], f"{name} {words[1].replace('-', ' ')} {entries(details[1:])}"
+        return "sap", f"{name} {what} {asked}"
+    return words[0], f"{name} {what} {entries(details[1:])}"
 
 
 def records(text):
@@ -236,7 +238,7 @@ def draw_row(drawing, row, y, place, right):
 def drawn(file, rows, parties):
     """The ladder of some rows."""
     drawing = Drawing(file.rpartition("/")[2])
-    lane = LANE if len(parties) < MANY else NARROW_LANE
+    lane = max(NARROWEST, min(WIDEST, WIDTH // len(parties)))
     place = {it: LEFT + 60 + lane * k for k, it in enumerate(parties)}
     right, bottom = LEFT + 120 + lane * (len(parties) - 1), TOP + ROW * len(rows)
     for name, x in place.items():
