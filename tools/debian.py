@@ -84,7 +84,7 @@ def of_package(piece):
 
 def installed(name, pages, release):
     """All files of a package below usr/."""
-    found = [of_package(it) for it in layout.pieces("/usr", LIB, UNITS, "/usr") if it.package == name]
+    found = [of_package(it) for it in layout.pieces("/usr", LIB, UNITS, is_system=True) if it.package == name]
     doc = f"share/doc/{name}"
     texts = {"copyright": NO_LICENCE.encode(), "changelog.gz": changes(name, release)}
     found += [layout.Piece(name, f"{doc}/{it}", text) for it, text in texts.items()]

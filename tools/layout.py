@@ -1,6 +1,7 @@
 """Where what is built lies once it is installed: for make install, the archive of a release and Debian's packages."""
 import importlib.util
 import os
+import shutil
 import subprocess
 import tempfile
 from importlib.machinery import SourceFileLoader
@@ -50,17 +51,19 @@ def tool(name):
     return module
 
 
-def filled(name, prefix, lib):
+def filled(name, prefix, lib="lib", libs=""):
     """A file with its places filled in."""
     text = content(name).decode()
-    for word, value in {"@PREFIX@": prefix, "@LIB@": lib, "@VERSION@": version()}.items():
+    for word, value in {"@PREFIX@": prefix, "@LIB@": lib, "@LIBS@": libs, "@VERSION@": version()}.items():
         text = text.replace(word, value)
     return text.encode()
 
 
 def stamped(name):
     """A program or a shared library with its release in a section that `ident` and `readelf -p .ident` show, and without symbols. What
-    the system loads is the same."""
+    the system loads is the same. Where there is no objcopy, it is as it was built."""
+    if not shutil.which("objcopy"):
+        return content(name)
     with tempfile.TemporaryDirectory() as folder:
         with open(f"{folder}/ident", "w", encoding="ascii") as it:
             it.write(f"$Version: {os.path.basename(name).partition('.')[0]} {version()} $\0")
@@ -83,12 +86,16 @@ def program():
     yield Piece("ipxr", "share/zsh/site-functions/_ipxr", content("completions/_ipxr"))
 
 
-def library(prefix, lib):
+def library(lib, system_prefix):
+    """The library for C. Where the system looks for it the pkg-config file names the shared one, elsewhere the static one, with which a
+    program runs wherever it is; and there it finds what lies beside it."""
     file, name = shared()
+    beside = "${pcfiledir}" + "/.." * (lib.count("/") + 2)
+    libs = "-L${libdir} -lipxr" if system_prefix else "${libdir}/libipxr.a"
     yield Piece("libipxr-dev", "include/ipxr.h", content("include/ipxr.h"))
     yield Piece("libipxr-dev", f"{lib}/libipxr.a", content(ARCHIVE))
     yield Piece("libipxr-dev", f"{lib}/libipxr.so", link=name)
-    yield Piece("libipxr-dev", f"{lib}/pkgconfig/ipxr.pc", filled("include/ipxr.pc.in", prefix, lib))
+    yield Piece("libipxr-dev", f"{lib}/pkgconfig/ipxr.pc", filled("include/ipxr.pc.in", system_prefix or beside, lib, libs))
     yield Piece("libipxr1", f"{lib}/{name}", link=file)
     yield Piece("libipxr1", f"{lib}/{file}", stamped(f"build/{file}"))
 
@@ -97,14 +104,14 @@ def gateway(prefix, units):
     yield Piece("ipxr-gateway", "sbin/ipxr-gateway", stamped(GATEWAY), 0o755)
     yield Piece("ipxr-gateway", "share/bash-completion/completions/ipxr-gateway", content("completions/ipxr.bash"))
     yield Piece("ipxr-gateway", "share/ipxr/ipxr-gateway.conf", content("gateway/example.conf"))
-    yield Piece("ipxr-gateway", f"{units}/ipxr-gateway.service", filled("gateway/ipxr-gateway.service.in", prefix, ""))
+    yield Piece("ipxr-gateway", f"{units}/ipxr-gateway.service", filled("gateway/ipxr-gateway.service.in", prefix))
 
 
-def pieces(prefix, lib="lib", units="share/ipxr", pc_prefix=None):
-    """All that is built, and what belongs to it. Without a prefix of its own the pkg-config file finds what lies beside it."""
+def pieces(prefix, lib="lib", units="share/ipxr", is_system=False):
+    """All that is built, and what belongs to it; where the system looks for it, or below any prefix."""
     found = [*program()]
     if is_built(ARCHIVE):
-        found += library(pc_prefix or "${pcfiledir}" + "/.." * (lib.count("/") + 2), lib)
+        found += library(lib, prefix if is_system else None)
     if is_built(GATEWAY):
         found += gateway(prefix, units)
     packages = {it.package for it in found}
