@@ -11,6 +11,7 @@ TOP = os.path.dirname(os.path.dirname(os.path.realpath(__file__)))
 PROGRAM = "crates/ipxr/out/ipxr"
 GATEWAY = "build/ipxr-gateway"
 ARCHIVE = "build/libipxr.a"
+HEADER = "build/ipxr.h"
 # Sections that are never in memory: a program without them is the same program.
 DEAD_WEIGHT = "--strip-unneeded"
 
@@ -54,7 +55,8 @@ def tool(name):
 def filled(name, prefix, lib="lib", libs=""):
     """A file with its places filled in."""
     text = content(name).decode()
-    for word, value in {"@PREFIX@": prefix, "@LIB@": lib, "@LIBS@": libs, "@VERSION@": version()}.items():
+    values = {"@PREFIX@": prefix, "@LIB@": lib, "@LIBS@": libs, "@VERSION@": version()}
+    for word, value in values.items():
         text = text.replace(word, value)
     return text.encode()
 
@@ -92,7 +94,7 @@ def library(lib, system_prefix):
     file, name = shared()
     beside = "${pcfiledir}" + "/.." * (lib.count("/") + 2)
     libs = "-L${libdir} -lipxr" if system_prefix else "${libdir}/libipxr.a"
-    yield Piece("libipxr-dev", "include/ipxr.h", content("include/ipxr.h"))
+    yield Piece("libipxr-dev", "include/ipxr.h", content(HEADER))
     yield Piece("libipxr-dev", f"{lib}/libipxr.a", content(ARCHIVE))
     yield Piece("libipxr-dev", f"{lib}/libipxr.so", link=name)
     yield Piece("libipxr-dev", f"{lib}/pkgconfig/ipxr.pc", filled("include/ipxr.pc.in", system_prefix or beside, lib, libs))
