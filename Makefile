@@ -3,7 +3,7 @@ PREFIX ?= /usr/local
 PROGRAM = crates/ipxr/out/ipxr
 MINUTES ?= 60
 
-.PHONY: run try show build embed aarch64 windows gateway test edits fuzz bench install
+.PHONY: run try show build embed aarch64 windows gateway test edits fuzz bench dist release-test install
 
 # Proves and builds all, then plays the worked script and prints what the router sent and learned.
 run: build
@@ -51,11 +51,17 @@ fuzz: build embed
 bench:
 	@tools/bench
 
-# Puts the proved program into PREFIX/bin with its manual page, the library for C with its header and its pkg-config file, and the
-# gateway into PREFIX/sbin with its manual page, an example of a configuration and a unit for systemd.
-install: build
-	install -d $(PREFIX)/bin $(PREFIX)/share/man/man1
-	install -m 755 $(PROGRAM) $(PREFIX)/bin/ipxr
-	install -m 644 docs/ipxr.1 $(PREFIX)/share/man/man1/ipxr.1
-	@tools/embed install $(PREFIX)
-	@tools/gateway install $(PREFIX)
+# Puts what the gate proved and built into dist/: the archive of a release and Debian's packages, with their sums; docs/RELEASES.md.
+# DRAFT=1 makes a draft where the gate wasn't run on this commit.
+dist:
+	@tools/dist $(if $(DRAFT),--draft)
+
+# What make test leaves out of releases since it takes minutes: two copies give one sum, lintian, and the packages in a fresh root.
+release-test:
+	@tools/release root
+
+# Puts the proved program into PREFIX/bin with its manual pages and completions; the library for C with its header, its pkg-config file
+# and its page; and the gateway into PREFIX/sbin with its page, an example of a configuration and a unit for systemd. All of it
+# below DESTDIR, if that is given.
+install: build gateway
+	@tools/install "$(PREFIX)" "$(DESTDIR)"

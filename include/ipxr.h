@@ -302,6 +302,9 @@ static __inline size_t ipxr_text(int32_t answer, char *text, size_t room)
     return ipxr_word(answer, (uint8_t *)text, room);
 }
 
+/* The release that this header is from: its first two numbers are the version of this interface. */
+#define IPXR_RELEASE "1.1.0"
+
 /* The version of this interface: its major number times 65536, plus its minor number. This header is of IPXR_VERSION. */
 #define IPXR_VERSION 65537
 IPXR_CALL uint32_t ipxr_version(void);

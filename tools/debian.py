@@ -1,0 +1,134 @@
+"""Debian's packages of a release, by dpkg-deb."""
+import email.utils
+import gzip
+import hashlib
+import os
+import subprocess
+import tempfile
+from typing import NamedTuple
+
+import layout
+
+LIB = "lib/x86_64-linux-gnu"
+UNITS = "lib/systemd/system"
+NO_LICENCE = "No licence has been named: that is the owner's word, which is still to come.\n"
+
+# Of each package its section, what it is in a line and in a paragraph, and what else it depends on.
+ABOUT = {
+    "ipxr": (
+        "net",
+        "IPX router for scripts, and reader of IPX captures",
+        "Plays scripts to one IPX router (RIP, SAP, forwarding, NetBIOS propagation) or\n"
+        " to an internet of them, and shows the packets of a capture. What it writes is\n"
+        " proved from its code.",
+        "",
+    ),
+    "libipxr1": (
+        "libs",
+        "IPX router as a value: shared library",
+        "A router takes packets and gives packets, with no socket and no clock. What\n each call does is proved from its code.",
+        "",
+    ),
+    "libipxr-dev": (
+        "libdevel",
+        "IPX router as a value: header and static library",
+        "A router takes packets and gives packets, with no socket and no clock. This\n"
+        " package has the header, the static library, the manual page and the pkg-config\n"
+        " file.",
+        "libipxr1 (= {version})",
+    ),
+    "ipxr-gateway": (
+        "net",
+        "IPX router between DOSBox, emulators, TAPs and Ethernet",
+        "Joins networks of DOSBox, PCs in QEMU, TAPs and Ethernet by one IPX router,\n and speaks all four kinds of Ethernet frames.",
+        "",
+    ),
+}
+WITHOUT_PROGRAMS = {"libipxr-dev"}
+
+
+class Release(NamedTuple):
+    version: str
+    author: str
+    time: int
+    libc: str
+
+
+def control(name, release, kilobytes):
+    section, line, paragraph, more = ABOUT[name]
+    depends = [] if name in WITHOUT_PROGRAMS else [f"libc6 (>= {release.libc})"]
+    depends += [more.format(version=release.version)] if more else []
+    same = "Multi-Arch: same\n" if name.startswith("lib") else ""
+    return (
+        f"Package: {name}\nVersion: {release.version}\nArchitecture: amd64\nMaintainer: {release.author}\n"
+        f"Installed-Size: {kilobytes}\nDepends: {', '.join(depends)}\nSection: {section}\nPriority: optional\n{same}"
+        f"Description: {line}\n {paragraph}\n"
+    )
+
+
+def changes(name, release):
+    """The package's own list of changes, in Debian's form."""
+    date = email.utils.formatdate(release.time)
+    said = "  * CHANGELOG.md of the package ipxr says what changed."
+    text = f"{name} ({release.version}) unstable; urgency=medium\n\n{said}\n\n -- {release.author}  {date}\n"
+    return gzip.compress(text.encode(), 9, mtime=0)
+
+
+def of_package(piece):
+    """A piece as the package has it: manual pages are compressed, and zsh looks where Debian puts what packages bring."""
+    piece = piece._replace(place=piece.place.replace("zsh/site-functions", "zsh/vendor-completions"))
+    if not piece.place.startswith("share/man/"):
+        return piece
+    return piece._replace(place=piece.place + ".gz", content=gzip.compress(piece.content, 9, mtime=0))
+
+
+def installed(name, pages, release):
+    """All files of a package below usr/."""
+    found = [of_package(it) for it in layout.pieces("/usr", LIB, UNITS, is_system=True) if it.package == name]
+    doc = f"share/doc/{name}"
+    texts = {"copyright": NO_LICENCE.encode(), "changelog.gz": changes(name, release)}
+    found += [layout.Piece(name, f"{doc}/{it}", text) for it, text in texts.items()]
+    if name == "ipxr":
+        found += [it._replace(place=f"{doc}/{it.place}") for it in pages]
+    return found
+
+
+def extras(name, release):
+    """What else stands beside the control file: what programs that are linked with the library depend on."""
+    if name != "libipxr1":
+        return {}
+    return {"shlibs": f"libipxr 1 libipxr1 (>= {release.version})\n", "triggers": "activate-noawait ldconfig\n"}
+
+
+def sums(pieces):
+    """The sums of a package's files, as dpkg keeps them."""
+    files = sorted((it for it in pieces if not it.link), key=lambda it: it.place)
+    return "".join(f"{hashlib.md5(it.content).hexdigest()}  usr/{it.place}\n" for it in files)
+
+
+def package(name, pieces, release):
+    """The bytes of a package."""
+    with tempfile.TemporaryDirectory() as folder:
+        os.umask(0o022)
+        root = f"{folder}/root"
+        for it in pieces:
+            layout.put(it, f"{root}/usr")
+        os.makedirs(f"{root}/DEBIAN")
+        kilobytes = sum(len(it.content) for it in pieces) // 1024 + 1
+        texts = {"control": control(name, release, kilobytes), "md5sums": sums(pieces), **extras(name, release)}
+        for file, text in texts.items():
+            layout.put(layout.Piece(name, file, text.encode()), f"{root}/DEBIAN")
+        words = ["dpkg-deb", "--root-owner-group", "-Zxz", "--build", root, f"{folder}/made.deb"]
+        subprocess.run(words, check=True, stdout=subprocess.DEVNULL, env={**os.environ, "SOURCE_DATE_EPOCH": str(release.time)})
+        with open(f"{folder}/made.deb", "rb") as it:
+            return it.read()
+
+
+def packages(pages, release):
+    """The packages by their file names."""
+    names = {it.package for it in layout.pieces("/usr")}
+    found = {}
+    for name in ABOUT:
+        if name in names:
+            found[f"{name}_{release.version}_amd64.deb"] = package(name, installed(name, pages, release), release)
+    return found
