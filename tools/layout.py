@@ -1,7 +1,6 @@
 """Where what is built lies once it is installed: for make install, the archive of a release and Debian's packages."""
 import importlib.util
 import os
-import re
 import shutil
 import subprocess
 import tempfile
@@ -53,15 +52,10 @@ def tool(name):
     return module
 
 
-def sizes():
-    """The most ports, routes and services of a router, as the header says them."""
-    return " ".join(re.search(rf"#define IPXR_MOST_{it} +(\d+)", content(HEADER).decode())[1] for it in ("PORTS", "ROUTES", "SERVICES"))
-
-
 def filled(name, prefix, lib="lib", libs=""):
     """A file with its places filled in."""
     text = content(name).decode()
-    values = {"@PREFIX@": prefix, "@LIB@": lib, "@LIBS@": libs, "@VERSION@": version(), "@SIZES@": sizes()}
+    values = {"@PREFIX@": prefix, "@LIB@": lib, "@LIBS@": libs, "@VERSION@": version()}
     for word, value in values.items():
         text = text.replace(word, value)
     return text.encode()
