@@ -56,8 +56,10 @@ bench:
 dist:
 	@tools/dist $(if $(DRAFT),--draft)
 
-# What make test leaves out of releases since it takes minutes: two copies give one sum, lintian, and the packages in a fresh root.
+# What make test leaves out since it takes long: the library for C and the program proved anew for 64-bit ARM and played there; then two
+# copies that give one sum, lintian, and the packages in a fresh root.
 release-test:
+	@tools/platforms test-aarch64
 	@tools/release root
 
 # Puts the proved program into PREFIX/bin with its manual pages and completions; the library for C with its header, its pkg-config file
