@@ -7,9 +7,8 @@ ghost use Rattle.ipx_capture.specs.Reads.{most_calls};
 ghost use Rattle.ipx_capture.specs.Window.{most_room};
 
 use crate::capture_fault::CaptureFault;
-use ipx_wire::{Failed, Intake};
+use ipx_wire::{Failed, Intake, Source};
 use std::alloc::{AllocError, Global};
-use std::io::Read;
 use std::marker::Model;
 
 /// How many bytes are asked for at a time, and lie in the buffer as long as no record is longer.
@@ -83,9 +82,9 @@ impl Window {
     }
 
     /// Reads until `need` bytes are ahead, or the reader is at its end: whether they are.
-    pub fn gather<R: Read>(
+    pub fn gather<S: Source>(
         &mut self,
-        intake: &mut Intake<R>,
+        intake: &mut Intake<S>,
         need: usize,
     ) -> Result<bool, CaptureFault>
         requires fine { intake.old.failed ≡ false }
@@ -103,7 +102,7 @@ impl Window {
     }
 
     /// Reads once behind the bytes that are ahead.
-    fn fill<R: Read>(&mut self, intake: &mut Intake<R>, need: usize) -> Result<usize, CaptureFault>
+    fn fill<S: Source>(&mut self, intake: &mut Intake<S>, need: usize) -> Result<usize, CaptureFault>
         requires fine { intake.old.failed ≡ false }
         requires more { length self.old.ahead < need }
         requires few { need ≤ most_room }
@@ -157,8 +156,8 @@ fn make_room(
 }
 
 /// Reads once into the room from `end` on.
-fn read_behind<R: Read>(
-    intake: &mut Intake<R>,
+fn read_behind<S: Source>(
+    intake: &mut Intake<S>,
     bytes: &mut Vec<u8>,
     end: usize,
 ) -> Result<usize, Failed>
