@@ -44,6 +44,7 @@ impl<'a, S: Source> Capture<'a, S> {
     ghost use mir.Syntax.{named};
     ghost use Rattle.ipx_wire.specs.contracts.intake.Intake.{the_row as intake_row};
     ghost use Rattle.ipx_capture.specs.contracts.capture.Capture.{the_row};
+    ghost use Rattle.ipx_capture.specs.Asks.{AskedOnly, TellsNothing};
     ghost use Rattle.ipx_capture.specs.Place.{place, keeps, told, Nexts, Opened, Unopened};
     ghost use Rattle.ipx_capture.specs.Numbered.{numbered};
     ghost use Rattle.ipx_capture.specs.Records as spec;
@@ -89,9 +90,10 @@ impl<'a, S: Source> Capture<'a, S> {
 
     /// The next record; none at the end of the file.
     ///
-    /// An end or a fault that was told is told again by each later call.
+    /// An end or a fault that was told is told again by each later call. The source is asked only while the bytes that were read don't tell what
+    /// comes next: a record too long is told as soon as its header is there.
     pub fn next(&mut self) -> Result<Option<Captured<'_>>, CaptureFault>
-        ensures* after { sem 𝓛 (Rests (the_row (record { mir = named 1; lft = [] }) S.row S.Source) self.entry (λ new. Nexts (place self.old) (place new) (told result) × (keeps new ≡ keeps self.old))) }
+        ensures* after { sem 𝓛 (Rests (the_row (record { mir = named 1; lft = [] }) S.row S.Source) self.entry (λ new. Nexts (place self.old) (place new) (told result) × (keeps new ≡ keeps self.old) × AskedOnly S.asked (TellsNothing (place self.old).order) (place self.old).ahead (place self.old).input.state (place new).input.state)) }
     {
         let Some(wire) = self.advance()? else {
             return Ok(None);
@@ -114,6 +116,7 @@ impl<'a, S: Source> Capture<'a, S> {
     fn advance(&mut self) -> Result<Option<u32>, CaptureFault>
         ensures after { Nexts (place self.old) (place self.new) (numbered self.new.taken self.new.window.taken result) }
         ensures same_reference { keeps self.new ≡ keeps self.old }
+        ensures asked { AskedOnly S.asked (TellsNothing (place self.old).order) (place self.old).ahead (place self.old).input.state (place self.new).input.state }
     {
         match self.standing {
             Standing::Open => {}

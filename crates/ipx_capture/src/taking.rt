@@ -1,6 +1,7 @@
 //! What a capture does with the bytes of its reader.
 ghost use Rattle.std.specs.Prelude.{◌≡◌, [], true, false, ℕ, List, IfOk, IfErr, OnErr};
 ghost use Rattle.std.specs.Io.KnownBytes.{Consumes};
+ghost use Rattle.ipx_capture.specs.Asks.{AskedOnly, TellsNothing};
 ghost use Rattle.ipx_capture.specs.Place.{Begun, Unopened};
 ghost use Rattle.ipx_capture.specs.Reads.{FilledFront};
 ghost use Rattle.ipx_capture.specs.Taking.{Took};
@@ -71,6 +72,7 @@ pub(crate) fn take_record<S: Source>(
     requires { intake.old.failed ≡ false }
     ensures took { Took order window.old.ahead window.new intake.old intake.new result }
     ensures still { spec.is_ready order window.old.ahead ≡ true → intake.new ≡ intake.old }
+    ensures asked { AskedOnly S.asked (TellsNothing order) window.old.ahead intake.old.state intake.new.state }
 {
     if !window.gather(intake, HEADER)? {
         if window.ahead().is_empty() {
