@@ -25,9 +25,12 @@ module _ (asked : ℕ → List ℕ → Result ℕ Failed → ℕ → Type 0) (La
       → Asks asked Lack two (bytes ++ all_came one) mid after → Asks asked Lack (one ++ two) bytes before after
   calls_append [] two bytes before mid after is later =
       subst (λ b. Asks asked Lack two b before after) (append-nil bytes) (subst (λ s. Asks asked Lack two (bytes ++ []) s after) is later)
-  calls_append (a ∷ one) two bytes before mid after (lack, did, rest) later =
-      (lack, did, calls_append one two (bytes ++ came a.buffer a.answer) a.state mid after rest
-      (subst (λ b. Asks asked Lack two b mid after) (sym (append_assoc bytes (came a.buffer a.answer) (all_came one))) later))
+  calls_append (a ∷ one) two bytes before mid after (lack, did, rest) later = (
+    lack,
+    did,
+    calls_append one two (bytes ++ came a.buffer a.answer) a.state mid after rest
+        (subst (λ b. Asks asked Lack two b mid after) (sym (append_assoc bytes (came a.buffer a.answer) (all_came one))) later),
+  )
 
   all_came-append : (one two : List Ask) → all_came (one ++ two) ≡ all_came one ++ all_came two
   all_came-append [] two = refl

@@ -105,7 +105,11 @@ impl Window {
     }
 
     /// Reads once behind the bytes that are ahead.
-    fn fill<S: Source>(&mut self, intake: &mut Intake<S>, need: usize) -> Result<usize, CaptureFault>
+    fn fill<S: Source>(
+        &mut self,
+        intake: &mut Intake<S>,
+        need: usize,
+    ) -> Result<usize, CaptureFault>
         requires fine { intake.old.failed ≡ false }
         requires more { length self.old.ahead < need }
         requires few { need ≤ most_room }

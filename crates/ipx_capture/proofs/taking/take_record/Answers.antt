@@ -79,9 +79,11 @@ returns-in_err-gather-2-clause-asked g c =
     let kept = c.u32_at-kept.result in
     let vain = c.in_err-gather-2.ensures.in_vain in
     let first = subst (λ b. Gathered old one c.args.intake.now c.gather.new.intake 16 b) c.if-not-branch.false c.in_ok-gather.ensures.ok in
-    let is : kept ≡ kept_count c.args.order one = c.u32_at-kept.ensures ∙ ap (kept_count c.args.order) c.ahead-2.ensures in
-    (vain.0, record_asked g.S.Source.asked c.args.order old one vain.0 c.args.intake.now.state c.gather.new.intake.state c.gather-2.new.intake.state kept
-    c.in_ok-gather.ensures.asked vain.1 (first.whole refl) is (omega arith))
+    let is : kept ≡ kept_count c.args.order one = c.u32_at-kept.ensures ∙ ap (kept_count c.args.order) c.ahead-2.ensures in (
+      vain.0,
+      record_asked g.S.Source.asked c.args.order old one vain.0 c.args.intake.now.state c.gather.new.intake.state c.gather-2.new.intake.state kept
+          c.in_ok-gather.ensures.asked vain.1 (first.whole refl) is (omega arith),
+    )
 
 pub returns-then-not-branch-2-clause-asked : goal.returns-then-not-branch-2-clause-asked
 returns-then-not-branch-2-clause-asked g c =
@@ -90,9 +92,11 @@ returns-then-not-branch-2-clause-asked g c =
     let now = c.gather-2.new.self.ahead in
     let kept = c.u32_at-kept.result in
     let first = subst (λ b. Gathered old one c.args.intake.now c.gather.new.intake 16 b) c.if-not-branch.false c.in_ok-gather.ensures.ok in
-    let is : kept ≡ kept_count c.args.order one = c.u32_at-kept.ensures ∙ ap (kept_count c.args.order) c.ahead-2.ensures in
-    (now, record_asked g.S.Source.asked c.args.order old one now c.args.intake.now.state c.gather.new.intake.state c.gather-2.new.intake.state kept
-    c.in_ok-gather.ensures.asked c.in_ok-gather-2.ensures.asked (first.whole refl) is (omega arith))
+    let is : kept ≡ kept_count c.args.order one = c.u32_at-kept.ensures ∙ ap (kept_count c.args.order) c.ahead-2.ensures in (
+      now,
+      record_asked g.S.Source.asked c.args.order old one now c.args.intake.now.state c.gather.new.intake.state c.gather-2.new.intake.state kept
+          c.in_ok-gather.ensures.asked c.in_ok-gather-2.ensures.asked (first.whole refl) is (omega arith),
+    )
 
 pub returns-clause-asked : goal.returns-clause-asked
 returns-clause-asked g c =
@@ -101,9 +105,11 @@ returns-clause-asked g c =
     let now = c.gather-2.new.self.ahead in
     let kept = c.u32_at-kept.result in
     let first = subst (λ b. Gathered old one c.args.intake.now c.gather.new.intake 16 b) c.if-not-branch.false c.in_ok-gather.ensures.ok in
-    let is : kept ≡ kept_count c.args.order one = c.u32_at-kept.ensures ∙ ap (kept_count c.args.order) c.ahead-2.ensures in
-    (now, record_asked g.S.Source.asked c.args.order old one now c.args.intake.now.state c.gather.new.intake.state c.gather-2.new.intake.state kept
-    c.in_ok-gather.ensures.asked c.in_ok-gather-2.ensures.asked (first.whole refl) is (omega arith))
+    let is : kept ≡ kept_count c.args.order one = c.u32_at-kept.ensures ∙ ap (kept_count c.args.order) c.ahead-2.ensures in (
+      now,
+      record_asked g.S.Source.asked c.args.order old one now c.args.intake.now.state c.gather.new.intake.state c.gather-2.new.intake.state kept
+          c.in_ok-gather.ensures.asked c.in_ok-gather-2.ensures.asked (first.whole refl) is (omega arith),
+    )
 
 pub returns-then-is_empty-clause-asked : goal.returns-then-is_empty-clause-asked
 returns-then-is_empty-clause-asked g c =

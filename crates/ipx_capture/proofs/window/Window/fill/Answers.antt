@@ -53,10 +53,15 @@ returns-in_default-clause-in_vain g c =
     let after = c.read_behind.new.intake in
     let buffer = drop (at + w.count) c.read_behind.new.bytes.items in
     elim (cases_lt before.calls 16777216) [
-      | inl few ↦ (old ++ came buffer c.read_behind.result,
-          asked_once g.S.Source.asked (Lacks c.args.need) old buffer c.read_behind.result before.state after.state c.requires.more (c.read_behind.ensures.once few))
-      | inr all ↦ (old, subst (λ s. Asked g.S.Source.asked (Lacks c.args.need) old old before.state s) (sym (c.read_behind.ensures.spared all))
-          (asked_none g.S.Source.asked (Lacks c.args.need) old before.state))
+      | inl few ↦ (
+        old ++ came buffer c.read_behind.result,
+        asked_once g.S.Source.asked (Lacks c.args.need) old buffer c.read_behind.result before.state after.state c.requires.more (c.read_behind.ensures.once few),
+      )
+      | inr all ↦ (
+        old,
+        subst (λ s. Asked g.S.Source.asked (Lacks c.args.need) old old before.state s) (sym (c.read_behind.ensures.spared all))
+            (asked_none g.S.Source.asked (Lacks c.args.need) old before.state),
+      )
     ]
 
 pub returns-in_err-self-inside-clause-in_vain : goal.returns-in_err-self-inside-clause-in_vain

@@ -13,15 +13,17 @@ returns-in_err-fill-clause-err g c =
 pub returns-in_err-fill-clause-in_vain : goal.returns-in_err-fill-clause-in_vain
 returns-in_err-fill-clause-in_vain g c =
     let vain = c.in_err-fill.ensures.in_vain in
-    on_err_all c.from_residual.result (vain.0,
-    asked_trans g.S.Source.asked (Lacks c.args.need) c.args.self.now.ahead c.loop-self.self.ahead vain.0 c.args.intake.now.state c.loop-self.intake.state c.fill.new.intake.state
-    c.loop-self.invariant.1 vain.1)
+    on_err_all c.from_residual.result (
+      vain.0,
+      asked_trans g.S.Source.asked (Lacks c.args.need) c.args.self.now.ahead c.loop-self.self.ahead vain.0 c.args.intake.now.state c.loop-self.intake.state c.fill.new.intake.state
+          c.loop-self.invariant.1 vain.1,
+    )
 
 pub loop-self-init : goal.loop-self-init
 loop-self-init g c = (
-    gathering_none c.args.self.now.ahead c.args.intake.now c.args.need,
-    asked_none g.S.Source.asked (Lacks c.args.need) c.args.self.now.ahead c.args.intake.now.state,
-  )
+  gathering_none c.args.self.now.ahead c.args.intake.now c.args.need,
+  asked_none g.S.Source.asked (Lacks c.args.need) c.args.self.now.ahead c.args.intake.now.state,
+)
 
 pub loop-self-preserved : goal.loop-self-preserved
 loop-self-preserved g c =
