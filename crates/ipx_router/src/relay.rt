@@ -1,6 +1,9 @@
 //! Packets that a router sends on: to the network that they are for, or to every other network.
 ghost use Rattle.std.specs.Prelude.{◌≡◌, ◌*◌, ◌<◌, ◌≤◌, true, length, IfOk, IfErr, Some, None};
 ghost use Rattle.std.specs.List.{flat_map};
+ghost use Rattle.ipx_wire.specs.Forward.{forwarded, propagated};
+ghost use Rattle.ipx_wire.specs.Write.{packet_bytes};
+ghost use Rattle.ipx_wire.specs.declared.network.Network.{Network};
 ghost use Rattle.ipx_router.specs.Checks.{IsListed, IsPassed};
 ghost use Rattle.ipx_router.specs.Facts.{offers};
 ghost use Rattle.ipx_router.specs.Numbers.{most_ports};
