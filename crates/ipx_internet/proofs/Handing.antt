@@ -46,7 +46,7 @@ module _ (most_routes most_services : ℕ) (routers : List State) (front back : 
   abbrev rest : List Delivery
   rest = drop (done + 1) front
 
-  first : drop done front ++ back ≡ d ∷ (rest ++ back)
+  pub first : drop done front ++ back ≡ d ∷ (rest ++ back)
   first = ap (λ ds. ds ++ back) (first_left front done d got)
 
   -- its router has the port

@@ -4,6 +4,7 @@ pub mod Delivery
 pub mod Departure
 pub mod Different
 pub mod Internet
+pub mod InternetWeight
 pub mod Listed
 pub mod Log
 pub mod Moment
