@@ -1,8 +1,9 @@
 # Needs the Rattle toolchain (its command rt, and the Python that it runs on) and nothing else.
 PREFIX ?= /usr/local
 PROGRAM = crates/ipxr/out/ipxr
+MINUTES ?= 60
 
-.PHONY: run try show build embed gateway test edits bench install
+.PHONY: run try show build embed aarch64 windows gateway test edits fuzz bench install
 
 # Proves and builds all, then plays the worked script and prints what the router sent and learned.
 run: build
@@ -12,7 +13,7 @@ run: build
 try:
 	@cd crates/ipxr && rt try -- replay <stdin
 
-# Proves ipx_show, the first program to read, and shows two packets with it.
+# Proves ipx_show, the first program to read, and shows nine packets with it.
 show:
 	@tools/show
 
@@ -20,9 +21,14 @@ show:
 build:
 	@tools/build
 
-# Proves the library for C, and puts build/libipxr.a and its header there. Needs a C compiler.
+# Proves the library for C, and puts build/libipxr.a and its header there, for any x86-64, or for later ones as by CPU=x86-64-v3.
+# Needs a C compiler.
 embed:
 	@tools/embed
+
+# The same for 64-bit Linux on ARM, and for Windows: build/aarch64, build/windows. Needs a compiler for it; docs/EMBED.md.
+aarch64 windows:
+	@tools/platforms $@
 
 # Builds build/ipxr-gateway, which joins DOSBox' networks, cards of emulators and Ethernet. Needs a C compiler; docs/GATEWAY.md.
 gateway:
@@ -35,6 +41,11 @@ test:
 # Tries every must-fail edit, or with CRATE=NAME those of one crate. The last line is 'N refused, M not refused'.
 edits:
 	@tools/edits $(CRATE)
+
+# Plays made-up bytes to the built program and to the library for C, for MINUTES in all. With afl++ where it is installed; needs a C
+# compiler. docs/PROVED.md tells what came. The last line is 'N inputs, M crashes'.
+fuzz: build embed
+	@tools/fuzz $(MINUTES)
 
 # Proves, builds and runs the measurements; docs/SPEED.md tells what they gave.
 bench:

@@ -5,6 +5,8 @@
 #include <stddef.h>
 #include <stdlib.h>
 
+#include "ipxr.h"
+
 struct block {
     bool there;
     unsigned char *at;
@@ -20,19 +22,19 @@ static struct block block_at(void *at)
 }
 
 /* A block of `size` bytes; of no bytes, one that can be freed. */
-struct block rattle_alloc(size_t size, size_t alignment)
+IPXR_CALL struct block rattle_alloc(size_t size, size_t alignment)
 {
     return block_at(malloc(size == 0 ? alignment : size));
 }
 
 /* The block with its first `kept` bytes, moved where that is needed; where it is refused, the old block stays. */
-struct block rattle_realloc(unsigned char *block, size_t kept, size_t size, size_t alignment)
+IPXR_CALL struct block rattle_realloc(unsigned char *block, size_t kept, size_t size, size_t alignment)
 {
     (void)kept;
     return block_at(realloc(block, size == 0 ? alignment : size));
 }
 
-void rattle_dealloc(unsigned char *block)
+IPXR_CALL void rattle_dealloc(unsigned char *block)
 {
     free(block);
 }

@@ -3,7 +3,7 @@
  * A router takes events (a start, seconds, packets that came in) and says which packets it sends. It has no socket, no
  * clock, no thread and no memory but its own. What each call does is proved from its code; docs/EMBED.md says how far.
  *
- *     ipxr router = {0};
+ *     ipxr router = IPXR_NONE;
  *     ipxr_port ports[2] = {
  *         {0x10, {0, 0, 0, 0, 0, 1}, 1, 576, IPXR_NO_LIMIT, IPXR_NO_LIMIT},
  *         {0x20, {0, 0, 0, 0, 0, 2}, 1, 1500, IPXR_NO_LIMIT, IPXR_NO_LIMIT},
@@ -18,7 +18,7 @@
  *
  * WHAT C HAS TO PROMISE. Nothing checks it; where it is broken, anything may happen, unless another thing is said.
  *
- *  1. A handle begins with all bytes 0, and is changed by these calls alone. Junk in it is taken for a pointer.
+ *  1. A handle begins as IPXR_NONE, or with all bytes 0, and is changed by these calls alone. Junk in it is taken for a pointer.
  *  2. A handle is never copied. Two copies are one router: freed by both, it is freed twice.
  *  3. A handle that has a router is freed before it is forgotten. Otherwise its memory is lost.
  *  4. One call at a time for one handle. It may go from one thread to another between calls; that is ordered by a lock, or
@@ -29,10 +29,14 @@
  *  7. No two arguments of one call overlap, and no other code writes there during the call.
  *  8. malloc, realloc and free belong to one allocator (include/heap.c), and are not changed while a router is there.
  *  9. No call from a signal handler, nor in the child of a fork of a process with threads.
- * 10. The stack has room for a call: docs/EMBED.md says how much. A call without it runs over the stack's end.
+ * 10. The stack has room for a call: a thread of yours has IPXR_STACK bytes. A call without room runs over the stack's end.
  *
  * Everything else is answered with a number: a handle without a router, a second free, a port, a packet or a record that
  * there is not, a buffer too short for a packet, ports that make no router, memory that is refused.
+ *
+ * WHERE IT RUNS. The library is there for 64-bit Linux on x86-64 and on aarch64, and for 64-bit Windows on x86-64 by gcc or
+ * clang: docs/EMBED.md says how each is made. The header is plain C, from C89 on, and plain C++, from C++98 on, where the
+ * compiler has stdint.h and stdbool.h.
  */
 #ifndef IPXR_H
 #define IPXR_H
@@ -40,6 +44,16 @@
 #include <stdbool.h>
 #include <stddef.h>
 #include <stdint.h>
+
+/* How these functions are called. On Windows, too, the library is called as on Linux, and the compiler has to be told. */
+#if defined(_WIN64)
+#if !defined(__GNUC__) && !defined(__clang__)
+#error "ipxr.h: on Windows only gcc and clang can call the library"
+#endif
+#define IPXR_CALL __attribute__((sysv_abi))
+#else
+#define IPXR_CALL
+#endif
 
 #ifdef __cplusplus
 extern "C" {
@@ -58,6 +72,9 @@ extern "C" {
 
 /* Room for the words of any answer, with the 0 behind them. */
 #define IPXR_MOST_WORD 32
+
+/* Bytes of stack that a thread needs which makes these calls: what a call takes at most, as measured, and as much again. */
+#define IPXR_STACK 1048576
 
 /* ---- What became of an event: 0 and above. ipxr_word tells the word of each. ---- */
 
@@ -125,11 +142,21 @@ extern "C" {
 
 /* ---- Values ---- */
 
-/* A router, or none. Make it with all bytes 0, hand its address to the calls, and look at nothing in it. */
+/* Yes or no, in a byte: C before 1999 has no bool. */
+#if defined(__cplusplus) || (defined(__STDC_VERSION__) && __STDC_VERSION__ >= 199901L)
+typedef bool ipxr_flag;
+#else
+typedef unsigned char ipxr_flag;
+#endif
+
+/* A router, or none. Begin with none, hand its address to the calls, and look at nothing in it. */
 typedef struct ipxr {
-    bool made;
+    ipxr_flag made;
     void *at;
 } ipxr;
+
+/* A handle without a router, to begin with: ipxr router = IPXR_NONE; */
+#define IPXR_NONE {0, NULL}
 
 /* A port, as it is given to ipxr_make. */
 typedef struct ipxr_port {
@@ -177,10 +204,10 @@ typedef struct ipxr_service_record {
  * sent. The ports are copied. A router that the handle had is freed, but only where the new one could be made.
  * Returns 0, or the first fault: IPXR_NO_PORTS, IPXR_MANY_PORTS; of the first port that is none IPXR_BAD_LONGEST, IPXR_BAD_COST,
  * IPXR_BAD_NETWORK or IPXR_BAD_NODE, in this order; IPXR_SAME_NETWORK; IPXR_OUT_OF_MEMORY. Then the handle is as it was. */
-int32_t ipxr_make(ipxr *router, const ipxr_port *ports, size_t count);
+IPXR_CALL int32_t ipxr_make(ipxr *router, const ipxr_port *ports, size_t count);
 
 /* Frees the router, if there is one; the handle then has none. What it would have sent is forgotten. */
-void ipxr_free(ipxr *router);
+IPXR_CALL void ipxr_free(ipxr *router);
 
 /* ---- Events ----
  * Each returns what became of it. Packets that it sends are appended to those that are to be sent already: take them out with
@@ -188,52 +215,52 @@ void ipxr_free(ipxr *router);
  * happened; the same event can be given again. */
 
 /* Starts it: IPXR_STARTED or IPXR_ALREADY_RUNNING. All ports are up. */
-int32_t ipxr_start(ipxr *router);
+IPXR_CALL int32_t ipxr_start(ipxr *router);
 
 /* Stops it: IPXR_STOPPED or IPXR_NOT_RUNNING. What it learned is forgotten, and advertised as unreachable. */
-int32_t ipxr_stop(ipxr *router);
+IPXR_CALL int32_t ipxr_stop(ipxr *router);
 
 /* A second has passed: IPXR_TICKED or IPXR_NOT_RUNNING. Call it once for each second of your clock, late ones too. */
-int32_t ipxr_second(ipxr *router);
+IPXR_CALL int32_t ipxr_second(ipxr *router);
 
 /* A packet came in on a port. `bytes` is the IPX packet from its checksum on, any bytes at all, without what carried it;
  * they are only read, and only during the call. */
-int32_t ipxr_packet(ipxr *router, uint8_t port, const uint8_t *bytes, size_t length);
+IPXR_CALL int32_t ipxr_packet(ipxr *router, uint8_t port, const uint8_t *bytes, size_t length);
 
 /* A port lost its link, or has it again: IPXR_WENT_DOWN or IPXR_ALREADY_DOWN, IPXR_CAME_UP or IPXR_ALREADY_UP; IPXR_NOT_RUNNING. */
-int32_t ipxr_port_down(ipxr *router, uint8_t port);
-int32_t ipxr_port_up(ipxr *router, uint8_t port);
+IPXR_CALL int32_t ipxr_port_down(ipxr *router, uint8_t port);
+IPXR_CALL int32_t ipxr_port_up(ipxr *router, uint8_t port);
 
 /* ---- Packets to be sent ---- */
 
 /* How many there are; 0 without a router. */
-size_t ipxr_sent(ipxr *router);
+IPXR_CALL size_t ipxr_sent(ipxr *router);
 
 /* Copies the packet with exactly `index` others before it: `sent` tells its length, port and next hop, and its bytes come
  * first in `buffer`, which has room for `room` bytes; the rest of it stays as it was. Returns 0. With IPXR_SHORT_BUFFER
  * `sent` is told all the same and no byte is copied; with IPXR_NO_ROUTER and IPXR_NO_PACKET both stay as they were.
  * A buffer as long as the longest port allows, and no shorter than 576, is always long enough. */
-int32_t ipxr_get(ipxr *router, size_t index, ipxr_packet_sent *sent, uint8_t *buffer, size_t room);
+IPXR_CALL int32_t ipxr_get(ipxr *router, size_t index, ipxr_packet_sent *sent, uint8_t *buffer, size_t room);
 
 /* Clears them: none is to be sent any more. Their memory is kept for the next ones. */
-void ipxr_clear(ipxr *router);
+IPXR_CALL void ipxr_clear(ipxr *router);
 
 /* ---- What it knows ---- */
 
 /* 1 if it runs, 0 if it is stopped; IPXR_NO_ROUTER. */
-int32_t ipxr_is_running(ipxr *router);
+IPXR_CALL int32_t ipxr_is_running(ipxr *router);
 
 /* 1 if the router runs and the port is up, 0 if not; IPXR_NO_ROUTER, IPXR_NO_PORT. */
-int32_t ipxr_is_up(ipxr *router, uint8_t port);
+IPXR_CALL int32_t ipxr_is_up(ipxr *router, uint8_t port);
 
 /* How many routes and services it has; 0 without a router. */
-size_t ipxr_routes(ipxr *router);
-size_t ipxr_services(ipxr *router);
+IPXR_CALL size_t ipxr_routes(ipxr *router);
+IPXR_CALL size_t ipxr_services(ipxr *router);
 
 /* Copies the route with exactly `index` routes to smaller networks, or the service with exactly `index` services before it by
  * type and name. Returns 0; with IPXR_NO_ROUTER and IPXR_NO_RECORD `record` stays as it was. */
-int32_t ipxr_route(ipxr *router, size_t index, ipxr_route_record *record);
-int32_t ipxr_service(ipxr *router, size_t index, ipxr_service_record *record);
+IPXR_CALL int32_t ipxr_route(ipxr *router, size_t index, ipxr_route_record *record);
+IPXR_CALL int32_t ipxr_service(ipxr *router, size_t index, ipxr_service_record *record);
 
 /* ---- Frames of Ethernet ----
  * For links that carry frames: a card, a TAP, an emulator's network. They need no router and keep nothing. */
@@ -252,14 +279,14 @@ int32_t ipxr_service(ipxr *router, size_t index, ipxr_service_record *record);
 /* Returns how the frame carries a packet, and tells with how many bytes before it: from there to the frame's end is what
  * ipxr_packet takes, which finds by itself what is padding. With IPXR_NO_FRAME `front` stays as it was. A frame begins with its
  * six bytes of destination and six of source; whether it is for you is yours to see. */
-uint8_t ipxr_frame_read(const uint8_t *frame, size_t length, size_t *front);
+IPXR_CALL uint8_t ipxr_frame_read(const uint8_t *frame, size_t length, size_t *front);
 
 /* Writes the frame in which a packet is sent to a node from a node: its type, or its length and header, the packet, and zeros up to
  * IPXR_SHORTEST_FRAME. Returns its length; the rest of the buffer stays as it was. Returns 0, and writes nothing, where `kind` is
  * none of the four, header and packet are more than 1,500 bytes, the frame is longer than `room`, or a raw frame would carry a packet
  * with a checksum, since nobody would know it as IPX. */
-size_t ipxr_frame_write(uint8_t kind, const uint8_t to[6], const uint8_t from[6], const uint8_t *packet, size_t length,
-                        uint8_t *frame, size_t room);
+IPXR_CALL size_t ipxr_frame_write(uint8_t kind, const uint8_t to[6], const uint8_t from[6], const uint8_t *packet, size_t length,
+                                  uint8_t *frame, size_t room);
 
 /* ---- Words ---- */
 
@@ -267,11 +294,17 @@ size_t ipxr_frame_write(uint8_t kind, const uint8_t to[6], const uint8_t from[6]
  * "forwarded"; of a drop what `ipxr replay` prints, as "drop NoRoute" or "drop Malformed:Short"; of a fault what it is, as
  * "no such port". Returns their length without the 0. Where words and 0 don't fit, nothing is copied. An answer that is no
  * number of this page has no words: 0 is returned. IPXR_MOST_WORD bytes are always enough. */
-size_t ipxr_word(int32_t answer, uint8_t *buffer, size_t room);
+IPXR_CALL size_t ipxr_word(int32_t answer, uint8_t *buffer, size_t room);
+
+/* The same, into a text. */
+static __inline size_t ipxr_text(int32_t answer, char *text, size_t room)
+{
+    return ipxr_word(answer, (uint8_t *)text, room);
+}
 
 /* The version of this interface: its major number times 65536, plus its minor number. This header is of IPXR_VERSION. */
 #define IPXR_VERSION 65537
-uint32_t ipxr_version(void);
+IPXR_CALL uint32_t ipxr_version(void);
 
 #ifdef __cplusplus
 }

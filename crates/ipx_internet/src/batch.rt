@@ -97,12 +97,17 @@ impl Batch {
         self.pending.clear();
     }
 
-    /// Makes the room for what an event sends, where at most that many receive one packet.
+    /// Makes the room for what an event sends, where at most that many receive one packet. Packets that nobody receives
+    /// are kept no longer than until nothing waits.
     pub fn make_room(&mut self, need: Need, most: usize) -> Result<(), OutOfMemory>
         ensures deliveries { self.new.deliveries ≡ self.old.deliveries }
+        ensures packets { self.old.deliveries ≡ [] → self.new.outbox.sent ≡ [] }
         ensures room { OnOk result (HasRoom self.new.outbox need.packets need.bytes) }
         ensures places { OnOk result (need.packets * most ≤ self.new.places) }
     {
+        if self.pending.is_empty() {
+            self.clear();
+        }
         self.outbox.reserve(need)?;
         self.pending.reserve(need.packets.saturating_mul(most))?;
         Ok(())

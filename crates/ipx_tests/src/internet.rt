@@ -1,5 +1,8 @@
 //! Internets: deliveries one by one, where a packet gets to, and what is refused.
 
+mod memory;
+
+use crate::internet::memory::{added, happened, settled};
 use crate::same::same;
 use ipx_internet::{Internet, InternetFault, Settled, Trace, TraceFault};
 use ipx_router::{Event, Outcome, Port, PortFault, Router, Why};
@@ -30,10 +33,10 @@ fn add(internet: &mut Small, router: Router<2, 50, 8>) -> Result<usize, Internet
 /// Networks 10, 20 and 30 in a line: routers 0 and 1 meet on network 20. Both are started, and nothing has settled.
 fn line(heap: Global) -> Result<Small, Fail> {
     let mut internet = Small::new(heap);
-    add(&mut internet, between(port(0x10, 1)?, port(0x20, 2)?)?)?;
-    add(&mut internet, between(port(0x20, 3)?, port(0x30, 4)?)?)?;
-    internet.event(0, Event::Start)?;
-    internet.event(1, Event::Start)?;
+    added(&mut internet, between(port(0x10, 1)?, port(0x20, 2)?)?)?;
+    added(&mut internet, between(port(0x20, 3)?, port(0x30, 4)?)?)?;
+    happened(&mut internet, 0, Event::Start)?;
+    happened(&mut internet, 1, Event::Start)?;
     Ok(internet)
 }
 
@@ -74,7 +77,7 @@ const WAY: [u8; 40] = [
 /// The line, settled, where each router holds the other for its way to network 99.
 fn looped(heap: Global) -> Result<Small, Fail> {
     let mut internet = line(heap)?;
-    internet.settle(100)?;
+    settled(&mut internet)?;
     for (number, port, neighbour) in [(0, 1, 3), (1, 0, 2)] {
         let mut bytes = WAY;
         bytes[27] = neighbour;
@@ -82,7 +85,7 @@ fn looped(heap: Global) -> Result<Small, Fail> {
             port,
             bytes: &bytes,
         };
-        internet.event(number, way)?;
+        happened(&mut internet, number, way)?;
     }
     Ok(internet)
 }

@@ -6,12 +6,15 @@
 //! - `own_offer`: an offer type of one's own, which the documentation of `Offer` quotes.
 //! - `wire`, `table`, `ports`, `router`: packets and devices, offers, what a router is made of, and what it does.
 //! - `internet`: several routers, the deliveries between them, and where a packet gets to.
+//! - `captures`: a capture with a record that there is no memory for.
 //! - `damaged`: packets with bytes cut off or changed, and floods of them.
 //! - `devices`: runs of `replay` and `decode` on devices that give or take few bytes, or fail.
 //! - `endless`: readers that give bytes for ever, and a capture that ends at each of its bytes.
 //! - `program_words`, `exit_statuses`: the words of the command line, the end of a run.
 #![tactic(auto)]
 
+#[cfg(test)]
+mod captures;
 #[cfg(test)]
 mod damaged;
 #[cfg(test)]

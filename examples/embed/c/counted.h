@@ -8,6 +8,8 @@
 #include <stdbool.h>
 #include <stdlib.h>
 
+#include "ipxr.h"
+
 struct block {
     bool there;
     unsigned char *at;
@@ -28,7 +30,7 @@ static bool is_refused(void)
     return true;
 }
 
-struct block rattle_alloc(size_t size, size_t alignment)
+IPXR_CALL struct block rattle_alloc(size_t size, size_t alignment)
 {
     struct block block = {false, nowhere};
     if (!is_refused()) {
@@ -39,7 +41,7 @@ struct block rattle_alloc(size_t size, size_t alignment)
     return block;
 }
 
-struct block rattle_realloc(unsigned char *old, size_t kept, size_t size, size_t alignment)
+IPXR_CALL struct block rattle_realloc(unsigned char *old, size_t kept, size_t size, size_t alignment)
 {
     struct block block = {false, nowhere};
     (void)kept;
@@ -50,7 +52,7 @@ struct block rattle_realloc(unsigned char *old, size_t kept, size_t size, size_t
     return block;
 }
 
-void rattle_dealloc(unsigned char *at)
+IPXR_CALL void rattle_dealloc(unsigned char *at)
 {
     in_use--;
     free(at);

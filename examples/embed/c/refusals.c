@@ -1,8 +1,8 @@
 /* An allocator of the embedder's own in the place of include/heap.c: it refuses one request of many.
  *
- * The same events are played again and again; the first time the first allocation is refused, then the second, and so on until
- * none is. A call that was refused says so, changes nothing, and does its work when it is made again. Run it under the
- * sanitizers: they see what is lost or used wrongly. */
+ * The same events are played again and again: first none is refused, then the first allocation, then the second, and so on until
+ * all were. A call that was refused says so, changes nothing, and when it is made again it does what it did where nothing was refused:
+ * answers, packets and tables are compared. Run it under the sanitizers: they see what is lost or used wrongly. */
 #include <stdbool.h>
 #include <stdio.h>
 #include <string.h>
@@ -12,6 +12,13 @@
 
 static long told;   /* answers that memory was refused */
 static int changed; /* refused calls that changed something: there are none */
+static int other;   /* plays that gave something else than the one in which nothing was refused: there are none */
+
+/* All that a play gave. */
+struct given {
+    size_t length;
+    uint8_t bytes[65536];
+};
 
 /* What a refused call must leave as it was. */
 struct seen {
@@ -76,32 +83,75 @@ static int32_t port_1_up(ipxr *router)
 static event *const EVENTS[] = {make, ipxr_start, learn, forward, ipxr_second, port_1_down, port_1_up, ipxr_stop};
 
 /* Makes a call, and where memory was refused makes it again. */
-static void insist(ipxr *router, event *call)
+static int32_t insist(ipxr *router, event *call)
 {
     struct seen before = look(router);
-    if (call(router) != IPXR_OUT_OF_MEMORY)
-        return;
+    int32_t answer = call(router);
+    if (answer != IPXR_OUT_OF_MEMORY)
+        return answer;
     told++;
     if (!is_same(before, look(router)))
         changed++;
-    if (call(router) < 0)
-        changed++;
+    return call(router);
+}
+
+/* Appends some bytes, or says no. */
+static bool append(struct given *given, const void *bytes, size_t length)
+{
+    if (length > sizeof given->bytes - given->length)
+        return false;
+    memcpy(given->bytes + given->length, bytes, length);
+    given->length += length;
+    return true;
+}
+
+/* Appends each packet that is to be sent, and the first route. */
+static bool append_all(struct given *given, ipxr *router)
+{
+    ipxr_packet_sent sent;
+    ipxr_route_record route;
+    uint8_t bytes[576];
+    bool fits = true;
+    memset(&sent, 0, sizeof sent);
+    memset(&route, 0, sizeof route);
+    for (size_t k = 0; ipxr_get(router, k, &sent, bytes, sizeof bytes) == 0; k++)
+        fits = fits && append(given, &sent.port, 1) && append(given, sent.node, 6) && append(given, bytes, sent.length);
+    if (ipxr_route(router, 0, &route) == 0)
+        fits = fits && append(given, &route, sizeof route);
+    return fits;
+}
+
+/* Plays all events to a new router; what doesn't fit is told as nothing given. */
+static void play(struct given *given)
+{
+    ipxr router = {0};
+    bool fits = true;
+    given->length = 0;
+    for (size_t k = 0; k < sizeof EVENTS / sizeof *EVENTS; k++) {
+        int32_t answer = insist(&router, EVENTS[k]);
+        fits = fits && append(given, &answer, sizeof answer) && append_all(given, &router);
+    }
+    ipxr_free(&router);
+    if (!fits)
+        given->length = 0;
 }
 
 int main(void)
 {
+    static struct given whole, given;
     long rounds = 0;
     long before;
+    play(&whole);
     do {
-        ipxr router = {0};
         before = refused;
         until_refused = ++rounds;
-        for (size_t k = 0; k < sizeof EVENTS / sizeof *EVENTS; k++)
-            insist(&router, EVENTS[k]);
-        ipxr_free(&router);
+        play(&given);
+        if (given.length == 0 || given.length != whole.length || memcmp(given.bytes, whole.bytes, given.length) != 0)
+            other++;
     } while (refused > before);
     printf("each allocation was refused once: %s\n", refused == rounds - 1 && refused > 1 && told == refused ? "yes" : "no");
     printf("refused calls that changed something: %d\n", changed);
+    printf("plays that gave something else than with all memory: %d\n", other);
     printf("blocks that weren't freed: %ld\n", in_use);
     return 0;
 }

@@ -68,7 +68,7 @@ fn stepped(
     }
 }
 
-/// `rt try --test --fail-alloc N` refuses the growth number N of each test: this one ends well for each N.
+/// It passes whichever request for memory is refused: `tools/refusals` tries each on the built test.
 #[test]
 fn a_step_without_memory_can_be_taken_again(rt: HostRuntime) -> Result<(), Fail> {
     let mut router = Router::<2, 50, 8>::new(&ports()?)?;

@@ -1,0 +1,106 @@
+//! Memory that is refused to an internet: the same call, made again, does what it would have done.
+
+use crate::internet::{FAR, Small, between, first_route, line, looped, port, row};
+use crate::same::same;
+use ipx_internet::{InternetFault, Settled, Trace, TraceFault};
+use ipx_router::{Event, Outcome, Router, Why};
+use std::test::Fail;
+
+/// Adds a router. Where memory is refused, the internet has to be as it was, and the router that is handed back is added.
+pub fn added(internet: &mut Small, router: Router<2, 50, 8>) -> Result<usize, Fail> {
+    let before = (internet.len(), internet.waiting());
+    let router = match internet.add(router) {
+        Ok(number) => return Ok(number),
+        Err(refused) if refused.fault == InternetFault::Memory => refused.router,
+        Err(refused) => return Err(Fail::from(refused.fault)),
+    };
+    if (internet.len(), internet.waiting()) != before {
+        return Err(Fail::new("a refusal changed something"));
+    }
+    match internet.add(router) {
+        Ok(number) => Ok(number),
+        Err(refused) => Err(Fail::from(refused.fault)),
+    }
+}
+
+/// Gives a router an event. Where memory is refused, nothing may wait that didn't before, and the event is given again.
+pub fn happened(internet: &mut Small, number: usize, event: Event<'_>) -> Result<Outcome, Fail> {
+    let before = internet.waiting();
+    match internet.event(number, event) {
+        Err(InternetFault::Memory) => {}
+        answer => return Ok(answer?),
+    }
+    if internet.waiting() != before {
+        return Err(Fail::new("a refusal changed something"));
+    }
+    Ok(internet.event(number, event)?)
+}
+
+/// Hands out all that waits. Where memory is refused, something has to wait still, and is handed out then.
+pub fn settled(internet: &mut Small) -> Result<Settled, Fail> {
+    match internet.settle(100) {
+        Err(InternetFault::Memory) => {}
+        answer => return Ok(answer?),
+    }
+    if internet.waiting() == 0 {
+        return Err(Fail::new("a refused delivery is lost"));
+    }
+    Ok(internet.settle(100)?)
+}
+
+/// Where the far packet gets to; where memory is refused, it is traced again.
+fn traced(internet: &Small) -> Result<Trace<'static>, Fail> {
+    match internet.trace(0, 0, &FAR, 17) {
+        Err(TraceFault::Memory) => Ok(internet.trace(0, 0, &FAR, 17)?),
+        answer => Ok(answer?),
+    }
+}
+
+/// `tools/refusals` plays the built tests with `without_memory` in their names, each as often as it asks for memory: one request
+/// after the other is refused, and they have to end well. `rt try --test --fail-alloc N` refuses request number N.
+#[test]
+fn a_router_without_memory_is_added_again(rt: HostRuntime) -> Result<(), Fail> {
+    let mut internet = Small::new(rt.alloc());
+    let first = added(&mut internet, between(port(0x10, 1)?, port(0x20, 2)?)?)?;
+    let second = added(&mut internet, between(port(0x20, 3)?, port(0x30, 4)?)?)?;
+    same(&rt, (first, second, internet.len()), (0, 1, 2));
+    // (its ports are known, but once)
+    let third = internet.add(between(port(0x40, 5)?, port(0x30, 4)?)?);
+    same(
+        &rt,
+        third.err().map(|it| it.fault),
+        Some(InternetFault::SameNode),
+    );
+    Ok(())
+}
+
+#[test]
+fn a_settling_without_memory_is_ended_by_the_next(rt: HostRuntime) -> Result<(), Fail> {
+    let mut internet = line(rt.alloc())?;
+    same(&rt, settled(&mut internet)?, Settled::Quiet);
+    same(&rt, first_route(&internet, 0), Some((0x30, 1, 0)));
+    same(&rt, first_route(&internet, 1), Some((0x10, 1, 0)));
+    let routes = [0, 1].map(|it| internet.router(it).map(|it| it.routes()));
+    same(&rt, routes, [Some(1), Some(1)]);
+    Ok(())
+}
+
+#[test]
+fn a_trace_without_memory_is_whole_when_it_is_made_again(rt: HostRuntime) -> Result<(), Fail> {
+    let internet = looped(rt.alloc())?;
+    let trace = traced(&internet)?;
+    let mut wrong = 0usize;
+    for k in 0..17usize {
+        let outcome = if k < 16 {
+            Outcome::Forwarded
+        } else {
+            Outcome::Dropped(Why::TooManyRouters)
+        };
+        let wanted = (k.checked_sub(1), k % 2, u8::try_from(k).ok(), outcome);
+        if row(&trace, k) != Some(wanted) {
+            wrong = wrong.wrapping_add(1);
+        }
+    }
+    same(&rt, (trace.len(), wrong), (17, 0));
+    Ok(())
+}

@@ -1,0 +1,70 @@
+# What the tools of the library for C have in common; they include it at the top of the repository.
+passed=0
+failed=0
+FLAGS="-O2 -Wall -Wextra -pedantic -Iinclude"
+
+has() { command -v "$1" >/dev/null 2>&1; }
+
+# A line for what went well or badly: its name, and the status to judge.
+tell() {
+    if [ "$2" = 0 ]; then
+        passed=$((passed + 1))
+        echo "ok      $1"
+    else
+        failed=$((failed + 1))
+        echo "FAILED  $1"
+    fi
+}
+
+left_out() { echo "left out: $1 (no $2)"; }
+
+# The last line of a test, and its status.
+count() {
+    echo "$passed passed, $failed failed"
+    [ $failed = 0 ]
+}
+
+# Whether a command prints what a file has, within two minutes, and complains of nothing; what differs is shown.
+prints() {
+    local kept=$1
+    shift
+    timeout 120 "$@" 2>build/complaint </dev/null | tr -d '\r' | diff "$kept" - && [ ! -s build/complaint ]
+}
+
+# ends TEXT COMMAND..: whether a command ends well, prints nothing and complains of nothing.
+ends() { prints /dev/null "$@" && timeout 120 "$@" </dev/null >build/log 2>&1; }
+
+# test_c NAME COMPILER FOLDER [RUNNER..]: builds the examples in C with the archive of a folder, and compares what they print.
+test_c() {
+    local name=$1 compiler=$2 folder=$3
+    shift 3
+    for program in two_networks answers fields services; do
+        local kept=examples/embed/c/$program.out
+        [ -e $kept ] || kept=examples/embed/$program.out
+        $compiler -std=c99 $FLAGS examples/embed/c/$program.c "$folder/libipxr.a" -o "$folder/$program.exe"
+        tell "$name: $program is built" $?
+        prints $kept "$@" "$folder/$program.exe"
+        tell "$name: $program prints what is kept" $?
+    done
+}
+
+# test_counted NAME COMPILER FOLDER FLAGS [RUNNER..]: the same for programs with an allocator of their own, which counts and refuses:
+# they say what they saw, and must end well.
+test_counted() {
+    local name=$1 compiler=$2 folder=$3 flags=$4
+    shift 4
+    for program in refusals blocks; do
+        $compiler -std=c99 $FLAGS $flags examples/embed/c/$program.c "$folder/libipx_c.a" -o "$folder/$program.exe"
+        tell "$name: $program is built with an allocator of its own${flags:+ and the sanitizers}" $?
+        prints examples/embed/c/$program.out "$@" "$folder/$program.exe"
+        tell "$name: $program prints what is kept" $?
+    done
+}
+
+# test_thread NAME COMPILER FOLDER [RUNNER..]: whether the stack that the header names is enough for a thread.
+test_thread() {
+    local name=$1 compiler=$2 folder=$3
+    shift 3
+    $compiler -std=c99 $FLAGS tests/embed/stack.c "$folder/libipxr.a" -pthread -o "$folder/stack.exe" && ends "$@" "$folder/stack.exe"
+    tell "$name: a thread has enough stack" $?
+}
