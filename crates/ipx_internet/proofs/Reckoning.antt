@@ -48,7 +48,7 @@ counted count f (s ∷ states) at =
 module _ (most_routes most_services : ℕ) where
   -- ---- histories that routers stand for
 
-  pub pasts : (states : List State) → AllByRecursion (HasPast most_routes most_services) states → List History
+  abbrev pub pasts : (states : List State) → AllByRecursion (HasPast most_routes most_services) states → List History
   pasts [] all = []
   pasts (s ∷ states) all = all.0.past ∷ pasts states all.1
 
