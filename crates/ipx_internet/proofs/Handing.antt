@@ -17,7 +17,7 @@ use Rattle.ipx_internet.proofs.Lists.{all-append}
 
 module _ {X : Type 0} where
   -- what is there stands first behind those before it
-  first_left : (xs : List X) (k : ℕ) (x : X) → slice_get xs k ≡ Some x → drop k xs ≡ x ∷ drop (k + 1) xs
+  pub first_left : (xs : List X) (k : ℕ) (x : X) → slice_get xs k ≡ Some x → drop k xs ≡ x ∷ drop (k + 1) xs
   first_left xs k x got =
       drop_more xs k x (slice_get_within xs k x got) ∙ ap (λ y. y ∷ drop (k + 1) xs) (get_or_from_slice_get xs k x x got)
 

@@ -20,6 +20,7 @@ pub mod Falling
 pub mod Fanning
 pub mod Filling
 pub mod Following
+pub mod Fullest
 pub mod Gaining
 pub mod Going
 pub mod Gone
@@ -30,6 +31,7 @@ pub mod Lasting
 pub mod Leaving
 pub mod Lightening
 pub mod Lists
+pub mod Measuring
 pub mod Names
 pub mod Nearing
 pub mod Now
@@ -48,6 +50,7 @@ pub mod Reckoning
 pub mod Replying
 pub mod Rounding
 pub mod Runs
+pub mod Saturating
 pub mod Saying
 pub mod SendingOn
 pub mod Sends

@@ -14,6 +14,7 @@ pub mod Real
 pub mod Refused
 pub mod Rounds
 pub mod Run
+pub mod Scales
 pub mod Settled
 pub mod Simulated
 pub mod Stations

@@ -47,10 +47,10 @@ pub struct Internet<const P: usize, const R: usize, const S: usize> {
     pub(crate) routers: Vec<Router<P, R, S>>,
     pub(crate) stations: Stations,
     /// What is handed out now: of its deliveries, the first `done` were.
-    front: Batch,
-    done: usize,
+    pub(crate) front: Batch,
+    pub(crate) done: usize,
     /// What the routers send meanwhile.
-    back: Batch,
+    pub(crate) back: Batch,
 }
 
 impl<const P: usize, const R: usize, const S: usize> Model for Internet<P, R, S> {
