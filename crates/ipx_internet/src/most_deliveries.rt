@@ -40,9 +40,7 @@ impl<const P: usize, const R: usize, const S: usize> Internet<P, R, S> {
 }
 
 /// The most ports that one of some routers has.
-fn most_ports<const P: usize, const R: usize, const S: usize>(
-    routers: &[Router<P, R, S>],
-) -> usize
+fn most_ports<const P: usize, const R: usize, const S: usize>(routers: &[Router<P, R, S>]) -> usize
     ensures { result ≡ ports_at_most (net_among routers.now) }
 {
     let mut most: usize = 0;

@@ -48,7 +48,9 @@ pub(crate) fn scale_of(ports: usize, on_network: usize, routes: usize, services:
 {
     let neighbours = on_network.saturating_sub(1);
     let all_ports = ports.saturating_mul(neighbours);
-    let once = all_ports.saturating_mul(RipEntry::MOST + 1).saturating_add(1);
+    let once = all_ports
+        .saturating_mul(RipEntry::MOST + 1)
+        .saturating_add(1);
     let others = ports.saturating_sub(1).saturating_mul(neighbours);
     let caused = most_sent(ports, routes, services).saturating_mul(neighbours);
     let answer = compound(usize::from(RipEntry::UNREACHABLE), once, others);
