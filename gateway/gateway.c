@@ -266,12 +266,15 @@ static void tell_start(const gateway *it)
     }
 }
 
-bool gateway_start(gateway *it, const settings *set)
+bool gateway_open(gateway *it, const settings *set)
+{
+    memset(it, 0, sizeof *it);
+    return open_all(it, set);
+}
+
+bool gateway_start(gateway *it)
 {
     char words[WORDS];
-    memset(it, 0, sizeof *it);
-    if (!open_all(it, set))
-        return false;
     int32_t made = make(it);
     if (made < 0) {
         fprintf(stderr, "ipxr-gateway: %s\n", answer_words(made, words));

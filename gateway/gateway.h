@@ -30,8 +30,11 @@ typedef struct gateway {
     uint64_t told;  /* seconds that the router has heard of since */
 } gateway;
 
-/* Opens everything and starts the router. Returns false where something can't be opened, which is told on standard error. */
-bool gateway_start(gateway *it, const settings *set);
+/* Opens the links of all networks. Returns false where one can't be opened, which is told on standard error. */
+bool gateway_open(gateway *it, const settings *set);
+
+/* Starts the router on the open links. Returns false where it can't start, which is told on standard error. */
+bool gateway_start(gateway *it);
 
 /* Hands on what has come, and lets seconds pass. Where it waits, something comes first, or a signal or the next second. */
 void gateway_turn(gateway *it, bool waits);

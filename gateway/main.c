@@ -41,6 +41,14 @@ typedef struct {
     const char *configuration;
 } options;
 
+/* Tells what is wrong with a word of the command line, or with its end where the word is NULL. */
+static bool use_fault(const char *word, const char *expected)
+{
+    fprintf(stderr, "ipxr-gateway: %s%s%s: expected %s\n", word != NULL ? "'" : "", word != NULL ? word : "the command line ends",
+            word != NULL ? "'" : "", expected);
+    return false;
+}
+
 static bool read_options(options *it, int count, char **words)
 {
     for (int k = 1; k < count; k++) {
@@ -50,20 +58,25 @@ static bool read_options(options *it, int count, char **words)
             it->is_help = true;
         else if (strcmp(words[k], "--log") == 0)
             it->is_log = true;
-        else if (strcmp(words[k], "--pcap") == 0 && k + 1 < count)
+        else if (strcmp(words[k], "--pcap") == 0 && k + 1 == count)
+            return use_fault(NULL, "a file for the capture behind --pcap");
+        else if (strcmp(words[k], "--pcap") == 0)
             it->capture = words[++k];
-        else if (words[k][0] != '-' && it->configuration == NULL)
-            it->configuration = words[k];
+        else if (words[k][0] == '-')
+            return use_fault(words[k], "--check, --log, --pcap, --help or a configuration");
+        else if (it->configuration != NULL)
+            return use_fault(words[k], "one configuration");
         else
-            return false;
+            it->configuration = words[k];
     }
-    return it->is_help || it->configuration != NULL;
+    return it->is_help || it->configuration != NULL || use_fault(NULL, "a configuration");
 }
 
 static void show_use(FILE *file)
 {
     fprintf(file, "ipxr-gateway [--log] [--pcap FILE] CONFIG   routes until it is told to stop\n"
-                  "ipxr-gateway --check CONFIG                 says what is wrong with a configuration\n");
+                  "ipxr-gateway --check CONFIG                 says what is wrong with a configuration\n"
+                  "--log writes a line for each packet, --pcap captures them. The manual page, ipxr-gateway(8), shows a configuration.\n");
 }
 
 static int read_configuration(settings *set, const char *name)
@@ -88,11 +101,14 @@ static int route(const options *it, const settings *set)
     on_signal(SIGPIPE, SIG_IGN);
     if (it->is_log)
         note_events();
+    if (!gateway_open(&gate, set))
+        return CANNOT_OPEN;
+    /* (behind the links: where another gateway has them, its capture of that name stays) */
     if (it->capture != NULL && !capture_open(it->capture)) {
         fprintf(stderr, "ipxr-gateway: %s: can't be opened: %s\n", it->capture, strerror(errno));
         return CANNOT_OPEN;
     }
-    if (!gateway_start(&gate, set))
+    if (!gateway_start(&gate))
         return CANNOT_OPEN;
     while (!is_over) {
         /* (what came before somebody asked is in the report) */

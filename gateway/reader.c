@@ -3,15 +3,28 @@
 #include <stdarg.h>
 #include <string.h>
 
+/* Writes a word. Bytes that a terminal doesn't show, as the mark that some editors put in front of a text, are shown by number. */
+static void show_word(FILE *file, const char *word)
+{
+    for (const unsigned char *at = (const unsigned char *)word; *at != '\0'; at++)
+        if (*at > ' ' && *at < 127)
+            fputc(*at, file);
+        else
+            fprintf(file, "\\x%02X", *at);
+}
+
 bool reader_fault(reader *r, const char *word, const char *format, ...)
 {
     va_list rest;
     va_start(rest, format);
     fprintf(r->complaints, "%s:%zu: ", r->name, r->line);
-    if (word != NULL)
-        fprintf(r->complaints, "'%s': ", word);
-    else
-        fprintf(r->complaints, "the line ends: ");
+    if (word != NULL) {
+        fputc('\'', r->complaints);
+        show_word(r->complaints, word);
+        fputs("': ", r->complaints);
+    } else {
+        fputs("the line ends: ", r->complaints);
+    }
     vfprintf(r->complaints, format, rest);
     fputc('\n', r->complaints);
     va_end(rest);

@@ -187,12 +187,19 @@ bool same_link(const network_setting *a, const network_setting *b)
            same_address(&a->local, &b->local) && (a->local.sin_port != 0 || a->type == LINK_QEMU_CONNECT || a->name[0] != '\0');
 }
 
+/* Whether one address of this machine is, or contains, the other: 0.0.0.0 is all of them. */
+static bool overlap(const struct sockaddr_in *a, const struct sockaddr_in *b)
+{
+    bool is_all = a->sin_addr.s_addr == htonl(INADDR_ANY) || b->sin_addr.s_addr == htonl(INADDR_ANY);
+    return a->sin_port != 0 && a->sin_port == b->sin_port && (is_all || same_address(a, b));
+}
+
 /* Whether two links would take one address of this machine. */
 static bool takes_the_same(const network_setting *a, const network_setting *b)
 {
     bool both_datagrams = (a->type == LINK_DOSBOX || a->type == LINK_QEMU_UDP) && (b->type == LINK_DOSBOX || b->type == LINK_QEMU_UDP);
     bool both_listen = a->type == LINK_QEMU_LISTEN && b->type == LINK_QEMU_LISTEN;
-    return (both_datagrams || both_listen) && a->local.sin_port != 0 && same_address(&a->local, &b->local);
+    return (both_datagrams || both_listen) && overlap(&a->local, &b->local);
 }
 
 static bool is_single(reader *r, const network_setting *it)
@@ -205,10 +212,20 @@ static bool is_single(reader *r, const network_setting *it)
         if (!is_shared && takes_the_same(it, other)) {
             char words[32];
             address_words(&it->local, words, sizeof words);
-            return reader_fault(r, words, "expected another address, line %zu has this one", other->line);
+            return reader_fault(r, words, "expected another port, line %zu has this one", other->line);
         }
     }
     return true;
+}
+
+/* Whether datagrams go to somebody else: at its own address the gateway would hear itself. */
+static bool is_for_another(reader *r, const network_setting *it)
+{
+    char words[32];
+    if (it->type != LINK_QEMU_UDP || !overlap(&it->local, &it->remote))
+        return true;
+    address_words(&it->remote, words, sizeof words);
+    return reader_fault(r, words, "expected QEMU's address, this is the gateway's own");
 }
 
 static bool fits(reader *r, const network_setting *it)
@@ -231,7 +248,7 @@ static void read_network_line(reader *r)
         return;
     }
     if (read_network(r, &it) && read_cost_and_longest(r, &it) && read_shares(r, &it) && read_link(r, &it) && read_kind(r, &it) &&
-        is_single(r, &it) && fits(r, &it) && read_node(r, &it) && reader_ends(r)) {
+        is_single(r, &it) && is_for_another(r, &it) && fits(r, &it) && read_node(r, &it) && reader_ends(r)) {
         r->into->networks[r->into->count++] = it;
         r->is_below_wrong = false;
     }
@@ -258,8 +275,12 @@ static void read_extend_line(reader *r)
     network_setting *it = &r->into->networks[r->into->count - 1];
     do {
         const char *word = reader_word(r);
-        if (word == NULL || !is_hexadecimal(word, 4, &socket) || socket == 0 || names_socket(it, socket)) {
-            reader_fault(r, word, "expected a socket in hexadecimal digits, 1 to FFFF, that isn't named yet");
+        if (word == NULL || !is_hexadecimal(word, 4, &socket) || socket == 0) {
+            reader_fault(r, word, "expected a socket in hexadecimal digits, 1 to FFFF");
+            return;
+        }
+        if (names_socket(it, socket)) {
+            reader_fault(r, word, "expected another socket, this one is named already");
             return;
         }
         if (it->socket_count == MOST_SOCKETS) {

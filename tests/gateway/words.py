@@ -2,6 +2,7 @@
 import difflib
 import os
 import subprocess
+import tempfile
 
 from lab import BUILD, LIMIT, PROGRAM, SANITIZED, TOP, Counts, Gateway, tunnels
 
@@ -31,15 +32,29 @@ def nothing_is_opened():
 
 
 def no_configuration():
-    """A file that isn't there, an empty one, one with a byte 0, and words that the program doesn't know."""
+    """A file that isn't there, an empty one, and one with a byte 0."""
     assert asked("--check", "nowhere")[::2] == (1, "nowhere: can't be opened: No such file or directory\n")
     assert asked("--check", "/dev/stdin")[::2] == (2, "/dev/stdin: expected a line that begins with network\n")
     status, _, complaint = asked("--check", "/dev/stdin", stdin=b"network 10\0 1 1424 dosbox 0\n")
     assert status == 2 and "expected text" in complaint
     assert asked("--check", "..")[0] == 2
-    for words in ((), ("--check",), ("--no", "wrong.conf"), ("wrong.conf", "wrong.conf"), ("--pcap",)):
-        assert asked(*words)[::2] == (64, asked("--help")[1]), words
-    assert asked("--help")[0] == 0
+
+
+def the_command_line():
+    """A wrong command line is told with the word and what was expected, and how it is right."""
+    status, use, complaint = asked("--help")
+    assert (status, complaint) == (0, "") and use.startswith("ipxr-gateway [--log]")
+    options = "--check, --log, --pcap, --help or a configuration"
+    for words, what in (
+        ((), "the command line ends: expected a configuration"),
+        (("--check",), "the command line ends: expected a configuration"),
+        (("--pcap", "wrong.conf"), "the command line ends: expected a configuration"),
+        (("wrong.conf", "--pcap"), "the command line ends: expected a file for the capture behind --pcap"),
+        (("--chek", "wrong.conf"), f"'--chek': expected {options}"),
+        (("-h",), f"'-h': expected {options}"),
+        (("wrong.conf", "other.conf"), "'other.conf': expected one configuration"),
+    ):
+        assert asked(*words) == (64, "", f"ipxr-gateway: {what}\n{use}"), words
 
 
 def what_is_right():
@@ -55,11 +70,15 @@ def what_is_right():
 
 
 def what_cannot_be_opened():
-    """What can't be opened is told with its line, and the gateway ends."""
-    with Gateway(tunnels(1)) as gate:
+    """What can't be opened is told with its line, and the gateway ends; a capture that is there stays as it was."""
+    with Gateway(tunnels(1)) as gate, tempfile.NamedTemporaryFile() as capture:
+        capture.write(b"of another gateway")
+        capture.flush()
         text = f"network 20 1 1424 dosbox {gate.ports[0x10]}\n".encode()
-        status, _, complaint = asked("/dev/stdin", stdin=text)
+        status, _, complaint = asked("--pcap", capture.name, "/dev/stdin", stdin=text)
         assert status == 1 and "line 1: dosbox 127.0.0.1:" in complaint and complaint.endswith(": Address already in use\n")
+        with open(capture.name, "rb") as it:
+            assert it.read() == b"of another gateway"
     for link, what in (("interface nowhere0 raw", "can't open the interface"), ("interface lo raw", "it isn't Ethernet")):
         status, _, complaint = asked("/dev/stdin", stdin=f"network 20 1 1424 {link}\n".encode())
         assert status == 1 and f"line 1: {link}: {what}: " in complaint, complaint
@@ -68,7 +87,7 @@ def what_cannot_be_opened():
 
 def main():
     counts = Counts()
-    for test in (each_wrong_line, nothing_is_opened, no_configuration, what_is_right, what_cannot_be_opened):
+    for test in (each_wrong_line, nothing_is_opened, no_configuration, the_command_line, what_is_right, what_cannot_be_opened):
         counts.run(test)
     return counts
 
