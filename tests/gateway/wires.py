@@ -7,7 +7,7 @@ import subprocess
 import sys
 
 from frames import KINDS, Packets, Station
-from lab import AGAIN, Client, Counts, Gateway, left_out, reaches, reaches_again, says, tunnels, until
+from lab import AGAIN, Client, Counts, Gateway, comes_next, left_out, reaches, reaches_again, says, tunnels, until
 from links import both_ways, made_up
 from troubles import ends_well, troubled
 
@@ -44,6 +44,25 @@ def all_kinds():
                 assert one is other or reaches(one, other), f"{one.kind} to {other.kind}"
         report = gate.report()
         assert all(gate.counted(0x20 + k, what, report) == 0 for k in range(4) for what in ("no IPX", "another kind of frame"))
+    ip("link", "del", "v0")
+
+
+def a_short_mtu():
+    """An interface whose MTU is less than LONGEST: what the MTU and the kind of frame leave room for comes, a byte more is not sent."""
+    make_pair()
+    ip("link", "set", "v0", "mtu", "1400")
+    text = tunnels(1) + "".join(f"network {20 + k} 1 1490 interface v0 {kind}\n" for k, kind in enumerate(KINDS))
+    with Gateway(text) as gate:
+        node = bytes.fromhex(next(it for it in gate.lines if "interface v0" in it)[-12:])
+        far = Client(gate.ports[0x10])
+        for k, kind in enumerate(KINDS):
+            host = Station(Packets("v1", kind), kind, 0x20 + k, STATION, node)
+            gate.until(f"network {host.network:08X} up")
+            most = 1400 - {"llc": 3, "snap": 8}.get(kind, 0)
+            assert reaches(far, host, bytes(most - 30)), kind
+            far.say(host.at(), bytes(most - 29))
+            gate.until_counted(host.network, "not sent", 1)
+            assert comes_next(far, host), kind
     ip("link", "del", "v0")
 
 
@@ -157,6 +176,7 @@ def inside():
     if has_pairs:
         ip("link", "del", "v0")
         counts.run(all_kinds)
+        counts.run(a_short_mtu)
         counts.run(a_cable_is_pulled)
     else:
         left_out("interfaces", "no pair of them can be made")

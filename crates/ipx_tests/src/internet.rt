@@ -228,3 +228,22 @@ fn what_is_not_there_is_refused(rt: HostRuntime) -> Result<(), Fail> {
     }
     Ok(())
 }
+
+#[test]
+fn is_shown_by_its_routers_and_what_waits(rt: HostRuntime) -> Result<(), Fail> {
+    let mut internet = line(rt.alloc())?;
+    let shown = format!(in rt.alloc(); "{internet:?}")?;
+    same(
+        &rt,
+        shown.as_str(),
+        "Internet { routers: 2, waiting: 6, .. }",
+    );
+    let refused = internet.add(between(port(0x10, 1)?, port(0x40, 1)?)?).err();
+    let shown = format!(in rt.alloc(); "{refused:?}")?;
+    same(
+        &rt,
+        shown.as_str(),
+        "Some(AddRefused { fault: SameNode, .. })",
+    );
+    Ok(())
+}
