@@ -1,5 +1,6 @@
 -- What calls of a reader add up to.
-use Rattle.std.proofs.Common.{◌≡◌, ℕ, ◌<◌, ◌≤◌, Bool, List, [], ◌++◌, length, refl, sym, ap, ◌∙◌, arith, append_assoc, length-append, append-nil}
+use Rattle.std.proofs.Common.{◌≡◌, ℕ, ◌<◌, ◌≤◌, Bool, false, List, [], ◌++◌, length, refl, sym, ap, ◌∙◌, arith, append_assoc, length-append, append-nil}
+use Rattle.std.proofs.lemmas.Bool.{false≢true}
 use Rattle.std.proofs.KnownBytes.{Consumes-nil, Consumes-trans}
 use Rattle.ipx_wire.specs.Ends.{Input}
 use Rattle.ipx_capture.specs.declared.capture_fault.CaptureFault.{CaptureFault}
@@ -43,6 +44,20 @@ gathering_lost old now before mid after need fault g l = record {
   read = Consumes-trans before.left mid.left after.left g.more l.more g.gained.read l.read;
   told = l.told;
 }
+
+-- a loop of reads that met the reader's end
+pub gathered_end : (old now new : List ℕ) (before mid after : Input) (need n : ℕ) → Gathering old now before mid need → length now < need
+    → Filled now new mid after n → n ≡ 0 → Gathered old new before after need false
+gathered_end old now new before mid after need n g missing f none =
+    let all = gathering_more old now new before mid after need n g missing f in
+    record {
+      more = all.more;
+      gained = all.gained;
+      grown = all.grown;
+      fine = all.fine;
+      whole = λ e. absurd (false≢true e);
+      ended = λ e. (omega (arith, ap length f.grown, length-append now f.more, f.counted), f.ended none);
+    }
 
 -- one loop of reads behind another
 pub gathered_trans : (old one new : List ℕ) (before mid after : Input) (few need : ℕ) (first second : Bool) → Gathered old one before mid few first

@@ -2,7 +2,7 @@
 use Rattle.std.specs.Prelude.{◌≡◌, ℕ, ◌+◌, ◌≤◌, true, false, List, [], ◌++◌, length, Option, Some, None, Result, Ok, Err, IsOk, OnOk}
 use Rattle.std.specs.Borrow.{GName}
 use Rattle.std.specs.Io.KnownBytes.{Consumes, IsAtEnd}
-use Rattle.std.specs.declared.io.traits.Read.{Ghosts}
+use Rattle.ipx_wire.specs.declared.source.Source.{Ghosts}
 use Rattle.ipx_wire.specs.Ends.{Input}
 use Rattle.ipx_capture.specs.Header.{header_of, header_size}
 use Rattle.ipx_capture.specs.Reads.{most_calls, Gained}
@@ -25,11 +25,11 @@ pub record Place : Type 0 where
   pub input : Input
 
 -- how far a capture has been read
-abbrev pub place : {R : Type 0} {reading : Ghosts R} → Capture R reading → Place
+abbrev pub place : {S : Type 0} {asking : Ghosts S} → Capture S asking → Place
 place c = record { order = c.order; taken = c.taken; ahead = c.window.ahead; standing = c.standing; input = c.intake.now }
 
 -- the name of the reference to the intake that a capture keeps
-abbrev pub keeps : {R : Type 0} {reading : Ghosts R} → Capture R reading → GName
+abbrev pub keeps : {S : Type 0} {asking : Ghosts S} → Capture S asking → GName
 keeps c = c.intake.ghost_name
 
 -- the record that was lent

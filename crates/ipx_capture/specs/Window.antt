@@ -14,9 +14,10 @@ least_room = 8192
 abbrev pub most_room : ℕ
 most_room = record_header + most_kept
 
--- both lie in the buffer, which has room for the longest record
-pub record Fits (room start kept from count : ℕ) : Type 0 where
+-- both lie in the buffer, whose memory is never more than the longest record takes with its header
+pub record Fits (room capacity start kept from count : ℕ) : Type 0 where
   pub taken : start + kept ≤ room
   pub ahead : from + count ≤ room
   pub some : least_room ≤ room
   pub most : room ≤ most_room
+  pub memory : capacity ≤ most_room

@@ -10,14 +10,13 @@ use crate::order::Order;
 use crate::standing::Standing;
 use crate::taking::{begin, is_ready, take_record};
 use crate::window::Window;
-use ipx_wire::Intake;
+use ipx_wire::{Intake, Source};
 use std::alloc::Global;
-use std::io::Read;
 
 /// A capture file that is being read: its header has been, and its records are given one by one.
 #[derive(Drop)]
-pub struct Capture<'a, R: Read> {
-    intake: &'a mut Intake<R>,
+pub struct Capture<'a, S: Source> {
+    intake: &'a mut Intake<S>,
     window: Window,
     order: Order,
     taken: u64,
@@ -38,32 +37,33 @@ pub struct Captured<'c> {
     pub bytes: &'c [u8],
 }
 
-impl<'a, R: Read> Capture<'a, R> {
+impl<'a, S: Source> Capture<'a, S> {
     ghost use Rattle.std.specs.Prelude.{◌≡◌, ◌≤◌, [], false, IfOk, IfErr};
     ghost use Rattle.std.specs.Borrow.{sem, RestsIfErr};
     ghost use Rattle.std.specs.Io.BufRead.{Rests};
     ghost use mir.Syntax.{named};
     ghost use Rattle.ipx_wire.specs.contracts.intake.Intake.{the_row as intake_row};
     ghost use Rattle.ipx_capture.specs.contracts.capture.Capture.{the_row};
+    ghost use Rattle.ipx_capture.specs.Asks.{AskedOnly, TellsNothing};
     ghost use Rattle.ipx_capture.specs.Place.{place, keeps, told, Nexts, Opened, Unopened};
     ghost use Rattle.ipx_capture.specs.Numbered.{numbered};
     ghost use Rattle.ipx_capture.specs.Records as spec;
 
     /// Reads the header of a capture file.
     pub fn from_reader(
-        intake: &'a mut Intake<R>,
+        intake: &'a mut Intake<S>,
         alloc: Global,
-    ) -> Result<Capture<'a, R>, CaptureFault>
+    ) -> Result<Capture<'a, S>, CaptureFault>
         requires fine { intake.old.failed ≡ false }
         ensures ok { IfOk result (λ c. Opened intake.old (place c)) }
         ensures same_reference { IfOk result (λ c. keeps c ≡ intake.entry.ghost_name) }
-        ensures* err { sem 𝓛 (RestsIfErr (intake_row R.row R.Read) intake.entry keeps result (λ after. IfErr result (Unopened intake.old after))) }
+        ensures* err { sem 𝓛 (RestsIfErr (intake_row S.row S.Source) intake.entry keeps result (λ after. IfErr result (Unopened intake.old after))) }
     {
         let (order, window) = begin(intake, alloc)?;
         Ok(Capture::begun(intake, order, window))
     }
 
-    fn begun(intake: &'a mut Intake<R>, order: Order, window: Window) -> Capture<'a, R>
+    fn begun(intake: &'a mut Intake<S>, order: Order, window: Window) -> Capture<'a, S>
         requires fresh { window.ahead ≡ [] }
         requires bounded { intake.old.calls ≤ most_calls }
         requires fine { intake.old.failed ≡ false }
@@ -80,7 +80,7 @@ impl<'a, R: Read> Capture<'a, R> {
     }
 
     /// Gives back the intake, which is as far as the capture has read.
-    pub fn into_inner(self) -> &'a mut Intake<R>
+    pub fn into_inner(self) -> &'a mut Intake<S>
         ensures same_reference { result.ghost_name ≡ keeps self.entry }
         ensures input { result.now ≡ (place self.entry).input }
     {
@@ -90,9 +90,10 @@ impl<'a, R: Read> Capture<'a, R> {
 
     /// The next record; none at the end of the file.
     ///
-    /// An end or a fault that was told is told again by each later call.
+    /// An end or a fault that was told is told again by each later call. The source is asked only while the bytes that were read don't tell what
+    /// comes next: a record too long is told as soon as its header is there.
     pub fn next(&mut self) -> Result<Option<Captured<'_>>, CaptureFault>
-        ensures* after { sem 𝓛 (Rests (the_row (record { mir = named 1; lft = [] }) R.row R.Read) self.entry (λ new. Nexts (place self.old) (place new) (told result) × (keeps new ≡ keeps self.old))) }
+        ensures* after { sem 𝓛 (Rests (the_row (record { mir = named 1; lft = [] }) S.row S.Source) self.entry (λ new. Nexts (place self.old) (place new) (told result) × (keeps new ≡ keeps self.old) × AskedOnly S.asked (TellsNothing (place self.old).order) (place self.old).ahead (place self.old).input.state (place new).input.state)) }
     {
         let Some(wire) = self.advance()? else {
             return Ok(None);
@@ -115,6 +116,7 @@ impl<'a, R: Read> Capture<'a, R> {
     fn advance(&mut self) -> Result<Option<u32>, CaptureFault>
         ensures after { Nexts (place self.old) (place self.new) (numbered self.new.taken self.new.window.taken result) }
         ensures same_reference { keeps self.new ≡ keeps self.old }
+        ensures asked { AskedOnly S.asked (TellsNothing (place self.old).order) (place self.old).ahead (place self.old).input.state (place self.new).input.state }
     {
         match self.standing {
             Standing::Open => {}

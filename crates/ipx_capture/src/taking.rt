@@ -1,6 +1,7 @@
 //! What a capture does with the bytes of its reader.
 ghost use Rattle.std.specs.Prelude.{◌≡◌, [], true, false, ℕ, List, IfOk, IfErr, OnErr};
 ghost use Rattle.std.specs.Io.KnownBytes.{Consumes};
+ghost use Rattle.ipx_capture.specs.Asks.{AskedOnly, TellsNothing};
 ghost use Rattle.ipx_capture.specs.Place.{Begun, Unopened};
 ghost use Rattle.ipx_capture.specs.Reads.{FilledFront};
 ghost use Rattle.ipx_capture.specs.Taking.{Took};
@@ -10,9 +11,8 @@ use crate::capture_fault::CaptureFault;
 use crate::file_header;
 use crate::order::Order;
 use crate::window::Window;
-use ipx_wire::{Failed, Intake};
+use ipx_wire::{Failed, Intake, Source};
 use std::alloc::Global;
-use std::io::Read;
 
 /// How many bytes the header of a record has.
 const HEADER: usize = 16;
@@ -21,8 +21,8 @@ const HEADER: usize = 16;
 const LONGEST: u32 = 262_144;
 
 /// Reads the header of the file, and makes the buffer.
-pub(crate) fn begin<R: Read>(
-    intake: &mut Intake<R>,
+pub(crate) fn begin<S: Source>(
+    intake: &mut Intake<S>,
     alloc: Global,
 ) -> Result<(Order, Window), CaptureFault>
     requires { intake.old.failed ≡ false }
@@ -34,7 +34,7 @@ pub(crate) fn begin<R: Read>(
     Ok((order, window))
 }
 
-fn read_header<R: Read>(intake: &mut Intake<R>) -> Result<Order, CaptureFault>
+fn read_header<S: Source>(intake: &mut Intake<S>) -> Result<Order, CaptureFault>
     requires { intake.old.failed ≡ false }
     ensures ok { IfOk result (Begun intake.old intake.new) }
     ensures err { IfErr result (λ fault. Unopened intake.old intake.new fault) }
@@ -47,7 +47,7 @@ fn read_header<R: Read>(intake: &mut Intake<R>) -> Result<Order, CaptureFault>
 }
 
 /// Fills a buffer from its front on, as far as there are bytes.
-fn read_front<R: Read>(intake: &mut Intake<R>, bytes: &mut [u8]) -> Result<usize, Failed>
+fn read_front<S: Source>(intake: &mut Intake<S>, bytes: &mut [u8]) -> Result<usize, Failed>
     ensures ok { IfOk result (FilledFront bytes.new intake.old intake.new) }
     ensures err { OnErr result (intake.new.failed ≡ true) }
     ensures read { OnErr result ((front : List ℕ) × Consumes intake.old.left intake.new.left front) }
@@ -64,14 +64,15 @@ fn read_front<R: Read>(intake: &mut Intake<R>, bytes: &mut [u8]) -> Result<usize
 }
 
 /// Takes the record at the front of the bytes ahead and those to come, and answers how many of its bytes were on the wire.
-pub(crate) fn take_record<R: Read>(
-    intake: &mut Intake<R>,
+pub(crate) fn take_record<S: Source>(
+    intake: &mut Intake<S>,
     window: &mut Window,
     order: Order,
 ) -> Result<Option<u32>, CaptureFault>
     requires { intake.old.failed ≡ false }
     ensures took { Took order window.old.ahead window.new intake.old intake.new result }
     ensures still { spec.is_ready order window.old.ahead ≡ true → intake.new ≡ intake.old }
+    ensures asked { AskedOnly S.asked (TellsNothing order) window.old.ahead intake.old.state intake.new.state }
 {
     if !window.gather(intake, HEADER)? {
         if window.ahead().is_empty() {

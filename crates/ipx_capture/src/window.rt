@@ -1,15 +1,15 @@
 //! The buffer of a capture: bytes that were read, and of these the record that is lent.
-ghost use Rattle.std.specs.Prelude.{◌≡◌, ◌+◌, ◌-◌, ◌<◌, ◌≤◌, [], true, false, IfOk, IfErr, OnOk, OnErr, length, take, drop, vec_len, max};
+ghost use Rattle.std.specs.Prelude.{◌≡◌, ◌+◌, ◌-◌, ◌<◌, ◌≤◌, [], true, false, IfOk, IfErr, OnOk, OnErr, length, take, drop, vec_capacity, vec_len, max};
 ghost use Rattle.std.specs.Io.KnownBytes.{Consumes, IsAtEnd};
 ghost use Rattle.ipx_wire.specs.Ends.{LostInput};
 ghost use Rattle.ipx_wire.specs.Piece.{piece};
+ghost use Rattle.ipx_capture.specs.Asks.{Asked, AskedOnly, Lacks};
 ghost use Rattle.ipx_capture.specs.Reads.{most_calls};
 ghost use Rattle.ipx_capture.specs.Window.{most_room};
 
 use crate::capture_fault::CaptureFault;
-use ipx_wire::{Failed, Intake};
+use ipx_wire::{Failed, Intake, Source};
 use std::alloc::{AllocError, Global};
-use std::io::Read;
 use std::marker::Model;
 
 /// How many bytes are asked for at a time, and lie in the buffer as long as no record is longer.
@@ -28,7 +28,7 @@ pub(crate) struct Window {
 }
 
 impl Model for Window {
-    ghost use Rattle.std.specs.Prelude.{◌≤◌, ◌+◌, length};
+    ghost use Rattle.std.specs.Prelude.{◌≤◌, ◌+◌, length, vec_capacity};
     ghost use Rattle.ipx_wire.specs.Piece.{piece};
     ghost use Rattle.ipx_capture.specs.Window.{Held, Fits};
 
@@ -36,7 +36,7 @@ impl Model for Window {
 
     ghost view = { λ w. record { taken = piece w.bytes.items w.start w.kept; ahead = piece w.bytes.items w.from w.count } };
 
-    ghost invariant = { λ w. Fits (length w.bytes.items) w.start w.kept w.from w.count };
+    ghost invariant = { λ w. Fits (length w.bytes.items) (vec_capacity w.bytes) w.start w.kept w.from w.count };
 }
 
 impl Window {
@@ -45,8 +45,8 @@ impl Window {
     pub fn new(alloc: Global) -> Result<Window, AllocError>
         ensures { IfOk result (λ w. w.ahead ≡ []) }
     {
-        let mut bytes = Vec::new(alloc);
-        bytes.resize(SIZE, 0)?;
+        let mut bytes = Vec::with_capacity(alloc, SIZE)?;
+        lengthen(&mut bytes, SIZE);
         Ok(Window {
             bytes,
             start: 0,
@@ -83,15 +83,17 @@ impl Window {
     }
 
     /// Reads until `need` bytes are ahead, or the reader is at its end: whether they are.
-    pub fn gather<R: Read>(
+    pub fn gather<S: Source>(
         &mut self,
-        intake: &mut Intake<R>,
+        intake: &mut Intake<S>,
         need: usize,
     ) -> Result<bool, CaptureFault>
         requires fine { intake.old.failed ≡ false }
         requires few { need ≤ most_room }
         ensures ok { IfOk result (Gathered self.old.ahead self.new.ahead intake.old intake.new need) }
         ensures err { IfErr result (Lost intake.old intake.new) }
+        ensures asked { OnOk result (Asked S.asked (Lacks need) self.old.ahead self.new.ahead intake.old.state intake.new.state) }
+        ensures in_vain { OnErr result (AskedOnly S.asked (Lacks need) self.old.ahead intake.old.state intake.new.state) }
         ensures still { need ≤ length self.old.ahead → (intake.new ≡ intake.old) × (self.new.ahead ≡ self.old.ahead) }
     {
         while self.count < need {
@@ -103,12 +105,18 @@ impl Window {
     }
 
     /// Reads once behind the bytes that are ahead.
-    fn fill<R: Read>(&mut self, intake: &mut Intake<R>, need: usize) -> Result<usize, CaptureFault>
+    fn fill<S: Source>(
+        &mut self,
+        intake: &mut Intake<S>,
+        need: usize,
+    ) -> Result<usize, CaptureFault>
         requires fine { intake.old.failed ≡ false }
         requires more { length self.old.ahead < need }
         requires few { need ≤ most_room }
         ensures ok { IfOk result (λ n. Filled self.old.ahead self.new.ahead intake.old intake.new n) }
         ensures err { IfErr result (Lost intake.old intake.new) }
+        ensures asked { OnOk result (Asked S.asked (Lacks need) self.old.ahead self.new.ahead intake.old.state intake.new.state) }
+        ensures in_vain { OnErr result (AskedOnly S.asked (Lacks need) self.old.ahead intake.old.state intake.new.state) }
     {
         self.from = make_room(&mut self.bytes, self.from, self.count, need)?;
         let end = self.from + self.count;
@@ -130,7 +138,8 @@ fn piece_of(bytes: &[u8], place: usize, count: usize) -> &[u8]
     front
 }
 
-/// Makes room for `need` bytes from those ahead on: moves these to the front, and grows the buffer only where it has fewer.
+/// Makes room for `need` bytes from those ahead on: moves these to the front, and grows the buffer only where it has fewer,
+/// and by no more.
 ///
 /// Answers where the bytes ahead are then.
 fn make_room(
@@ -145,25 +154,62 @@ fn make_room(
     ensures kept { IfOk result (λ at. piece bytes.new.items at count ≡ piece bytes.old.items from count) }
     ensures grows { vec_len bytes.old ≤ vec_len bytes.new }
     ensures most { vec_len bytes.new ≤ max need (vec_len bytes.old) }
+    ensures memory { vec_capacity bytes.new ≤ max need (vec_capacity bytes.old) }
 {
     if need <= bytes.len() - from {
         return Ok(from);
     }
-    bytes.copy_within(from..from + count, 0);
-    if bytes.len() < need {
-        bytes.resize(need, 0)?;
-    }
+    move_to_front(bytes, from, count);
+    grow(bytes, need)?;
     Ok(0)
 }
 
+/// Copies some bytes of a buffer to its front.
+fn move_to_front(bytes: &mut Vec<u8>, from: usize, count: usize)
+    requires { from + count ≤ vec_len bytes.old }
+    ensures kept { piece bytes.new.items 0 count ≡ piece bytes.old.items from count }
+    ensures len { vec_len bytes.new ≡ vec_len bytes.old }
+    ensures capacity { vec_capacity bytes.new ≡ vec_capacity bytes.old }
+{
+    bytes.copy_within(from..from + count, 0);
+}
+
+/// Gives a buffer at least `need` bytes, and memory for no more.
+fn grow(bytes: &mut Vec<u8>, need: usize) -> Result<(), AllocError>
+    ensures room { OnOk result (need ≤ vec_len bytes.new) }
+    ensures front { take (vec_len bytes.old) bytes.new.items ≡ bytes.old.items }
+    ensures grows { vec_len bytes.old ≤ vec_len bytes.new }
+    ensures most { vec_len bytes.new ≤ max need (vec_len bytes.old) }
+    ensures memory { vec_capacity bytes.new ≤ max need (vec_capacity bytes.old) }
+{
+    if bytes.len() < need {
+        bytes.reserve_exact(need - bytes.len())?;
+        lengthen(bytes, need);
+    }
+    Ok(())
+}
+
+/// Puts zeros behind the bytes of a buffer that has the room, until it has `size`.
+fn lengthen(bytes: &mut Vec<u8>, size: usize)
+    requires { size ≤ vec_capacity bytes.old }
+    ensures len { vec_len bytes.new ≡ max size (vec_len bytes.old) }
+    ensures front { take (vec_len bytes.old) bytes.new.items ≡ bytes.old.items }
+    ensures capacity { vec_capacity bytes.new ≡ vec_capacity bytes.old }
+{
+    while bytes.len() < size {
+        bytes.push_reserved(0);
+    }
+}
+
 /// Reads once into the room from `end` on.
-fn read_behind<R: Read>(
-    intake: &mut Intake<R>,
+fn read_behind<S: Source>(
+    intake: &mut Intake<S>,
     bytes: &mut Vec<u8>,
     end: usize,
 ) -> Result<usize, Failed>
     requires { end < vec_len bytes.old }
     ensures len { vec_len bytes.new ≡ vec_len bytes.old }
+    ensures capacity { vec_capacity bytes.new ≡ vec_capacity bytes.old }
     ensures front { take end bytes.new.items ≡ take end bytes.old.items }
     ensures bound { IfOk result (λ n. end + n ≤ vec_len bytes.new) }
     ensures read { IfOk result (λ n. Consumes intake.old.left intake.new.left (piece bytes.new.items end n)) }
@@ -172,6 +218,9 @@ fn read_behind<R: Read>(
     ensures counted { OnOk result (intake.new.calls ≡ intake.old.calls + 1) }
     ensures bounded { OnOk result (intake.new.calls ≤ most_calls) }
     ensures err { OnErr result (LostInput intake.old intake.new) }
+    ensures once { intake.old.calls < most_calls → S.asked intake.old.state (drop end bytes.new.items) result intake.new.state }
+    ensures spared { most_calls ≤ intake.old.calls → intake.new.state ≡ intake.old.state }
+    ensures limit { OnOk result (intake.old.calls < most_calls) }
 {
     intake.read(&mut bytes[end..])
 }

@@ -28,7 +28,7 @@ all_after P key_of order same before after all =
     (λ key here. all-find P (λ o. is_eq (order (key_of o) key)) after all) keys (all_of (λ key. Unit {0}) (λ key. tt) keys))
 
 -- nothing, or one item where a test fails
-unless : {X : Type 0} (P : X → Type 0) (c : Bool) (x : X) → (c ≡ false → P x) → AllByRecursion P (if c then [] else x ∷ [])
+pub unless : {X : Type 0} (P : X → Type 0) (c : Bool) (x : X) → (c ≡ false → P x) → AllByRecursion P (if c then [] else x ∷ [])
 unless P c x step = elim (cases_Bool c) [
   | inl e ↦ rw e tt
   | inr e ↦ let is = step e in rw e (is, tt)

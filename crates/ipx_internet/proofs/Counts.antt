@@ -25,7 +25,7 @@ module _ {X : Type 0} where
   behind x [] ys there = there
   behind x (z ∷ xs) ys there = inr (behind x xs ys there)
 
-  in_image : {Y : Type 0} (f : X → Y) (x : X) (xs : List X) → IsIn x xs → IsIn (f x) (map f xs)
+  pub in_image : {Y : Type 0} (f : X → Y) (x : X) (xs : List X) → IsIn x xs → IsIn (f x) (map f xs)
   in_image f x [] there = absurd there
   in_image f x (z ∷ xs) there = elim there [ inl e ↦ inl (ap f e) | inr later ↦ inr (in_image f x xs later) ]
 
@@ -98,7 +98,7 @@ length-numbers (suc n) =
     let joined = length-append (numbers n) (n ∷ []) in
     omega (arith, rest, joined)
 
-at_most_greatest : (n : ℕ) (ns : List ℕ) → IsIn n ns → n ≤ greatest ns
+pub at_most_greatest : (n : ℕ) (ns : List ℕ) → IsIn n ns → n ≤ greatest ns
 at_most_greatest n [] there = absurd there
 at_most_greatest n (m ∷ ns) there = elim there [
   | inl e ↦ omega (arith, e)

@@ -37,7 +37,7 @@ use Rattle.ipx_internet.proofs.Spending.{Calm}
 use Rattle.ipx_internet.proofs.Ways.{found, it_is}
 
 -- what is alive at sixteen hops isn't
-unreachable_live : (hops : ℕ) → Live unreachable hops → unreachable ≤ hops
+pub unreachable_live : (hops : ℕ) → Live unreachable hops → unreachable ≤ hops
 unreachable_live hops live = elim (cases_lt hops unreachable) [ inl near ↦ live near | inr far ↦ far ]
 
 module _ (net : Internet) (laws : Layouts) (is : IsInternet net) (most_routes most_services : ℕ) where
@@ -218,9 +218,9 @@ module _ (net : Internet) (laws : Layouts) (is : IsInternet net) (most_routes mo
         (λ e both. record { calm = (both.0, both.1.reply); tells = both.1.tells }) (sent_for net most_routes most_services histories d)
         (telling net laws is most_routes most_services histories fewer.are d old.calm A B
         (λ j. news_all P (held_routes router past) (held_routes router now) left_routes A (ports_of net router) j
-        (λ key route told. absurd (never_route key route told)) route_ended)
+        (λ key route told other. absurd (never_route key route told)) route_ended)
         (λ j. news_services_all Q (held_services router past) (held_services router now) left_services B j
-        (λ key offer told. absurd (never_service key offer told)) service_ended))
+        (λ key offer told other. absurd (never_service key offer told)) service_ended))
 
     fewer_still : Fewer begun new
     fewer_still = record {

@@ -17,7 +17,7 @@ use Rattle.ipx_internet.proofs.Lists.{all-append}
 
 module _ {X : Type 0} where
   -- what is there stands first behind those before it
-  first_left : (xs : List X) (k : ℕ) (x : X) → slice_get xs k ≡ Some x → drop k xs ≡ x ∷ drop (k + 1) xs
+  pub first_left : (xs : List X) (k : ℕ) (x : X) → slice_get xs k ≡ Some x → drop k xs ≡ x ∷ drop (k + 1) xs
   first_left xs k x got =
       drop_more xs k x (slice_get_within xs k x got) ∙ ap (λ y. y ∷ drop (k + 1) xs) (get_or_from_slice_get xs k x x got)
 
@@ -46,7 +46,7 @@ module _ (most_routes most_services : ℕ) (routers : List State) (front back : 
   abbrev rest : List Delivery
   rest = drop (done + 1) front
 
-  first : drop done front ++ back ≡ d ∷ (rest ++ back)
+  pub first : drop done front ++ back ≡ d ∷ (rest ++ back)
   first = ap (λ ds. ds ++ back) (first_left front done d got)
 
   -- its router has the port

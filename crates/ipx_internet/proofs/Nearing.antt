@@ -18,8 +18,8 @@ use Rattle.ipx_router.specs.Told.{is_reached_on, entry_of, dead, dead_service}
 use Rattle.ipx_router.specs.Touched.{offer_at}
 use Rattle.ipx_router.specs.declared.route_offer.RouteOffer.{RouteOffer}
 use Rattle.ipx_router.specs.declared.service_offer.ServiceOffer.{ServiceOffer}
-use Rattle.ipx_router.proofs.NewsFits.{one_or_none}
 use Rattle.ipx_router.proofs.Telling.{route-same, service-same}
+use Rattle.ipx_internet.proofs.Announced.{unless}
 use Rattle.ipx_internet.proofs.Changing.{ToldOf, changed}
 use Rattle.ipx_internet.proofs.Leaving.{Told, Left}
 use Rattle.ipx_internet.proofs.Lists.{all-flat_map}
@@ -35,7 +35,7 @@ module _ (P : RouteOffer → Type 0) (before after : List RouteOffer)
   RouteTold c = ToldOf route_reading network_order same_route route-same P before after c
 
   pub news_all : (A : RipEntry → Type 0) (ports : List Port) (number : ℕ)
-      → ((key : Network) (route : RouteOffer) → Told route_reading network_order P key (Some route) → A (route_now (port_at ports number) route))
+      → ((key : Network) (route : RouteOffer) → Told route_reading network_order P key (Some route) → (route.port == number) ≡ false → A (route_now (port_at ports number) route))
       → ((c : Change RouteOffer) (route : RouteOffer) → RouteTold c → c.before ≡ Some route → c.after ≡ None → A (dead (entry_of route)))
       → AllByRecursion A (news ports before after number)
   news_all A ports number now ended =
@@ -45,9 +45,9 @@ module _ (P : RouteOffer → Type 0) (before after : List RouteOffer)
       each : (c : Change RouteOffer) (old new : Option RouteOffer) → c.before ≡ old → c.after ≡ new → RouteTold c
           → AllByRecursion A (route_told ports number (record { before = old; after = new }))
       each c old (Some route) was is told =
-          one_or_none A (route.port == number) (route_now (port_at ports number) route)
+          unless A (route.port == number) (route_now (port_at ports number) route)
           (now told.key route (subst (λ (o : Option RouteOffer). Told route_reading network_order P told.key o) is told.told))
-      each c (Some route) None was is told = one_or_none A (route.port == number) (dead (entry_of route)) (ended c route told was is)
+      each c (Some route) None was is told = unless A (route.port == number) (dead (entry_of route)) (λ other. ended c route told was is)
       each c None None was is told = tt
 
 -- services
@@ -57,7 +57,7 @@ module _ (Q : ServiceOffer → Type 0) (before after : List ServiceOffer)
   ServiceTold c = ToldOf service_reading service_order same_service service-same Q before after c
 
   pub news_services_all : (A : Service → Type 0) (number : ℕ)
-      → ((key : ℕ × List ℕ) (offer : ServiceOffer) → Told service_reading service_order Q key (Some offer) → A (service_now offer))
+      → ((key : ℕ × List ℕ) (offer : ServiceOffer) → Told service_reading service_order Q key (Some offer) → (offer.port == number) ≡ false → A (service_now offer))
       → ((c : Change ServiceOffer) (offer : ServiceOffer) → ServiceTold c → c.before ≡ Some offer → c.after ≡ None → A (dead_service offer.service))
       → AllByRecursion A (news_services before after number)
   news_services_all A number now ended =
@@ -67,9 +67,9 @@ module _ (Q : ServiceOffer → Type 0) (before after : List ServiceOffer)
       each : (c : Change ServiceOffer) (old new : Option ServiceOffer) → c.before ≡ old → c.after ≡ new → ServiceTold c
           → AllByRecursion A (service_told number (record { before = old; after = new }))
       each c old (Some offer) was is told =
-          one_or_none A (offer.port == number) (service_now offer)
+          unless A (offer.port == number) (service_now offer)
           (now told.key offer (subst (λ (o : Option ServiceOffer). Told service_reading service_order Q told.key o) is told.told))
-      each c (Some offer) None was is told = one_or_none A (offer.port == number) (dead_service offer.service) (ended c offer told was is)
+      each c (Some offer) None was is told = unless A (offer.port == number) (dead_service offer.service) (λ other. ended c offer told was is)
       each c None None was is told = tt
 
 -- ---- what is alive
@@ -121,7 +121,7 @@ module _ (least : ℕ) where
         (routes_left (λ e. Live least e.hops) (λ e. Live least e.hops) P (λ s. Live least s.service.hops) number (λ node e is. is) (λ node e name named is. is)
         ports history bytes all capacity)
         (λ e. Live (suc least) e.hops) ports j
-        (λ key route told. let left = route_left P key route told in now_live (port_at ports j) route (left.0 left.1))
+        (λ key route told other. let left = route_left P key route told in now_live (port_at ports j) route (left.0 left.1))
         (λ c route told was is. dead_live)
 
     pub news_services_farther : (j : ℕ) → AllByRecursion (λ s. Live (suc least) s.hops)
@@ -132,5 +132,5 @@ module _ (least : ℕ) where
         (services_left (λ e. Live least e.hops) (λ e. Live least e.hops) (λ r. Live least r.hops) Q number (λ node e is. is) (λ node e name named is. is)
         ports history bytes all capacity)
         (λ s. Live (suc least) s.hops) j
-        (λ key offer told. let left = service_left Q key offer told in now_service_live offer (left.0 left.1))
+        (λ key offer told other. let left = service_left Q key offer told in now_service_live offer (left.0 left.1))
         (λ c offer told was is. dead_live)

@@ -71,12 +71,12 @@ module _ (E : RipEntry → Type 0) (S : SapEntry → Type 0) (P : RouteOffer →
   by_operation ports node Response entries all = routes_are ports node entries all
   by_operation ports node Request entries all = tt
 
-  heard_routes : (ports : List Port) (o : Option Heard) → IfSome o (EachHeard E S) → AllByRecursion (OffersOf P) (routes_heard ports number o)
+  pub heard_routes : (ports : List Port) (o : Option Heard) → IfSome o (EachHeard E S) → AllByRecursion (OffersOf P) (routes_heard ports number o)
   heard_routes ports None all = tt
   heard_routes ports (Some (HeardSap source sap)) all = tt
   heard_routes ports (Some (HeardRip source rip)) all = by_operation ports source.node rip.operation rip.entries all
 
-  heard_services : (o : Option Heard) → IfSome o (EachHeard E S) → AllByRecursion (OffersOf Q) (services_heard number o)
+  pub heard_services : (o : Option Heard) → IfSome o (EachHeard E S) → AllByRecursion (OffersOf Q) (services_heard number o)
   heard_services None all = tt
   heard_services (Some (HeardRip source rip)) all = tt
   heard_services (Some (HeardSap source (Query nearest kind))) all = tt

@@ -16,7 +16,7 @@ use Rattle.ipx_wire.specs.declared.rip.RipEntry.{RipEntry}
 use Rattle.ipx_wire.specs.declared.sap.Sap.TheVariants.{Query, Response as SapResponse}
 use Rattle.ipx_wire.specs.declared.service.Service.{Service}
 use Rattle.ipx_router.specs.Facts.{heard_after, routes_held, offers}
-use Rattle.ipx_router.specs.Heard.{Heard, HeardRip, HeardSap, heard}
+use Rattle.ipx_router.specs.Heard.{Heard, HeardRip, HeardSap, heard, heard_in}
 use Rattle.ipx_router.specs.History.{Event, History, Packet, IsOnPort, IsOfBytes, running}
 use Rattle.ipx_router.specs.News.{news, news_services}
 use Rattle.ipx_router.specs.Numbers.{most_routers}
@@ -102,7 +102,8 @@ news_reply P Q port bytes (inr is) = sap_reply Q port (own_services port) (every
 
 -- ---- what is sent on
 
--- a packet that came on a port and was sent on: it had come through fewer than sixteen routers, and came through one more
+-- a packet that came on a port and was sent on: it had come through fewer than sixteen routers, and came through one more; it is still a
+-- propagated one, or says what it said
 pub record IsOnward (port : Port) (came sent : List ℕ) : Type 0 where
   pub packet : Parts
   pub read : packet_of came ≡ Ok packet
@@ -111,6 +112,8 @@ pub record IsOnward (port : Port) (came sent : List ℕ) : Type 0 where
   pub further : Parts
   pub reread : packet_of sent ≡ Ok further
   pub more : further.header.control ≡ packet.header.control + 1
+  pub keeps : ((is_propagated packet.header ≡ true) × (is_propagated further.header ≡ true))
+      ⊎ ((is_propagated further.header ≡ is_propagated packet.header) × (heard_in further ≡ heard_in packet))
 
 -- nobody sends a reply on
 pub no_reply : (port : Port) (came sent : List ℕ) → IsReply port came → IsOnward port came sent → ⊥
@@ -152,6 +155,7 @@ module _ (laws : Layouts) (ports : List Port) (are : AllByRecursion IsPort ports
         further = forwarded p;
         reread = (laws.readings.packet_read s.bytes (forwarded p) sent).1 again;
         more = refl;
+        keeps = inr (refl, refl);
       }
   onward up routes number bytes are_bytes s (inr is) =
       let p = is.packet in
@@ -170,6 +174,7 @@ module _ (laws : Layouts) (ports : List Port) (are : AllByRecursion IsPort ports
         further = crossing;
         reread = (laws.readings.packet_read s.bytes crossing sent).1 again;
         more = refl;
+        keeps = inl (is.all, is.all);
       }
 
   -- ---- the nearest service
@@ -252,7 +257,7 @@ module _ (laws : Layouts) (ports : List Port) (are : AllByRecursion IsPort ports
         (subst (λ (o : Option Heard). AllByRecursion (λ s. IsForPacket ports before.up before.routes number bytes o s) sent) e here)
 
     -- what was heard decides, if anything was
-    said : (m : Heard) → heard_now ≡ Some m → (sent ≡ []) ⊎ (sent ≡ heard_sends ports before after number m)
+    pub said : (m : Heard) → heard_now ≡ Some m → (sent ≡ []) ⊎ (sent ≡ heard_sends ports before after number m)
     said m e = by (why ports before.up before.routes (running history) number bytes) refl
       where
         relays : List Sent

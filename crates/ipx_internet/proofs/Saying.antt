@@ -131,11 +131,11 @@ pub record IsTold (P : RipEntry → Type 0) (Q : Service → Type 0) (port : Por
   pub reply : IsReply port bytes
   pub tells : Tells P Q bytes
 
-told_moves : (P : RipEntry → Type 0) (Q : Service → Type 0) (a b : Port) (bytes : List ℕ) → b.network ≡ a.network → IsTold P Q a bytes → IsTold P Q b bytes
+pub told_moves : (P : RipEntry → Type 0) (Q : Service → Type 0) (a b : Port) (bytes : List ℕ) → b.network ≡ a.network → IsTold P Q a bytes → IsTold P Q b bytes
 told_moves P Q a b bytes same told = record { reply = reply_moves a b bytes same told.reply; tells = told.tells }
 
 -- a page of changes is one
-news_told : (P : RipEntry → Type 0) (Q : Service → Type 0) (port : Port) (bytes : List ℕ) → IsNewsSent P Q port bytes → IsTold P Q port bytes
+pub news_told : (P : RipEntry → Type 0) (Q : Service → Type 0) (port : Port) (bytes : List ℕ) → IsNewsSent P Q port bytes → IsTold P Q port bytes
 news_told P Q port bytes is = record { reply = news_reply P Q port bytes is; tells = by is }
   where
     by : IsNewsSent P Q port bytes → Tells P Q bytes

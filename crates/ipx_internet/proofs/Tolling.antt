@@ -88,7 +88,7 @@ module _ (net : Internet) (laws : Layouts) (is : IsInternet net) (most_routes mo
       settles (suc n) = (tt, settles n)
 
   -- histories and deliveries as they should be
-  record Sound (q : Queued) : Type 0 where
+  pub record Sound (q : Queued) : Type 0 where
     pub are : AreHistories net q.histories
     pub waits : AllByRecursion (IsDelivery net) q.queue
 
@@ -110,7 +110,7 @@ module _ (net : Internet) (laws : Layouts) (is : IsInternet net) (most_routes mo
             (λ s to are_bytes place received. record { place = place; bytes = are_bytes }) sent bytes);
       }
 
-  delivery_sound : (histories : List History) (queue : List Delivery) → Sound (record { histories = histories; queue = queue })
+  pub delivery_sound : (histories : List History) (queue : List Delivery) → Sound (record { histories = histories; queue = queue })
       → Sound (settled_one net most_routes most_services (record { histories = histories; queue = queue }))
   delivery_sound histories [] sound = sound
   delivery_sound histories (d ∷ queue) sound =

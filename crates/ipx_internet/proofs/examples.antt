@@ -1,6 +1,7 @@
 -- Worked examples: each is checked by computing it.
 pub mod Branches
 pub mod Directed
+pub mod Heavy
 pub mod Horizons
 pub mod Logs
 pub mod Loops

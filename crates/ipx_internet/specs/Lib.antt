@@ -4,6 +4,7 @@ pub mod Delivery
 pub mod Departure
 pub mod Different
 pub mod Internet
+pub mod InternetWeight
 pub mod Listed
 pub mod Log
 pub mod Moment
@@ -13,6 +14,7 @@ pub mod Real
 pub mod Refused
 pub mod Rounds
 pub mod Run
+pub mod Scales
 pub mod Settled
 pub mod Simulated
 pub mod Stations

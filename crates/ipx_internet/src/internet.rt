@@ -7,6 +7,7 @@ ghost use Rattle.ipx_router.specs.Happened.{happened};
 ghost use Rattle.ipx_router.specs.History.{IsOnPort};
 ghost use Rattle.ipx_router.specs.Outcomes.{outcome};
 ghost use Rattle.ipx_internet.specs.Internet.{IsInternet, NodesDiffer, ports_of};
+ghost use Rattle.ipx_internet.specs.InternetWeight.{internet_weight};
 ghost use Rattle.ipx_internet.specs.Moment.{StandsFor, IsThere, SharesNode, net_at};
 ghost use Rattle.ipx_internet.specs.Queue.{Delivery, Queued, queued, history_of};
 ghost use Rattle.ipx_internet.specs.Refused.{IsNotAdded, IsNoEvent};
@@ -15,11 +16,13 @@ ghost use Rattle.ipx_internet.specs.Settled.{HasSettled, StopsShort, IsToldOf};
 ghost use Rattle.ipx_internet.specs.Stations.{AreOf};
 ghost use Rattle.ipx_internet.specs.Traced.{routers_of};
 ghost use Rattle.ipx_internet.specs.Tree.{IsRouter};
+ghost use Rattle.ipx_internet.specs.declared.internet.Settled.TheVariants.{Quiet};
 ghost use Rattle.ipx_internet.specs.declared.fault.InternetFault.TheVariants.{Memory};
 
 use crate::batch::{Batch, are_sized};
 use crate::fault::{AddRefused, InternetFault};
 use crate::stations::Stations;
+use crate::trace::are_bytes;
 use ipx_router::{Event, Outcome, Router};
 use ipx_wire::OutOfMemory;
 use std::alloc::Global;
@@ -44,10 +47,10 @@ pub struct Internet<const P: usize, const R: usize, const S: usize> {
     pub(crate) routers: Vec<Router<P, R, S>>,
     pub(crate) stations: Stations,
     /// What is handed out now: of its deliveries, the first `done` were.
-    front: Batch,
-    done: usize,
+    pub(crate) front: Batch,
+    pub(crate) done: usize,
     /// What the routers send meanwhile.
-    back: Batch,
+    pub(crate) back: Batch,
 }
 
 impl<const P: usize, const R: usize, const S: usize> Model for Internet<P, R, S> {
@@ -162,7 +165,7 @@ impl<const P: usize, const R: usize, const S: usize> Internet<P, R, S> {
     }
 
     /// Deliveries happen, each to its router, the first that waits first: so many, or as many as there are. Where memory
-    /// runs out it stops, and the next one waits.
+    /// runs out it stops, and the next one waits. As many as the internet weighs, or more, leave none.
     pub fn settle(&mut self, limit: usize) -> Result<Settled, InternetFault>
         ensures net { net_at self.new ≡ net_at self.old }
         ensures settled { OnOk result (HasSettled R S limit self.old self.new) }
@@ -171,6 +174,7 @@ impl<const P: usize, const R: usize, const S: usize> Internet<P, R, S> {
         ensures short { OnErr result (StopsShort R S limit self.old self.new) }
         ensures quiet { self.old.queue ≡ [] → IsOk result }
         ensures none { limit ≡ 0 → IsOk result }
+        ensures enough { internet_weight R S self.old ≤ limit → IfOk result (λ s. s ≡ Quiet) }
     {
         for _ in 0..limit {
             if self.waiting() == 0 {
@@ -198,11 +202,14 @@ impl<const P: usize, const R: usize, const S: usize> Internet<P, R, S> {
         requires { 0 < length self.old.queue }
         ensures net { net_at self.new ≡ net_at self.old }
         ensures settled { OnOk result (HasSettled R S 1 self.old self.new) }
+        ensures lighter { OnOk result (internet_weight R S self.new < internet_weight R S self.old) }
         ensures unchanged { OnErr result (self.new ≡ self.old) }
     {
+        crate::laws::weighs();
         are_sized(&self.routers);
         self.done = turn(&mut self.front, self.done, &mut self.back);
         let coming = self.front.get(self.done);
+        are_bytes(coming.bytes);
         let event = Event::Packet {
             port: coming.port,
             bytes: coming.bytes,

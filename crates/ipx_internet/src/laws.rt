@@ -21,9 +21,10 @@ ghost use Rattle.ipx_internet.specs.Delivery.{delivered};
 ghost use Rattle.ipx_internet.specs.Departure.{ObservesHorizon, departures, handed, deliveries_from};
 ghost use Rattle.ipx_internet.specs.Different.{AreDifferent};
 ghost use Rattle.ipx_internet.specs.Internet.{Internet, Place, IsInternet, NodesDiffer, IsPlace, network_of, ports_of};
+ghost use Rattle.ipx_internet.specs.InternetWeight.{queued_weight};
 ghost use Rattle.ipx_internet.specs.Log.{Sending, Reception, reception_at, IsForward, IsLog};
 ghost use Rattle.ipx_internet.specs.Most.{most, most_of, most_on_network, most_ports as ports_at_most};
-ghost use Rattle.ipx_internet.specs.Queue.{Queued, deliveries_of, history_of, queued, settled_one, settled};
+ghost use Rattle.ipx_internet.specs.Queue.{Delivery, Queued, deliveries_of, history_of, queued, settled_one, settled};
 ghost use Rattle.ipx_internet.specs.Real.{IsReal};
 ghost use Rattle.ipx_internet.specs.Rounds.{IsDelivery, rounds, handed_out, most_caused, most_rounds};
 ghost use Rattle.ipx_internet.specs.Run.{Step, Settles, IsStep, AreHistories, Run, begun, forgotten, happens, stepped, run_of};
@@ -32,6 +33,8 @@ ghost use Rattle.ipx_internet.specs.Ticks.{IsTick, AreTicks, ticked, a_tick, mos
 ghost use Rattle.ipx_internet.specs.Traced.{tree, routers_of, routers_after};
 ghost use Rattle.ipx_internet.specs.Tree.{Router, router_now, IsRouter, Copy, net_of, sent_on, children, tree_to, IsTree};
 ghost use Rattle.ipx_internet.specs.Weight.{weight, weights, CanCome, IsBounded};
+
+use ipx_router::{RouteOffer, ServiceOffer};
 
 /// How far a packet goes, in any internet and any log: with any tables and any ports up, also such as change on the way.
 ///
@@ -217,6 +220,34 @@ pub fn settles()
     ipx_router::laws::packets();
     ipx_router::laws::relays();
     ipx_router::laws::bounds();
+    ipx_router::laws::down_ports();
+    ipx_router::laws::within_capacity();
+}
+
+/// Each delivery makes an internet lighter, whatever is in the tables and whatever waits, forged packets too. So no more happen than
+/// its weight says, and with that weight as a limit nothing is left.
+///
+/// What waits weighs by what it says and by how far it may still go, a response by how many times what it says may be told on; each
+/// route and each service that is held weighs what its end makes. Nothing is asked of capacities, nor of what happened before.
+pub fn weighs()
+    ensures falls { (net : Internet) (most_routes most_services : ℕ) (histories : List History) (d : Delivery) (queue : List Delivery)
+        → IsInternet net → NodesDiffer net → AreHistories net histories → IsDelivery net d
+        → let q : Queued = record { histories = histories; queue = d ∷ queue } in
+        queued_weight net most_routes most_services (settled_one net most_routes most_services q) < queued_weight net most_routes most_services q }
+    ensures enough { (net : Internet) (most_routes most_services : ℕ) (q : Queued) (limit : ℕ) → IsInternet net → NodesDiffer net
+        → AreHistories net q.histories → AllByRecursion (IsDelivery net) q.queue → queued_weight net most_routes most_services q ≤ limit
+        → (settled net most_routes most_services limit q).queue ≡ [] }
+{
+    ipx_table::laws::next_facts::<RouteOffer>();
+    ipx_table::laws::next_facts::<ServiceOffer>();
+    ipx_wire::laws::readings();
+    ipx_wire::laws::service_readings();
+    ipx_wire::laws::reread();
+    ipx_wire::laws::sent_on();
+    ipx_router::laws::same_offers();
+    ipx_router::laws::tables();
+    ipx_router::laws::packets();
+    ipx_router::laws::relays();
     ipx_router::laws::down_ports();
     ipx_router::laws::within_capacity();
 }

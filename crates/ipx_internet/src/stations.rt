@@ -8,6 +8,7 @@ ghost use Rattle.ipx_router.specs.Port.{same_node, port_at};
 ghost use Rattle.ipx_router.specs.Stands.{State};
 ghost use Rattle.ipx_internet.specs.Internet.{Internet};
 ghost use Rattle.ipx_internet.specs.Moment.{SharesNode};
+ghost use Rattle.ipx_internet.specs.Most.{most_on_network};
 ghost use Rattle.ipx_internet.specs.Stations.{stations_on, station, hears, AreOf};
 
 use ipx_router::{Port, Router};
@@ -77,6 +78,7 @@ impl Stations {
     pub fn most(&self) -> usize
         ensures value { result ≡ self.now.most }
         ensures most { (network : SomeNetwork) → length (stations_on self.now.list network) ≤ result }
+        ensures exact { (net : Internet) → AreOf net self.now.list → result ≡ most_on_network net }
     {
         self.most
     }

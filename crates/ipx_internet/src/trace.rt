@@ -181,7 +181,7 @@ fn list_tree<'a, const P: usize, const R: usize, const S: usize>(
 }
 
 /// Bytes are numbers under 256. It is for proofs, and does nothing.
-fn are_bytes(bytes: &[u8])
+pub(crate) fn are_bytes(bytes: &[u8])
     ensures { IsBytes bytes.now }
 {
     let _ = bytes;

@@ -1,8 +1,8 @@
 -- One more packet behind those of an outbox.
-use Rattle.std.proofs.Common.{◌≡◌, refl, sym, ap, ◌∙◌, ℕ, List, [], ◌∷◌, ◌++◌, length, take, drop, map, arith, length-append, length-drop}
-use Rattle.std.proofs.lemmas.List.{take-append-le, drop-append-le, drop_at, take_all, map-append}
+use Rattle.std.proofs.Common.{◌≡◌, refl, sym, ap, ◌∙◌, ℕ, ◌+◌, ◌≤◌, List, [], ◌∷◌, ◌++◌, length, take, drop, map, rules, arith, subst, append_assoc, length-append, length-drop}
+use Rattle.std.proofs.lemmas.List.{take-take, take-append-le, drop-append-le, drop_at, take_at, take_all, length-take-le, map-append}
 use Rattle.std.specs.List.{AllByRecursion}
-use Rattle.ipx_router.specs.Outbox.{total}
+use Rattle.ipx_router.specs.Outbox.{Memory, Contents, Appends, total}
 use Rattle.ipx_router.specs.Relays.{Sent}
 use Rattle.ipx_router.specs.Slots.{sent_in, IsIn, IsFlat}
 use Rattle.ipx_router.specs.declared.outbox.Slot.{Slot}
@@ -46,27 +46,55 @@ one_more bytes more slots slot are start size =
     ∙ ap (λ (ss : List Sent). ss ++ sent_in (bytes ++ more) slot ∷ []) (same_packets bytes more slots are)
     ∙ ap (λ (s : Sent). map (sent_in bytes) slots ++ s ∷ []) (new_packet bytes more slot start size)
 
--- slots stay one after another
-pub still_flat : (bytes more : List ℕ) (slots : List Slot) (slot : Slot) → IsFlat bytes slots → slot.start ≡ length bytes → slot.size ≡ length more
-    → IsFlat (bytes ++ more) (slots ++ slot ∷ [])
-still_flat bytes more slots slot flat start size =
-    let whole = flat.whole in
-    record {
-      each =
-          all-append (IsIn (bytes ++ more)) slots (slot ∷ []) (still_in bytes more slots flat.each)
-          (omega (arith, start, size, length-append bytes more), tt);
-      whole =
-          ap total (one_more bytes more slots slot flat.each start size)
-          ∙ total-append (map (sent_in bytes) slots) (with_bytes slot more ∷ [])
-          ∙ (omega (arith, whole, length-append bytes more));
-    }
+-- ---- the same, of what an outbox keeps before and after: `n` more bytes of its room are used
 
--- ---- the same, of what an outbox keeps before and after
+module _ {room : List ℕ} {used n : ℕ} {slots slots2 : List Slot} (room2 more : List ℕ) (slot : Slot) (flat : IsFlat room used slots)
+    (there : used + n ≤ length room2) (front : take (used + n) room2 ≡ take used room ++ more) (added : slots2 ≡ slots ++ slot ∷ [])
+    (start : slot.start ≡ used) (size : slot.size ≡ n) (whole : n ≡ length more) where
+  -- the slot's bytes come behind those that were used
+  behind : slot.start ≡ length (take used room)
+  behind = start ∙ sym (length-take-le used room flat.fits)
 
-module _ (bytes more : List ℕ) (slots : List Slot) (slot : Slot) (bytes2 : List ℕ) (slots2 : List Slot) (flat : IsFlat bytes slots)
-    (grown : bytes2 ≡ bytes ++ more) (added : slots2 ≡ slots ++ slot ∷ []) (start : slot.start ≡ length bytes) (size : slot.size ≡ length more) where
-  pub flat_after : IsFlat bytes2 slots2
-  flat_after = rw (grown, added) (still_flat bytes more slots slot flat start size)
+  sent_after : map (sent_in (take (used + n) room2)) slots2 ≡ map (sent_in (take used room)) slots ++ with_bytes slot more ∷ []
+  sent_after = rw (front, added) (one_more (take used room) more slots slot flat.each behind (size ∙ whole))
 
-  pub sent_after : map (sent_in bytes2) slots2 ≡ map (sent_in bytes) slots ++ with_bytes slot more ∷ []
-  sent_after = rw (grown, added) (one_more bytes more slots slot flat.each start size)
+  each_after : AllByRecursion (IsIn (take used room ++ more)) (slots ++ slot ∷ [])
+  each_after =
+      all-append (IsIn (take used room ++ more)) slots (slot ∷ []) (still_in (take used room) more slots flat.each)
+      (omega (arith, behind, size, whole, length-append (take used room) more), tt)
+
+  pub flat_after : IsFlat room2 (used + n) slots2
+  flat_after =
+      let before = flat.whole in
+      record {
+        fits = there;
+        each = rw (front, added) each_after;
+        whole =
+            ap total sent_after
+            ∙ total-append (map (sent_in (take used room)) slots) (with_bytes slot more ∷ [])
+            ∙ (omega (arith, before, whole));
+      }
+
+  -- as its callers see it
+  pub one_appended : {old : Contents} {places places2 spare spare2 : ℕ} {memory memory2 : Memory}
+      → record { sent = map (sent_in (take used room)) slots; places = places; spare = spare; memory = memory } ≡ old
+      → places ≡ places2 + 1 → spare ≡ spare2 + n → memory2 ≡ memory
+      → Appends old (record { sent = map (sent_in (take (used + n) room2)) slots2; places = places2; spare = spare2; memory = memory2 }) (with_bytes slot more ∷ [])
+  one_appended {old} {places} {places2} {spare} {spare2} {memory} {memory2} is fewer shorter same =
+      subst
+      (λ (before : Contents).
+      Appends before (record { sent = map (sent_in (take (used + n) room2)) slots2; places = places2; spare = spare2; memory = memory2 }) (with_bytes slot more ∷ []))
+      is
+      (record { sent = sent_after; places = omega (arith, fewer); spare = omega (arith, shorter, whole); memory = same })
+
+-- what the front of a room of `size` bytes holds once `n` bytes of a packet were written from `start` on
+pub written_front : {room lent out : List ℕ} {start n size : ℕ} (packet further after behind : List ℕ) → lent ≡ room → out ≡ packet ++ further → n ≡ length packet
+    → start ≤ length room → start + n ≤ size
+    → take (start + n) (take size ((take start lent ++ (out ++ after)) ++ behind)) ≡ take start room ++ packet
+written_front {room} {lent} {out} {start} {n} {size} packet further after behind same is whole there short =
+    take-take (start + n) size _ short
+    ∙ ap (take (start + n)) (ap (λ (ys : List ℕ). (take start ys ++ (out ++ after)) ++ behind) same
+    ∙ ap (λ (ys : List ℕ). (take start room ++ (ys ++ after)) ++ behind) is
+    ∙ search (rules, append_assoc))
+    ∙ take_at (take start room ++ packet) (further ++ (after ++ behind)) (start + n)
+    (omega (arith, whole, length-append (take start room) packet, length-take-le start room there))

@@ -14,7 +14,7 @@ total-append (p ∷ ps) qs = omega (arith, total-append ps qs)
 -- ---- what is sent in two parts
 
 pub appends_none : (o : Contents) → Appends o o []
-appends_none o = record { sent = sym (append-nil o.sent); places = omega arith; spare = omega arith }
+appends_none o = record { sent = sym (append-nil o.sent); places = omega arith; spare = omega arith; memory = refl }
 
 pub appends_then : {a b c : Contents} {ps qs : List Sent} → Appends a b ps → Appends b c qs → Appends a c (ps ++ qs)
 appends_then {a} {b} {c} {ps} {qs} first second =
@@ -26,6 +26,7 @@ appends_then {a} {b} {c} {ps} {qs} first second =
       sent = second.sent ∙ ap (λ (x : List Sent). x ++ qs) first.sent ∙ append_assoc a.sent ps qs;
       places = omega (arith, first_places, second_places, length-append ps qs);
       spare = omega (arith, first_spare, second_spare, total-append ps qs);
+      memory = second.memory ∙ first.memory;
     }
 
 -- what fits, fits without its end

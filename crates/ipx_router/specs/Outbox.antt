@@ -3,11 +3,17 @@ use Rattle.std.specs.Prelude.{◌≡◌, ℕ, ◌+◌, ◌≤◌, List, [], ◌�
 use Rattle.std.specs.List.{AllByRecursion}
 use Rattle.ipx_router.specs.Relays.{Sent}
 
--- what was sent, in order, and how many more packets and how many more bytes the room is for
+-- the memory that an outbox has taken, in packets and in bytes of packets
+pub record Memory : Type 0 where
+  pub packets : ℕ
+  pub bytes : ℕ
+
+-- what was sent, in order; how many more packets and how many more bytes the room is for; and the memory that was taken
 pub record Contents : Type 0 where
   pub sent : List Sent
   pub places : ℕ
   pub spare : ℕ
+  pub memory : Memory
 
 -- the bytes of packets, together
 abbrev pub total : List Sent → ℕ
@@ -24,11 +30,16 @@ pub record Fits (o : Contents) (packets : List Sent) : Type 0 where
   pub places : length packets ≤ o.places
   pub spare : total packets ≤ o.spare
 
--- these packets were sent, and took no more of the room than they need
+-- no memory was taken, and none given back
+abbrev pub KeepsMemory : Contents → Contents → Type 0
+KeepsMemory old new = new.memory ≡ old.memory
+
+-- these packets were sent; they took just the room that they need, and no memory
 pub record Appends (old new : Contents) (packets : List Sent) : Type 0 where
   pub sent : new.sent ≡ old.sent ++ packets
-  pub places : old.places ≤ new.places + length packets
-  pub spare : old.spare ≤ new.spare + total packets
+  pub places : old.places ≡ new.places + length packets
+  pub spare : old.spare ≡ new.spare + total packets
+  pub memory : KeepsMemory old new
 
 -- packets were appended to what was sent before, at most that many, and none longer than that
 pub record AppendsAtMost (most longest : ℕ) (before after : List Sent) : Type 0 where

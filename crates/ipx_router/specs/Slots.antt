@@ -1,4 +1,5 @@
--- Where an outbox keeps its packets: their bytes stand one after another, and for each packet there is a slot.
+-- Where an outbox keeps its packets: their bytes stand one after another at the beginning of the room, and for each packet
+-- there is a slot.
 use Rattle.std.specs.Prelude.{◌≡◌, ℕ, ◌+◌, ◌≤◌, List, length, take, drop, map}
 use Rattle.std.specs.List.{AllByRecursion}
 use Rattle.ipx_router.specs.Outbox.{total}
@@ -13,7 +14,8 @@ sent_in bytes slot = record { port = slot.port; link = slot.link; bytes = take s
 abbrev pub IsIn : List ℕ → Slot → Type 0
 IsIn bytes slot = slot.start + slot.size ≤ length bytes
 
--- each slot's bytes are there, and there are no others
-pub record IsFlat (bytes : List ℕ) (slots : List Slot) : Type 0 where
-  pub each : AllByRecursion (IsIn bytes) slots
-  pub whole : total (map (sent_in bytes) slots) ≡ length bytes
+-- the first bytes of the room, as many as are used, are those of the slots, and of nothing else
+pub record IsFlat (room : List ℕ) (used : ℕ) (slots : List Slot) : Type 0 where
+  pub fits : used ≤ length room
+  pub each : AllByRecursion (IsIn (take used room)) slots
+  pub whole : total (map (sent_in (take used room)) slots) ≡ used

@@ -1,17 +1,18 @@
 //! The outbox: what a router sends goes into room that its caller made before, and taking it out leaves that room.
-ghost use Rattle.std.specs.Prelude.{◌≡◌, ◌↔◌, ◌==◌, true, ℕ, ◌+◌, ◌-◌, ◌<◌, ◌≤◌, [], ◌∷◌, ◌++◌, length, replicate, slice_get, Some, IsOk, OnOk, OnErr};
+ghost use Rattle.std.specs.Prelude.{◌≡◌, ◌↔◌, ◌==◌, true, ℕ, ◌+◌, ◌-◌, ◌<◌, ◌≤◌, [], ◌∷◌, ◌++◌, length, take, slice_get, Some, IsOk, OnOk, OnErr};
 ghost use Rattle.std.specs.Vec.{vec_len, vec_capacity};
 ghost use Rattle.ipx_wire.specs.Forward.{forwarded, propagated};
 ghost use Rattle.ipx_wire.specs.Numbers.{most_entries, most_services};
 ghost use Rattle.ipx_wire.specs.Write.{packet_bytes, rip_packet, query_packet};
 ghost use Rattle.ipx_wire.specs.WriteServices.{sap_packet};
-ghost use Rattle.ipx_router.specs.Outbox.{HasRoom, Fits, Appends, total};
+ghost use Rattle.ipx_wire.specs.declared.network.Network.{Network};
+ghost use Rattle.ipx_router.specs.Outbox.{HasRoom, Fits, Appends, KeepsMemory, total};
 ghost use Rattle.ipx_router.specs.Port.{broadcast};
 ghost use Rattle.ipx_router.specs.Relays.{Sent};
 
 use ipx_wire::{
-    Address, Network, Node, Operation, OutOfMemory, Packet, RipEntry, SapEntry, Service,
-    change_to_crossed, change_to_forwarded, write_query, write_rip, write_sap,
+    Address, Network, Node, Operation, OutOfMemory, Packet, RipEntry, Service, write_crossed,
+    write_forwarded, write_query, write_rip, write_sap,
 };
 use std::alloc::Global;
 use std::marker::Model;
@@ -47,20 +48,23 @@ struct Slot {
 #[derive(Debug, Drop)]
 pub struct Outbox {
     slots: Vec<Slot>,
+    /// The whole room for the packets' bytes: each packet is written where it will lie, so only `reserve` makes it longer.
     bytes: Vec<u8>,
+    /// How many bytes at its beginning are the packets'.
+    used: usize,
 }
 
 impl Model for Outbox {
-    ghost use Rattle.std.specs.Prelude.{◌-◌, map};
+    ghost use Rattle.std.specs.Prelude.{◌-◌, map, take};
     ghost use Rattle.std.specs.Vec.{vec_len, vec_capacity};
     ghost use Rattle.ipx_router.specs.Outbox.{Contents};
     ghost use Rattle.ipx_router.specs.Slots.{sent_in, IsFlat};
 
     ghost Value = { Contents };
 
-    ghost view = { λ o. record { sent = map (sent_in o.bytes.items) o.slots.items; places = vec_capacity o.slots - vec_len o.slots; spare = vec_capacity o.bytes - vec_len o.bytes } };
+    ghost view = { λ o. record { sent = map (sent_in (take o.used o.bytes.items)) o.slots.items; places = vec_capacity o.slots - vec_len o.slots; spare = vec_len o.bytes - o.used; memory = record { packets = vec_capacity o.slots; bytes = vec_capacity o.bytes } } };
 
-    ghost invariant = { λ o. IsFlat o.bytes.items o.slots.items };
+    ghost invariant = { λ o. IsFlat o.bytes.items o.used o.slots.items };
 }
 
 impl Outbox {
@@ -71,6 +75,7 @@ impl Outbox {
         Outbox {
             slots: Vec::new(alloc),
             bytes: Vec::new(alloc),
+            used: 0,
         }
     }
 
@@ -84,8 +89,7 @@ impl Outbox {
         ensures kept { (packets bytes : ℕ) → HasRoom self.old packets bytes → HasRoom self.new packets bytes }
     {
         self.slots.reserve(need.packets)?;
-        self.bytes.reserve(need.bytes)?;
-        Ok(())
+        lengthen(&mut self.bytes, self.used, need.bytes)
     }
 
     /// Whether that many packets more, and that many bytes, fit into the room that is there.
@@ -93,7 +97,7 @@ impl Outbox {
         ensures { result ≡ true ↔ HasRoom self.now need.packets need.bytes }
     {
         need.packets <= self.slots.capacity() - self.slots.len()
-            && need.bytes <= self.bytes.capacity() - self.bytes.len()
+            && need.bytes <= self.bytes.len() - self.used
     }
 
     /// How many packets there are.
@@ -115,10 +119,11 @@ impl Outbox {
         ensures { slice_get self.now.sent k ≡ Some (record { port = result.port; link = result.link; bytes = result.bytes.now }) }
     {
         let slot = self.slots[k];
+        let (written, _) = self.bytes.split_at(self.used);
         Sent {
             port: slot.port,
             link: slot.link,
-            bytes: &self.bytes[slot.start..slot.start + slot.size],
+            bytes: &written[slot.start..slot.start + slot.size],
         }
     }
 
@@ -128,9 +133,10 @@ impl Outbox {
         ensures room { (packets bytes : ℕ) → HasRoom self.old packets bytes
             → HasRoom self.new (packets + length self.old.sent) (bytes + total self.old.sent) }
         ensures kept { (packets bytes : ℕ) → HasRoom self.old packets bytes → HasRoom self.new packets bytes }
+        ensures memory { KeepsMemory self.old self.new }
     {
         self.slots.clear();
-        self.bytes.clear();
+        self.used = 0;
     }
 
     /// Appends a packet of routing information, to the node that it is for.
@@ -147,9 +153,9 @@ impl Outbox {
         requires room { Fits self.old (record { port = port; link = to.node; bytes = rip_packet from to operation page.now } ∷ []) }
         ensures { Appends self.old self.new (record { port = port; link = to.node; bytes = rip_packet from to operation page.now } ∷ []) }
     {
-        let start = self.bytes.len();
-        put_rip(&mut self.bytes, from, to, operation, page);
-        add_slot(&mut self.slots, port, to.node, start, self.bytes.len());
+        let size = put_rip(&mut self.bytes, self.used, from, to, operation, page);
+        add_slot(&mut self.slots, port, to.node, self.used, size);
+        self.used += size;
     }
 
     /// Appends a response of services, to the node that it is for.
@@ -166,9 +172,9 @@ impl Outbox {
         requires room { Fits self.old (record { port = port; link = to.node; bytes = sap_packet from to nearest page.now } ∷ []) }
         ensures { Appends self.old self.new (record { port = port; link = to.node; bytes = sap_packet from to nearest page.now } ∷ []) }
     {
-        let start = self.bytes.len();
-        put_sap(&mut self.bytes, from, to, nearest, page);
-        add_slot(&mut self.slots, port, to.node, start, self.bytes.len());
+        let size = put_sap(&mut self.bytes, self.used, from, to, nearest, page);
+        add_slot(&mut self.slots, port, to.node, self.used, size);
+        self.used += size;
     }
 
     /// Appends a query for services, to the node that it is for.
@@ -183,9 +189,9 @@ impl Outbox {
         requires room { Fits self.old (record { port = port; link = to.node; bytes = query_packet from to nearest kind } ∷ []) }
         ensures { Appends self.old self.new (record { port = port; link = to.node; bytes = query_packet from to nearest kind } ∷ []) }
     {
-        let start = self.bytes.len();
-        put_query(&mut self.bytes, from, to, nearest, kind);
-        add_slot(&mut self.slots, port, to.node, start, self.bytes.len());
+        let size = put_query(&mut self.bytes, self.used, from, to, nearest, kind);
+        add_slot(&mut self.slots, port, to.node, self.used, size);
+        self.used += size;
     }
 
     /// Appends a packet that goes on towards its network, with its transport control one higher.
@@ -194,9 +200,9 @@ impl Outbox {
         requires room { Fits self.old (record { port = port; link = link; bytes = packet_bytes (forwarded packet.now) } ∷ []) }
         ensures { Appends self.old self.new (record { port = port; link = link; bytes = packet_bytes (forwarded packet.now) } ∷ []) }
     {
-        let start = self.bytes.len();
-        put_forwarded(&mut self.bytes, packet);
-        add_slot(&mut self.slots, port, link, start, self.bytes.len());
+        let size = put_forwarded(&mut self.bytes, self.used, packet);
+        add_slot(&mut self.slots, port, link, self.used, size);
+        self.used += size;
     }
 
     /// Appends a packet of type 20 that goes on to another network, to all its nodes.
@@ -212,111 +218,138 @@ impl Outbox {
         requires room { Fits self.old (record { port = port; link = broadcast; bytes = packet_bytes (propagated arrived outgoing packet.now) } ∷ []) }
         ensures { Appends self.old self.new (record { port = port; link = broadcast; bytes = packet_bytes (propagated arrived outgoing packet.now) } ∷ []) }
     {
-        let start = self.bytes.len();
-        put_crossed(&mut self.bytes, packet, arrived, outgoing);
-        add_slot(
-            &mut self.slots,
-            port,
-            Node::BROADCAST,
-            start,
-            self.bytes.len(),
-        );
+        let size = put_crossed(&mut self.bytes, self.used, packet, arrived, outgoing);
+        add_slot(&mut self.slots, port, Node::BROADCAST, self.used, size);
+        self.used += size;
     }
 }
 
-fn put_rip(bytes: &mut Vec<u8>, from: Address, to: Address, operation: Operation, page: &[RipEntry])
-    requires some { 1 ≤ length page.now }
-    requires most { length page.now ≤ most_entries }
-    requires room { vec_len bytes.old + length (rip_packet from to operation page.now) ≤ vec_capacity bytes.old }
-    ensures items { bytes.new.items ≡ bytes.old.items ++ rip_packet from to operation page.now }
-    ensures len { vec_len bytes.new ≡ vec_len bytes.old + length (rip_packet from to operation page.now) }
-    ensures capacity { vec_capacity bytes.old ≤ vec_capacity bytes.new }
+/// Makes the room longer where fewer than that many bytes of it are left behind those that are used.
+fn lengthen(bytes: &mut Vec<u8>, used: usize, more: usize) -> Result<(), OutOfMemory>
+    requires { used ≤ vec_len bytes.old }
+    ensures kept { take (vec_len bytes.old) bytes.new.items ≡ bytes.old.items }
+    ensures longer { vec_len bytes.old ≤ vec_len bytes.new }
+    ensures room { OnOk result (used + more ≤ vec_len bytes.new) }
+    ensures there { used + more ≤ vec_len bytes.old → IsOk result }
 {
-    ipx_wire::laws::sizes();
-    let start = bytes.len();
-    widen(bytes, 32 + RipEntry::SIZE * page.len());
-    write_rip(from, to, operation, page, &mut bytes[start..]);
+    let left = bytes.len() - used;
+    if left < more {
+        bytes.reserve(more - left)?;
+        bytes.resize(used + more, 0)?;
+    }
+    Ok(())
 }
 
-fn put_sap(bytes: &mut Vec<u8>, from: Address, to: Address, nearest: bool, page: &[Service])
+/// Writes a packet into the room, from `start` on, and returns its length.
+fn put_rip(
+    bytes: &mut Vec<u8>,
+    start: usize,
+    from: Address,
+    to: Address,
+    operation: Operation,
+    page: &[RipEntry],
+) -> usize
+    requires some { 1 ≤ length page.now }
+    requires most { length page.now ≤ most_entries }
+    requires room { start + length (rip_packet from to operation page.now) ≤ vec_len bytes.old }
+    ensures front { take (start + result) bytes.new.items ≡ take start bytes.old.items ++ rip_packet from to operation page.now }
+    ensures size { result ≡ length (rip_packet from to operation page.now) }
+    ensures there { start + result ≤ length bytes.new.items }
+    ensures len { vec_len bytes.new ≡ vec_len bytes.old }
+    ensures capacity { vec_capacity bytes.new ≡ vec_capacity bytes.old }
+{
+    ipx_wire::laws::sizes();
+    write_rip(from, to, operation, page, &mut bytes[start..])
+}
+
+fn put_sap(
+    bytes: &mut Vec<u8>,
+    start: usize,
+    from: Address,
+    to: Address,
+    nearest: bool,
+    page: &[Service],
+) -> usize
     requires some { 1 ≤ length page.now }
     requires most { length page.now ≤ most_services }
-    requires room { vec_len bytes.old + length (sap_packet from to nearest page.now) ≤ vec_capacity bytes.old }
-    ensures items { bytes.new.items ≡ bytes.old.items ++ sap_packet from to nearest page.now }
-    ensures len { vec_len bytes.new ≡ vec_len bytes.old + length (sap_packet from to nearest page.now) }
-    ensures capacity { vec_capacity bytes.old ≤ vec_capacity bytes.new }
+    requires room { start + length (sap_packet from to nearest page.now) ≤ vec_len bytes.old }
+    ensures front { take (start + result) bytes.new.items ≡ take start bytes.old.items ++ sap_packet from to nearest page.now }
+    ensures size { result ≡ length (sap_packet from to nearest page.now) }
+    ensures there { start + result ≤ length bytes.new.items }
+    ensures len { vec_len bytes.new ≡ vec_len bytes.old }
+    ensures capacity { vec_capacity bytes.new ≡ vec_capacity bytes.old }
 {
     ipx_wire::laws::sizes();
     ipx_wire::laws::in_range(page);
-    let start = bytes.len();
-    widen(bytes, 32 + SapEntry::SIZE * page.len());
-    write_sap(from, to, nearest, page, &mut bytes[start..]);
+    write_sap(from, to, nearest, page, &mut bytes[start..])
 }
 
-fn put_query(bytes: &mut Vec<u8>, from: Address, to: Address, nearest: bool, kind: u16)
-    requires room { vec_len bytes.old + length (query_packet from to nearest kind) ≤ vec_capacity bytes.old }
-    ensures items { bytes.new.items ≡ bytes.old.items ++ query_packet from to nearest kind }
-    ensures len { vec_len bytes.new ≡ vec_len bytes.old + length (query_packet from to nearest kind) }
-    ensures capacity { vec_capacity bytes.old ≤ vec_capacity bytes.new }
+fn put_query(
+    bytes: &mut Vec<u8>,
+    start: usize,
+    from: Address,
+    to: Address,
+    nearest: bool,
+    kind: u16,
+) -> usize
+    requires room { start + length (query_packet from to nearest kind) ≤ vec_len bytes.old }
+    ensures front { take (start + result) bytes.new.items ≡ take start bytes.old.items ++ query_packet from to nearest kind }
+    ensures size { result ≡ length (query_packet from to nearest kind) }
+    ensures there { start + result ≤ length bytes.new.items }
+    ensures len { vec_len bytes.new ≡ vec_len bytes.old }
+    ensures capacity { vec_capacity bytes.new ≡ vec_capacity bytes.old }
 {
     ipx_wire::laws::sizes();
-    let start = bytes.len();
-    widen(bytes, 34);
-    write_query(from, to, nearest, kind, &mut bytes[start..]);
+    write_query(from, to, nearest, kind, &mut bytes[start..])
 }
 
-fn put_forwarded(bytes: &mut Vec<u8>, packet: &Packet<'_>)
+fn put_forwarded(bytes: &mut Vec<u8>, start: usize, packet: &Packet<'_>) -> usize
     requires control { packet.now.header.control < 255 }
-    requires room { vec_len bytes.old + length (packet_bytes (forwarded packet.now)) ≤ vec_capacity bytes.old }
-    ensures items { bytes.new.items ≡ bytes.old.items ++ packet_bytes (forwarded packet.now) }
-    ensures len { vec_len bytes.new ≡ vec_len bytes.old + length (packet_bytes (forwarded packet.now)) }
-    ensures capacity { vec_capacity bytes.old ≤ vec_capacity bytes.new }
+    requires room { start + length (packet_bytes (forwarded packet.now)) ≤ vec_len bytes.old }
+    ensures front { take (start + result) bytes.new.items ≡ take start bytes.old.items ++ packet_bytes (forwarded packet.now) }
+    ensures size { result ≡ length (packet_bytes (forwarded packet.now)) }
+    ensures there { start + result ≤ length bytes.new.items }
+    ensures len { vec_len bytes.new ≡ vec_len bytes.old }
+    ensures capacity { vec_capacity bytes.new ≡ vec_capacity bytes.old }
 {
-    ipx_wire::laws::sizes();
-    let start = bytes.len();
-    copy(bytes, packet.bytes());
-    change_to_forwarded(packet, &mut bytes[start..]);
+    lengths(packet);
+    write_forwarded(packet, &mut bytes[start..])
 }
 
-fn put_crossed(bytes: &mut Vec<u8>, packet: &Packet<'_>, arrived: Network, outgoing: Network)
+fn put_crossed(
+    bytes: &mut Vec<u8>,
+    start: usize,
+    packet: &Packet<'_>,
+    arrived: Network,
+    outgoing: Network,
+) -> usize
     requires free { packet.now.header.control < 8 }
     requires eight { 32 ≤ length packet.now.payload }
-    requires room { vec_len bytes.old + length (packet_bytes (propagated arrived outgoing packet.now)) ≤ vec_capacity bytes.old }
-    ensures items { bytes.new.items ≡ bytes.old.items ++ packet_bytes (propagated arrived outgoing packet.now) }
-    ensures len { vec_len bytes.new ≡ vec_len bytes.old + length (packet_bytes (propagated arrived outgoing packet.now)) }
-    ensures capacity { vec_capacity bytes.old ≤ vec_capacity bytes.new }
+    requires room { start + length (packet_bytes (propagated arrived outgoing packet.now)) ≤ vec_len bytes.old }
+    ensures front { take (start + result) bytes.new.items ≡ take start bytes.old.items ++ packet_bytes (propagated arrived outgoing packet.now) }
+    ensures size { result ≡ length (packet_bytes (propagated arrived outgoing packet.now)) }
+    ensures there { start + result ≤ length bytes.new.items }
+    ensures len { vec_len bytes.new ≡ vec_len bytes.old }
+    ensures capacity { vec_capacity bytes.new ≡ vec_capacity bytes.old }
+{
+    lengths(packet);
+    write_crossed(packet, arrived, outgoing, &mut bytes[start..])
+}
+
+/// A packet that is sent on is as long as it came.
+pub(crate) fn lengths(packet: &Packet<'_>)
+    ensures forwarded { length (packet_bytes (forwarded packet.now)) ≡ packet.now.header.length }
+    ensures propagated { (arrived outgoing : Network) → packet.now.header.control < 8 → 32 ≤ length packet.now.payload
+        → length (packet_bytes (propagated arrived outgoing packet.now)) ≡ packet.now.header.length }
 {
     ipx_wire::laws::sizes();
-    let start = bytes.len();
-    copy(bytes, packet.bytes());
-    change_to_crossed(packet, arrived, outgoing, &mut bytes[start..]);
+    packet.bytes();
 }
 
-/// Copies bytes into the room, for what changes some of them.
-fn copy(bytes: &mut Vec<u8>, more: &[u8])
-    requires { vec_len bytes.old + length more.now ≤ vec_capacity bytes.old }
-    ensures items { bytes.new.items ≡ bytes.old.items ++ more.now }
-    ensures len { vec_len bytes.new ≡ vec_len bytes.old + length more.now }
-    ensures capacity { vec_capacity bytes.old ≤ vec_capacity bytes.new }
-{
-    bytes.extend_from_slice(more).unwrap();
-}
-
-/// Makes that many bytes more of the room, for a writer.
-fn widen(bytes: &mut Vec<u8>, size: usize)
-    requires { vec_len bytes.old + size ≤ vec_capacity bytes.old }
-    ensures items { bytes.new.items ≡ bytes.old.items ++ replicate size 0 }
-    ensures len { vec_len bytes.new ≡ vec_len bytes.old + size }
-    ensures capacity { vec_capacity bytes.old ≤ vec_capacity bytes.new }
-{
-    bytes.resize(bytes.len() + size, 0).unwrap();
-}
-
-/// Counts the bytes from `start` to `end` as one more packet.
-fn add_slot(slots: &mut Vec<Slot>, port: u8, link: Node, start: usize, end: usize)
-    requires order { start ≤ end }
-    requires room { vec_len slots.old < vec_capacity slots.old }
-    ensures items { slots.new.items ≡ slots.old.items ++ record { port = port; link = link; start = start; size = end - start } ∷ [] }
+/// Counts that many bytes from `start` on as one more packet.
+fn add_slot(slots: &mut Vec<Slot>, port: u8, link: Node, start: usize, size: usize)
+    requires { vec_len slots.old < vec_capacity slots.old }
+    ensures items { slots.new.items ≡ slots.old.items ++ record { port = port; link = link; start = start; size = size } ∷ [] }
     ensures len { vec_len slots.new ≡ vec_len slots.old + 1 }
     ensures capacity { vec_capacity slots.new ≡ vec_capacity slots.old }
 {
@@ -324,6 +357,6 @@ fn add_slot(slots: &mut Vec<Slot>, port: u8, link: Node, start: usize, end: usiz
         port,
         link,
         start,
-        size: end - start,
+        size,
     });
 }

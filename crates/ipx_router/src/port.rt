@@ -45,7 +45,7 @@ impl Model for Port {
     ghost inverse = { λ p. record { network = p.network; node = p.node; cost = p.cost; longest = p.longest; route_share = p.route_share; service_share = p.service_share } };
 }
 
-/// Some port, for places that are not in use: node 0 of network 1.
+/// Some port, for places that are not in use: node 0 of network 1 here. Its values are nobody's promise.
 impl Default for Port {
     fn default() -> Port {
         Port {

@@ -14,7 +14,7 @@ ghost use Rattle.ipx_router.specs.Relays.{goes_out, propagated_on, relayed};
 
 use crate::addresses::port_of;
 use crate::checks::{Passed, check};
-use crate::outbox::{Need, Outbox};
+use crate::outbox::{Need, Outbox, lengths};
 use crate::outcome::Outcome;
 use crate::outgoing::{longest_on, network_of};
 use crate::port::Port;
@@ -117,16 +117,6 @@ fn send_on<const R: usize>(
         }
         Passed::Near => Outcome::Local,
     }
-}
-
-/// A packet that is sent on is as long as it came.
-fn lengths(packet: &Packet<'_>)
-    ensures forwarded { length (packet_bytes (forwarded packet.now)) ≡ packet.now.header.length }
-    ensures propagated { (arrived outgoing : Network) → packet.now.header.control < 8 → 32 ≤ length packet.now.payload
-        → length (packet_bytes (propagated arrived outgoing packet.now)) ≡ packet.now.header.length }
-{
-    ipx_wire::laws::sizes();
-    packet.bytes();
 }
 
 /// Sends a propagated packet to the other networks, ports in order.

@@ -7,7 +7,7 @@ ghost use Rattle.ipx_router.specs.Happened.{happened};
 ghost use Rattle.ipx_router.specs.History.{History, IsOnPort, IsOfBytes};
 ghost use Rattle.ipx_router.specs.Following.{Follows, sends_between, outcome_at};
 ghost use Rattle.ipx_router.specs.Needs.{HasRoomFor, packets_needed, bytes_needed};
-ghost use Rattle.ipx_router.specs.Outbox.{Appends, AppendsAtMost};
+ghost use Rattle.ipx_router.specs.Outbox.{Appends, AppendsAtMost, KeepsMemory};
 ghost use Rattle.ipx_router.specs.Outcomes.{outcome};
 ghost use Rattle.ipx_router.specs.Routes.{route_rules};
 ghost use Rattle.ipx_router.specs.Sends.{sends};
@@ -47,6 +47,7 @@ impl<const P: usize, const R: usize, const S: usize> Router<P, R, S> {
         ensures ports { self.new.ports ≡ self.old.ports }
         ensures stands { (h : History) → StandsFor R S self.old h → StandsFor R S self.new (h ++ happened event.entry ∷ []) }
         ensures sends { (h : History) → StandsFor R S self.old h → Appends outbox.old outbox.new (sends self.old.ports R S h (happened event.entry)) }
+        ensures memory { KeepsMemory outbox.old outbox.new }
         ensures outcome { (h : History) → StandsFor R S self.old h → result ≡ outcome self.old.ports R h (happened event.entry) }
         ensures bounds { AppendsAtMost (packets_needed self.old (happened event.entry)) (most_length (happened event.entry)) outbox.old.sent outbox.new.sent }
         ensures capacity { IsWithinCapacity R S self.new }

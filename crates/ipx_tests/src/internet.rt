@@ -51,12 +51,14 @@ fn two_routers_learn_each_other_delivery_by_delivery(rt: HostRuntime) -> Result<
     let mut internet = line(rt.alloc())?;
     same(&rt, internet.len(), 2);
     same(&rt, internet.waiting(), 6);
+    same(&rt, internet.most_deliveries(), 16288);
     same(&rt, internet.settle(0)?, Settled::Left(6));
     same(&rt, internet.settle(1)?, Settled::Left(5));
     same(&rt, first_route(&internet, 0), None);
     same(&rt, first_route(&internet, 1), Some((0x10, 1, 0)));
     same(&rt, internet.settle(6)?, Settled::Left(1));
     same(&rt, internet.settle(100)?, Settled::Quiet);
+    same(&rt, internet.most_deliveries(), 4);
     same(&rt, internet.settle(1)?, Settled::Quiet);
     same(&rt, first_route(&internet, 0), Some((0x30, 1, 0)));
     Ok(())

@@ -28,10 +28,11 @@ fn runs_on_standard_input_or_a_file(rt: HostRuntime) {
 
 #[test]
 fn refuses_all_other_words(rt: HostRuntime) {
-    let table: [&[&str]; 17] = [
+    let table: [&[&str]; 18] = [
         &[],
         &[""],
         &["x"],
+        &["show"],
         &["Replay"],
         &["replay", "a", "b"],
         &["replay", "-a"],

@@ -1,62 +1,65 @@
-//! How often a reader may be asked, and what counts as its failure.
+//! How often a source may be asked, and that its failures are remembered.
 
-ghost use Rattle.std.specs.Prelude.{◌≡◌, ◌≤◌, IfOk, OnErr, false};
+ghost use Rattle.std.specs.Prelude.{◌≡◌, ◌<◌, ◌≤◌, IfOk, OnErr, false};
 ghost use Rattle.ipx_wire.specs.Ends.{Gave, LostInput, calls_after};
 
 use crate::failed::Failed;
-use std::io::Read;
+use crate::source::Source;
 use std::marker::Model;
 
-/// How often a reader is asked at most, failures included: 16,777,216 times.
+/// How often a source is asked at most, failures included: 16,777,216 times.
 pub const MOST_CALLS: u32 = 16_777_216;
 
-/// A reader that is asked a bounded number of times.
+/// A source that is asked a bounded number of times: a reader, as a rule.
 ///
-/// A call to the reader that fails in any way, also one that was only interrupted, is a failure: nothing is asked twice.
+/// A call that fails in any way, also one that was only interrupted, is a failure: nothing is asked twice.
 #[derive(Drop)]
-pub struct Intake<R: Read> {
-    reader: R,
+pub struct Intake<S: Source> {
+    source: S,
     calls: u32,
     failed: bool,
 }
 
-impl<R: Read> Model for Intake<R> {
+impl<S: Source> Model for Intake<S> {
     ghost use Rattle.std.specs.Prelude.{◌≤◌};
     ghost use Rattle.ipx_wire.specs.Ends.{Input};
 
     ghost Value = { Input };
 
-    ghost view = { λ i. record { left = R.remaining i.reader; calls = i.calls; failed = i.failed } };
+    ghost view = { λ i. record { state = S.state i.source; left = S.left i.source; calls = i.calls; failed = i.failed } };
 
     ghost invariant = { λ i. i.calls ≤ 16777216 };
 }
 
-impl<R: Read> Intake<R> {
-    /// An intake of this reader, which was not asked yet.
-    pub fn new(reader: R) -> Self
-        ensures left { result.left ≡ R.remaining reader }
+impl<S: Source> Intake<S> {
+    /// An intake of this source, which was not asked yet.
+    pub fn new(source: S) -> Self
+        ensures state { result.state ≡ S.state source }
+        ensures left { result.left ≡ S.left source }
         ensures calls { result.calls ≡ 0 }
         ensures failed { result.failed ≡ false }
     {
         Intake {
-            reader,
+            source,
             calls: 0,
             failed: false,
         }
     }
 
-    /// Asks the reader once for bytes into `buf`, and returns how many came.
+    /// Asks the source once for bytes into `buf`, and returns how many came.
     ///
-    /// 0 for a buffer that has room means that the reader is at its end. `Failed` if the reader fails, and, without asking it,
+    /// 0 for a buffer that has room means that the source is at its end. `Failed` if the source fails, and, without asking it,
     /// once it was asked [`MOST_CALLS`] times. A failure does not end the intake: the next call asks again.
     pub fn read(&mut self, buf: &mut [u8]) -> Result<usize, Failed>
+        ensures once { self.old.calls < 16777216 → S.asked self.old.state buf.new result self.new.state }
+        ensures spared { 16777216 ≤ self.old.calls → self.new.state ≡ self.old.state }
         ensures ok { IfOk result (Gave self.old self.new buf.new) }
         ensures err { OnErr result (LostInput self.old self.new) }
         ensures calls { self.new.calls ≡ calls_after self.old.calls }
     {
         if self.calls < MOST_CALLS {
             self.calls += 1;
-            if let Ok(count) = self.reader.read(buf) {
+            if let Ok(count) = self.source.ask(buf) {
                 return Ok(count);
             }
         }
@@ -64,7 +67,7 @@ impl<R: Read> Intake<R> {
         Err(Failed)
     }
 
-    /// How often the reader was asked, failures included.
+    /// How often the source was asked, failures included.
     pub fn calls(&self) -> u32
         ensures count { result ≡ self.now.calls }
         ensures bound { result ≤ 16777216 }

@@ -1,13 +1,13 @@
 //! The packets of Novell IPX, after the IPX Router Specification, read from bytes and written to
-//! bytes; and the two ends of a run, a reader and a writer that remember their failures. Whatever
+//! bytes; and the two ends of a run, a source and a sink of bytes that remember their failures. Whatever
 //! routes, simulates or shows packets stands on this crate.
 //!
 //! - Readers are exact: they return a value if the bytes have its layout, and only then, and otherwise
 //!   the first fault in the listed order. Writers are exact, and leave the rest of a slice.
 //! - What was written is read again (law `reread`), and what is sent on is what came, but for the
 //!   changed places (law `sent_on`). Names are in the order of their bytes (law `name_order`).
-//! - What is read lends slices of its bytes, and nothing here takes memory. An intake asks its reader
-//!   a bounded number of times.
+//! - What is read lends slices of its bytes, and nothing here takes memory. An intake asks its source
+//!   once a call, and a bounded number of times; an outlet gives once a call.
 //! - Lists of entries ([`Rip`], [`SapEntries`]) have `len`, `get(k)`, `entry(k)` for a `k` that is known to be below
 //!   `len`, and `entries`; the networks crossed ([`Crossed`]) alike, with `get(k)` for such a `k`. Numbers, addresses and names have `Display` and a `Debug` of the same digits.
 //!
@@ -39,7 +39,9 @@ mod sap_entries;
 mod sap_iter;
 mod service;
 mod service_name;
+mod sink;
 mod socket;
+mod source;
 mod write;
 mod write_services;
 
@@ -64,6 +66,8 @@ pub use crate::sap_entries::{SapEntries, SapEntry};
 pub use crate::sap_iter::SapIter;
 pub use crate::service::Service;
 pub use crate::service_name::ServiceName;
+pub use crate::sink::Sink;
 pub use crate::socket::Socket;
+pub use crate::source::Source;
 pub use crate::write::{write_query, write_rip};
 pub use crate::write_services::write_sap;

@@ -1,50 +1,53 @@
-//! What counts as a writer's failure.
+//! What counts as a sink's failure, and that its failures are remembered.
 
 ghost use Rattle.std.specs.Prelude.{◌≡◌, IfOk, OnErr, false};
-ghost use Rattle.ipx_wire.specs.Ends.{Took, LostOutput};
+ghost use Rattle.ipx_wire.specs.Ends.{GaveOnce, Took, LostOutput};
 
 use crate::failed::Failed;
-use std::io::Write;
+use crate::sink::Sink;
 use std::marker::Model;
 
-/// A writer whose failure is remembered.
+/// A sink whose failure is remembered: a writer, as a rule.
 ///
-/// Its bytes are handed on at each call, none is kept back. A call to the writer that fails in any way, also one that was only interrupted, is a failure: nothing is asked twice.
+/// Its bytes are handed on at each call, none is kept back. A call that fails in any way, also one that was only interrupted, is a
+/// failure: nothing is given twice.
 #[derive(Drop)]
-pub struct Outlet<W: Write> {
-    writer: W,
+pub struct Outlet<S: Sink> {
+    sink: S,
     failed: bool,
 }
 
-impl<W: Write> Model for Outlet<W> {
+impl<S: Sink> Model for Outlet<S> {
     ghost use Rattle.ipx_wire.specs.Ends.{Output};
 
     ghost Value = { Output };
 
-    ghost view = { λ o. record { written = W.contents o.writer; failed = o.failed } };
+    ghost view = { λ o. record { state = S.state o.sink; written = S.written o.sink; failed = o.failed } };
 }
 
-impl<W: Write> Outlet<W> {
-    /// An outlet to this writer, which was given nothing yet.
-    pub fn new(writer: W) -> Self
-        ensures written { result.written ≡ W.contents writer }
+impl<S: Sink> Outlet<S> {
+    /// An outlet to this sink, which was given nothing yet.
+    pub fn new(sink: S) -> Self
+        ensures state { result.state ≡ S.state sink }
+        ensures written { result.written ≡ S.written sink }
         ensures failed { result.failed ≡ false }
     {
         Outlet {
-            writer,
+            sink,
             failed: false,
         }
     }
 
-    /// Gives the writer `bytes` once, and returns how many of them it took, from the first on.
+    /// Gives the sink `bytes` once, and returns how many of them it took, from the first on.
     ///
-    /// `Failed` if the writer fails, or takes none of at least one byte. A failure does not end the outlet: the next call
+    /// `Failed` if the sink fails, or takes none of at least one byte. A failure does not end the outlet: the next call
     /// hands its bytes on again.
     pub fn write(&mut self, bytes: &[u8]) -> Result<usize, Failed>
+        ensures once { GaveOnce S.given self.old self.new bytes.now result }
         ensures ok { IfOk result (Took self.old self.new bytes.now) }
         ensures err { OnErr result (LostOutput self.old self.new) }
     {
-        match self.writer.write(bytes) {
+        match self.sink.give(bytes) {
             Ok(count) if count > 0 || bytes.is_empty() => Ok(count),
             _ => {
                 self.failed = true;

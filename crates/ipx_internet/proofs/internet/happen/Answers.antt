@@ -8,6 +8,8 @@ use Rattle.ipx_router.specs.RouterOf.{HasPast}
 use Rattle.ipx_router.specs.Sends.{sends}
 use Rattle.ipx_internet.specs.Batches.{heard}
 use Rattle.ipx_internet.specs.Queue.{Delivery}
+use Rattle.ipx_table.proofs.Pairs.{set-same}
+use Rattle.ipx_internet.proofs.Handing.{at_error}
 use Rattle.ipx_internet.proofs.Standing.{all_got, got_at, its_ports, same_net, routers_after, coming_after, stands_after, outcome_after}
 use Rattle.ipx_internet.proofs.internet.happen.Goals as goal
 
@@ -76,3 +78,10 @@ returns-clause-outcome g c before q stands =
     outcome_after g.row.R g.row.S c.args.routers.now.items c.args.number c.index_mut-router.result.now c.happen.new.router
     (got_at c.args.routers.now.items c.args.number c.index_mut-router.result.now c.requires.there.0 c.index_mut-router.ensures.value)
     c.happen.ensures.ports (happened c.args.event) c.happen.result c.happen.ensures.outcome before q stands
+
+pub returns-in_err-make_room-clause-unchanged : goal.returns-in_err-make_room-clause-unchanged
+returns-in_err-make_room-clause-unchanged g c =
+    let routers = c.args.routers.now.items in
+    let s = c.index_mut-router.result.now in
+    at_error c.from_residual.result
+    (set-same routers c.args.number s (got_at routers c.args.number s c.requires.there.0 c.index_mut-router.ensures.value))

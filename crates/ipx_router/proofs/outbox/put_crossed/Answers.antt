@@ -1,7 +1,10 @@
-use Rattle.std.proofs.Common.{arith}
+use Rattle.std.proofs.Common.{◌∙◌, ◌+◌, ◌≤◌, length, arith, sym}
+use Rattle.ipx_router.proofs.Appending.{written_front}
 use Rattle.ipx_router.proofs.outbox.put_crossed.Goals as goal
 
-pub copy-requires : goal.copy-requires
-copy-requires c =
-    let size = c.sizes.ensures.propagated c.bytes.result.now c.args.packet.now c.args.arrived c.args.outgoing c.bytes.ensures.packet c.requires.free c.requires.eight in
-    omega (arith, c.requires.room, size, c.bytes.ensures.counted)
+pub returns-clause-front : goal.returns-clause-front
+returns-clause-front c =
+    let wrote = c.write_crossed.ensures in
+    let bytes = c.args.bytes.now in
+    let there : c.args.start + c.write_crossed.result ≤ length bytes.items = omega (arith, c.requires.room, wrote.count, wrote.size, bytes.ok) in
+    written_front _ _ _ _ c.deref_mut.ensures.value wrote.bytes (wrote.count ∙ sym wrote.size) (omega (arith, there)) (omega (arith, there, bytes.ok))

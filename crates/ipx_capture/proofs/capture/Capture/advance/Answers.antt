@@ -2,6 +2,8 @@ use Rattle.std.proofs.Common.{ℕ, ◌+◌, refl, subst, Option, Some, None, Ok,
 use Rattle.ipx_capture.specs.Place.{Place, place}
 use Rattle.ipx_capture.specs.Taking.{Took}
 use Rattle.ipx_capture.specs.declared.standing.Standing.TheVariants.{Ended, Broken}
+use Rattle.ipx_capture.specs.Asks.{TellsNothing}
+use Rattle.ipx_capture.proofs.Asking.{asked_none}
 use Rattle.ipx_capture.proofs.Taken.{takes, few_taken, nexts_open}
 use Rattle.ipx_capture.proofs.capture.Capture.advance.Goals as goal
 
@@ -42,3 +44,13 @@ returns-in-Err-clause-after g c =
     let after = c.take_record.new.intake in
     let new : Place = record { order = old.order; taken = old.taken; ahead = w.ahead; standing = Broken c.in-Err.fault; input = after } in
     nexts_open (place old) new _ c.in-Open.is (takes (place old) new w (old.taken + 1) (Err c.in-Err.fault) c.in-Err.ensures.took refl refl refl refl refl c.in-Err.ensures.still)
+
+pub returns-in-Ended-clause-asked : goal.returns-in-Ended-clause-asked
+returns-in-Ended-clause-asked g c =
+    let old = c.args.self.now in
+    (old.window.ahead, asked_none g.S.Source.asked (TellsNothing old.order) old.window.ahead old.intake.now.state)
+
+pub returns-in-Broken-clause-asked : goal.returns-in-Broken-clause-asked
+returns-in-Broken-clause-asked g c =
+    let old = c.args.self.now in
+    (old.window.ahead, asked_none g.S.Source.asked (TellsNothing old.order) old.window.ahead old.intake.now.state)

@@ -1,9 +1,11 @@
-use Rattle.std.proofs.Common.{arith, ◌+◌, ◌<◌, ◌++◌, length, sym, ap, ap₂, ◌∙◌, subst, drop}
+use Rattle.std.proofs.Common.{arith, ◌≡◌, ◌+◌, ◌<◌, ◌++◌, length, sym, ap, ap₂, ◌∙◌, subst, drop}
 use Rattle.ipx_internet.specs.Batches.{delivery_of}
-use Rattle.ipx_internet.specs.Moment.{Moment}
+use Rattle.ipx_router.specs.RouterOf.{HasPast}
+use Rattle.ipx_internet.specs.Moment.{Moment, net_at}
 use Rattle.ipx_internet.specs.Simulated.{moment, net_among, IsComing}
 use Rattle.std.specs.List.{AllByRecursion}
-use Rattle.ipx_internet.proofs.Handing.{some_router, it_is_there, left_coming, coming_front, coming_behind, settled_next, still_simulated, at_error, at_moment}
+use Rattle.ipx_internet.proofs.Handing.{first, some_router, it_is_there, left_coming, coming_front, coming_behind, settled_next, still_simulated, at_error, at_moment}
+use Rattle.ipx_internet.proofs.Reckoning.{falls_at}
 use Rattle.ipx_internet.proofs.internet.Internet.settle_one.Goals as goal
 
 pub are_sized-requires : goal.are_sized-requires
@@ -65,3 +67,28 @@ returns-clause-settled g c =
     (settled_next g.row.R g.row.S routers c.turn-self-inside.new.front.deliveries c.turn-self-inside.new.back.deliveries c.turn-self-inside.result
     (delivery_of c.get-coming.result) c.get-coming.ensures
     c.happen.new.routers.items c.happen.new.back.deliveries c.in_ok-happen.ensures.stands)
+
+pub returns-clause-lighter : goal.returns-clause-lighter
+returns-clause-lighter g c =
+    let routers = c.self.inside.routers.items in
+    let net = net_among routers in
+    let done = c.turn-self-inside.result in
+    let front = c.turn-self-inside.new.front.deliveries in
+    let back = c.turn-self-inside.new.back.deliveries in
+    let d = delivery_of c.get-coming.result in
+    let left = drop done front ++ back in
+    let was : moment routers left ≡ c.args.self.now = ap (λ ds. moment routers ds) c.turn-self-inside.ensures.queue ∙ c.self.view_is in
+    let coming = subst (λ ds. AllByRecursion (IsComing net) ds) (sym c.turn-self-inside.ensures.queue) c.self.invariant.coming in
+    let place = it_is_there g.row.R g.row.S routers front back done d c.get-coming.ensures coming d.bytes in
+    falls_at g.row.R g.row.S net
+    (λ histories first queue are is. c.weighs.ensures.falls net g.row.R g.row.S histories first queue c.self.invariant.sound.internet c.self.invariant.sound.nodes are is)
+    c.args.self.now (moment c.happen.new.routers.items (drop (done + 1) front ++ c.happen.new.back.deliveries))
+    (ap net_at (sym was)) c.happen.ensures.net
+    (subst (λ (m : Moment). AllByRecursion (HasPast g.row.R g.row.S) m.routers) was c.self.invariant.sound.pasts)
+    (at_moment g.row.R g.row.S (moment routers left) c.args.self.now
+    (moment c.happen.new.routers.items (drop (done + 1) front ++ c.happen.new.back.deliveries)) was
+    (settled_next g.row.R g.row.S routers front back done d c.get-coming.ensures
+    c.happen.new.routers.items c.happen.new.back.deliveries c.in_ok-happen.ensures.stands))
+    d (drop (done + 1) front ++ back)
+    (ap (λ (m : Moment). m.queue) (sym was) ∙ first g.row.R g.row.S routers front back done d c.get-coming.ensures)
+    (record { place = place.1; bytes = c.are_bytes.ensures })

@@ -1,40 +1,21 @@
-use Rattle.std.proofs.Common.{◌≡◌, ◌-◌, ℕ, List, [], ◌∷◌, length, arith, subst}
-use Rattle.ipx_wire.specs.Write.{query_packet}
-use Rattle.ipx_router.specs.Outbox.{Contents, Appends}
-use Rattle.ipx_router.specs.contracts.outbox.Outbox.{the_view}
-use Rattle.ipx_router.specs.declared.outbox.Slot.{Slot}
-use Rattle.ipx_router.proofs.Appending.{flat_after, sent_after}
+use Rattle.std.proofs.Common.{◌≡◌, ◌+◌, ◌-◌, refl, arith}
+use Rattle.std.specs.Vec.{vec_len, vec_capacity}
+use Rattle.ipx_router.proofs.Appending.{flat_after, one_appended}
 use Rattle.ipx_router.proofs.outbox.Outbox.append_query.Goals as goal
-use Rattle.ipx_router.proofs.outbox.Outbox.append_query.Goals.{After-add_slot}
-
-abbrev packet : After-add_slot → List ℕ
-packet c = query_packet c.args.from c.args.to c.args.nearest c.args.kind
-
-abbrev slot : After-add_slot → Slot
-slot c = record { port = c.args.port; link = c.args.to.node; start = c.len-start.result; size = c.len.result - c.len-start.result }
-
-start : (c : After-add_slot) → c.len-start.result ≡ length c.self.inside.bytes.items
-start c = omega (arith, c.len-start.ensures, c.self.inside.bytes.ok.0)
-
-size : (c : After-add_slot) → c.len.result - c.len-start.result ≡ length (packet c)
-size c = omega (arith, c.len-start.ensures, c.len.ensures, c.put_query.ensures.len)
 
 pub invariant_of-self : goal.invariant_of-self
 invariant_of-self c =
-    flat_after c.self.inside.bytes.items (packet c) c.self.inside.slots.items (slot c) c.put_query.new.bytes.items c.add_slot.new.slots.items c.self.invariant
-    c.put_query.ensures.items c.add_slot.ensures.items (start c) (size c)
+    let put = c.put_query-size.ensures in
+    flat_after c.put_query-size.new.bytes.items _ _ c.self.invariant put.there put.front c.add_slot.ensures.items refl refl put.size
 
 pub returns : goal.returns
 returns c =
-    subst
-    (λ (v : Contents).
-    Appends v (the_view (record { slots = c.add_slot.new.slots; bytes = c.put_query.new.bytes }))
-    (record { port = c.args.port; link = c.args.to.node; bytes = packet c } ∷ []))
-    c.self.view_is
-    (record {
-      sent =
-          sent_after c.self.inside.bytes.items (packet c) c.self.inside.slots.items (slot c) c.put_query.new.bytes.items c.add_slot.new.slots.items
-          c.self.invariant c.put_query.ensures.items c.add_slot.ensures.items (start c) (size c);
-      places = omega (arith, c.add_slot.ensures.len, c.add_slot.ensures.capacity);
-      spare = omega (arith, c.put_query.ensures.len, c.put_query.ensures.capacity);
-    })
+    let o = c.self.inside in
+    let bytes = c.put_query-size.new.bytes in
+    let slots = c.add_slot.new.slots in
+    let put = c.put_query-size.ensures in
+    let slot = c.add_slot.ensures in
+    let fewer : vec_capacity o.slots - vec_len o.slots ≡ vec_capacity slots - vec_len slots + 1 = omega (arith, slot.len, slot.capacity, slots.ok) in
+    let shorter : vec_len o.bytes - o.used ≡ vec_len bytes - (o.used + c.put_query-size.result) + c.put_query-size.result = omega (arith, put.len, put.there, bytes.ok) in
+    one_appended bytes.items _ _ c.self.invariant put.there put.front slot.items refl refl put.size c.self.view_is fewer shorter
+    (λ i. record { packets = slot.capacity i; bytes = put.capacity i })

@@ -17,6 +17,9 @@ returns-clause-sends g c = λ h stands.
     (sym (sends_stand g.row.R g.row.S c.args.self.now c.dispatch.new.self h (happened c.args.event) stands later c.dispatch.ensures.follows.ports))
     c.dispatch.ensures.sends
 
+pub returns-clause-memory : goal.returns-clause-memory
+returns-clause-memory g c = c.dispatch.ensures.sends.memory
+
 pub returns-clause-outcome : goal.returns-clause-outcome
 returns-clause-outcome g c = λ h stands.
     c.dispatch.ensures.outcome ∙ sym (outcome_stand g.row.R g.row.S c.args.self.now h (happened c.args.event) stands)

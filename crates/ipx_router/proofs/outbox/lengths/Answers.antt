@@ -1,4 +1,4 @@
-use Rattle.ipx_router.proofs.relay.lengths.Goals as goal
+use Rattle.ipx_router.proofs.outbox.lengths.Goals as goal
 
 pub returns-clause-forwarded : goal.returns-clause-forwarded
 returns-clause-forwarded c = c.sizes.ensures.forwarded c.bytes.result.now c.args.packet.now c.bytes.ensures.packet

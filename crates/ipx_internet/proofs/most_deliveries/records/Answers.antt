@@ -1,0 +1,18 @@
+use Rattle.std.proofs.Common.{ap, drop, length, ◌+◌, arith}
+use Rattle.std.proofs.lemmas.List.Sums.{sum_by-cons}
+use Rattle.ipx_router.specs.Stands.{State}
+use Rattle.ipx_internet.specs.InternetWeight.{records_at}
+use Rattle.ipx_internet.proofs.Measuring.{next_left}
+use Rattle.ipx_internet.proofs.most_deliveries.records.Goals as goal
+
+pub loop-router-preserved : goal.loop-router-preserved
+loop-router-preserved g c =
+    let k = c.loop-router.router-index in
+    let whole = ap records_at (next_left c.args.routers.now k c.router-item.result c.loop-router-test.true c.router-item.is) in
+    let parts = sum_by-cons (λ (s : State). length s.routes + length s.services) c.router-item.result (drop (k + 1) c.args.routers.now) in
+    let so_far = c.loop-router.invariant.0 in
+    let routes = c.routes.ensures.value in
+    let services = c.services.ensures.value in
+    let first = c.saturating_add-count.ensures in
+    let then = c.saturating_add-count-in-loop-router.ensures in
+    (omega (arith, whole, parts, so_far, routes, services, first, then), omega (arith, then))
