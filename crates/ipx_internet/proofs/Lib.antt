@@ -1,3 +1,4 @@
+pub mod Abiding
 pub mod Adding
 pub mod Aging
 pub mod Announced
@@ -24,6 +25,7 @@ pub mod Fullest
 pub mod Gaining
 pub mod Going
 pub mod Gone
+pub mod GoneMeanwhile
 pub mod Handing
 pub mod Hearing
 pub mod Holding
@@ -32,6 +34,8 @@ pub mod Leaving
 pub mod Lightening
 pub mod Lists
 pub mod Measuring
+pub mod Meantime
+pub mod Messages
 pub mod Names
 pub mod Nearing
 pub mod Now
@@ -62,6 +66,7 @@ pub mod Standing
 pub mod Stationed
 pub mod Tabled
 pub mod Taking
+pub mod Telling
 pub mod Tellings
 pub mod Ticking
 pub mod Tolling
@@ -69,6 +74,7 @@ pub mod Tolls
 pub mod Totalling
 pub mod Traced
 pub mod Trees
+pub mod Uttering
 pub mod Ways
 pub mod Weighed
 pub mod Weighing

@@ -112,6 +112,7 @@ pub record IsOnward (port : Port) (came sent : List ℕ) : Type 0 where
   pub further : Parts
   pub reread : packet_of sent ≡ Ok further
   pub more : further.header.control ≡ packet.header.control + 1
+  pub socket : further.header.destination.socket.0 ≡ packet.header.destination.socket.0
   pub keeps : ((is_propagated packet.header ≡ true) × (is_propagated further.header ≡ true))
       ⊎ ((is_propagated further.header ≡ is_propagated packet.header) × (heard_in further ≡ heard_in packet))
 
@@ -155,6 +156,7 @@ module _ (laws : Layouts) (ports : List Port) (are : AllByRecursion IsPort ports
         further = forwarded p;
         reread = (laws.readings.packet_read s.bytes (forwarded p) sent).1 again;
         more = refl;
+        socket = refl;
         keeps = inr (refl, refl);
       }
   onward up routes number bytes are_bytes s (inr is) =
@@ -174,6 +176,7 @@ module _ (laws : Layouts) (ports : List Port) (are : AllByRecursion IsPort ports
         further = crossing;
         reread = (laws.readings.packet_read s.bytes crossing sent).1 again;
         more = refl;
+        socket = refl;
         keeps = inl (is.all, is.all);
       }
 
