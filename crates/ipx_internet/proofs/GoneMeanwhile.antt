@@ -1,5 +1,5 @@
 -- Whatever else happens meanwhile, after 2,895 ticks there is no route to a network that is gone, and no service that nobody announces.
-use Rattle.std.proofs.Common.{◌≡◌, ◌≢◌, refl, sym, ap, subst, ◌⊎◌, ℕ, ◌+◌, ◌<◌, ◌≤◌, true, List, [], ◌∷◌, length, map, inl, inr, arith}
+use Rattle.std.proofs.Common.{◌≡◌, ◌≢◌, refl, subst, ℕ, ◌+◌, ◌<◌, ◌≤◌, true, List, [], ◌∷◌, length, map, inl, inr, arith}
 use Rattle.std.specs.List.{AllByRecursion}
 use Rattle.std.proofs.lemmas.Bool.{both_ways}
 use Rattle.ipx_wire.specs.Crossed.{is_among}
@@ -9,11 +9,10 @@ use Rattle.ipx_wire.specs.declared.rip.Operation.{Operation}
 use Rattle.ipx_wire.specs.declared.rip.Operation.TheVariants.{Request, Response}
 use Rattle.ipx_wire.specs.declared.rip.RipEntry.{RipEntry}
 use Rattle.ipx_wire.specs.declared.sap.Sap.TheVariants.{Query, Response as SapResponse}
-use Rattle.ipx_wire.specs.declared.sap_entries.SapEntry.{SapEntry}
 use Rattle.ipx_router.specs.Facts.{route_facts, service_facts, routes_held, services_held, offers}
 use Rattle.ipx_router.specs.Heard.{Heard, HeardRip, HeardSap}
 use Rattle.ipx_router.specs.History.{History}
-use Rattle.ipx_router.specs.Port.{Port, port_at, is_up}
+use Rattle.ipx_router.specs.Port.{Port}
 use Rattle.ipx_router.specs.Routes.{route_reading, network_order}
 use Rattle.ipx_router.specs.Services.{service_reading, service_order}
 use Rattle.ipx_router.proofs.Counting.{network_total, service_total}
@@ -26,7 +25,7 @@ use Rattle.ipx_internet.proofs.Abiding.{RouteSaid, EntrySaid, RipSaid, Said}
 use Rattle.ipx_internet.proofs.Aging.{at_last}
 use Rattle.ipx_internet.proofs.Gone.{among_ups}
 use Rattle.ipx_internet.proofs.Lists.{all_of, all_then}
-use Rattle.ipx_internet.proofs.Meantime.{Stays, AlwaysStays, Rests, ticks_rest, begun_rests}
+use Rattle.ipx_internet.proofs.Meantime.{Stays, AlwaysStays, ticks_rest, begun_rests}
 use Rattle.ipx_internet.proofs.Replying.{Layouts}
 
 -- what holds of each tick, and says something else of it

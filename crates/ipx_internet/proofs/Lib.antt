@@ -4,6 +4,7 @@ pub mod Aging
 pub mod Announced
 pub mod Batched
 pub mod Beginning
+pub mod Broadcasting
 pub mod Burdens
 pub mod Bytes
 pub mod Casting
@@ -47,6 +48,7 @@ pub mod Passing
 pub mod Paths
 pub mod Places
 pub mod Queues
+pub mod QuietSooner
 pub mod Quieting
 pub mod Reaching
 pub mod Receivers

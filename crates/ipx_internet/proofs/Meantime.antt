@@ -1,6 +1,6 @@
 -- Ticks in which anything happens, one after the other: each router's records are fine or older by as many seconds as it had, and what
 -- waits was told in this tick.
-use Rattle.std.proofs.Common.{◌≡◌, ◌≢◌, refl, sym, subst, ◌⊎◌, ℕ, suc, ◌+◌, ◌-◌, ◌<◌, ◌≤◌, ◌==◌, true, false, List, [], ◌∷◌, ◌++◌, length, map, flat_map, Option, Some, None, IfSome, inl, inr, arith, get_or-set_same, get_or-set_other}
+use Rattle.std.proofs.Common.{◌≡◌, ◌≢◌, refl, sym, subst, ◌⊎◌, ℕ, suc, ◌+◌, ◌-◌, ◌<◌, ◌≤◌, true, false, List, [], ◌∷◌, ◌++◌, length, map, flat_map, Option, None, IfSome, inl, inr, arith, get_or-set_same, get_or-set_other}
 use Rattle.std.specs.List.{AllByRecursion}
 use Rattle.std.proofs.lemmas.Bool.{cases_eq, eq-eqb}
 use Rattle.ipx_wire.specs.Piece.{IsBytes}
@@ -11,7 +11,7 @@ use Rattle.ipx_router.specs.Port.{Port, port_at, is_up}
 use Rattle.ipx_router.specs.Relays.{Sent}
 use Rattle.ipx_router.proofs.Every.{all_both}
 use Rattle.ipx_internet.specs.Internet.{Internet, IsInternet, ports_of}
-use Rattle.ipx_internet.specs.Meanwhile.{message_of, IsWith, SaysOnly, IsBusyTick, EachTick}
+use Rattle.ipx_internet.specs.Meanwhile.{IsWith, SaysOnly, IsBusyTick, EachTick}
 use Rattle.ipx_internet.specs.Queue.{Delivery, Queued, deliveries_of, history_of, with_event, sends_at, queued, settled_one}
 use Rattle.ipx_internet.specs.Rounds.{IsDelivery}
 use Rattle.ipx_internet.specs.Run.{Step, Happens, Settles, IsStep, AreHistories, Run, Waiting, begun, forgotten, stepped, run_of}

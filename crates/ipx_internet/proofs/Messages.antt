@@ -1,24 +1,19 @@
 -- What may be heard of bytes: a packet that is sent on says what it said, and pages, requests and queries say what was written.
-use Rattle.std.proofs.Common.{◌≡◌, ◌≢◌, refl, sym, ap, ◌∙◌, subst, ◌⊎◌, ℕ, ◌==◌, ◌&&◌, ◌||◌, not, Bool, true, false, if◌then◌else◌, List, [], ◌∷◌, ◌++◌, Option, Some, None, Result, Ok, Err, inl, inr, true≢false, is_some}
+use Rattle.std.proofs.Common.{◌≡◌, refl, sym, ap, ◌∙◌, ◌⊎◌, ℕ, ◌==◌, ◌&&◌, ◌||◌, not, Bool, true, false, if◌then◌else◌, List, [], ◌∷◌, Option, Some, None, Result, Ok, Err, inl, inr, true≢false, is_some}
 use Rattle.std.specs.List.{AllByRecursion}
-use Rattle.std.proofs.lemmas.Bool.{cases_Bool, and_parts, not-true, both_ways, eqb-true}
+use Rattle.std.proofs.lemmas.Bool.{cases_Bool, and_parts, not-true}
 use Rattle.ipx_wire.specs.Packet.{Parts, packet_of}
-use Rattle.ipx_wire.specs.Rip.{RipParts, rip_of}
+use Rattle.ipx_wire.specs.Rip.{rip_of}
 use Rattle.ipx_wire.specs.Sap.{sap_of}
-use Rattle.ipx_wire.specs.declared.address.Address.{Address}
 use Rattle.ipx_wire.specs.declared.packet.PacketFault.{PacketFault}
-use Rattle.ipx_wire.specs.declared.rip.RipFault.{RipFault}
-use Rattle.ipx_wire.specs.declared.sap.Sap.{Sap}
-use Rattle.ipx_wire.specs.declared.sap.SapFault.{SapFault}
 use Rattle.ipx_router.specs.Facts.{heard_after}
-use Rattle.ipx_router.specs.Heard.{Heard, HeardRip, HeardSap, heard, heard_in, heard_near}
+use Rattle.ipx_router.specs.Heard.{Heard, HeardRip, HeardSap, heard_in, heard_near}
 use Rattle.ipx_router.specs.History.{History, running, ports_up}
 use Rattle.ipx_router.specs.Numbers.{rip_socket, sap_socket, propagated_type}
 use Rattle.ipx_router.specs.Port.{Port, port_at}
-use Rattle.ipx_router.specs.Why.{first_of, when, is_propagated, is_near, is_for_rip, is_for_sap, is_other_socket}
+use Rattle.ipx_router.specs.Why.{first_of, when, is_propagated, is_near, is_for_rip, is_for_sap}
 use Rattle.ipx_router.specs.declared.why.Why.{Why}
 use Rattle.ipx_router.proofs.Passing.{all_checks}
-use Rattle.ipx_router.proofs.SaidOnce.{one_read}
 use Rattle.ipx_router.proofs.Tables.{came_in}
 use Rattle.ipx_internet.specs.Meanwhile.{message_in, message_of}
 use Rattle.ipx_internet.proofs.Replying.{IsOnward}

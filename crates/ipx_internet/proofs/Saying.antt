@@ -55,8 +55,9 @@ pub record TellsRoutes (P : RipEntry → Type 0) (bytes : List ℕ) : Type 0 whe
 pub record TellsServices (Q : Service → Type 0) (bytes : List ℕ) : Type 0 where
   pub from : Address
   pub to : Address
+  pub nearest : Bool
   pub for_sap : (to.socket.0 == rip_socket) ≡ false
-  pub page : IsSapPage Q from to false bytes
+  pub page : IsSapPage Q from to nearest bytes
 
 abbrev pub Tells : (RipEntry → Type 0) → (Service → Type 0) → List ℕ → Type 0
 Tells P Q bytes = TellsRoutes P bytes ⊎ TellsServices Q bytes
@@ -99,8 +100,8 @@ module _ (P : RipEntry → Type 0) (Q : Service → Type 0) (E : RipEntry → Ty
   services_say : TellsServices Q bytes → Says E S bytes
   services_say tells p m read e =
       let page = tells.page in
-      it_is (EachHeard E S) m (HeardSap tells.from (SapResponse false (map entry_of page.page)))
-      (services_heard_of Q tells.from tells.to false bytes tells.for_sap page p m read e)
+      it_is (EachHeard E S) m (HeardSap tells.from (SapResponse tells.nearest (map entry_of page.page)))
+      (services_heard_of Q tells.from tells.to tells.nearest bytes tells.for_sap page p m read e)
       (all_mapped S entry_of page.page (all_then Q (λ s. S (entry_of s)) service page.page page.each))
 
   pub tells_says : Tells P Q bytes → Says E S bytes
@@ -123,6 +124,7 @@ tells_more P A Q B route service bytes (inr tells) =
     inr (record {
       from = tells.from;
       to = tells.to;
+      nearest = tells.nearest;
       for_sap = tells.for_sap;
       page = record { page = page.page; some = page.some; each = all_then Q B service page.page page.each; read = page.read; says = page.says };
     })
@@ -141,7 +143,7 @@ news_told P Q port bytes is = record { reply = news_reply P Q port bytes is; tel
   where
     by : IsNewsSent P Q port bytes → Tells P Q bytes
     by (inl page) = inl (record { from = own_address port; to = everyone port; for_rip = refl; page = page })
-    by (inr page) = inr (record { from = own_services port; to = every_server port; for_sap = refl; page = page })
+    by (inr page) = inr (record { from = own_services port; to = every_server port; nearest = false; for_sap = refl; page = page })
 
 -- ---- what is sent for a reply
 

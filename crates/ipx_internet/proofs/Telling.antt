@@ -1,13 +1,13 @@
 -- A router's own pages, requests and queries, read again, say what is fine or was told soon enough.
-use Rattle.std.proofs.Common.{◌≡◌, ◌≢◌, refl, sym, ap, ◌∙◌, subst, ◌⊎◌, ℕ, ◌+◌, ◌*◌, ◌≤◌, ◌==◌, Bool, true, false, List, [], ◌∷◌, ◌++◌, map, Option, Some, None, Result, Ok, Err, inl, inr, arith, lit<, append-nil}
+use Rattle.std.proofs.Common.{◌≡◌, ◌≢◌, refl, sym, ap, ◌∙◌, subst, ◌⊎◌, ℕ, ◌*◌, ◌≤◌, Bool, false, List, [], ◌∷◌, map, Option, Some, None, Result, Ok, Err, inl, inr, arith, lit<, append-nil}
 use Rattle.std.specs.List.{AllByRecursion}
 use Rattle.std.proofs.lemmas.Bool.{cases_Bool, eqb-true}
-use Rattle.ipx_wire.specs.Packet.{Parts, IsPacket, packet_of}
+use Rattle.ipx_wire.specs.Packet.{Parts, IsPacket}
 use Rattle.ipx_wire.specs.Piece.{IsBytes}
 use Rattle.ipx_wire.specs.Rip.{RipParts, IsEntry, IsRip, rip_of}
 use Rattle.ipx_wire.specs.Sap.{IsSap, sap_of}
 use Rattle.ipx_wire.specs.Write.{packet_bytes, rip_packet, rip_packet_parts, rip_payload, query_packet, query_packet_parts, query_payload}
-use Rattle.ipx_wire.specs.WriteServices.{entry_of as sap_entry, sap_packet_parts, sap_payload}
+use Rattle.ipx_wire.specs.WriteServices.{entry_of as sap_entry, sap_packet_parts}
 use Rattle.ipx_wire.specs.declared.address.Address.{Address}
 use Rattle.ipx_wire.specs.declared.network.Network.{Network}
 use Rattle.ipx_wire.specs.declared.rip.Operation.{Operation}
@@ -23,11 +23,11 @@ use Rattle.ipx_router.specs.Numbers.{rip_socket, sap_socket, every_service}
 use Rattle.ipx_router.specs.Port.{Port, IsPort, port_at, own_address, everyone, own_services, every_server}
 use Rattle.ipx_router.specs.Relays.{Sent}
 use Rattle.ipx_router.specs.Sends.{every_route, rip_sends, sap_sends, rip_broadcast, sap_broadcast, broadcasts, routes_request, services_query}
-use Rattle.ipx_router.specs.Why.{is_for_rip, is_for_sap}
+use Rattle.ipx_router.specs.Why.{is_for_rip}
 use Rattle.ipx_router.proofs.ByteFields.{IsPlace as IsPlaced, rip_are_bytes, query_are_bytes, parts_bytes}
 use Rattle.ipx_router.proofs.Owned.{Writable}
 use Rattle.ipx_router.proofs.Wire.{alone}
-use Rattle.ipx_internet.specs.Meanwhile.{message_in, message_of}
+use Rattle.ipx_internet.specs.Meanwhile.{message_in}
 use Rattle.ipx_internet.proofs.Abiding.{RouteSaid, ServiceSaid, EntrySaid, RipSaid, Said, Tells, AllFine, AllServed}
 use Rattle.ipx_internet.proofs.Lists.{all_of, all_then, all-append, all_mapped}
 use Rattle.ipx_internet.proofs.Messages.{of_packet, for_rip, for_sap, message_heard}

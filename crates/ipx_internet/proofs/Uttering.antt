@@ -1,5 +1,5 @@
 -- What a router sends for any event, while what it has is fine or old enough, says what is fine or was told soon enough.
-use Rattle.std.proofs.Common.{◌≡◌, ◌≢◌, refl, sym, subst, ◌⊎◌, ℕ, ◌+◌, ◌*◌, ◌<◌, ◌≤◌, ◌==◌, ◌&&◌, Bool, true, false, not, if◌then◌else◌, List, [], ◌∷◌, ◌++◌, length, map, flat_map, Option, Some, None, inl, inr, arith}
+use Rattle.std.proofs.Common.{◌≡◌, refl, sym, subst, ◌⊎◌, ℕ, ◌+◌, ◌*◌, ◌<◌, ◌≤◌, ◌==◌, ◌&&◌, Bool, true, false, not, if◌then◌else◌, List, [], ◌∷◌, ◌++◌, length, map, flat_map, Option, Some, None, inl, inr, arith}
 use Rattle.std.specs.List.{AllByRecursion}
 use Rattle.std.proofs.lemmas.Bool.{cases_Bool, and_parts}
 use Rattle.ipx_wire.specs.Rip.{IsEntry}
@@ -14,7 +14,6 @@ use Rattle.ipx_router.specs.Facts.{heard_after, route_facts, service_facts, rout
 use Rattle.ipx_router.specs.Heard.{Heard, HeardRip, HeardSap}
 use Rattle.ipx_router.specs.History.{Event, History, Start, Stop, Second, Packet, PortDown, PortUp, IsOnPort, IsOfBytes, running, ports_up}
 use Rattle.ipx_router.specs.News.{news, news_services}
-use Rattle.ipx_router.specs.Numbers.{unreachable}
 use Rattle.ipx_router.specs.Port.{Port, IsPort, port_at, is_up, reply_to}
 use Rattle.ipx_router.specs.Relays.{Sent}
 use Rattle.ipx_router.specs.Routes.{route_reading, network_order}
@@ -44,7 +43,7 @@ use Rattle.ipx_internet.proofs.Replying.{Layouts, IsOnward, unsaid, said}
 use Rattle.ipx_internet.proofs.Telling.{Entry, Named, Say, entries_tell, services_tell, rip_broadcast_tells, sap_broadcast_tells, broadcasts_tell, request_tells, query_tells}
 
 -- one of two lists, and the nearest service of a list
-either : (P : Service → Type 0) (c : Bool) (xs ys : List Service) → AllByRecursion P xs → AllByRecursion P ys → AllByRecursion P (if c then xs else ys)
+pub either : (P : Service → Type 0) (c : Bool) (xs ys : List Service) → AllByRecursion P xs → AllByRecursion P ys → AllByRecursion P (if c then xs else ys)
 either P true xs ys one two = one
 either P false xs ys one two = two
 
@@ -57,7 +56,7 @@ or_not : {X : Type 0} (P : X → Type 0) (c : Bool) (xs : List X) → AllByRecur
 or_not P true xs all = tt
 or_not P false xs all = all
 
-nearest_all : (P : Service → Type 0) (services : List Service) → AllByRecursion P services → AllByRecursion P (nearest_of services)
+pub nearest_all : (P : Service → Type 0) (services : List Service) → AllByRecursion P services → AllByRecursion P (nearest_of services)
 nearest_all P [] all = tt
 nearest_all P (service ∷ services) all = by (nearest_of services) (nearest_all P services all.1)
   where

@@ -27,7 +27,7 @@ ghost use Rattle.ipx_internet.specs.Meanwhile.{IsWithoutRoute, IsWithoutService,
 ghost use Rattle.ipx_internet.specs.Most.{most, most_of, most_on_network, most_ports as ports_at_most};
 ghost use Rattle.ipx_internet.specs.Queue.{Delivery, Queued, deliveries_of, history_of, queued, settled_one, settled};
 ghost use Rattle.ipx_internet.specs.Real.{IsReal};
-ghost use Rattle.ipx_internet.specs.Rounds.{IsDelivery, rounds, handed_out, most_caused, most_rounds};
+ghost use Rattle.ipx_internet.specs.Rounds.{IsDelivery, IsOwnStep, rounds, handed_out, most_caused, most_rounds, most_own_rounds};
 ghost use Rattle.ipx_internet.specs.Run.{Step, Settles, IsStep, AreHistories, Run, begun, forgotten, happens, stepped, run_of};
 ghost use Rattle.ipx_internet.specs.Moment.{Moment, StandsFor, net_at};
 ghost use Rattle.ipx_internet.specs.Ticks.{IsTick, AreTicks, ticked, a_tick, most_ticks_gone, ups, IsGone};
@@ -201,11 +201,17 @@ pub fn deliveries()
 /// Every internet settles: whatever is in the tables and whatever waits, forged packets too, nothing waits after 34 rounds and
 /// one for each router. In a round all that waits when it begins is handed out; what is sent for it waits for the next.
 ///
-/// So handing out as many deliveries as those rounds have, or more, leaves nothing; where no router has more than 32 ports, `few`
+/// Where nothing happened but starts, stops, seconds and ports that went down or came up, 17 rounds and one for each router are
+/// enough (`own`).
+///
+/// Handing out as many deliveries as the rounds have, or more, leaves nothing; where no router has more than 32 ports, `few`
 /// says how many these are at most. Else nothing is asked of the ports, of their nodes, or of capacities.
 pub fn settles()
     ensures quiet { (net : Internet) (most_routes most_services : ℕ) (q : Queued) → IsInternet net → AreHistories net q.histories
         → AllByRecursion (IsDelivery net) q.queue → (rounds net most_routes most_services (most_rounds net) q).queue ≡ [] }
+    ensures own { (net : Internet) (most_routes most_services : ℕ) (histories : List History) (steps : List Step) → IsInternet net → AreHistories net histories
+        → AllByRecursion (IsOwnStep net) steps
+        → (rounds net most_routes most_services (most_own_rounds net) (forgotten (run_of net most_routes most_services (begun histories) steps))).queue ≡ [] }
     ensures enough { (net : Internet) (most_routes most_services : ℕ) (q : Queued) (limit : ℕ) → IsInternet net → AreHistories net q.histories
         → AllByRecursion (IsDelivery net) q.queue → handed_out net most_routes most_services (most_rounds net) q ≤ limit
         → (settled net most_routes most_services limit q).queue ≡ [] }
