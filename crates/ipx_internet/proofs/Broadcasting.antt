@@ -22,12 +22,11 @@ use Rattle.ipx_wire.specs.declared.service.Service.{Service}
 use Rattle.ipx_router.specs.Facts.{heard_after, routes_held, services_held, offers}
 use Rattle.ipx_router.specs.Heard.{Heard, HeardRip, HeardSap, heard_in, heard_near}
 use Rattle.ipx_router.specs.History.{Event, History, Start, Stop, Second, Packet, PortDown, PortUp, IsOnPort, IsOfBytes, running, ports_up}
-use Rattle.ipx_router.specs.News.{news}
 use Rattle.ipx_router.specs.Numbers.{rip_socket, sap_socket}
 use Rattle.ipx_router.specs.Packets.{IsBroadcast, IsSentFor}
 use Rattle.ipx_router.specs.Port.{Port, IsPort, port_at, own_address, everyone, own_services, every_server, reply_to}
 use Rattle.ipx_router.specs.Relays.{Sent}
-use Rattle.ipx_router.specs.Sends.{holding, ports_sending, sends, rip_sends, sap_sends, asked, of_kind, nearest_of, heard_sends}
+use Rattle.ipx_router.specs.Sends.{holding, ports_sending, rip_sends, sap_sends, asked, of_kind, nearest_of, heard_sends}
 use Rattle.ipx_router.specs.Told.{told, told_services}
 use Rattle.ipx_router.specs.declared.route_offer.RouteOffer.{RouteOffer}
 use Rattle.ipx_router.specs.Why.{is_near, is_propagated, is_for_rip}

@@ -14,7 +14,6 @@ use Rattle.ipx_internet.specs.Run.{AreHistories}
 use Rattle.ipx_internet.specs.Tree.{IsRouter, router_now}
 use Rattle.ipx_internet.proofs.Bytes.{SentOn}
 use Rattle.ipx_internet.proofs.Delivering.{there}
-use Rattle.ipx_internet.proofs.Lightening as lightening
 use Rattle.ipx_internet.proofs.Lightening.{Silence, heard_lighter}
 use Rattle.ipx_internet.proofs.Outlays as outlays
 use Rattle.ipx_internet.proofs.Outlays.{OwnKeys}
