@@ -10,11 +10,13 @@ use Rattle.ipx_table.specs.Facts.{Fact, Offered, Second, PortEnd, End}
 use Rattle.ipx_table.specs.Reading.{Reading, Rules, rules_of}
 use Rattle.ipx_table.specs.Stands.{put, in_order, held, older, is_last, second_later}
 use Rattle.ipx_table.specs.declared.held.Held.{Held}
-use Rattle.ipx_table.proofs.History.{alive_after-offered, alive_after-second}
+use Rattle.ipx_table.proofs.History.{alive_after-offered, alive_after-second, alive_after-port, alive_after-end}
 use Rattle.ipx_table.proofs.Living.{always_after, kept}
 use Rattle.ipx_table.proofs.Standing.{rules_total}
-use Rattle.ipx_router.specs.Facts.{offers}
+use Rattle.ipx_router.specs.Facts.{facts_of, offers}
+use Rattle.ipx_router.specs.History.{Event, Start, Stop, Second as PassedSecond, Packet, PortDown, PortUp}
 use Rattle.ipx_router.specs.Numbers.{unreachable}
+use Rattle.ipx_router.specs.Port.{is_up}
 use Rattle.ipx_router.proofs.Every.{all_both}
 use Rattle.ipx_router.proofs.Tables.{all_in_order, all_offers}
 use Rattle.ipx_internet.specs.Ticks.{most_ticks_gone}
@@ -32,6 +34,11 @@ none_there by_key (h ∷ xs) none = absurd (some (in_order by_key xs) none)
       | inl e ↦ let all : AllByRecursion (λ o. ⊥) (offers (x ∷ put by_key h rest)) = rw e at none in all.0
       | inr e ↦ let all : AllByRecursion (λ o. ⊥) (offers (h ∷ x ∷ rest)) = rw e at none in all.0
     ]
+
+-- so many seconds with an event more
+abbrev pub passed : Event → ℕ → ℕ
+passed PassedSecond had = suc had
+passed event had = had
 
 module _ {O K : Type 0} (reading : Reading O K) (order : K → K → Ordering) (total : IsTotalOrder order) (capacity : ℕ) (shares : List ℕ)
     (hops : O → ℕ) (down : (o : O) → reading.is_down o ≡ nat_le unreachable (hops o)) where
@@ -129,6 +136,36 @@ module _ {O K : Type 0} (reading : Reading O K) (order : K → K → Ordering) (
     after_offers had (Second ∷ new) facts all aged = absurd all.0
     after_offers had (PortEnd port ∷ new) facts all aged = absurd all.0
     after_offers had (End ∷ new) facts all aged = absurd all.0
+
+    after_port : (had : ℕ) (facts : List (Fact O)) (port : ℕ) → Aged had facts → Aged had (facts ++ PortEnd port ∷ [])
+    after_port had facts port aged =
+        subst (λ (hs : List (Held O)). AllByRecursion (IsOld had) hs) (sym (alive_after-port rules facts port))
+        (all-filter (IsOld had) (λ h. not (rules.port h.offer == port)) (alive_after facts) aged)
+
+    after_end : (had : ℕ) (facts : List (Fact O)) → Aged had (facts ++ End ∷ [])
+    after_end had facts = subst (λ (hs : List (Held O)). AllByRecursion (IsOld had) hs) (sym (alive_after-end rules facts)) tt
+
+    -- after any event: what a packet offers is fine or old enough, and a stopped router has nothing
+    module _ (had : ℕ) (facts : List (Fact O)) (aged : Aged had facts) where
+      nothing_new : Aged had (facts ++ [])
+      nothing_new = subst (λ (fs : List (Fact O)). Aged had fs) (sym (append-nil facts)) aged
+
+      pub after_event : (up : List ℕ) (runs : Bool) (offered : ℕ → List ℕ → List (Fact O)) (event : Event)
+          → (runs ≡ false → AllByRecursion (λ o. ⊥) (offers (held rules facts)))
+          → ((number : ℕ) (bytes : List ℕ) → event ≡ Packet number bytes → AllByRecursion (OffersOf (IsOldOffer had)) (offered number bytes))
+          → Aged (passed event had) (facts ++ facts_of up runs offered event)
+      after_event up runs offered Start none fine = nothing_new
+      after_event up true offered Stop none fine = after_end had facts
+      after_event up false offered Stop none fine = nothing_new
+      after_event up true offered PassedSecond none fine = after_second had facts aged
+      after_event up false offered PassedSecond none fine =
+          subst (λ (fs : List (Fact O)). Aged (suc had) fs) (sym (append-nil facts)) (where_none (suc had) facts (none refl))
+      after_event up runs offered (Packet number bytes) none fine = after_offers had (offered number bytes) facts (fine number bytes refl) aged
+      after_event up runs offered (PortDown number) none fine = elim (cases_Bool (is_up up number)) [
+        | inl e ↦ rw e (after_port had facts number aged)
+        | inr e ↦ rw e nothing_new
+      ]
+      after_event up runs offered (PortUp number) none fine = nothing_new
 
     -- what is held then is fine, or so old, and reached
     abbrev pub IsOldHeld : ℕ → O → Type 0

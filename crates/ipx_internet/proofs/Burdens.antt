@@ -1,22 +1,20 @@
 -- What a delivery weighs: a reply as much as how often what it says may be told on.
-use Rattle.std.proofs.Common.{◌≡◌, refl, sym, ap, ◌∙◌, subst, ℕ, zero, suc, ◌+◌, ◌-◌, ◌*◌, ◌≤◌, ◌==◌, if◌then◌else◌, Bool, true, false, not, nat_lt, List, [], ◌∷◌, ◌++◌, length, map, Option, None, Some, Result, Ok, Err, inl, inr, arith, mul-le-mul_left, mul-le-mul_right, one-mul}
+use Rattle.std.proofs.Common.{◌≡◌, refl, sym, ap, ◌∙◌, subst, ℕ, zero, suc, ◌-◌, ◌*◌, ◌≤◌, ◌==◌, if◌then◌else◌, Bool, true, false, not, nat_lt, List, [], ◌∷◌, length, map, Option, None, Some, Result, Ok, Err, arith, mul-le-mul_left, mul-le-mul_right, one-mul}
 use Rattle.std.specs.List.{AllByRecursion, sum_by}
-use Rattle.std.proofs.lemmas.Bool.{cases_lt, and_left, and_right, eq-eqb, or_right}
+use Rattle.std.proofs.lemmas.Bool.{and_left, and_right, eq-eqb, or_right}
 use Rattle.std.proofs.lemmas.List.Sums.{sum_by-cons}
 use Rattle.ipx_wire.specs.Packet.{Parts, packet_of}
 use Rattle.ipx_wire.specs.declared.network.Network.{Network}
 use Rattle.ipx_wire.specs.declared.packet.PacketFault.{PacketFault}
 use Rattle.ipx_wire.specs.declared.rip.Operation.{Operation}
 use Rattle.ipx_wire.specs.declared.rip.Operation.TheVariants.{Request, Response}
-use Rattle.ipx_wire.specs.declared.rip.RipEntry.{RipEntry}
 use Rattle.ipx_wire.specs.declared.sap.Sap.TheVariants.{Query, Response as SapResponse}
-use Rattle.ipx_wire.specs.declared.service.Service.{Service}
 use Rattle.ipx_router.specs.Heard.{Heard, HeardRip, HeardSap, heard_in}
 use Rattle.ipx_router.specs.Numbers.{most_routers, unreachable}
 use Rattle.ipx_router.specs.Port.{Port, is_local}
 use Rattle.ipx_router.specs.Why.{is_propagated, is_far}
 use Rattle.ipx_internet.specs.Internet.{Internet, port_of}
-use Rattle.ipx_internet.specs.InternetWeight.{response_weight, on_all_ports, on_other_ports, tellings, request_weight, message_weight, said_weight, delivery_weight}
+use Rattle.ipx_internet.specs.InternetWeight.{response_weight, on_other_ports, tellings, request_weight, message_weight, said_weight, delivery_weight}
 use Rattle.ipx_internet.specs.Most.{greatest}
 use Rattle.ipx_internet.specs.Queue.{Delivery}
 use Rattle.ipx_internet.specs.Tree.{root}

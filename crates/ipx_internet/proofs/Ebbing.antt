@@ -20,7 +20,7 @@ use Rattle.ipx_internet.proofs.Saying.{Says, IsTold, ports, history, tells_says,
 use Rattle.ipx_internet.proofs.Spending.{Calm}
 
 -- whatever is alive is no hop away, at least
-at_all : (m : Heard) → EachHeard (λ e. Live 0 e.hops) (λ e. Live 0 e.hops) m
+pub at_all : (m : Heard) → EachHeard (λ e. Live 0 e.hops) (λ e. Live 0 e.hops) m
 at_all (HeardRip source rip) = all_of (λ e. Live 0 e.hops) (λ e near. omega arith) rip.entries
 at_all (HeardSap source (Query nearest kind)) = tt
 at_all (HeardSap source (Response nearest entries)) = all_of (λ e. Live 0 e.hops) (λ e near. omega arith) entries
@@ -49,7 +49,7 @@ module _ (net : Internet) (laws : Layouts) (is : IsInternet net) (most_routes mo
         (telling net laws is most_routes most_services histories are d old.calm P Q
         (news_farther least at past d.to.port d.bytes says most_routes) (news_services_farther least at past d.to.port d.bytes says most_services))
 
-  ebbing : (least : ℕ) → Steps net most_routes most_services (AreHistories net) (Ebbs least) (λ histories. Ebbs (suc least))
+  pub ebbing : (least : ℕ) → Steps net most_routes most_services (AreHistories net) (Ebbs least) (λ histories. Ebbs (suc least))
   ebbing least = record {
     keeps = λ histories d are old. keeps_histories net laws is most_routes most_services histories are d old.calm.0;
     sends = λ histories d are old. ebbs_then least histories d are old;

@@ -184,7 +184,7 @@ module _ (net : Internet) (up : ℕ → List ℕ) where
       page_old p m read e (inr page) =
           let port = port_of net from in
           it_is OldHeard m (HeardSap (own_services port) (SapResponse false (map sap_entry page.page)))
-          (services_heard_of (ServiceSaid begun) (own_services port) (every_server port) bytes refl page p m read e) (tt, services_old page.page page.each)
+          (services_heard_of (ServiceSaid begun) (own_services port) (every_server port) false bytes refl page p m read e) (tt, services_old page.page page.each)
 
       module _ (history : History) (endures : Endures had history) where
         abbrev heard_now : Option Heard

@@ -1,20 +1,19 @@
 -- Each settled delivery makes an internet lighter, so that its weight is a limit with which it settles.
-use Rattle.std.proofs.Common.{◌≡◌, ◌≢◌, refl, sym, ap, ◌∙◌, subst, ℕ, zero, suc, ◌+◌, ◌*◌, ◌<◌, ◌≤◌, List, [], ◌∷◌, ◌++◌, length, Option, Some, None, inl, inr, arith, mul-add, get_or-set_same, get_or-set_other}
+use Rattle.std.proofs.Common.{◌≡◌, ◌≢◌, refl, ap, ℕ, zero, suc, ◌+◌, ◌*◌, ◌<◌, ◌≤◌, List, [], ◌∷◌, ◌++◌, length, Option, Some, None, inl, inr, arith, mul-add, get_or-set_same, get_or-set_other}
 use Rattle.std.specs.List.{AllByRecursion, sum_by}
-use Rattle.std.proofs.lemmas.Bool.{cases_eq, cases_lt}
+use Rattle.std.proofs.lemmas.Bool.{cases_eq}
 use Rattle.std.proofs.lemmas.List.Sums.{sum_by-cons, sum_by-append, sum_by_push}
 use Rattle.ipx_router.specs.Heard.{Heard}
 use Rattle.ipx_router.specs.History.{History, Packet, IsOnPort}
 use Rattle.ipx_router.specs.Port.{Port, numbers}
 use Rattle.ipx_internet.specs.Internet.{Internet, IsInternet, NodesDiffer, ports_of}
 use Rattle.ipx_internet.specs.InternetWeight.{on_all_ports, delivery_weight, weight_of, records_of, records_after, queued_weight}
-use Rattle.ipx_internet.specs.Queue.{Delivery, Queued, history_of, with_event, settled_one, settled}
+use Rattle.ipx_internet.specs.Queue.{Delivery, Queued, history_of, settled}
 use Rattle.ipx_internet.specs.Rounds.{IsDelivery}
 use Rattle.ipx_internet.specs.Run.{AreHistories}
 use Rattle.ipx_internet.specs.Tree.{IsRouter, router_now}
 use Rattle.ipx_internet.proofs.Bytes.{SentOn}
 use Rattle.ipx_internet.proofs.Delivering.{there}
-use Rattle.ipx_internet.proofs.Lightening as lightening
 use Rattle.ipx_internet.proofs.Lightening.{Silence, heard_lighter}
 use Rattle.ipx_internet.proofs.Outlays as outlays
 use Rattle.ipx_internet.proofs.Outlays.{OwnKeys}

@@ -27,7 +27,7 @@ use Rattle.ipx_internet.proofs.Ticking.{Rests, ticks_rest, begun_rests}
 -- ---- networks without a port
 
 -- the network of a port that is up is among those of the ports that are up
-among_ups : (ports : List Port) (up : List ℕ) (number : ℕ) → is_up up number ≡ true
+pub among_ups : (ports : List Port) (up : List ℕ) (number : ℕ) → is_up up number ≡ true
     → is_among (port_at ports number).network (map (λ k. (port_at ports k).network) up) ≡ true
 among_ups ports [] number on = absurd (both_ways false refl on)
 among_ups ports (k ∷ up) number on =

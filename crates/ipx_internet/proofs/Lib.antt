@@ -1,8 +1,10 @@
+pub mod Abiding
 pub mod Adding
 pub mod Aging
 pub mod Announced
 pub mod Batched
 pub mod Beginning
+pub mod Broadcasting
 pub mod Burdens
 pub mod Bytes
 pub mod Casting
@@ -24,6 +26,7 @@ pub mod Fullest
 pub mod Gaining
 pub mod Going
 pub mod Gone
+pub mod GoneMeanwhile
 pub mod Handing
 pub mod Hearing
 pub mod Holding
@@ -32,6 +35,8 @@ pub mod Leaving
 pub mod Lightening
 pub mod Lists
 pub mod Measuring
+pub mod Meantime
+pub mod Messages
 pub mod Names
 pub mod Nearing
 pub mod Now
@@ -43,6 +48,7 @@ pub mod Passing
 pub mod Paths
 pub mod Places
 pub mod Queues
+pub mod QuietSooner
 pub mod Quieting
 pub mod Reaching
 pub mod Receivers
@@ -62,6 +68,7 @@ pub mod Standing
 pub mod Stationed
 pub mod Tabled
 pub mod Taking
+pub mod Telling
 pub mod Tellings
 pub mod Ticking
 pub mod Tolling
@@ -69,6 +76,7 @@ pub mod Tolls
 pub mod Totalling
 pub mod Traced
 pub mod Trees
+pub mod Uttering
 pub mod Ways
 pub mod Weighed
 pub mod Weighing

@@ -1,14 +1,11 @@
 -- A delivery that a router hears leaves less weight than there was: what is sent for it, and what the tables hold then, weigh less than the
 -- delivery and what they held.
-use Rattle.std.proofs.Common.{◌≡◌, refl, sym, ap, ◌∙◌, subst, ◌⊎◌, ℕ, zero, suc, ◌+◌, ◌-◌, ◌*◌, ◌<◌, ◌≤◌, max, ◌&&◌, not, if◌then◌else◌, Bool, true, false, List, [], ◌∷◌, ◌++◌, length, flat_map, Option, Some, None, IfSome, Ok, inl, inr, arith, mul-le-mul_left, mul-le-mul_right, mul-add, mul-one}
+use Rattle.std.proofs.Common.{◌≡◌, refl, sym, ap, ◌∙◌, subst, ◌⊎◌, ℕ, zero, suc, ◌+◌, ◌-◌, ◌*◌, ◌<◌, ◌≤◌, max, ◌&&◌, not, true, List, [], ◌∷◌, ◌++◌, length, flat_map, Option, Some, IfSome, Ok, inl, inr, arith, mul-le-mul_left, mul-le-mul_right, mul-add, mul-one}
 use Rattle.std.specs.List.{AllByRecursion, sum_by}
-use Rattle.std.proofs.lemmas.Bool.{cases_Bool, cases_lt, and_parts, not-true}
+use Rattle.std.proofs.lemmas.Bool.{cases_Bool, and_parts, not-true}
 use Rattle.std.proofs.lemmas.List.{length-map}
-use Rattle.ipx_table.specs.Facts.{Fact}
 use Rattle.ipx_wire.specs.Numbers.{most_entries}
 use Rattle.ipx_wire.specs.Packet.{Parts, packet_of}
-use Rattle.ipx_wire.specs.Rip.{RipParts}
-use Rattle.ipx_wire.specs.declared.address.Address.{Address}
 use Rattle.ipx_wire.specs.declared.rip.Operation.{Operation}
 use Rattle.ipx_wire.specs.declared.rip.Operation.TheVariants.{Request, Response}
 use Rattle.ipx_wire.specs.declared.rip.RipEntry.{RipEntry}
@@ -16,7 +13,7 @@ use Rattle.ipx_wire.specs.declared.sap.Sap.TheVariants.{Query, Response as SapRe
 use Rattle.ipx_wire.specs.declared.service.Service.{Service}
 use Rattle.ipx_router.specs.Facts.{routes_heard, services_heard, routes_held, services_held}
 use Rattle.ipx_router.specs.Bounds.{route_sheets, service_sheets}
-use Rattle.ipx_router.specs.Heard.{Heard, HeardRip, HeardSap, heard_in, heard_near}
+use Rattle.ipx_router.specs.Heard.{Heard, HeardRip, HeardSap, heard_near}
 use Rattle.ipx_router.specs.History.{Event, History, Packet, IsOnPort, IsOfBytes, running, is_down, ports_up}
 use Rattle.ipx_router.specs.News.{news, news_services}
 use Rattle.ipx_router.specs.Numbers.{unreachable}
@@ -25,7 +22,6 @@ use Rattle.ipx_router.specs.Relays.{Sent}
 use Rattle.ipx_router.specs.Sends.{Holding, sends, ports_sending, news_on, heard_sends, rip_sends, asked}
 use Rattle.ipx_router.specs.Told.{told}
 use Rattle.ipx_router.specs.Why.{is_near, is_propagated}
-use Rattle.ipx_router.specs.declared.route_offer.RouteOffer.{RouteOffer}
 use Rattle.ipx_router.proofs.HeardCounts.{Fits, heard-fits}
 use Rattle.ipx_router.proofs.Histories.{ports_stay}
 use Rattle.ipx_router.proofs.Lengths.{length-filter, length-numbers}
@@ -39,11 +35,11 @@ use Rattle.ipx_internet.specs.Most.{most_ports, most_on_network}
 use Rattle.ipx_internet.specs.Queue.{Delivery, deliveries_of, history_of}
 use Rattle.ipx_internet.specs.Rounds.{IsDelivery, most_caused}
 use Rattle.ipx_internet.specs.Run.{AreHistories}
-use Rattle.ipx_internet.proofs.Burdens.{MayTell, heard_tellings, heard_alive, answers_weigh, no_less_than_heard, reply_light, response_rises, some_response, sum_few}
+use Rattle.ipx_internet.proofs.Burdens.{MayTell, heard_tellings, heard_alive, answers_weigh, no_less_than_heard, reply_light, sum_few}
 use Rattle.ipx_internet.proofs.Counts.{router_small, flat_map_few, delivered_few}
 use Rattle.ipx_internet.proofs.Delivering.{all_wait}
 use Rattle.ipx_internet.proofs.Dying.{unreachable_live}
-use Rattle.ipx_internet.proofs.Lists.{all_of, all_then, all-append, rising_differ}
+use Rattle.ipx_internet.proofs.Lists.{all_then, all-append, rising_differ}
 use Rattle.ipx_internet.proofs.Nearing.{Live}
 use Rattle.ipx_internet.proofs.Offered.{EachHeard}
 use Rattle.ipx_internet.proofs.Outlays as outlays
@@ -52,9 +48,9 @@ use Rattle.ipx_internet.proofs.Paging.{IsAnswering}
 use Rattle.ipx_internet.proofs.Receivers.{ports_at}
 use Rattle.ipx_internet.proofs.Replying.{Layouts, IsReply, IsCast, answered, all_reply, said}
 use Rattle.ipx_internet.proofs.Rounding.{sents, sent_for}
-use Rattle.ipx_internet.proofs.Saying.{IsTold, news_told}
+use Rattle.ipx_internet.proofs.Saying.{news_told}
 use Rattle.ipx_internet.proofs.Spending.{reply_moves}
-use Rattle.ipx_internet.proofs.Tolls.{one_less, left_on, news_few, news_services_few, on_port, w, others, Fair, page_weighs, all_weigh}
+use Rattle.ipx_internet.proofs.Tolls.{one_less, left_on, news_few, news_services_few, on_port, Fair, page_weighs, all_weigh}
 use Rattle.ipx_internet.proofs.Totalling.{Rooms}
 use Rattle.ipx_internet.proofs.Ways.{nothing}
 

@@ -44,7 +44,7 @@ module _ (E : RipEntry → Type 0) (S : SapEntry → Type 0) (P : RouteOffer →
     (service : (node : Node) (e : SapEntry) (name : List ℕ) → e.name ≡ Some name → S e → Q (service_offer number node e name)) where
   -- ---- what entries offer
 
-  routes_are : (ports : List Port) (node : Node) (entries : List RipEntry) → AllByRecursion E entries
+  pub routes_are : (ports : List Port) (node : Node) (entries : List RipEntry) → AllByRecursion E entries
       → AllByRecursion (OffersOf P) (routes_offered ports number node entries)
   routes_are ports node [] all = tt
   routes_are ports node (e ∷ entries) all = elim (cases_Bool (takes_no_route ports e.network)) [
@@ -52,7 +52,7 @@ module _ (E : RipEntry → Type 0) (S : SapEntry → Type 0) (P : RouteOffer →
     | inr taken ↦ rw taken (route node e all.0, routes_are ports node entries all.1)
   ]
 
-  services_are : (node : Node) (entries : List SapEntry) → AllByRecursion S entries → AllByRecursion (OffersOf Q) (services_offered number node entries)
+  pub services_are : (node : Node) (entries : List SapEntry) → AllByRecursion S entries → AllByRecursion (OffersOf Q) (services_offered number node entries)
   services_are node [] all = tt
   services_are node (e ∷ entries) all =
       all-append (OffersOf Q) _ (services_offered number node entries) (by e.name (λ name is. service node e name is all.0)) (services_are node entries all.1)

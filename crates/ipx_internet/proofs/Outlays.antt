@@ -1,37 +1,27 @@
 -- What a router sends for what it hears weighs less than what it heard, with what its tables gain: an answer to a request, and changes
 -- that a response made.
-use Rattle.std.proofs.Common.{◌≡◌, refl, sym, ap, ap₂, ◌∙◌, subst, ◌⊎◌, ℕ, zero, suc, ◌+◌, ◌-◌, ◌*◌, ◌<◌, ◌≤◌, max, ◌&&◌, not, true, false, List, [], ◌∷◌, ◌++◌, length, flat_map, map, Option, Some, None, IfSome, inl, inr, arith, append-nil, mul-le-mul_left, mul-le-mul_right, mul-add, mul-one}
-use Rattle.std.specs.List.{AllByRecursion, sum_by}
-use Rattle.std.proofs.lemmas.Bool.{cases_Bool, lt-ltb, le-leb}
+use Rattle.std.proofs.Common.{◌≡◌, refl, sym, ap, ap₂, ◌∙◌, subst, ◌⊎◌, ℕ, ◌+◌, ◌<◌, ◌≤◌, max, ◌&&◌, not, true, List, [], ◌∷◌, ◌++◌, length, map, Option, Some, IfSome, inl, inr, arith, append-nil}
+use Rattle.std.specs.List.{AllByRecursion}
+use Rattle.std.proofs.lemmas.Bool.{le-leb}
 use Rattle.std.proofs.lemmas.List.{length-map}
-use Rattle.ipx_table.specs.Facts.{Fact, Offered}
+use Rattle.ipx_table.specs.Facts.{Fact}
 use Rattle.ipx_table.specs.Stands.{held}
 use Rattle.ipx_table.specs.declared.held.Held.{Held}
 use Rattle.ipx_wire.specs.Numbers.{most_entries}
-use Rattle.ipx_wire.specs.Packet.{Parts, packet_of}
-use Rattle.ipx_wire.specs.Rip.{RipParts}
-use Rattle.ipx_wire.specs.declared.address.Address.{Address}
-use Rattle.ipx_wire.specs.declared.node.Node.{Node}
 use Rattle.ipx_wire.specs.declared.rip.Operation.{Operation}
 use Rattle.ipx_wire.specs.declared.rip.Operation.TheVariants.{Request, Response}
-use Rattle.ipx_wire.specs.declared.rip.RipEntry.{RipEntry}
-use Rattle.ipx_wire.specs.declared.sap.Sap.{Sap}
 use Rattle.ipx_wire.specs.declared.sap.Sap.TheVariants.{Query, Response as SapResponse}
-use Rattle.ipx_wire.specs.declared.service.Service.{Service}
 use Rattle.ipx_router.specs.Bounds.{route_sheets, service_sheets}
-use Rattle.ipx_router.specs.Facts.{routes_offered, services_offered, routes_heard, services_heard, heard_after, route_facts, service_facts, route_facts_of, service_facts_of, routes_held, services_held, offers}
-use Rattle.ipx_router.specs.Heard.{Heard, HeardRip, HeardSap, heard_in, heard_near}
-use Rattle.ipx_router.specs.History.{History, Packet, IsOnPort, IsOfBytes, running, is_down, ports_up}
+use Rattle.ipx_router.specs.Facts.{routes_offered, routes_heard, services_heard, heard_after, route_facts, service_facts, route_facts_of, service_facts_of, routes_held, services_held, offers}
+use Rattle.ipx_router.specs.Heard.{Heard, HeardRip, HeardSap}
+use Rattle.ipx_router.specs.History.{History, Packet, running, is_down}
 use Rattle.ipx_router.specs.News.{news, news_services, same_route, same_service}
 use Rattle.ipx_router.specs.Numbers.{unreachable, entries_a_page, services_a_page}
 use Rattle.ipx_router.specs.Pages.{sheets}
 use Rattle.ipx_router.specs.Port.{Port, numbers}
-use Rattle.ipx_router.specs.Relays.{Sent}
 use Rattle.ipx_router.specs.Routes.{route_reading, network_order, route_rules}
 use Rattle.ipx_router.specs.Sends.{Holding, holding, news_on, broadcasts, sends}
 use Rattle.ipx_router.specs.Services.{service_reading, service_order, service_rules}
-use Rattle.ipx_router.specs.Told.{told}
-use Rattle.ipx_router.specs.Why.{is_near, is_propagated}
 use Rattle.ipx_router.specs.declared.route_offer.RouteOffer.{RouteOffer}
 use Rattle.ipx_router.specs.declared.service_offer.ServiceOffer.{ServiceOffer}
 use Rattle.ipx_router.proofs.Answering.{length-packet}
@@ -40,17 +30,12 @@ use Rattle.ipx_router.proofs.Counting.{network_total, service_total}
 use Rattle.ipx_router.proofs.Differences.{OthersStay, few_come}
 use Rattle.ipx_router.proofs.Histories.{ports_stay}
 use Rattle.ipx_router.proofs.Lengths.{length-filter, length-numbers}
-use Rattle.ipx_router.proofs.HeardCounts.{Fits, heard-fits}
+use Rattle.ipx_router.proofs.HeardCounts.{Fits}
 use Rattle.ipx_router.proofs.Offering.{FewOffers, no_offers, few_routes, few_services, facts_from-more}
 use Rattle.ipx_router.proofs.Telling.{route-same, service-same, no_route_news, no_service_news}
-use Rattle.ipx_internet.proofs.Gaining.{SameOrFewer, few_more, same_or_fewer}
+use Rattle.ipx_internet.proofs.Gaining.{few_more, same_or_fewer}
 use Rattle.ipx_internet.proofs.Offered.{EachHeard, heard_routes, heard_services}
 use Rattle.ipx_internet.proofs.Leaving.{OffersOf}
-use Rattle.ipx_internet.proofs.Lists.{all_of, all_then}
-use Rattle.ipx_internet.proofs.Nearing.{Live}
-use Rattle.ipx_internet.proofs.Paging.{IsAnswering}
-use Rattle.ipx_internet.proofs.Tolls.{on_port}
-use Rattle.ipx_internet.proofs.Burdens.{heard_tellings, heard_alive}
 
 -- in a table an offer changes the record of its own key alone
 pub record OwnKeys : Type 0 where

@@ -1,25 +1,23 @@
 -- A delivery that a router doesn't hear leaves less weight than there was: what is sent on says what it said, and each of the receptions
 -- that it leads to is counted.
-use Rattle.std.proofs.Common.{◌≡◌, refl, sym, ap, ap₂, ◌∙◌, subst, ◌⊎◌, ℕ, zero, suc, ◌+◌, ◌*◌, ◌<◌, ◌≤◌, if◌then◌else◌, Bool, true, List, [], ◌∷◌, ◌++◌, length, flat_map, map, Option, Some, None, Result, Ok, Err, inl, inr, arith, mul-le-mul_right, mul-add, mul-one, mul_comm, one-mul, add-mul}
+use Rattle.std.proofs.Common.{◌≡◌, refl, sym, ap, ap₂, ◌∙◌, subst, ◌⊎◌, ℕ, zero, suc, ◌+◌, ◌*◌, ◌<◌, ◌≤◌, if◌then◌else◌, Bool, true, List, [], ◌∷◌, length, flat_map, map, Option, Some, None, Ok, Err, inl, inr, arith, mul-le-mul_right, one-mul, add-mul}
 use Rattle.std.specs.List.{AllByRecursion, sum_by}
 use Rattle.std.proofs.lemmas.List.Sums.{sum_by-cons, sum_by-append}
-use Rattle.ipx_wire.specs.Packet.{Parts, packet_of}
-use Rattle.ipx_wire.specs.declared.packet.PacketFault.{PacketFault}
+use Rattle.ipx_wire.specs.Packet.{packet_of}
 use Rattle.ipx_router.specs.Facts.{routes_heard, services_heard}
 use Rattle.ipx_router.specs.Heard.{Heard, heard_in}
-use Rattle.ipx_router.specs.History.{History, Packet, running, ports_up}
+use Rattle.ipx_router.specs.History.{History, running}
 use Rattle.ipx_router.specs.Port.{Port, port_at}
 use Rattle.ipx_router.specs.Relays.{Sent, relayed}
 use Rattle.ipx_router.specs.Sends.{Holding, heard_sends}
 use Rattle.ipx_router.specs.Why.{why, is_propagated}
-use Rattle.ipx_router.specs.declared.why.Why.{Why}
 use Rattle.ipx_internet.specs.Delivery.{delivered}
-use Rattle.ipx_internet.specs.Internet.{Internet, Place, IsInternet, NodesDiffer, ports_of, port_of}
+use Rattle.ipx_internet.specs.Internet.{Internet, Place, IsInternet, NodesDiffer, ports_of}
 use Rattle.ipx_internet.specs.InternetWeight.{on_all_ports, message_weight, said_weight, delivery_weight}
 use Rattle.ipx_internet.specs.Queue.{Delivery, deliveries_of, history_of}
 use Rattle.ipx_internet.specs.Rounds.{IsDelivery}
 use Rattle.ipx_internet.specs.Run.{AreHistories}
-use Rattle.ipx_internet.specs.Tree.{Router, IsRouter, Copy, router_now, net_of, router_at, sent_on, root, children}
+use Rattle.ipx_internet.specs.Tree.{Router, IsRouter, Copy, router_now, net_of, router_at, sent_on, root}
 use Rattle.ipx_internet.specs.Weight.{weight, weights, CanCome}
 use Rattle.ipx_internet.proofs.Burdens.{said_of, some_said}
 use Rattle.ipx_internet.proofs.Bytes.{SentOn}

@@ -15,7 +15,7 @@ use Rattle.ipx_internet.proofs.Spending.{all_calm}
 
 module _ (net : Internet) (most_routes most_services : ℕ) where
   -- so many rounds, and then some more
-  rounds_more : (a b n : ℕ) (q : Queued) → n ≡ a + b → rounds net most_routes most_services n q ≡ rounds net most_routes most_services a (rounds net most_routes most_services b q)
+  pub rounds_more : (a b n : ℕ) (q : Queued) → n ≡ a + b → rounds net most_routes most_services n q ≡ rounds net most_routes most_services a (rounds net most_routes most_services b q)
   rounds_more zero b n q e =
       let same : n ≡ b = omega (arith, e) in
       ap (λ k. rounds net most_routes most_services k q) same

@@ -1,5 +1,5 @@
 -- The weight of an internet is that of the histories that its routers stand for, and falls with each delivery.
-use Rattle.std.proofs.Common.{◌≡◌, refl, sym, ap, ap₂, ◌∙◌, subst, ℕ, zero, suc, ◌+◌, ◌*◌, ◌<◌, ◌≤◌, List, [], ◌∷◌, length, slice_get, Some, arith, mul-le-mul_right, one-mul}
+use Rattle.std.proofs.Common.{◌≡◌, refl, sym, ap, ap₂, ◌∙◌, subst, ℕ, zero, suc, ◌+◌, ◌<◌, List, [], ◌∷◌, length, slice_get, Some, arith, mul-le-mul_right, one-mul}
 use Rattle.std.specs.List.{AllByRecursion, sum_by}
 use Rattle.std.proofs.lemmas.List.{length-map, get_or-map}
 use Rattle.std.proofs.lemmas.List.Sums.{sum_by-cons, sum_by_push}
@@ -11,7 +11,7 @@ use Rattle.ipx_router.specs.Port.{Port, numbers}
 use Rattle.ipx_router.specs.RouterOf.{HasPast}
 use Rattle.ipx_router.specs.Stands.{State, StandsFor as RouterStandsFor}
 use Rattle.ipx_internet.specs.Internet.{Internet, ports_of}
-use Rattle.ipx_internet.specs.InternetWeight.{delivery_weight, weight_of, records_of, records_after, queued_weight, records_at, internet_weight}
+use Rattle.ipx_internet.specs.InternetWeight.{delivery_weight, weight_of, records_of, queued_weight, internet_weight}
 use Rattle.ipx_internet.specs.Moment.{Moment, StandsFor, net_at}
 use Rattle.ipx_internet.specs.Queue.{Delivery, Queued, history_of, settled_one}
 use Rattle.ipx_internet.specs.Rounds.{IsDelivery}

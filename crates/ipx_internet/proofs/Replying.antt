@@ -67,7 +67,7 @@ pub record IsReply (port : Port) (bytes : List ℕ) : Type 0 where
   pub home : packet.header.destination.network ≡ port.network
   pub answers : Answers packet.payload
 
-rip_reply : (P : RipEntry → Type 0) (port : Port) (from to : Address) (bytes : List ℕ) → to.network ≡ port.network → IsRipPage P from to bytes → IsReply port bytes
+pub rip_reply : (P : RipEntry → Type 0) (port : Port) (from to : Address) (bytes : List ℕ) → to.network ≡ port.network → IsRipPage P from to bytes → IsReply port bytes
 rip_reply P port from to bytes home is = record {
   packet = rip_packet_parts from to Response is.page;
   read = is.read;
@@ -76,7 +76,7 @@ rip_reply P port from to bytes home is = record {
   answers = rip_answers is.page;
 }
 
-sap_reply : (Q : Service → Type 0) (port : Port) (from to : Address) (nearest : Bool) (bytes : List ℕ) → to.network ≡ port.network → IsSapPage Q from to nearest bytes
+pub sap_reply : (Q : Service → Type 0) (port : Port) (from to : Address) (nearest : Bool) (bytes : List ℕ) → to.network ≡ port.network → IsSapPage Q from to nearest bytes
     → IsReply port bytes
 sap_reply Q port from to nearest bytes home is = record {
   packet = sap_packet_parts from to nearest is.page;
@@ -112,21 +112,23 @@ pub record IsOnward (port : Port) (came sent : List ℕ) : Type 0 where
   pub further : Parts
   pub reread : packet_of sent ≡ Ok further
   pub more : further.header.control ≡ packet.header.control + 1
+  pub socket : further.header.destination.socket.0 ≡ packet.header.destination.socket.0
   pub keeps : ((is_propagated packet.header ≡ true) × (is_propagated further.header ≡ true))
       ⊎ ((is_propagated further.header ≡ is_propagated packet.header) × (heard_in further ≡ heard_in packet))
 
--- nobody sends a reply on
-pub no_reply : (port : Port) (came sent : List ℕ) → IsReply port came → IsOnward port came sent → ⊥
-no_reply port came sent reply on = by on.goes
+-- nobody sends on what is for the port's own network, and not propagated
+pub not_onward : (port : Port) (came sent : List ℕ) (p : Parts) → packet_of came ≡ Ok p → is_propagated p.header ≡ false
+    → p.header.destination.network ≡ port.network → IsOnward port came sent → ⊥
+not_onward port came sent p read is_plain is_home on = by on.goes
   where
-    same : reply.packet ≡ on.packet
-    same = one_read (packet_of came) reply.packet on.packet reply.read on.read
+    same : p ≡ on.packet
+    same = one_read (packet_of came) p on.packet read on.read
 
     plain : is_propagated on.packet.header ≡ false
-    plain = subst (λ (p : Parts). is_propagated p.header ≡ false) same reply.plain
+    plain = subst (λ (q : Parts). is_propagated q.header ≡ false) same is_plain
 
     home : on.packet.header.destination.network ≡ port.network
-    home = subst (λ (p : Parts). p.header.destination.network ≡ port.network) same reply.home
+    home = subst (λ (q : Parts). q.header.destination.network ≡ port.network) same is_home
 
     local : is_local port on.packet.header.destination.network ≡ true
     local = subst (λ (n : Network). is_local port n ≡ true) (sym home) (or_right (port.network.0 == 0) (port.network.0 == port.network.0) (eq-eqb port.network.0 port.network.0 refl))
@@ -136,6 +138,10 @@ no_reply port came sent reply on = by on.goes
     by (inr far) =
         let there = (and_parts (not (is_propagated on.packet.header)) (not (is_local port on.packet.header.destination.network)) far).1 in
         true≢false (sym there ∙ ap not local)
+
+-- so nobody sends a reply on
+pub no_reply : (port : Port) (came sent : List ℕ) → IsReply port came → IsOnward port came sent → ⊥
+no_reply port came sent reply on = not_onward port came sent reply.packet reply.read reply.plain reply.home on
 
 module _ (laws : Layouts) (ports : List Port) (are : AllByRecursion IsPort ports) where
   onward : (up : List ℕ) (routes : List RouteOffer) (number : ℕ) (bytes : List ℕ) → IsBytes bytes → (s : Sent) → IsRelayed ports up routes number bytes s
@@ -155,6 +161,7 @@ module _ (laws : Layouts) (ports : List Port) (are : AllByRecursion IsPort ports
         further = forwarded p;
         reread = (laws.readings.packet_read s.bytes (forwarded p) sent).1 again;
         more = refl;
+        socket = refl;
         keeps = inr (refl, refl);
       }
   onward up routes number bytes are_bytes s (inr is) =
@@ -174,6 +181,7 @@ module _ (laws : Layouts) (ports : List Port) (are : AllByRecursion IsPort ports
         further = crossing;
         reread = (laws.readings.packet_read s.bytes crossing sent).1 again;
         more = refl;
+        socket = refl;
         keeps = inl (is.all, is.all);
       }
 

@@ -1,5 +1,5 @@
 -- What is sent for a reply: pages of changes; and what may be heard of them.
-use Rattle.std.proofs.Common.{◌≡◌, refl, sym, ap, ◌∙◌, subst, ◌⊎◌, ℕ, ◌==◌, true, false, List, ◌++◌, ◌∷◌, [], map, Option, Some, None, IfSome, Result, Ok, Err, inl, inr}
+use Rattle.std.proofs.Common.{◌≡◌, refl, sym, ap, ◌∙◌, subst, ◌⊎◌, ℕ, ◌==◌, Bool, true, false, List, ◌++◌, ◌∷◌, [], map, Option, Some, None, IfSome, Result, Ok, Err, inl, inr}
 use Rattle.std.specs.List.{AllByRecursion}
 use Rattle.std.proofs.lemmas.Bool.{cases_Bool}
 use Rattle.ipx_wire.specs.Packet.{Parts, packet_of}
@@ -55,8 +55,9 @@ pub record TellsRoutes (P : RipEntry → Type 0) (bytes : List ℕ) : Type 0 whe
 pub record TellsServices (Q : Service → Type 0) (bytes : List ℕ) : Type 0 where
   pub from : Address
   pub to : Address
+  pub nearest : Bool
   pub for_sap : (to.socket.0 == rip_socket) ≡ false
-  pub page : IsSapPage Q from to false bytes
+  pub page : IsSapPage Q from to nearest bytes
 
 abbrev pub Tells : (RipEntry → Type 0) → (Service → Type 0) → List ℕ → Type 0
 Tells P Q bytes = TellsRoutes P bytes ⊎ TellsServices Q bytes
@@ -76,12 +77,13 @@ page_heard P from to bytes for_rip is p m read e =
     from_rip r = elim r [ Ok rip ↦ Some (HeardRip from rip) | Err fault ↦ None ]
 
 -- and a page of services for the SAP process
-pub services_heard_of : (Q : Service → Type 0) (from to : Address) (bytes : List ℕ) → (to.socket.0 == rip_socket) ≡ false → (is : IsSapPage Q from to false bytes) (p : Parts) (m : Heard)
-    → packet_of bytes ≡ Ok p → heard_in p ≡ Some m → Some (HeardSap from (SapResponse false (map entry_of is.page))) ≡ Some m
-services_heard_of Q from to bytes for_sap is p m read e =
-    let same : p ≡ sap_packet_parts from to false is.page = one_read (packet_of bytes) p (sap_packet_parts from to false is.page) read is.read in
-    let heard : heard_in (sap_packet_parts from to false is.page) ≡ Some m = subst (λ (q : Parts). heard_in q ≡ Some m) same e in
-    let sap : from_sap (sap_of (sap_payload false is.page)) ≡ Some m = rw for_sap at heard in
+pub services_heard_of : (Q : Service → Type 0) (from to : Address) (nearest : Bool) (bytes : List ℕ) → (to.socket.0 == rip_socket) ≡ false
+    → (is : IsSapPage Q from to nearest bytes) (p : Parts) (m : Heard)
+    → packet_of bytes ≡ Ok p → heard_in p ≡ Some m → Some (HeardSap from (SapResponse nearest (map entry_of is.page))) ≡ Some m
+services_heard_of Q from to nearest bytes for_sap is p m read e =
+    let same : p ≡ sap_packet_parts from to nearest is.page = one_read (packet_of bytes) p (sap_packet_parts from to nearest is.page) read is.read in
+    let heard : heard_in (sap_packet_parts from to nearest is.page) ≡ Some m = subst (λ (q : Parts). heard_in q ≡ Some m) same e in
+    let sap : from_sap (sap_of (sap_payload nearest is.page)) ≡ Some m = rw for_sap at heard in
     sym (ap from_sap is.says) ∙ sap
   where
     from_sap : Result Sap SapFault → Option Heard
@@ -98,8 +100,8 @@ module _ (P : RipEntry → Type 0) (Q : Service → Type 0) (E : RipEntry → Ty
   services_say : TellsServices Q bytes → Says E S bytes
   services_say tells p m read e =
       let page = tells.page in
-      it_is (EachHeard E S) m (HeardSap tells.from (SapResponse false (map entry_of page.page)))
-      (services_heard_of Q tells.from tells.to bytes tells.for_sap page p m read e)
+      it_is (EachHeard E S) m (HeardSap tells.from (SapResponse tells.nearest (map entry_of page.page)))
+      (services_heard_of Q tells.from tells.to tells.nearest bytes tells.for_sap page p m read e)
       (all_mapped S entry_of page.page (all_then Q (λ s. S (entry_of s)) service page.page page.each))
 
   pub tells_says : Tells P Q bytes → Says E S bytes
@@ -122,6 +124,7 @@ tells_more P A Q B route service bytes (inr tells) =
     inr (record {
       from = tells.from;
       to = tells.to;
+      nearest = tells.nearest;
       for_sap = tells.for_sap;
       page = record { page = page.page; some = page.some; each = all_then Q B service page.page page.each; read = page.read; says = page.says };
     })
@@ -140,7 +143,7 @@ news_told P Q port bytes is = record { reply = news_reply P Q port bytes is; tel
   where
     by : IsNewsSent P Q port bytes → Tells P Q bytes
     by (inl page) = inl (record { from = own_address port; to = everyone port; for_rip = refl; page = page })
-    by (inr page) = inr (record { from = own_services port; to = every_server port; for_sap = refl; page = page })
+    by (inr page) = inr (record { from = own_services port; to = every_server port; nearest = false; for_sap = refl; page = page })
 
 -- ---- what is sent for a reply
 

@@ -31,10 +31,10 @@ use Rattle.ipx_internet.proofs.Spending.{Calm, reply_moves}
 
 -- ---- seconds that are left
 
-second_here : (router : ℕ) (rest : List Step) → seconds_of router (Happens router Second ∷ rest) ≡ suc (seconds_of router rest)
+pub second_here : (router : ℕ) (rest : List Step) → seconds_of router (Happens router Second ∷ rest) ≡ suc (seconds_of router rest)
 second_here router rest = let same = eq-eqb router router refl in rw same refl
 
-second_there : (router other : ℕ) (event : Event) (rest : List Step) → other ≢ router → seconds_of other (Happens router event ∷ rest) ≡ seconds_of other rest
+pub second_there : (router other : ℕ) (event : Event) (rest : List Step) → other ≢ router → seconds_of other (Happens router event ∷ rest) ≡ seconds_of other rest
 second_there router other event rest off = let apart : (router == other) ≡ false = ne_eqb router other (λ e. off (sym e)) in rw apart refl
 
 fewer_left : (router : ℕ) (step : Step) (rest : List Step) → seconds_of router rest ≤ seconds_of router (step ∷ rest)

@@ -1,30 +1,21 @@
 -- What is sent for a response weighs: on each port a page at most, which may be told on once less; on the port on which the response
 -- came, one that nothing comes of.
-use Rattle.std.proofs.Common.{◌≡◌, ◌≢◌, refl, sym, ap, ◌∙◌, subst, ◌⊎◌, ℕ, zero, suc, ◌+◌, ◌-◌, ◌*◌, ◌<◌, ◌≤◌, ◌==◌, if◌then◌else◌, Bool, true, false, List, [], ◌∷◌, ◌++◌, length, flat_map, map, Option, Some, None, IfSome, inl, inr, arith, append-nil, mul-le-mul_right, mul_assoc, mul-one, suc-mul}
+use Rattle.std.proofs.Common.{◌≡◌, ◌≢◌, refl, sym, ap, ◌∙◌, ℕ, zero, suc, ◌+◌, ◌-◌, ◌*◌, ◌<◌, ◌≤◌, ◌==◌, if◌then◌else◌, true, false, List, [], ◌∷◌, ◌++◌, length, flat_map, IfSome, inl, inr, arith, append-nil, mul-le-mul_right, mul_assoc, mul-one, suc-mul}
 use Rattle.std.specs.List.{AllByRecursion, sum_by, list_any}
 use Rattle.std.proofs.lemmas.Bool.{cases_Bool, cases_eq, both_ways, eq-eqb, ne_eqb, eqb-true, or_cases}
 use Rattle.std.proofs.lemmas.Grind.{flat_map-append}
 use Rattle.std.proofs.lemmas.List.{length-map}
 use Rattle.std.proofs.lemmas.List.Sums.{sum_by-cons, sum_by-append}
-use Rattle.ipx_wire.specs.declared.network.Network.{Network}
-use Rattle.ipx_wire.specs.declared.rip.Operation.{Operation}
-use Rattle.ipx_wire.specs.declared.rip.Operation.TheVariants.{Request, Response}
 use Rattle.ipx_wire.specs.declared.rip.RipEntry.{RipEntry}
-use Rattle.ipx_wire.specs.declared.sap.Sap.TheVariants.{Query, Response as SapResponse}
 use Rattle.ipx_wire.specs.declared.service.Service.{Service}
 use Rattle.ipx_router.specs.Facts.{heard_after, routes_held, services_held, offers}
-use Rattle.ipx_router.specs.Heard.{Heard, HeardRip, HeardSap}
-use Rattle.ipx_router.specs.History.{History, Packet, ports_up}
+use Rattle.ipx_router.specs.History.{History, Packet}
 use Rattle.ipx_router.specs.News.{route_now, news, service_now, news_services}
-use Rattle.ipx_router.specs.Numbers.{unreachable, entries_a_page, services_a_page}
-use Rattle.ipx_router.specs.Pages.{sheets}
-use Rattle.ipx_router.specs.Port.{Port, port_at, is_up}
+use Rattle.ipx_router.specs.Numbers.{unreachable}
+use Rattle.ipx_router.specs.Port.{Port, port_at}
 use Rattle.ipx_router.specs.Relays.{Sent}
-use Rattle.ipx_router.specs.Routes.{route_reading, network_order}
-use Rattle.ipx_router.specs.Sends.{Holding, holding, news_on, heard_sends, rip_sends, asked, broadcasts, rip_broadcast, sap_broadcast, entries_sent, services_sent}
-use Rattle.ipx_router.specs.Services.{service_reading, service_order}
+use Rattle.ipx_router.specs.Sends.{broadcasts, rip_broadcast, sap_broadcast}
 use Rattle.ipx_router.specs.Told.{is_reached_on, told}
-use Rattle.ipx_router.specs.Touched.{offer_at}
 use Rattle.ipx_router.specs.declared.route_offer.RouteOffer.{RouteOffer}
 use Rattle.ipx_router.specs.declared.service_offer.ServiceOffer.{ServiceOffer}
 use Rattle.ipx_internet.specs.Delivery.{delivered, receives}
@@ -35,7 +26,6 @@ use Rattle.ipx_internet.specs.Most.{most_on_network}
 use Rattle.ipx_internet.specs.Queue.{Delivery, deliveries_of}
 use Rattle.ipx_internet.proofs.Burdens.{MayTell, sum_few, told_light}
 use Rattle.ipx_internet.proofs.Counts.{delivered_few}
-use Rattle.ipx_internet.proofs.Leaving.{Told}
 use Rattle.ipx_internet.proofs.Lists.{all_of, all-append, all-map}
 use Rattle.ipx_internet.proofs.Nearing.{Live, route_left, service_left, news_all, news_services_all}
 use Rattle.ipx_internet.proofs.Offered.{EachHeard, routes_left, services_left}

@@ -5,6 +5,7 @@ pub mod Heavy
 pub mod Horizons
 pub mod Logs
 pub mod Loops
+pub mod Meanwhile
 pub mod Rings
 pub mod Running
 pub mod Segments

@@ -7,6 +7,7 @@ pub mod Internet
 pub mod InternetWeight
 pub mod Listed
 pub mod Log
+pub mod Meanwhile
 pub mod Moment
 pub mod Most
 pub mod Queue

@@ -1,10 +1,13 @@
 -- Rounds of deliveries: in each, all that waits when it begins is handed out, and what is sent for it waits then.
-use Rattle.std.specs.Prelude.{ℕ, zero, suc, ◌+◌, ◌-◌, ◌*◌, max, length}
+use Rattle.std.specs.Prelude.{ℕ, zero, suc, ◌+◌, ◌-◌, ◌*◌, ◌<◌, max, List, length}
 use Rattle.ipx_wire.specs.Piece.{IsBytes}
 use Rattle.ipx_router.specs.Bounds.{route_sheets, service_sheets}
-use Rattle.ipx_internet.specs.Internet.{Internet, IsPlace}
+use Rattle.ipx_router.specs.History.{Event, Packet, IsOnPort}
+use Rattle.ipx_router.specs.Port.{Port}
+use Rattle.ipx_internet.specs.Internet.{Internet, IsPlace, ports_of}
 use Rattle.ipx_internet.specs.Most.{most_ports, most_on_network}
 use Rattle.ipx_internet.specs.Queue.{Delivery, Queued, settled}
+use Rattle.ipx_internet.specs.Run.{Step, Happens, Settles}
 
 -- bytes wait for a port that there is
 pub record IsDelivery (net : Internet) (d : Delivery) : Type 0 where
@@ -36,3 +39,16 @@ most_caused net most_routes most_services =
 -- and one for each router, and one more, until nobody has anything left to end
 abbrev pub most_rounds : Internet → ℕ
 most_rounds net = 34 + length net
+
+-- an event of a router that is no packet: a start, a stop, a second, or a port of it that goes down or comes up
+abbrev pub IsOwnEvent : List Port → Event → Type 0
+IsOwnEvent ports (Packet number bytes) = ⊥
+IsOwnEvent ports event = IsOnPort ports event
+
+abbrev pub IsOwnStep : Internet → Step → Type 0
+IsOwnStep net (Happens router event) = (router < length net) × IsOwnEvent (ports_of net router) event
+IsOwnStep net Settles = ⊥
+
+-- the rounds after which nothing waits where nothing but such events happened: what routers send of their own isn't sent on
+abbrev pub most_own_rounds : Internet → ℕ
+most_own_rounds net = 17 + length net

@@ -23,10 +23,11 @@ ghost use Rattle.ipx_internet.specs.Different.{AreDifferent};
 ghost use Rattle.ipx_internet.specs.Internet.{Internet, Place, IsInternet, NodesDiffer, IsPlace, network_of, ports_of};
 ghost use Rattle.ipx_internet.specs.InternetWeight.{queued_weight};
 ghost use Rattle.ipx_internet.specs.Log.{Sending, Reception, reception_at, IsForward, IsLog};
+ghost use Rattle.ipx_internet.specs.Meanwhile.{IsWithoutRoute, IsWithoutService, SaysOnly, IsBusyTick, StaysGone, EachTick};
 ghost use Rattle.ipx_internet.specs.Most.{most, most_of, most_on_network, most_ports as ports_at_most};
 ghost use Rattle.ipx_internet.specs.Queue.{Delivery, Queued, deliveries_of, history_of, queued, settled_one, settled};
 ghost use Rattle.ipx_internet.specs.Real.{IsReal};
-ghost use Rattle.ipx_internet.specs.Rounds.{IsDelivery, rounds, handed_out, most_caused, most_rounds};
+ghost use Rattle.ipx_internet.specs.Rounds.{IsDelivery, IsOwnStep, rounds, handed_out, most_caused, most_rounds, most_own_rounds};
 ghost use Rattle.ipx_internet.specs.Run.{Step, Settles, IsStep, AreHistories, Run, begun, forgotten, happens, stepped, run_of};
 ghost use Rattle.ipx_internet.specs.Moment.{Moment, StandsFor, net_at};
 ghost use Rattle.ipx_internet.specs.Ticks.{IsTick, AreTicks, ticked, a_tick, most_ticks_gone, ups, IsGone};
@@ -200,11 +201,17 @@ pub fn deliveries()
 /// Every internet settles: whatever is in the tables and whatever waits, forged packets too, nothing waits after 34 rounds and
 /// one for each router. In a round all that waits when it begins is handed out; what is sent for it waits for the next.
 ///
-/// So handing out as many deliveries as those rounds have, or more, leaves nothing; where no router has more than 32 ports, `few`
+/// Where nothing happened but starts, stops, seconds and ports that went down or came up, 17 rounds and one for each router are
+/// enough (`own`).
+///
+/// Handing out as many deliveries as the rounds have, or more, leaves nothing; where no router has more than 32 ports, `few`
 /// says how many these are at most. Else nothing is asked of the ports, of their nodes, or of capacities.
 pub fn settles()
     ensures quiet { (net : Internet) (most_routes most_services : ℕ) (q : Queued) → IsInternet net → AreHistories net q.histories
         → AllByRecursion (IsDelivery net) q.queue → (rounds net most_routes most_services (most_rounds net) q).queue ≡ [] }
+    ensures own { (net : Internet) (most_routes most_services : ℕ) (histories : List History) (steps : List Step) → IsInternet net → AreHistories net histories
+        → AllByRecursion (IsOwnStep net) steps
+        → (rounds net most_routes most_services (most_own_rounds net) (forgotten (run_of net most_routes most_services (begun histories) steps))).queue ≡ [] }
     ensures enough { (net : Internet) (most_routes most_services : ℕ) (q : Queued) (limit : ℕ) → IsInternet net → AreHistories net q.histories
         → AllByRecursion (IsDelivery net) q.queue → handed_out net most_routes most_services (most_rounds net) q ≤ limit
         → (settled net most_routes most_services limit q).queue ≡ [] }
@@ -283,6 +290,33 @@ pub fn gone()
         → IsInternet net → AreHistories net histories → AreTicks net most_routes most_services (begun histories) ticks → most_ticks_gone ≤ length ticks
         → router < length net
         → services_held (ports_of net router) most_services (history_of (ticked net most_routes most_services (begun histories) ticks).histories router) ≡ [] }
+{
+    ipx_wire::laws::readings();
+    ipx_wire::laws::service_readings();
+    ipx_wire::laws::reread();
+    ipx_router::laws::packets();
+}
+
+/// What is gone stays gone, whatever else happens meanwhile: starts and stops, ports that go down and come up, packets of hosts.
+///
+/// After 2,895 ticks no router has a route to a network on which no port was up since they began, if no packet of a host said that it
+/// is reached; and no router has a service that no host announced since then. In a tick each router has one second, everything else
+/// happens in any order, and in the end nothing waits. A host may ask what it likes, but a request for routes is not sent from the socket
+/// of SAP, nor a query for services from that of RIP: the answer would be read as what it is not.
+pub fn gone_meanwhile()
+    ensures networks { (net : Internet) (most_routes most_services : ℕ) (histories : List History) (ticks : List (List Step)) (router : ℕ) (network : Network)
+        → IsInternet net → AreHistories net histories
+        → EachTick net most_routes most_services (IsBusyTick net most_routes most_services) (begun histories) ticks → most_ticks_gone ≤ length ticks
+        → router < length net → EachTick net most_routes most_services (StaysGone net most_routes most_services network) (begun histories) ticks
+        → AllByRecursion (AllByRecursion (SaysOnly (IsWithoutRoute network))) ticks
+        → AllByRecursion (λ r. r.network ≢ network)
+        (offers (routes_held (ports_of net router) most_routes (history_of (ticked net most_routes most_services (begun histories) ticks).histories router))) }
+    ensures services { (net : Internet) (most_routes most_services : ℕ) (histories : List History) (ticks : List (List Step)) (router : ℕ) (key : ℕ × List ℕ)
+        → IsInternet net → AreHistories net histories
+        → EachTick net most_routes most_services (IsBusyTick net most_routes most_services) (begun histories) ticks → most_ticks_gone ≤ length ticks
+        → router < length net → AllByRecursion (AllByRecursion (SaysOnly (IsWithoutService key))) ticks
+        → AllByRecursion (λ s. (s.service.kind, s.service.name) ≢ key)
+        (offers (services_held (ports_of net router) most_services (history_of (ticked net most_routes most_services (begun histories) ticks).histories router))) }
 {
     ipx_wire::laws::readings();
     ipx_wire::laws::service_readings();

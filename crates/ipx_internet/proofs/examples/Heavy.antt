@@ -8,10 +8,9 @@ use Rattle.ipx_wire.specs.Packet.{packet_of}
 use Rattle.ipx_wire.specs.Rip.{entry_bytes, entry_at, rip_of}
 use Rattle.ipx_wire.specs.Sap.{sap_of}
 use Rattle.ipx_internet.specs.InternetWeight.{on_all_ports, on_other_ports, response_weight, request_weight, tellings, delivery_weight, queued_weight}
-use Rattle.ipx_internet.specs.Queue.{Queued}
 use Rattle.ipx_internet.proofs.examples.Directed.{star}
 use Rattle.ipx_internet.proofs.examples.Waiting.{segment, after}
-use Rattle.ipx_internet.proofs.examples.Words.{node, plain, to_all, at}
+use Rattle.ipx_internet.proofs.examples.Words.{node, plain, at}
 use Rattle.ipx_internet.specs.Tree.{net_of}
 
 -- on two ports a router reaches two others, on all but one port one

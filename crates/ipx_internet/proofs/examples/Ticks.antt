@@ -22,17 +22,17 @@ use Rattle.ipx_internet.specs.Ticks.{seconds_of, IsTick, a_tick, ups, IsGone}
 use Rattle.ipx_internet.proofs.examples.Waiting.{segment}
 use Rattle.ipx_internet.proofs.examples.Words.{network, port_on, route, at}
 
-abbrev said : ℕ → ℕ → List RipEntry → List ℕ
+abbrev pub said : ℕ → ℕ → List RipEntry → List ℕ
 said n k entries = rip_packet (own_address (port_on n k)) (everyone (port_on n k)) Response entries
 
 abbrev entry : ℕ → ℕ → RipEntry
 entry hops ticks = record { network = network 0x99; hops = hops; ticks = ticks }
 
 -- a host on 10h said that 99h is one hop away, and 179 seconds passed; the first router said that it is two hops away
-abbrev before : List History
+abbrev pub before : List History
 before = (Start ∷ Packet 0 (said 0x10 0xAA (entry 1 2 ∷ [])) ∷ replicate 179 Second) ∷ (Start ∷ Packet 0 (said 0x20 2 (entry 2 3 ∷ [])) ∷ []) ∷ []
 
-abbrev networks : List History → ℕ → List ℕ
+abbrev pub networks : List History → ℕ → List ℕ
 networks histories router = map (λ r. r.network.0) (offers (routes_held (ports_of segment router) 8 (history_of histories router)))
 
 abbrev after : List History

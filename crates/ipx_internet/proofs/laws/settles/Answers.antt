@@ -1,4 +1,5 @@
 use Rattle.ipx_internet.proofs.Fanning.{Sending}
+use Rattle.ipx_internet.proofs.QuietSooner.{own_quiet}
 use Rattle.ipx_internet.proofs.Quieting.{quiet, enough, all_settled}
 use Rattle.ipx_internet.proofs.Replying.{Layouts}
 use Rattle.ipx_internet.proofs.Totalling.{Rooms, all_few}
@@ -29,6 +30,10 @@ layouts c = record {
 
 pub returns-clause-quiet : goal.returns-clause-quiet
 returns-clause-quiet c net most_routes most_services q is are waits = quiet net most_routes most_services (layouts c) is q are waits
+
+pub returns-clause-own : goal.returns-clause-own
+returns-clause-own c net most_routes most_services histories steps is are own =
+    own_quiet net (layouts c) is most_routes most_services histories are steps own
 
 pub returns-clause-enough : goal.returns-clause-enough
 returns-clause-enough c net most_routes most_services q limit is are waits few = enough net most_routes most_services (layouts c) is q are waits limit few

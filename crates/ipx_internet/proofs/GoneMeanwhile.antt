@@ -1,0 +1,122 @@
+-- Whatever else happens meanwhile, after 2,895 ticks there is no route to a network that is gone, and no service that nobody announces.
+use Rattle.std.proofs.Common.{◌≡◌, ◌≢◌, refl, subst, ℕ, ◌+◌, ◌<◌, ◌≤◌, true, List, [], ◌∷◌, length, map, inl, inr, arith}
+use Rattle.std.specs.List.{AllByRecursion}
+use Rattle.std.proofs.lemmas.Bool.{both_ways}
+use Rattle.ipx_wire.specs.Crossed.{is_among}
+use Rattle.ipx_wire.specs.declared.address.Address.{Address}
+use Rattle.ipx_wire.specs.declared.network.Network.{Network}
+use Rattle.ipx_wire.specs.declared.rip.Operation.{Operation}
+use Rattle.ipx_wire.specs.declared.rip.Operation.TheVariants.{Request, Response}
+use Rattle.ipx_wire.specs.declared.rip.RipEntry.{RipEntry}
+use Rattle.ipx_wire.specs.declared.sap.Sap.TheVariants.{Query, Response as SapResponse}
+use Rattle.ipx_router.specs.Facts.{route_facts, service_facts, routes_held, services_held, offers}
+use Rattle.ipx_router.specs.Heard.{Heard, HeardRip, HeardSap}
+use Rattle.ipx_router.specs.History.{History}
+use Rattle.ipx_router.specs.Port.{Port}
+use Rattle.ipx_router.specs.Routes.{route_reading, network_order}
+use Rattle.ipx_router.specs.Services.{service_reading, service_order}
+use Rattle.ipx_router.proofs.Counting.{network_total, service_total}
+use Rattle.ipx_internet.specs.Internet.{Internet, IsInternet, ports_of}
+use Rattle.ipx_internet.specs.Meanwhile.{AreWithout, IsWithoutRoute, AsksElsewhere, IsWithoutService, SaysOnly, IsBusyTick, StaysGone, EachTick}
+use Rattle.ipx_internet.specs.Queue.{history_of}
+use Rattle.ipx_internet.specs.Run.{Step, AreHistories, Run, begun, stepped, run_of}
+use Rattle.ipx_internet.specs.Ticks.{ticked, most_ticks_gone, ups, networks_up, IsGone}
+use Rattle.ipx_internet.proofs.Abiding.{RouteSaid, EntrySaid, RipSaid, Said}
+use Rattle.ipx_internet.proofs.Aging.{at_last}
+use Rattle.ipx_internet.proofs.Gone.{among_ups}
+use Rattle.ipx_internet.proofs.Lists.{all_of, all_then}
+use Rattle.ipx_internet.proofs.Meantime.{Stays, AlwaysStays, ticks_rest, begun_rests}
+use Rattle.ipx_internet.proofs.Replying.{Layouts}
+
+-- what holds of each tick, and says something else of it
+each_then : (net : Internet) (most_routes most_services : ℕ) (P Q : Run → List Step → Type 0) → ((run : Run) (steps : List Step) → P run steps → Q run steps)
+    → (run : Run) (ticks : List (List Step)) → EachTick net most_routes most_services P run ticks → EachTick net most_routes most_services Q run ticks
+each_then net most_routes most_services P Q step run [] each = tt
+each_then net most_routes most_services P Q step run (steps ∷ ticks) each =
+    (step run steps each.0, each_then net most_routes most_services P Q step (run_of net most_routes most_services run steps) ticks each.1)
+
+module _ (net : Internet) (laws : Layouts) (is : IsInternet net) (most_routes most_services : ℕ) (histories : List History) (are : AreHistories net histories)
+    (ticks : List (List Step)) (busy : EachTick net most_routes most_services (IsBusyTick net most_routes most_services) (begun histories) ticks)
+    (long : most_ticks_gone ≤ length ticks) (router : ℕ) (within : router < length net) where
+  abbrev past : History
+  past = history_of (ticked net most_routes most_services (begun histories) ticks).histories router
+
+  abbrev ports : List Port
+  ports = ports_of net router
+
+  -- ---- networks
+
+  module _ (network : Network) where
+    abbrev IsOther : Network → Type 0
+    IsOther n = n ≢ network
+
+    abbrev Any : ℕ × List ℕ → Type 0
+    Any key = Unit {0}
+
+    no_route_said : (begun : ℕ) (source : Address) (operation : Operation) (entries : List RipEntry) → AreWithout network operation entries
+        → RipSaid IsOther Any begun source operation entries
+    no_route_said begun source Response entries without = all_then _ (RouteSaid IsOther Any begun) (λ e other near. inl (other near)) entries without
+    no_route_said begun source Request entries without = inr (λ key. tt)
+
+    routeless : (begun : ℕ) (m : Heard) → IsWithoutRoute network m → Said IsOther Any begun m
+    routeless begun (HeardRip source rip) without = no_route_said begun source rip.operation rip.entries without
+    routeless begun (HeardSap source (Query nearest kind)) without = inl without
+    routeless begun (HeardSap source (SapResponse nearest entries)) without = all_of (EntrySaid IsOther Any begun) (λ e near name same. inl tt) entries
+
+    gone_stays : (now : List History) → IsGone net now network → Stays IsOther Any net laws is most_routes most_services now
+    gone_stays now gone at number on same =
+        both_ways (is_among network (networks_up net now at)) (gone at)
+        (subst (λ (n : Network). is_among n (networks_up net now at) ≡ true) same (among_ups (ports_of net at) (ups net now at) number on))
+
+    always : (run : Run) (steps : List Step) → StaysGone net most_routes most_services network run steps
+        → AlwaysStays IsOther Any net laws is most_routes most_services run steps
+    always run [] gone = gone_stays run.histories gone
+    always run (step ∷ steps) gone = (gone_stays run.histories gone.0, always (stepped net most_routes most_services run step) steps gone.1)
+
+    pub no_route : EachTick net most_routes most_services (StaysGone net most_routes most_services network) (begun histories) ticks
+        → AllByRecursion (AllByRecursion (SaysOnly (IsWithoutRoute network))) ticks
+        → AllByRecursion (λ r. r.network ≢ network) (offers (routes_held ports most_routes past))
+    no_route gone says =
+        let rests = ticks_rest IsOther Any net laws is most_routes most_services (IsWithoutRoute network) routeless 0 (begun histories) ticks
+        (begun_rests IsOther Any net laws is most_routes most_services histories are) busy
+        (each_then net most_routes most_services (StaysGone net most_routes most_services network) (AlwaysStays IsOther Any net laws is most_routes most_services)
+        always (begun histories) ticks gone) says in
+        at_last route_reading network_order network_total most_routes (map (λ p. p.route_share) ports) (λ r. r.hops) (λ r. refl) (λ r. r.network ≢ network)
+        (length ticks + 0) (route_facts ports past) (omega (arith, long)) (rests.routers router within).routes
+
+  -- ---- services
+
+  module _ (key : ℕ × List ℕ) where
+    abbrev Every : Network → Type 0
+    Every n = Unit {0}
+
+    abbrev IsOtherKey : ℕ × List ℕ → Type 0
+    IsOtherKey k = k ≢ key
+
+    asks_elsewhere : (begun : ℕ) (source : Address) (operation : Operation) (entries : List RipEntry) → AsksElsewhere source operation
+        → RipSaid Every IsOtherKey begun source operation entries
+    asks_elsewhere begun source Response entries elsewhere = all_of (RouteSaid Every IsOtherKey begun) (λ e near. inl tt) entries
+    asks_elsewhere begun source Request entries elsewhere = inl elsewhere
+
+    serviceless : (begun : ℕ) (m : Heard) → IsWithoutService key m → Said Every IsOtherKey begun m
+    serviceless begun (HeardRip source rip) without = asks_elsewhere begun source rip.operation rip.entries without
+    serviceless begun (HeardSap source (Query nearest kind)) without = inr (λ n. tt)
+    serviceless begun (HeardSap source (SapResponse nearest entries)) without =
+        all_then _ (EntrySaid Every IsOtherKey begun) (λ e other near name same. inl (other near name same)) entries without
+
+    anyhow : (run : Run) (steps : List Step) → AlwaysStays Every IsOtherKey net laws is most_routes most_services run steps
+    anyhow run [] = λ at number on. tt
+    anyhow run (step ∷ steps) = ((λ at number on. tt), anyhow (stepped net most_routes most_services run step) steps)
+
+    anyhow_each : (run : Run) (rest : List (List Step)) → EachTick net most_routes most_services (AlwaysStays Every IsOtherKey net laws is most_routes most_services) run rest
+    anyhow_each run [] = tt
+    anyhow_each run (steps ∷ rest) = (anyhow run steps, anyhow_each (run_of net most_routes most_services run steps) rest)
+
+    pub no_such_service : AllByRecursion (AllByRecursion (SaysOnly (IsWithoutService key))) ticks
+        → AllByRecursion (λ s. (s.service.kind, s.service.name) ≢ key) (offers (services_held ports most_services past))
+    no_such_service says =
+        let rests = ticks_rest Every IsOtherKey net laws is most_routes most_services (IsWithoutService key) serviceless 0 (begun histories) ticks
+        (begun_rests Every IsOtherKey net laws is most_routes most_services histories are) busy (anyhow_each (begun histories) ticks) says in
+        at_last service_reading service_order service_total most_services (map (λ p. p.service_share) ports) (λ s. s.service.hops) (λ s. refl)
+        (λ s. (s.service.kind, s.service.name) ≢ key)
+        (length ticks + 0) (service_facts ports past) (omega (arith, long)) (rests.routers router within).services
