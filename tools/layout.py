@@ -1,6 +1,7 @@
 """Where what is built lies once it is installed: for make install, the archive of a release and Debian's packages."""
 import importlib.util
 import os
+import re
 import shutil
 import subprocess
 import tempfile
@@ -44,6 +45,14 @@ def shared():
     return f"libipxr.so.{version()}", f"libipxr.so.{version().split('.')[0]}"
 
 
+def sizes():
+    """What fills the places of a router's sizes: how much the library has room for that is built, as its header says."""
+    if not is_built(HEADER):
+        return {}
+    found = re.findall(r"(?m)^#define IPXR_MOST_(PORTS|ROUTES|SERVICES) (\d+)$", content(HEADER).decode())
+    return {f"@{name}@": number for name, number in found}
+
+
 def tool(name):
     """A tool of this folder as a module."""
     loader = SourceFileLoader(name, f"{TOP}/tools/{name}")
@@ -55,7 +64,7 @@ def tool(name):
 def filled(name, prefix, lib="lib", libs=""):
     """A file with its places filled in."""
     text = content(name).decode()
-    values = {"@PREFIX@": prefix, "@LIB@": lib, "@LIBS@": libs, "@VERSION@": version()}
+    values = {"@PREFIX@": prefix, "@LIB@": lib, "@LIBS@": libs, "@VERSION@": version(), **sizes()}
     for word, value in values.items():
         text = text.replace(word, value)
     return text.encode()

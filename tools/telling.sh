@@ -1,9 +1,21 @@
 # What the tools of the library for C have in common; they include it at the top of the repository.
 passed=0
 failed=0
-FLAGS="-O2 -Wall -Wextra -pedantic -Iinclude"
+# (the header that a library was built with stands before the sources' own)
+FLAGS="-O2 -Wall -Wextra -pedantic -Ibuild -Iinclude"
 
 has() { command -v "$1" >/dev/null 2>&1; }
+
+# prove FOLDER FLAG..: puts the library without an allocator into a folder, and its header; what was said is shown if it fails.
+prove() {
+    if ! tools/sized "$@" >build/log 2>&1; then
+        cat build/log
+        return 1
+    fi
+}
+
+# with_heap FOLDER AR: the library with the allocator that was compiled there.
+with_heap() { cp "$1/libipx_c.a" "$1/libipxr.a" && "$2" rs "$1/libipxr.a" "$1/heap.o" 2>build/log; }
 
 # A line for what went well or badly: its name, and the status to judge.
 tell() {

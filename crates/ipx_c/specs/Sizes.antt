@@ -1,16 +1,17 @@
 -- How much one router of this library can have; and the version of its interface.
 use Rattle.std.specs.Prelude.{ℕ, ◌+◌, ◌*◌}
+use Rattle.ipx_c.specs.declared.sizes.TheConstants.{MOST_PORTS, MOST_ROUTES, MOST_SERVICES}
 
 -- ports
 abbrev pub most_ports : ℕ
-most_ports = 32
+most_ports = MOST_PORTS
 
 -- records of its tables
 abbrev pub most_routes : ℕ
-most_routes = 2048
+most_routes = MOST_ROUTES
 
 abbrev pub most_services : ℕ
-most_services = 1024
+most_services = MOST_SERVICES
 
 -- a major number and a minor number
 abbrev pub version : ℕ

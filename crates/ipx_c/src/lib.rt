@@ -4,7 +4,8 @@
 //! - Each export answers a number (`specs/Codes`), and its clause says what it did, by the definitions of `ipx_router`: an event
 //!   was taken (`Happens`), a router was made (`Makes`), a packet was copied out (`Copies`), a record was read (`Reads`). Below 0
 //!   nothing happened.
-//! - How many ports, routes and services a router can have stands in `machine`, and in `specs/Sizes`.
+//! - How many ports, routes and services a router can have stands in `sizes`, whose constants `specs/Sizes` names. `tools/sized`
+//!   writes that file anew for a library of other sizes.
 //! - Frames of Ethernet are read and written as `ipx_capture` does, by the numbers of their kinds (`Kinds`).
 //! - `cell` is the only place with a raw pointer; its proofs, and those alone, are walks by hand.
 //! - A handle isn't `Drop`: what doesn't hand its machine on, or put it into an empty one, doesn't compile or isn't proved. So no
@@ -21,6 +22,7 @@ mod machine;
 mod making;
 mod reading;
 mod sending;
+mod sizes;
 mod values;
 mod words;
 

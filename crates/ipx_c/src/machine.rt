@@ -5,16 +5,8 @@ ghost use Rattle.ipx_router.specs.History.{IsOnPort};
 ghost use Rattle.ipx_c.specs.Happens.{Meets};
 
 use crate::fault::Fault;
+use crate::sizes::{MOST_PORTS, MOST_ROUTES, MOST_SERVICES};
 use ipx_router::{Event, Outbox, Outcome, Router};
-
-/// How many ports a router has at most.
-pub(crate) const MOST_PORTS: usize = 32;
-
-/// How many routes it has at most.
-const MOST_ROUTES: usize = 2048;
-
-/// How many services it has at most.
-const MOST_SERVICES: usize = 1024;
 
 /// The router of this library.
 pub(crate) type SizedRouter = Router<MOST_PORTS, MOST_ROUTES, MOST_SERVICES>;
