@@ -1,4 +1,4 @@
-use Rattle.std.proofs.Common.{◌≡◌, refl, [], ◌∷◌, ◌++◌, ◌∙◌, sym, ap, List, ℕ, length, arith}
+use Rattle.std.proofs.Common.{◌≡◌, refl, [], ◌++◌, ◌∙◌, sym, ap, List, ℕ}
 use Rattle.std.proofs.lemmas.Bool.{eqb-true}
 use Rattle.std.proofs.lemmas.Grind.{put_two}
 use Rattle.std.proofs.lemmas.List.{append_assoc, append-nil, nil_from_length}
