@@ -49,7 +49,7 @@ pub use crate::crossed_iter::CrossedIter;
 pub use crate::failed::Failed;
 pub use crate::forward::{change_to_crossed, change_to_forwarded, write_crossed, write_forwarded};
 pub use crate::header::Header;
-pub use crate::hex_text::Hex;
+pub use crate::hex_text::{Hex, put_digits};
 pub use crate::intake::{Intake, MOST_CALLS};
 pub use crate::network::Network;
 pub use crate::node::Node;
