@@ -9,7 +9,9 @@
 //! - What is read lends slices of its bytes, and nothing here takes memory. An intake asks its reader
 //!   a bounded number of times.
 //! - Lists of entries ([`Rip`], [`SapEntries`]) have `len`, `get(k)`, `entry(k)` for a `k` that is known to be below
-//!   `len`, and `entries`; the networks crossed ([`Crossed`]) alike, with `get(k)` for such a `k`. Numbers, addresses and names have `Display` and a `Debug` of the same digits.
+//!   `len`, and `entries`; the networks crossed ([`Crossed`]) alike, with `get(k)` for such a `k`.
+//! - Numbers, addresses, names and operations are told as bytes or words that can't fail (`digits`, `word`, `put_word`), and have
+//!   `Display` and a `Debug` of the same.
 //!
 //! It computes no checksum, knows no link headers, and decides nothing: which packet is answered,
 //! forwarded or dropped is a router's matter.
