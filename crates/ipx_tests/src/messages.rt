@@ -1,4 +1,4 @@
-//! The message of every fault, and the words of every outcome and reason.
+//! The message of every fault, and the words of every outcome, reason and operation, and of all that a table does with an offer.
 //!
 //! What is wanted stands in a `match` for each enum, so a variant that is new doesn't compile before it has its text here.
 
@@ -7,7 +7,10 @@ use ipx_capture::CaptureFault;
 use ipx_cmd::{ChooseFault, RunFault};
 use ipx_internet::{InternetFault, TraceFault};
 use ipx_router::{Outcome, PortFault, PortsFault, Why};
-use ipx_wire::{CrossedFault, PacketFault, RipFault, SapFault};
+use ipx_table::Taken;
+use ipx_wire::{
+    CrossedFault, Failed, NotHex, Operation, OutOfMemory, PacketFault, RipFault, SapFault,
+};
 use std::alloc::Global;
 use std::fmt::Display;
 use std::test::Fail;
@@ -136,6 +139,18 @@ fn says_why_a_run_fails(rt: HostRuntime) -> Result<(), Fail> {
         let text = shown(rt.alloc(), fault)?;
         same(&rt, text.as_str(), choose_message(fault));
     }
+    Ok(())
+}
+
+#[test]
+fn says_what_has_one_reason(rt: HostRuntime) -> Result<(), Fail> {
+    let text = shown(rt.alloc(), Failed)?;
+    same(&rt, text.as_str(), "the device failed");
+    let text = shown(rt.alloc(), OutOfMemory)?;
+    same(&rt, text.as_str(), "memory");
+    let text = shown(rt.alloc(), NotHex)?;
+    let wanted = "not the hexadecimal digits of a network or a node";
+    same(&rt, text.as_str(), wanted);
     Ok(())
 }
 
@@ -334,6 +349,53 @@ fn names_each_reason_of_a_drop(rt: HostRuntime) -> Result<(), Fail> {
     ] {
         let text = shown(rt.alloc(), why)?;
         same(&rt, text.as_str(), reason(why));
+    }
+    Ok(())
+}
+
+fn operation_word(operation: Operation) -> &'static str {
+    match operation {
+        Operation::Request => "request",
+        Operation::Response => "response",
+    }
+}
+
+#[test]
+fn names_each_operation(rt: HostRuntime) -> Result<(), Fail> {
+    for operation in [Operation::Request, Operation::Response] {
+        let text = shown(rt.alloc(), operation)?;
+        same(&rt, text.as_str(), operation_word(operation));
+    }
+    Ok(())
+}
+
+fn taken_word(taken: Taken) -> &'static str {
+    match taken {
+        Taken::Withdrawn => "withdrawn",
+        Taken::Nothing => "nothing",
+        Taken::Refreshed { changed: true } => "changed",
+        Taken::Refreshed { changed: false } => "refreshed",
+        Taken::Replaced => "replaced",
+        Taken::Worse => "worse",
+        Taken::Admitted => "admitted",
+        Taken::Full => "full",
+    }
+}
+
+#[test]
+fn names_all_that_a_table_does(rt: HostRuntime) -> Result<(), Fail> {
+    for taken in [
+        Taken::Withdrawn,
+        Taken::Nothing,
+        Taken::Refreshed { changed: true },
+        Taken::Refreshed { changed: false },
+        Taken::Replaced,
+        Taken::Worse,
+        Taken::Admitted,
+        Taken::Full,
+    ] {
+        let text = shown(rt.alloc(), taken)?;
+        same(&rt, text.as_str(), taken_word(taken));
     }
     Ok(())
 }
