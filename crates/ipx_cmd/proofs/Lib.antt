@@ -25,6 +25,7 @@ pub mod Offs
 pub mod OrdersAllowed
 pub mod Pieces
 pub mod Reached
+pub mod Rooms
 pub mod RoutersMade
 pub mod RoutersNow
 pub mod Rows

@@ -1,5 +1,6 @@
 //! The events of a script's router, and their text.
-ghost use Rattle.std.specs.Prelude.{◌≡◌, ◌++◌, ◌∷◌, [], false, replicate, OnOk, string_bytes};
+ghost use Rattle.std.specs.Prelude.{◌≡◌, ◌++◌, ◌∷◌, [], false, replicate, OnOk, ◌+◌, ◌<◌, ◌≤◌, length, OnErr};
+ghost use Rattle.std.specs.Vec.{vec_capacity};
 ghost use Rattle.std.specs.List.{flat_map};
 ghost use Rattle.ipx_router.specs.Happened.{happened};
 ghost use Rattle.ipx_router.specs.History.{History, IsOnPort, Second as Passed};
@@ -21,7 +22,7 @@ pub(crate) fn happen<W: Write>(
     router: &mut ScriptRouter,
     outbox: &mut Outbox,
     event: Event<'_>,
-    text: &mut String,
+    text: &mut Vec<u8>,
     outlet: &mut Outlet<W>,
 ) -> Result<(), RunFault>
     requires port { IsOnPort router.old.ports (happened event) }
@@ -30,7 +31,7 @@ pub(crate) fn happen<W: Write>(
     ensures fine { OnOk result (outlet.new.failed ≡ false) }
     ensures stands { OnOk result ((h : History) → StandsFor MOST_ROUTES MOST_SERVICES router.old h → StandsFor MOST_ROUTES MOST_SERVICES router.new (h ++ happened event.entry ∷ [])) }
     ensures says { (h : History) → StandsFor MOST_ROUTES MOST_SERVICES router.old h
-        → Says outlet.old outlet.new (string_bytes text.old) (string_bytes text.new) (events_text router.old.ports h (happened event.entry ∷ [])) result }
+        → Says outlet.old outlet.new text.old.items text.new.items (events_text router.old.ports h (happened event.entry ∷ [])) result }
 {
     outbox.clear();
     let outcome = router.step(event, outbox)?;
@@ -43,7 +44,7 @@ pub(crate) fn pass<W: Write>(
     router: &mut ScriptRouter,
     outbox: &mut Outbox,
     count: u32,
-    text: &mut String,
+    text: &mut Vec<u8>,
     outlet: &mut Outlet<W>,
 ) -> Result<(), RunFault>
     requires { outlet.old.failed ≡ false }
@@ -51,7 +52,7 @@ pub(crate) fn pass<W: Write>(
     ensures fine { OnOk result (outlet.new.failed ≡ false) }
     ensures stands { OnOk result ((h : History) → StandsFor MOST_ROUTES MOST_SERVICES router.old h → StandsFor MOST_ROUTES MOST_SERVICES router.new (h ++ replicate count Passed)) }
     ensures says { (h : History) → StandsFor MOST_ROUTES MOST_SERVICES router.old h
-        → Says outlet.old outlet.new (string_bytes text.old) (string_bytes text.new) (events_text router.old.ports h (replicate count Passed)) result }
+        → Says outlet.old outlet.new text.old.items text.new.items (events_text router.old.ports h (replicate count Passed)) result }
 {
     for _passed in 0..count {
         if let Err(fault) = happen(router, outbox, Event::Second, text, outlet) {
@@ -62,18 +63,22 @@ pub(crate) fn pass<W: Write>(
 }
 
 /// A line for each packet of an outbox, or one for a drop.
-fn write_event(outcome: Outcome, outbox: &Outbox, text: &mut String) -> Result<(), AllocError>
-    ensures { OnOk result (string_bytes text.new ≡ string_bytes text.old ++ event_lines (reason outcome) outbox.now.sent) }
+fn write_event(outcome: Outcome, outbox: &Outbox, text: &mut Vec<u8>) -> Result<(), AllocError>
+    ensures text { OnOk result (text.new.items ≡ text.old.items ++ event_lines (reason outcome) outbox.now.sent) }
+    ensures room { OnErr result (vec_capacity text.old < length text.old.items + length (event_lines (reason outcome) outbox.now.sent)) }
+    ensures kept { vec_capacity text.old ≤ vec_capacity text.new }
 {
     match outcome {
-        Outcome::Dropped(why) => drop_line(text, &why),
+        Outcome::Dropped(why) => drop_line(text, why),
         _ => write_sent(outbox, text),
     }
 }
 
 /// A line for each packet of an outbox.
-fn write_sent(outbox: &Outbox, text: &mut String) -> Result<(), AllocError>
-    ensures { OnOk result (string_bytes text.new ≡ string_bytes text.old ++ flat_map sent_text outbox.now.sent) }
+fn write_sent(outbox: &Outbox, text: &mut Vec<u8>) -> Result<(), AllocError>
+    ensures text { OnOk result (text.new.items ≡ text.old.items ++ flat_map sent_text outbox.now.sent) }
+    ensures room { OnErr result (vec_capacity text.old < length text.old.items + length (flat_map sent_text outbox.now.sent)) }
+    ensures kept { vec_capacity text.old ≤ vec_capacity text.new }
 {
     for place in 0..outbox.len() {
         let sent = outbox.get(place);

@@ -1,5 +1,5 @@
 //! Why a line of a script is refused.
-ghost use Rattle.std.specs.Prelude.{Some};
+ghost use Rattle.std.specs.Prelude.{◌≡◌, Some};
 ghost use Rattle.ipx_cmd.specs.Fault.{fault_word};
 
 use std::error::Error;
@@ -46,31 +46,40 @@ pub(crate) enum LineFault {
     SameNode,
 }
 
-/// The one word that the output names the fault by.
+impl LineFault {
+    /// The one word that the output names the fault by.
+    pub fn word(self) -> &'static str
+        ensures { result.now ≡ fault_word self }
+    {
+        match self {
+            LineFault::Long => "long",
+            LineFault::Text => "text",
+            LineFault::Command => "command",
+            LineFault::Words => "words",
+            LineFault::Late => "late",
+            LineFault::Many => "many",
+            LineFault::Network => "network",
+            LineFault::Node => "node",
+            LineFault::Number => "number",
+            LineFault::Hex => "hex",
+            LineFault::Longest => "longest",
+            LineFault::Cost => "cost",
+            LineFault::None => "none",
+            LineFault::Same => "same",
+            LineFault::Port => "port",
+            LineFault::Router => "router",
+            LineFault::Routers => "routers",
+            LineFault::SameNode => "samenode",
+        }
+    }
+}
+
+/// The word of the fault.
 impl fmt::Display for LineFault {
     ghost output = { λ fault. Some (fault_word fault) };
 
     fn fmt<W: fmt::Write>(&self, f: &mut fmt::Formatter<W>) -> fmt::Result {
-        match self {
-            LineFault::Long => f.write_str("long"),
-            LineFault::Text => f.write_str("text"),
-            LineFault::Command => f.write_str("command"),
-            LineFault::Words => f.write_str("words"),
-            LineFault::Late => f.write_str("late"),
-            LineFault::Many => f.write_str("many"),
-            LineFault::Network => f.write_str("network"),
-            LineFault::Node => f.write_str("node"),
-            LineFault::Number => f.write_str("number"),
-            LineFault::Hex => f.write_str("hex"),
-            LineFault::Longest => f.write_str("longest"),
-            LineFault::Cost => f.write_str("cost"),
-            LineFault::None => f.write_str("none"),
-            LineFault::Same => f.write_str("same"),
-            LineFault::Port => f.write_str("port"),
-            LineFault::Router => f.write_str("router"),
-            LineFault::Routers => f.write_str("routers"),
-            LineFault::SameNode => f.write_str("samenode"),
-        }
+        f.write_str(self.word())
     }
 }
 

@@ -1,5 +1,5 @@
 //! What the lines of an internet's script act on: the routers named so far, and then the internet that they make.
-ghost use Rattle.std.specs.Prelude.{◌≡◌, ◌<◌, ◌++◌, ◌∷◌, [], ℕ, List, false, length, IsSome, IfErr, IfOk, OnOk, Ok, Some, None, option_map, string_bytes};
+ghost use Rattle.std.specs.Prelude.{◌≡◌, ◌<◌, ◌++◌, ◌∷◌, [], ℕ, List, false, length, IsSome, IfErr, IfOk, OnOk, Ok, Some, None, option_map};
 ghost use Rattle.ipx_internet.specs.Internet.{Internet};
 ghost use Rattle.ipx_internet.specs.Moment.{StandsFor, net_at};
 ghost use Rattle.ipx_internet.specs.Queue.{Queued};
@@ -76,7 +76,7 @@ impl Act for InternetMachine {
     fn act<W: Write>(
         &mut self,
         line: &[u8],
-        text: &mut String,
+        text: &mut Vec<u8>,
         outlet: &mut Outlet<W>,
     ) -> Result<(), Halt> {
         let Some(order) = self.read(line)? else {
@@ -181,16 +181,16 @@ impl InternetMachine {
     fn obey<W: Write>(
         &mut self,
         order: Order,
-        text: &mut String,
+        text: &mut Vec<u8>,
         outlet: &mut Outlet<W>,
     ) -> Result<(), Halt>
         requires outlet { outlet.old.failed ≡ false }
         requires made { IsSome self.old.internet }
         ensures fine { OnOk result (outlet.new.failed ≡ false) }
         ensures acted { OnOk result ((net : Internet) (past : Queued) → IsStanding self.old (record { net = net; past = Some past })
-            → Leads self.new (obeys net past (request_of self.old.buffer order)) outlet.old outlet.new (string_bytes text.old) (string_bytes text.new)) }
+            → Leads self.new (obeys net past (request_of self.old.buffer order)) outlet.old outlet.new text.old.items text.new.items) }
         ensures halted { IfErr result (λ halt. (net : Internet) (past : Queued) → IsStanding self.old (record { net = net; past = Some past })
-            → Halted (obeys net past (request_of self.old.buffer order)) outlet.old outlet.new (string_bytes text.old) (string_bytes text.new) halt) }
+            → Halted (obeys net past (request_of self.old.buffer order)) outlet.old outlet.new text.old.items text.new.items halt) }
     {
         match &mut self.internet {
             Some(internet) => {
@@ -254,7 +254,7 @@ fn run<W: Write>(
     internet: &mut ScriptInternet,
     buffer: &[u8],
     order: Order,
-    text: &mut String,
+    text: &mut Vec<u8>,
     outlet: &mut Outlet<W>,
 ) -> Result<(), RunFault>
     requires there { order_fault (net_at internet.old) (request_of buffer.now order) ≡ None }
@@ -262,7 +262,7 @@ fn run<W: Write>(
     ensures net { net_at internet.new ≡ net_at internet.old }
     ensures fine { OnOk result (outlet.new.failed ≡ false) }
     ensures stands { OnOk result ((q : Queued) → StandsFor MOST_ROUTES MOST_SERVICES internet.old q → StandsFor MOST_ROUTES MOST_SERVICES internet.new (ordered (net_at internet.old) q (request_of buffer.now order))) }
-    ensures says { (q : Queued) → StandsFor MOST_ROUTES MOST_SERVICES internet.old q → Says outlet.old outlet.new (string_bytes text.old) (string_bytes text.new) (order_text (net_at internet.old) q (request_of buffer.now order)) result }
+    ensures says { (q : Queued) → StandsFor MOST_ROUTES MOST_SERVICES internet.old q → Says outlet.old outlet.new text.old.items text.new.items (order_text (net_at internet.old) q (request_of buffer.now order)) result }
 {
     match order {
         Order::Router | Order::Port(_) => Ok(()),

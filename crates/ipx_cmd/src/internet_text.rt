@@ -1,5 +1,6 @@
 //! What an internet does and tells, and its text.
-ghost use Rattle.std.specs.Prelude.{◌≡◌, ◌<◌, ◌++◌, ℕ, List, Some, false, length, replicate, OnOk, IfErr, string_bytes};
+ghost use Rattle.std.specs.Prelude.{◌≡◌, ◌<◌, ◌++◌, ℕ, List, false, codes, decimal, length, replicate, OnOk, IfErr, ◌+◌, ◌≤◌, OnErr};
+ghost use Rattle.std.specs.Vec.{vec_capacity};
 ghost use Rattle.std.specs.List.{flat_map};
 ghost use Rattle.ipx_router.specs.Happened.{happened};
 ghost use Rattle.ipx_internet.specs.Internet.{IsPlace, ports_of};
@@ -17,15 +18,14 @@ ghost use Rattle.ipx_cmd.specs.declared.ended.RunFault.TheVariants.{Memory};
 use crate::ended::RunFault;
 use crate::internet_making::ScriptInternet;
 use crate::making::{MOST_ROUTES, MOST_SERVICES};
-use crate::output::{HexWord, drop_line};
+use crate::output::drop_line;
 use crate::said::write_much;
 use crate::table_text::{show_routes, show_services};
+use crate::text::{put_decimal, put_word};
 use ipx_internet::{Reception, Settled, Trace, TraceFault};
 use ipx_router::{Event, Outcome};
 use ipx_wire::Outlet;
 use std::alloc::AllocError;
-use std::fmt;
-use std::fmt::Display;
 use std::io::Write;
 
 /// One event of a router: adds a line where it was dropped.
@@ -33,7 +33,7 @@ pub(crate) fn happen<W: Write>(
     internet: &mut ScriptInternet,
     router: u8,
     event: Event<'_>,
-    text: &mut String,
+    text: &mut Vec<u8>,
     outlet: &mut Outlet<W>,
 ) -> Result<(), RunFault>
     requires there { IsThere internet.old router (happened event) }
@@ -41,7 +41,7 @@ pub(crate) fn happen<W: Write>(
     ensures net { net_at internet.new ≡ net_at internet.old }
     ensures fine { OnOk result (outlet.new.failed ≡ false) }
     ensures stands { OnOk result ((q : Queued) → StandsFor MOST_ROUTES MOST_SERVICES internet.old q → StandsFor MOST_ROUTES MOST_SERVICES internet.new (queued (net_at internet.old) MOST_ROUTES MOST_SERVICES q router (happened event.entry))) }
-    ensures says { (q : Queued) → StandsFor MOST_ROUTES MOST_SERVICES internet.old q → Says outlet.old outlet.new (string_bytes text.old) (string_bytes text.new) (event_said (net_at internet.old) q router (happened event.entry)) result }
+    ensures says { (q : Queued) → StandsFor MOST_ROUTES MOST_SERVICES internet.old q → Says outlet.old outlet.new text.old.items text.new.items (event_said (net_at internet.old) q router (happened event.entry)) result }
 {
     match internet.event(router as usize, event) {
         Ok(outcome) => {
@@ -53,11 +53,13 @@ pub(crate) fn happen<W: Write>(
 }
 
 /// A line where an event was dropped.
-fn write_dropped(outcome: Outcome, text: &mut String) -> Result<(), AllocError>
-    ensures { OnOk result (string_bytes text.new ≡ string_bytes text.old ++ dropped_text (reason outcome)) }
+fn write_dropped(outcome: Outcome, text: &mut Vec<u8>) -> Result<(), AllocError>
+    ensures text { OnOk result (text.new.items ≡ text.old.items ++ dropped_text (reason outcome)) }
+    ensures room { OnErr result (vec_capacity text.old < length text.old.items + length (dropped_text (reason outcome))) }
+    ensures kept { vec_capacity text.old ≤ vec_capacity text.new }
 {
     match outcome {
-        Outcome::Dropped(why) => drop_line(text, &why),
+        Outcome::Dropped(why) => drop_line(text, why),
         _ => Ok(()),
     }
 }
@@ -92,14 +94,14 @@ fn pass_one(internet: &mut ScriptInternet) -> Result<(), RunFault>
 pub(crate) fn settle<W: Write>(
     internet: &mut ScriptInternet,
     limit: u32,
-    text: &mut String,
+    text: &mut Vec<u8>,
     outlet: &mut Outlet<W>,
 ) -> Result<(), RunFault>
     requires { outlet.old.failed ≡ false }
     ensures net { net_at internet.new ≡ net_at internet.old }
     ensures fine { OnOk result (outlet.new.failed ≡ false) }
     ensures stands { OnOk result ((q : Queued) → StandsFor MOST_ROUTES MOST_SERVICES internet.old q → StandsFor MOST_ROUTES MOST_SERVICES internet.new (settles (net_at internet.old) q limit)) }
-    ensures says { (q : Queued) → StandsFor MOST_ROUTES MOST_SERVICES internet.old q → Says outlet.old outlet.new (string_bytes text.old) (string_bytes text.new) (settled_text (settles (net_at internet.old) q limit).queue) result }
+    ensures says { (q : Queued) → StandsFor MOST_ROUTES MOST_SERVICES internet.old q → Says outlet.old outlet.new text.old.items text.new.items (settled_text (settles (net_at internet.old) q limit).queue) result }
 {
     match internet.settle(limit as usize) {
         Ok(settled) => {
@@ -111,13 +113,26 @@ pub(crate) fn settle<W: Write>(
 }
 
 /// The line that tells how many deliveries are left.
-fn write_settled(settled: Settled, text: &mut String) -> Result<(), AllocError>
-    ensures { OnOk result ((queue : List Delivery) → IsToldOf queue settled → string_bytes text.new ≡ string_bytes text.old ++ settled_text queue) }
+fn write_settled(settled: Settled, text: &mut Vec<u8>) -> Result<(), AllocError>
+    ensures text { OnOk result ((queue : List Delivery) → IsToldOf queue settled → text.new.items ≡ text.old.items ++ settled_text queue) }
+    ensures room { OnErr result ((queue : List Delivery) → IsToldOf queue settled → vec_capacity text.old < length text.old.items + length (settled_text queue)) }
+    ensures kept { vec_capacity text.old ≤ vec_capacity text.new }
 {
     match settled {
-        Settled::Quiet => text.push_str("quiet\n"),
-        Settled::Left(count) => writeln!(text, "left {count}"),
+        Settled::Quiet => text.extend_from_slice(b"quiet\n"),
+        Settled::Left(count) => left_line(text, count),
     }
+}
+
+/// Appends the line of so many deliveries that wait.
+fn left_line(text: &mut Vec<u8>, count: usize) -> Result<(), AllocError>
+    ensures text { OnOk result (text.new.items ≡ text.old.items ++ (codes "left " ++ decimal count ++ codes "\n")) }
+    ensures room { OnErr result (vec_capacity text.old < length text.old.items + length (codes "left " ++ decimal count ++ codes "\n")) }
+    ensures kept { vec_capacity text.old ≤ vec_capacity text.new }
+{
+    text.extend_from_slice(b"left ")?;
+    put_decimal(text, count as u64)?;
+    text.extend_from_slice(b"\n")
 }
 
 /// Adds the lines of a packet's receptions, or the one of a limit that is less.
@@ -127,18 +142,18 @@ pub(crate) fn trace<W: Write>(
     port: u8,
     limit: u32,
     bytes: &[u8],
-    text: &mut String,
+    text: &mut Vec<u8>,
     outlet: &mut Outlet<W>,
 ) -> Result<(), RunFault>
     requires { outlet.old.failed ≡ false }
     ensures fine { OnOk result (outlet.new.failed ≡ false) }
     ensures says { (q : Queued) → StandsFor MOST_ROUTES MOST_SERVICES internet.now q → IsPlace (net_at internet.now) (record { router = router; port = port })
-        → Says outlet.old outlet.new (string_bytes text.old) (string_bytes text.new) (trace_text limit (traced_all (net_at internet.now) q router port bytes.now)) result }
+        → Says outlet.old outlet.new text.old.items text.new.items (trace_text limit (traced_all (net_at internet.now) q router port bytes.now)) result }
 {
     match internet.trace(router as usize, port, bytes, limit as usize) {
         Ok(trace) => write_trace(&trace, text, outlet),
         Err(TraceFault::Limit) => {
-            text.push_str("limit\n")?;
+            text.extend_from_slice(b"limit\n")?;
             write_much(text, outlet)
         }
         Err(_) => Err(RunFault::Memory),
@@ -148,12 +163,12 @@ pub(crate) fn trace<W: Write>(
 /// A line for each reception.
 fn write_trace<W: Write>(
     trace: &Trace<'_>,
-    text: &mut String,
+    text: &mut Vec<u8>,
     outlet: &mut Outlet<W>,
 ) -> Result<(), RunFault>
     requires { outlet.old.failed ≡ false }
     ensures fine { OnOk result (outlet.new.failed ≡ false) }
-    ensures says { Says outlet.old outlet.new (string_bytes text.old) (string_bytes text.new) (copies_text 0 trace.now) result }
+    ensures says { Says outlet.old outlet.new text.old.items text.new.items (copies_text 0 trace.now) result }
 {
     for number in 0..trace.len() {
         if let Err(fault) = write_reception(number, trace.get(number), text, outlet) {
@@ -167,12 +182,12 @@ fn write_trace<W: Write>(
 fn write_reception<W: Write>(
     number: usize,
     reception: Reception<'_>,
-    text: &mut String,
+    text: &mut Vec<u8>,
     outlet: &mut Outlet<W>,
 ) -> Result<(), RunFault>
     requires { outlet.old.failed ≡ false }
     ensures fine { OnOk result (outlet.new.failed ≡ false) }
-    ensures says { Says outlet.old outlet.new (string_bytes text.old) (string_bytes text.new) (copy_text number (traced reception.entry)) result }
+    ensures says { Says outlet.old outlet.new text.old.items text.new.items (copy_text number (traced reception.entry)) result }
 {
     copy_line(text, number, reception)?;
     write_much(text, outlet)
@@ -182,58 +197,60 @@ fn write_reception<W: Write>(
 ///
 /// An error means out of memory.
 #[tactic(auto, unfolding(crate::specs::InternetText::copy_text))]
-fn copy_line(text: &mut String, number: usize, reception: Reception<'_>) -> Result<(), AllocError>
-    ensures { OnOk result (string_bytes text.new ≡ string_bytes text.old ++ copy_text number (traced reception.entry)) }
+fn copy_line(text: &mut Vec<u8>, number: usize, reception: Reception<'_>) -> Result<(), AllocError>
+    ensures text { OnOk result (text.new.items ≡ text.old.items ++ copy_text number (traced reception.entry)) }
+    ensures room { OnErr result (vec_capacity text.old < length text.old.items + length (copy_text number (traced reception.entry))) }
+    ensures kept { vec_capacity text.old ≤ vec_capacity text.new }
 {
-    let became = Became(reception.outcome);
-    let word = HexWord(reception.bytes);
+    let (first, second) = became(reception.outcome);
     add_copy(text, number, reception)?;
-    writeln!(text, " {became} {word}")
+    text.extend_from_slice(b" ")?;
+    text.extend_from_slice(first.as_bytes())?;
+    text.extend_from_slice(second.as_bytes())?;
+    text.extend_from_slice(b" ")?;
+    put_word(text, reception.bytes)?;
+    text.extend_from_slice(b"\n")
 }
 
 /// Appends the numbers of a reception: its own, that of its parent, its router's and its port's.
 #[tactic(auto, unfolding(crate::specs::InternetText::copy_words))]
-fn add_copy(text: &mut String, number: usize, reception: Reception<'_>) -> Result<(), AllocError>
-    ensures { OnOk result (string_bytes text.new ≡ string_bytes text.old ++ copy_words number (traced reception.entry).copy) }
+fn add_copy(text: &mut Vec<u8>, number: usize, reception: Reception<'_>) -> Result<(), AllocError>
+    ensures text { OnOk result (text.new.items ≡ text.old.items ++ copy_words number (traced reception.entry).copy) }
+    ensures room { OnErr result (vec_capacity text.old < length text.old.items + length (copy_words number (traced reception.entry).copy)) }
+    ensures kept { vec_capacity text.old ≤ vec_capacity text.new }
 {
-    let parent = Parent(reception.parent);
-    let router = reception.router;
-    let port = reception.port;
-    write!(text, "copy {number} {parent} {router} {port}")
+    text.extend_from_slice(b"copy ")?;
+    put_decimal(text, number as u64)?;
+    text.extend_from_slice(b" ")?;
+    put_parent(text, reception.parent)?;
+    text.extend_from_slice(b" ")?;
+    put_decimal(text, reception.router as u64)?;
+    text.extend_from_slice(b" ")?;
+    put_decimal(text, u64::from(reception.port))
 }
 
-/// The reception whose router sent a packet on, if there is one.
-#[derive(Clone, Copy, Debug)]
-struct Parent(Option<usize>);
-
-/// Its number, or `-` where there is none.
-impl Display for Parent {
-    ghost output = { λ parent. Some (parent_word parent.0) };
-
-    fn fmt<W: fmt::Write>(&self, f: &mut fmt::Formatter<W>) -> fmt::Result {
-        match self.0 {
-            Some(number) => number.fmt(f),
-            None => f.write_str("-"),
-        }
+/// Appends the number of the reception whose router sent a packet on, or `-` where there is none.
+fn put_parent(text: &mut Vec<u8>, parent: Option<usize>) -> Result<(), AllocError>
+    ensures text { OnOk result (text.new.items ≡ text.old.items ++ parent_word parent) }
+    ensures room { OnErr result (vec_capacity text.old < length text.old.items + length (parent_word parent)) }
+    ensures kept { vec_capacity text.old ≤ vec_capacity text.new }
+{
+    match parent {
+        Some(number) => put_decimal(text, number as u64),
+        None => text.extend_from_slice(b"-"),
     }
 }
 
-/// What became of a packet at a reception.
-#[derive(Clone, Copy, Debug)]
-struct Became(Outcome);
-
-/// One word: the outcome's name, or the reason of a drop.
-impl Display for Became {
-    ghost output = { λ became. Some (became_word became.0) };
-
-    fn fmt<W: fmt::Write>(&self, f: &mut fmt::Formatter<W>) -> fmt::Result {
-        match self.0 {
-            Outcome::Forwarded => f.write_str("Forwarded"),
-            Outcome::Propagated => f.write_str("Propagated"),
-            Outcome::Local => f.write_str("Local"),
-            Outcome::Dropped(why) => why.fmt(f),
-            outcome => outcome.fmt(f),
-        }
+/// What became of a packet at a reception, as one word in two parts: the outcome's name, or the reason of a drop.
+fn became(outcome: Outcome) -> (&'static str, &'static str)
+    ensures { result.0.now ++ result.1.now ≡ became_word outcome }
+{
+    match outcome {
+        Outcome::Forwarded => ("Forwarded", ""),
+        Outcome::Propagated => ("Propagated", ""),
+        Outcome::Local => ("Local", ""),
+        Outcome::Dropped(why) => (why.word(), ""),
+        outcome => outcome.words(),
     }
 }
 
@@ -241,13 +258,13 @@ impl Display for Became {
 pub(crate) fn show_routes_of<W: Write>(
     internet: &ScriptInternet,
     router: u8,
-    text: &mut String,
+    text: &mut Vec<u8>,
     outlet: &mut Outlet<W>,
 ) -> Result<(), RunFault>
     requires there { router < length internet.now.routers }
     requires outlet { outlet.old.failed ≡ false }
     ensures fine { OnOk result (outlet.new.failed ≡ false) }
-    ensures says { (q : Queued) → StandsFor MOST_ROUTES MOST_SERVICES internet.now q → Says outlet.old outlet.new (string_bytes text.old) (string_bytes text.new) (routes_text (ports_of (net_at internet.now) router) (history_of q.histories router)) result }
+    ensures says { (q : Queued) → StandsFor MOST_ROUTES MOST_SERVICES internet.now q → Says outlet.old outlet.new text.old.items text.new.items (routes_text (ports_of (net_at internet.now) router) (history_of q.histories router)) result }
 {
     match internet.router(usize::from(router)) {
         Some(router) => show_routes(router, text, outlet),
@@ -259,13 +276,13 @@ pub(crate) fn show_routes_of<W: Write>(
 pub(crate) fn show_services_of<W: Write>(
     internet: &ScriptInternet,
     router: u8,
-    text: &mut String,
+    text: &mut Vec<u8>,
     outlet: &mut Outlet<W>,
 ) -> Result<(), RunFault>
     requires there { router < length internet.now.routers }
     requires outlet { outlet.old.failed ≡ false }
     ensures fine { OnOk result (outlet.new.failed ≡ false) }
-    ensures says { (q : Queued) → StandsFor MOST_ROUTES MOST_SERVICES internet.now q → Says outlet.old outlet.new (string_bytes text.old) (string_bytes text.new) (services_text (ports_of (net_at internet.now) router) (history_of q.histories router)) result }
+    ensures says { (q : Queued) → StandsFor MOST_ROUTES MOST_SERVICES internet.now q → Says outlet.old outlet.new text.old.items text.new.items (services_text (ports_of (net_at internet.now) router) (history_of q.histories router)) result }
 {
     match internet.router(usize::from(router)) {
         Some(router) => show_services(router, text, outlet),

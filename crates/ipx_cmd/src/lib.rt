@@ -23,6 +23,7 @@ mod said;
 mod service_words;
 mod show;
 mod table_text;
+mod text;
 mod words;
 
 pub use crate::chosen::{ChooseFault, Chosen, Run, choose};

@@ -1,5 +1,5 @@
 //! What the lines of a script act on: the ports named so far, and then the router that they make.
-ghost use Rattle.std.specs.Prelude.{◌≡◌, ◌<◌, ◌++◌, ◌∷◌, [], ℕ, List, false, length, IsSome, IsTrue, IfErr, IfOk, OnOk, Ok, Err, Some, None, option_map, string_bytes};
+ghost use Rattle.std.specs.Prelude.{◌≡◌, ◌<◌, ◌++◌, ◌∷◌, [], ℕ, List, false, length, IsSome, IsTrue, IfErr, IfOk, OnOk, Ok, Err, Some, None, option_map};
 ghost use Rattle.ipx_router.specs.History.{History};
 ghost use Rattle.ipx_router.specs.Port.{Port as PortValues};
 ghost use Rattle.ipx_router.specs.Stands.{StandsFor};
@@ -71,7 +71,7 @@ impl Act for Machine {
     fn act<W: Write>(
         &mut self,
         line: &[u8],
-        text: &mut String,
+        text: &mut Vec<u8>,
         outlet: &mut Outlet<W>,
     ) -> Result<(), Halt> {
         let Some(command) = self.read(line)? else {
@@ -148,16 +148,16 @@ impl Machine {
     fn obey<W: Write>(
         &mut self,
         command: Command,
-        text: &mut String,
+        text: &mut Vec<u8>,
         outlet: &mut Outlet<W>,
     ) -> Result<(), Halt>
         requires outlet { outlet.old.failed ≡ false }
         requires made { IsSome self.old.router }
         ensures fine { OnOk result (outlet.new.failed ≡ false) }
         ensures acted { OnOk result ((ports : List PortValues) (history : History) → IsStanding self.old (record { ports = ports; past = Some history })
-            → Leads self.new (obeys ports history (instruction_of self.old.buffer command)) outlet.old outlet.new (string_bytes text.old) (string_bytes text.new)) }
+            → Leads self.new (obeys ports history (instruction_of self.old.buffer command)) outlet.old outlet.new text.old.items text.new.items) }
         ensures halted { IfErr result (λ halt. (ports : List PortValues) (history : History) → IsStanding self.old (record { ports = ports; past = Some history })
-            → Halted (obeys ports history (instruction_of self.old.buffer command)) outlet.old outlet.new (string_bytes text.old) (string_bytes text.new) halt) }
+            → Halted (obeys ports history (instruction_of self.old.buffer command)) outlet.old outlet.new text.old.items text.new.items halt) }
     {
         match &mut self.router {
             Some(router) => {
@@ -199,7 +199,7 @@ fn run<W: Write>(
     outbox: &mut Outbox,
     buffer: &[u8],
     command: Command,
-    text: &mut String,
+    text: &mut Vec<u8>,
     outlet: &mut Outlet<W>,
 ) -> Result<(), RunFault>
     requires port { IsTrue (has_ports (length router.old.ports) (instruction_of buffer.now command)) }
@@ -208,7 +208,7 @@ fn run<W: Write>(
     ensures fine { OnOk result (outlet.new.failed ≡ false) }
     ensures stands { OnOk result ((h : History) → StandsFor MOST_ROUTES MOST_SERVICES router.old h → StandsFor MOST_ROUTES MOST_SERVICES router.new (h ++ events_of (instruction_of buffer.now command))) }
     ensures says { (h : History) → StandsFor MOST_ROUTES MOST_SERVICES router.old h
-        → Says outlet.old outlet.new (string_bytes text.old) (string_bytes text.new) (instruction_text router.old.ports h (instruction_of buffer.now command)) result }
+        → Says outlet.old outlet.new text.old.items text.new.items (instruction_text router.old.ports h (instruction_of buffer.now command)) result }
 {
     match command {
         Command::Port(_) => Ok(()),

@@ -1,61 +1,58 @@
 //! The lines that a run writes, each with its line feed.
-ghost use Rattle.std.specs.Prelude.{◌≡◌, ◌++◌, IfSome, OnOk, Some, string_bytes};
-ghost use Rattle.ipx_cmd.specs.Output.{hex_word, out_text, drop_text, route_text, service_text, fault_text};
+ghost use Rattle.std.specs.Prelude.{◌≡◌, ◌++◌, OnOk, ◌+◌, ◌<◌, ◌≤◌, length, OnErr};
+ghost use Rattle.std.specs.Vec.{vec_capacity};
+ghost use Rattle.ipx_router.specs.WhyWord.{why_word};
+ghost use Rattle.ipx_cmd.specs.Output.{out_text, drop_text, route_text, service_text, fault_text};
 
 use crate::fault::LineFault;
 use crate::service_words::add_service;
-use ipx_router::{RouteOffer, ServiceOffer};
-use ipx_wire::{Hex, Node};
+use crate::text::{put_decimal, put_word};
+use ipx_router::{RouteOffer, ServiceOffer, Why};
+use ipx_wire::Node;
 use std::alloc::AllocError;
-use std::fmt;
-use std::fmt::Display;
-
-/// Bytes as one word.
-#[derive(Clone, Copy, Debug)]
-pub(crate) struct HexWord<'a>(pub &'a [u8]);
-
-/// Two upper-case digits for each byte, or `-` where there is none.
-impl<'a> Display for HexWord<'a> {
-    ghost output = { λ word. Some (hex_word word.0.now) };
-
-    fn fmt<W: fmt::Write>(&self, f: &mut fmt::Formatter<W>) -> fmt::Result {
-        if self.0.is_empty() {
-            f.write_str("-")
-        } else {
-            Hex(self.0).fmt(f)
-        }
-    }
-}
 
 /// Appends the line of a packet that was sent, by the port and to the node of its network.
 ///
 /// An error means out of memory.
 pub(crate) fn out_line(
-    text: &mut String,
+    text: &mut Vec<u8>,
     port: u8,
     node: Node,
     bytes: &[u8],
 ) -> Result<(), AllocError>
-    ensures { OnOk result (string_bytes text.new ≡ string_bytes text.old ++ out_text port node.0 bytes.now) }
+    ensures text { OnOk result (text.new.items ≡ text.old.items ++ out_text port node.0 bytes.now) }
+    ensures room { OnErr result (vec_capacity text.old < length text.old.items + length (out_text port node.0 bytes.now)) }
+    ensures kept { vec_capacity text.old ≤ vec_capacity text.new }
 {
-    let word = HexWord(bytes);
-    writeln!(text, "out {port} {node} {word}")
+    text.extend_from_slice(b"out ")?;
+    put_decimal(text, u64::from(port))?;
+    text.extend_from_slice(b" ")?;
+    text.extend_from_slice(&node.digits())?;
+    text.extend_from_slice(b" ")?;
+    put_word(text, bytes)?;
+    text.extend_from_slice(b"\n")
 }
 
 /// Appends the line of an event that was dropped.
 ///
 /// An error means out of memory.
-pub(crate) fn drop_line<D: Display>(text: &mut String, why: &D) -> Result<(), AllocError>
-    ensures { OnOk result (IfSome (D.output why.now) (λ word. string_bytes text.new ≡ string_bytes text.old ++ drop_text word)) }
+pub(crate) fn drop_line(text: &mut Vec<u8>, why: Why) -> Result<(), AllocError>
+    ensures text { OnOk result (text.new.items ≡ text.old.items ++ drop_text (why_word why)) }
+    ensures room { OnErr result (vec_capacity text.old < length text.old.items + length (drop_text (why_word why))) }
+    ensures kept { vec_capacity text.old ≤ vec_capacity text.new }
 {
-    writeln!(text, "drop {why}")
+    text.extend_from_slice(b"drop ")?;
+    text.extend_from_slice(why.word().as_bytes())?;
+    text.extend_from_slice(b"\n")
 }
 
 /// Appends the line of a route in the table: its age is in seconds.
 ///
 /// An error means out of memory.
-pub(crate) fn route_line(text: &mut String, route: &RouteOffer, age: u8) -> Result<(), AllocError>
-    ensures { OnOk result (string_bytes text.new ≡ string_bytes text.old ++ route_text route.now age) }
+pub(crate) fn route_line(text: &mut Vec<u8>, route: &RouteOffer, age: u8) -> Result<(), AllocError>
+    ensures text { OnOk result (text.new.items ≡ text.old.items ++ route_text route.now age) }
+    ensures room { OnErr result (vec_capacity text.old < length text.old.items + length (route_text route.now age)) }
+    ensures kept { vec_capacity text.old ≤ vec_capacity text.new }
 {
     let RouteOffer {
         network,
@@ -64,7 +61,19 @@ pub(crate) fn route_line(text: &mut String, route: &RouteOffer, age: u8) -> Resu
         port,
         node,
     } = *route;
-    writeln!(text, "route {network} {hops} {ticks} {port} {node} {age}")
+    text.extend_from_slice(b"route ")?;
+    text.extend_from_slice(&network.digits())?;
+    text.extend_from_slice(b" ")?;
+    put_decimal(text, u64::from(hops))?;
+    text.extend_from_slice(b" ")?;
+    put_decimal(text, u64::from(ticks))?;
+    text.extend_from_slice(b" ")?;
+    put_decimal(text, u64::from(port))?;
+    text.extend_from_slice(b" ")?;
+    text.extend_from_slice(&node.digits())?;
+    text.extend_from_slice(b" ")?;
+    put_decimal(text, u64::from(age))?;
+    text.extend_from_slice(b"\n")
 }
 
 /// Appends the line of a service in the table: its age is in seconds.
@@ -72,22 +81,37 @@ pub(crate) fn route_line(text: &mut String, route: &RouteOffer, age: u8) -> Resu
 /// An error means out of memory.
 #[tactic(auto, unfolding(crate::specs::Output::service_text))]
 pub(crate) fn service_line(
-    text: &mut String,
+    text: &mut Vec<u8>,
     offer: &ServiceOffer,
     age: u8,
 ) -> Result<(), AllocError>
-    ensures { OnOk result (string_bytes text.new ≡ string_bytes text.old ++ service_text offer.now age) }
+    ensures text { OnOk result (text.new.items ≡ text.old.items ++ service_text offer.now age) }
+    ensures room { OnErr result (vec_capacity text.old < length text.old.items + length (service_text offer.now age)) }
+    ensures kept { vec_capacity text.old ≤ vec_capacity text.new }
 {
     add_service(text, &offer.service)?;
-    let port = offer.port;
-    writeln!(text, " {port} {age}")
+    text.extend_from_slice(b" ")?;
+    put_decimal(text, u64::from(offer.port))?;
+    text.extend_from_slice(b" ")?;
+    put_decimal(text, u64::from(age))?;
+    text.extend_from_slice(b"\n")
 }
 
 /// Appends the line that tells what is wrong with a line of the script, numbered from 1.
 ///
 /// An error means out of memory.
-pub(crate) fn fault_line(text: &mut String, number: u64, fault: LineFault) -> Result<(), AllocError>
-    ensures { OnOk result (string_bytes text.new ≡ string_bytes text.old ++ fault_text number fault) }
+pub(crate) fn fault_line(
+    text: &mut Vec<u8>,
+    number: u64,
+    fault: LineFault,
+) -> Result<(), AllocError>
+    ensures text { OnOk result (text.new.items ≡ text.old.items ++ fault_text number fault) }
+    ensures room { OnErr result (vec_capacity text.old < length text.old.items + length (fault_text number fault)) }
+    ensures kept { vec_capacity text.old ≤ vec_capacity text.new }
 {
-    writeln!(text, "line {number}: {fault}")
+    text.extend_from_slice(b"line ")?;
+    put_decimal(text, number)?;
+    text.extend_from_slice(b": ")?;
+    text.extend_from_slice(fault.word().as_bytes())?;
+    text.extend_from_slice(b"\n")
 }

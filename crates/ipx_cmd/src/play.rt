@@ -1,6 +1,6 @@
 //! A run of `replay` or `internet`: the script is read in pieces, and the text of the lines that a piece
 //! ends is written before the next piece is asked for.
-ghost use Rattle.std.specs.Prelude.{◌≡◌, ◌+◌, ◌^◌, ◌<◌, ◌≤◌, ◌++◌, false, [], length, string_bytes, Err, IfErr, IfOk, OnOk, OnErr};
+ghost use Rattle.std.specs.Prelude.{◌≡◌, ◌+◌, ◌^◌, ◌<◌, ◌≤◌, ◌++◌, false, [], length, Err, IfErr, IfOk, OnOk, OnErr};
 ghost use Rattle.std.specs.Io.KnownBytes.{IsAtEnd};
 ghost use Rattle.ipx_cmd.specs.Acted.{StaysFine};
 ghost use Rattle.ipx_cmd.specs.Leads.{IsPending};
@@ -92,7 +92,7 @@ fn play_script<M: Act + Drop, R: Read, W: Write>(
     ensures whole { IfOk result (λ ended. ended ≡ Done → IsAtEnd intake.new.left) }
 {
     let mut player = Player::new(machine, alloc);
-    let mut text = String::new(alloc);
+    let mut text = Vec::new(alloc);
     let mut piece = [0; PIECE];
     loop {
         let Ok(count) = intake.read(&mut piece) else {
@@ -111,7 +111,7 @@ fn play_script<M: Act + Drop, R: Read, W: Write>(
 fn play_piece<M: Act + Drop, W: Write>(
     player: &mut Player<M>,
     piece: &[u8],
-    text: &mut String,
+    text: &mut Vec<u8>,
     outlet: &mut Outlet<W>,
 ) -> Result<Ended, RunFault>
     requires line { IsPending player.old.pending.items }
@@ -120,10 +120,10 @@ fn play_piece<M: Act + Drop, W: Write>(
     requires outlet { outlet.old.failed ≡ false }
     ensures number { player.new.number ≤ player.old.number + length piece.now }
     ensures line { IfOk result (λ ended. ended ≡ Done → IsPending player.new.pending.items) }
-    ensures emptied { OnOk result (string_bytes text.new ≡ []) }
+    ensures emptied { OnOk result (text.new.items ≡ []) }
     ensures fine { OnOk result (outlet.new.failed ≡ false) }
-    ensures passed { IfOk result (λ ended. (state : M.State) → M.stands player.old.machine state → Passed M.acts (M.stands player.new.machine) state player.old.number (player.old.pending.items ++ piece.now) outlet.old outlet.new (string_bytes text.old) (string_bytes text.new) player.new.number player.new.pending.items ended) }
-    ensures gave_up { IfErr result (λ why. (state : M.State) → M.stands player.old.machine state → GaveUp M.acts state player.old.number (player.old.pending.items ++ piece.now) outlet.old outlet.new (string_bytes text.old) why) }
+    ensures passed { IfOk result (λ ended. (state : M.State) → M.stands player.old.machine state → Passed M.acts (M.stands player.new.machine) state player.old.number (player.old.pending.items ++ piece.now) outlet.old outlet.new text.old.items text.new.items player.new.number player.new.pending.items ended) }
+    ensures gave_up { IfErr result (λ why. (state : M.State) → M.stands player.old.machine state → GaveUp M.acts state player.old.number (player.old.pending.items ++ piece.now) outlet.old outlet.new text.old.items why) }
 {
     let played = player.play(piece, text, outlet);
     answer(played, player.number(), text, outlet)
@@ -132,15 +132,15 @@ fn play_piece<M: Act + Drop, W: Write>(
 /// Plays the last line, and writes what is left of the text.
 fn play_end<M: Act + Drop, W: Write>(
     player: &mut Player<M>,
-    text: &mut String,
+    text: &mut Vec<u8>,
     outlet: &mut Outlet<W>,
 ) -> Result<Ended, RunFault>
     requires line { IsPending player.old.pending.items }
     requires known { (state : M.State) × M.stands player.old.machine state }
     requires outlet { outlet.old.failed ≡ false }
     ensures fine { OnOk result (outlet.new.failed ≡ false) }
-    ensures completed { IfOk result (λ ended. (state : M.State) → M.stands player.old.machine state → Completed M.acts state player.old.number player.old.pending.items outlet.old outlet.new (string_bytes text.old) ended) }
-    ensures unfinished { IfErr result (λ why. (state : M.State) → M.stands player.old.machine state → Unfinished M.acts state player.old.number player.old.pending.items outlet.old outlet.new (string_bytes text.old) why) }
+    ensures completed { IfOk result (λ ended. (state : M.State) → M.stands player.old.machine state → Completed M.acts state player.old.number player.old.pending.items outlet.old outlet.new text.old.items ended) }
+    ensures unfinished { IfErr result (λ why. (state : M.State) → M.stands player.old.machine state → Unfinished M.acts state player.old.number player.old.pending.items outlet.old outlet.new text.old.items why) }
 {
     let played = player.finish(text, outlet);
     answer(played, player.number(), text, outlet)
@@ -150,11 +150,11 @@ fn play_end<M: Act + Drop, W: Write>(
 fn answer<W: Write>(
     played: Result<(), Halt>,
     number: u64,
-    text: &mut String,
+    text: &mut Vec<u8>,
     outlet: &mut Outlet<W>,
 ) -> Result<Ended, RunFault>
     requires { StaysFine played outlet.old }
-    ensures { Answered played number outlet.old outlet.new (string_bytes text.old) (string_bytes text.new) result }
+    ensures { Answered played number outlet.old outlet.new text.old.items text.new.items result }
 {
     match played {
         Ok(()) => complete(text, outlet),
@@ -164,9 +164,9 @@ fn answer<W: Write>(
 }
 
 /// Writes the text of lines that acted.
-fn complete<W: Write>(text: &mut String, outlet: &mut Outlet<W>) -> Result<Ended, RunFault>
+fn complete<W: Write>(text: &mut Vec<u8>, outlet: &mut Outlet<W>) -> Result<Ended, RunFault>
     requires { outlet.old.failed ≡ false }
-    ensures { Flushed Done outlet.old outlet.new (string_bytes text.old) (string_bytes text.new) result }
+    ensures { Flushed Done outlet.old outlet.new text.old.items text.new.items result }
 {
     flush(text, outlet)?;
     Ok(Ended::Done)
@@ -176,26 +176,26 @@ fn complete<W: Write>(text: &mut String, outlet: &mut Outlet<W>) -> Result<Ended
 fn tell<W: Write>(
     number: u64,
     fault: LineFault,
-    text: &mut String,
+    text: &mut Vec<u8>,
     outlet: &mut Outlet<W>,
 ) -> Result<Ended, RunFault>
     requires { outlet.old.failed ≡ false }
-    ensures { Flushed BadInput outlet.old outlet.new (string_bytes text.old ++ fault_text number fault) (string_bytes text.new) result }
+    ensures { Flushed BadInput outlet.old outlet.new (text.old.items ++ fault_text number fault) text.new.items result }
 {
     fault_line(text, number, fault)?;
     flush(text, outlet)?;
     Ok(Ended::BadInput)
 }
 /// Writes the text and empties it.
-pub(crate) fn flush<W: Write>(text: &mut String, outlet: &mut Outlet<W>) -> Result<(), RunFault>
+pub(crate) fn flush<W: Write>(text: &mut Vec<u8>, outlet: &mut Outlet<W>) -> Result<(), RunFault>
     requires { outlet.old.failed ≡ false }
-    ensures ok { OnOk result (WroteAll outlet.old outlet.new (string_bytes text.old)) }
-    ensures emptied { OnOk result (string_bytes text.new ≡ []) }
+    ensures ok { OnOk result (WroteAll outlet.old outlet.new text.old.items) }
+    ensures emptied { OnOk result (text.new.items ≡ []) }
     ensures fine { OnOk result (outlet.new.failed ≡ false) }
-    ensures err { OnErr result (WroteFront outlet.old outlet.new (string_bytes text.old)) }
+    ensures err { OnErr result (WroteFront outlet.old outlet.new text.old.items) }
     ensures fault { IfErr result (IsFaultOf false outlet.new.failed) }
 {
-    write_whole(outlet, text.as_bytes())?;
+    write_whole(outlet, text)?;
     text.clear();
     Ok(())
 }

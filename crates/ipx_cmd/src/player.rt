@@ -2,7 +2,7 @@
 //!
 //! A line ends before a line feed or at the end of the script. A carriage return right before that
 //! end is dropped, but counted where the line is too long.
-ghost use Rattle.std.specs.Prelude.{◌≡◌, ℕ, true, ◌+◌, ◌^◌, ◌<◌, ◌≤◌, [], ◌∷◌, ◌++◌, false, length, IfErr, OnOk, MatchOption, string_bytes};
+ghost use Rattle.std.specs.Prelude.{◌≡◌, ℕ, true, ◌+◌, ◌^◌, ◌<◌, ◌≤◌, [], ◌∷◌, ◌++◌, false, length, IfErr, OnOk, MatchOption};
 ghost use Rattle.ipx_cmd.specs.Acted.{Acted, Halted};
 ghost use Rattle.ipx_cmd.specs.Leads.{IsOneLine, IsPending};
 ghost use Rattle.ipx_cmd.specs.Lines.{is_long, line_feed, longest_line, without_return};
@@ -37,13 +37,13 @@ pub(crate) trait Act {
     fn act<W: Write>(
         &mut self,
         line: &[u8],
-        text: &mut String,
+        text: &mut Vec<u8>,
         outlet: &mut Outlet<W>,
     ) -> Result<(), Halt>
         requires { outlet.old.failed ≡ false }
         ensures fine { OnOk result (outlet.new.failed ≡ false) }
-        ensures acted { OnOk result ((state : State) → stands self.old state → Acted acts (stands self.new) state line.now outlet.old outlet.new (string_bytes text.old) (string_bytes text.new)) }
-        ensures halted { IfErr result (λ halt. (state : State) → stands self.old state → Halted (acts state line.now) outlet.old outlet.new (string_bytes text.old) (string_bytes text.new) halt) };
+        ensures acted { OnOk result ((state : State) → stands self.old state → Acted acts (stands self.new) state line.now outlet.old outlet.new text.old.items text.new.items) }
+        ensures halted { IfErr result (λ halt. (state : State) → stands self.old state → Halted (acts state line.now) outlet.old outlet.new text.old.items text.new.items halt) };
 }
 
 /// A script that is being played: what it acts on, the line that isn't at its end yet, and its number.
@@ -71,7 +71,7 @@ impl<M: Act + Drop> Player<M> {
     pub fn play<W: Write>(
         &mut self,
         piece: &[u8],
-        text: &mut String,
+        text: &mut Vec<u8>,
         outlet: &mut Outlet<W>,
     ) -> Result<(), Halt>
         requires line { IsPending self.old.pending.items }
@@ -80,8 +80,8 @@ impl<M: Act + Drop> Player<M> {
         ensures line { OnOk result (IsPending self.new.pending.items) }
         ensures number { self.new.number ≤ self.old.number + length piece.now }
         ensures fine { OnOk result (outlet.new.failed ≡ false) }
-        ensures went { OnOk result ((state : M.State) → M.stands self.old.machine state → Went M.acts (M.stands self.new.machine) state self.old.number (self.old.pending.items ++ piece.now) outlet.old outlet.new (string_bytes text.old) (string_bytes text.new) self.new.number self.new.pending.items) }
-        ensures off { IfErr result (λ halt. (state : M.State) → M.stands self.old.machine state → WentOff M.acts state self.old.number (self.old.pending.items ++ piece.now) outlet.old outlet.new (string_bytes text.old) (string_bytes text.new) self.new.number halt) }
+        ensures went { OnOk result ((state : M.State) → M.stands self.old.machine state → Went M.acts (M.stands self.new.machine) state self.old.number (self.old.pending.items ++ piece.now) outlet.old outlet.new text.old.items text.new.items self.new.number self.new.pending.items) }
+        ensures off { IfErr result (λ halt. (state : M.State) → M.stands self.old.machine state → WentOff M.acts state self.old.number (self.old.pending.items ++ piece.now) outlet.old outlet.new text.old.items text.new.items self.new.number halt) }
     {
         let mut rest = piece;
         while let Some((front, behind)) = first_line(rest) {
@@ -101,15 +101,15 @@ impl<M: Act + Drop> Player<M> {
     /// Ends the script: acts on the last line, which lacks its line feed, if there is one.
     pub fn finish<W: Write>(
         &mut self,
-        text: &mut String,
+        text: &mut Vec<u8>,
         outlet: &mut Outlet<W>,
     ) -> Result<(), Halt>
         requires line { IsPending self.old.pending.items }
         requires outlet { outlet.old.failed ≡ false }
         ensures number { self.new.number ≡ self.old.number }
         ensures fine { OnOk result (outlet.new.failed ≡ false) }
-        ensures finished { OnOk result ((state : M.State) → M.stands self.old.machine state → Finished M.acts state self.old.number self.old.pending.items outlet.old outlet.new (string_bytes text.old) (string_bytes text.new)) }
-        ensures off { IfErr result (λ halt. (state : M.State) → M.stands self.old.machine state → FinishedOff M.acts state self.old.number self.old.pending.items outlet.old outlet.new (string_bytes text.old) (string_bytes text.new) halt) }
+        ensures finished { OnOk result ((state : M.State) → M.stands self.old.machine state → Finished M.acts state self.old.number self.old.pending.items outlet.old outlet.new text.old.items text.new.items) }
+        ensures off { IfErr result (λ halt. (state : M.State) → M.stands self.old.machine state → FinishedOff M.acts state self.old.number self.old.pending.items outlet.old outlet.new text.old.items text.new.items halt) }
     {
         if self.pending.is_empty() {
             return Ok(());
@@ -121,7 +121,7 @@ impl<M: Act + Drop> Player<M> {
     fn end_line<W: Write>(
         &mut self,
         front: &[u8],
-        text: &mut String,
+        text: &mut Vec<u8>,
         outlet: &mut Outlet<W>,
     ) -> Result<(), Halt>
         requires line { IsPending self.old.pending.items }
@@ -131,8 +131,8 @@ impl<M: Act + Drop> Player<M> {
         ensures fine { OnOk result (outlet.new.failed ≡ false) }
         ensures line { OnOk result (self.new.pending.items ≡ []) }
         ensures number { self.new.number ≤ self.old.number + 1 }
-        ensures went { OnOk result ((state : M.State) → M.stands self.old.machine state → Went M.acts (M.stands self.new.machine) state self.old.number (self.old.pending.items ++ front.now ++ line_feed ∷ []) outlet.old outlet.new (string_bytes text.old) (string_bytes text.new) self.new.number []) }
-        ensures off { IfErr result (λ halt. (state : M.State) → M.stands self.old.machine state → WentOff M.acts state self.old.number (self.old.pending.items ++ front.now ++ line_feed ∷ []) outlet.old outlet.new (string_bytes text.old) (string_bytes text.new) self.new.number halt) }
+        ensures went { OnOk result ((state : M.State) → M.stands self.old.machine state → Went M.acts (M.stands self.new.machine) state self.old.number (self.old.pending.items ++ front.now ++ line_feed ∷ []) outlet.old outlet.new text.old.items text.new.items self.new.number []) }
+        ensures off { IfErr result (λ halt. (state : M.State) → M.stands self.old.machine state → WentOff M.acts state self.old.number (self.old.pending.items ++ front.now ++ line_feed ∷ []) outlet.old outlet.new text.old.items text.new.items self.new.number halt) }
     {
         self.check_length(front)?;
         if self.pending.is_empty() {
@@ -178,14 +178,14 @@ impl<M: Act + Drop> Player<M> {
 fn act_on<M: Act, W: Write>(
     machine: &mut M,
     line: &[u8],
-    text: &mut String,
+    text: &mut Vec<u8>,
     outlet: &mut Outlet<W>,
 ) -> Result<(), Halt>
     requires line { IsPending line.now }
     requires outlet { outlet.old.failed ≡ false }
     ensures fine { OnOk result (outlet.new.failed ≡ false) }
-    ensures went { OnOk result ((state : M.State) (number : ℕ) → M.stands machine.old state → Went M.acts (M.stands machine.new) state number (line.now ++ line_feed ∷ []) outlet.old outlet.new (string_bytes text.old) (string_bytes text.new) (number + 1) []) }
-    ensures off { IfErr result (λ halt. (state : M.State) (number : ℕ) → M.stands machine.old state → WentOff M.acts state number (line.now ++ line_feed ∷ []) outlet.old outlet.new (string_bytes text.old) (string_bytes text.new) number halt) }
+    ensures went { OnOk result ((state : M.State) (number : ℕ) → M.stands machine.old state → Went M.acts (M.stands machine.new) state number (line.now ++ line_feed ∷ []) outlet.old outlet.new text.old.items text.new.items (number + 1) []) }
+    ensures off { IfErr result (λ halt. (state : M.State) (number : ℕ) → M.stands machine.old state → WentOff M.acts state number (line.now ++ line_feed ∷ []) outlet.old outlet.new text.old.items text.new.items number halt) }
 {
     machine.act(without_return(line), text, outlet)
 }
@@ -194,15 +194,15 @@ fn act_on<M: Act, W: Write>(
 fn act_on_last<M: Act, W: Write>(
     machine: &mut M,
     line: &[u8],
-    text: &mut String,
+    text: &mut Vec<u8>,
     outlet: &mut Outlet<W>,
 ) -> Result<(), Halt>
     requires line { IsPending line.now }
     requires some { 0 < length line.now }
     requires outlet { outlet.old.failed ≡ false }
     ensures fine { OnOk result (outlet.new.failed ≡ false) }
-    ensures finished { OnOk result ((state : M.State) (number : ℕ) → M.stands machine.old state → Finished M.acts state number line.now outlet.old outlet.new (string_bytes text.old) (string_bytes text.new)) }
-    ensures off { IfErr result (λ halt. (state : M.State) (number : ℕ) → M.stands machine.old state → FinishedOff M.acts state number line.now outlet.old outlet.new (string_bytes text.old) (string_bytes text.new) halt) }
+    ensures finished { OnOk result ((state : M.State) (number : ℕ) → M.stands machine.old state → Finished M.acts state number line.now outlet.old outlet.new text.old.items text.new.items) }
+    ensures off { IfErr result (λ halt. (state : M.State) (number : ℕ) → M.stands machine.old state → FinishedOff M.acts state number line.now outlet.old outlet.new text.old.items text.new.items halt) }
 {
     machine.act(without_return(line), text, outlet)
 }

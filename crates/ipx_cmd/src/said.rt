@@ -1,5 +1,5 @@
 //! Text that waits to be written, until there is much of it.
-ghost use Rattle.std.specs.Prelude.{◌≡◌, ◌++◌, ℕ, List, false, OnOk, string_bytes};
+ghost use Rattle.std.specs.Prelude.{◌≡◌, ◌++◌, ℕ, List, false, OnOk};
 ghost use Rattle.ipx_cmd.specs.Said.{Says};
 
 use crate::ended::RunFault;
@@ -9,12 +9,12 @@ use std::io::Write;
 
 /// Writes the text where there is much of it.
 pub(crate) fn write_much<W: Write>(
-    text: &mut String,
+    text: &mut Vec<u8>,
     outlet: &mut Outlet<W>,
 ) -> Result<(), RunFault>
     requires { outlet.old.failed ≡ false }
     ensures fine { OnOk result (outlet.new.failed ≡ false) }
-    ensures says { (old said : List ℕ) → string_bytes text.old ≡ old ++ said → Says outlet.old outlet.new old (string_bytes text.new) said result }
+    ensures says { (old said : List ℕ) → text.old.items ≡ old ++ said → Says outlet.old outlet.new old text.new.items said result }
 {
     if text.len() < LARGE {
         return Ok(());

@@ -1,5 +1,6 @@
 //! The lines of the tables of a script's router.
-ghost use Rattle.std.specs.Prelude.{◌≡◌, ◌++◌, false, OnOk, string_bytes};
+ghost use Rattle.std.specs.Prelude.{◌≡◌, ◌++◌, false, OnOk, ◌+◌, ◌<◌, ◌≤◌, length, OnErr};
+ghost use Rattle.std.specs.Vec.{vec_capacity};
 ghost use Rattle.std.specs.List.{flat_map};
 ghost use Rattle.ipx_router.specs.History.{History};
 ghost use Rattle.ipx_router.specs.Stands.{StandsFor};
@@ -17,21 +18,23 @@ use std::io::Write;
 /// Adds the lines of the routes in the table.
 pub(crate) fn show_routes<W: Write>(
     router: &ScriptRouter,
-    text: &mut String,
+    text: &mut Vec<u8>,
     outlet: &mut Outlet<W>,
 ) -> Result<(), RunFault>
     requires { outlet.old.failed ≡ false }
     ensures fine { OnOk result (outlet.new.failed ≡ false) }
     ensures says { (h : History) → StandsFor MOST_ROUTES MOST_SERVICES router.now h
-        → Says outlet.old outlet.new (string_bytes text.old) (string_bytes text.new) (routes_text router.now.ports h) result }
+        → Says outlet.old outlet.new text.old.items text.new.items (routes_text router.now.ports h) result }
 {
     write_routes(router, text)?;
     write_much(text, outlet)
 }
 
 /// A line for each route in the table, by network.
-fn write_routes(router: &ScriptRouter, text: &mut String) -> Result<(), AllocError>
-    ensures { OnOk result (string_bytes text.new ≡ string_bytes text.old ++ flat_map route_held router.now.routes) }
+fn write_routes(router: &ScriptRouter, text: &mut Vec<u8>) -> Result<(), AllocError>
+    ensures text { OnOk result (text.new.items ≡ text.old.items ++ flat_map route_held router.now.routes) }
+    ensures room { OnErr result (vec_capacity text.old < length text.old.items + length (flat_map route_held router.now.routes)) }
+    ensures kept { vec_capacity text.old ≤ vec_capacity text.new }
 {
     for place in 0..router.routes() {
         if let Some(held) = router.route_at(place) {
@@ -44,21 +47,23 @@ fn write_routes(router: &ScriptRouter, text: &mut String) -> Result<(), AllocErr
 /// Adds the lines of the services in the table.
 pub(crate) fn show_services<W: Write>(
     router: &ScriptRouter,
-    text: &mut String,
+    text: &mut Vec<u8>,
     outlet: &mut Outlet<W>,
 ) -> Result<(), RunFault>
     requires { outlet.old.failed ≡ false }
     ensures fine { OnOk result (outlet.new.failed ≡ false) }
     ensures says { (h : History) → StandsFor MOST_ROUTES MOST_SERVICES router.now h
-        → Says outlet.old outlet.new (string_bytes text.old) (string_bytes text.new) (services_text router.now.ports h) result }
+        → Says outlet.old outlet.new text.old.items text.new.items (services_text router.now.ports h) result }
 {
     write_services(router, text)?;
     write_much(text, outlet)
 }
 
 /// A line for each service in the table, by type and name.
-fn write_services(router: &ScriptRouter, text: &mut String) -> Result<(), AllocError>
-    ensures { OnOk result (string_bytes text.new ≡ string_bytes text.old ++ flat_map service_held router.now.services) }
+fn write_services(router: &ScriptRouter, text: &mut Vec<u8>) -> Result<(), AllocError>
+    ensures text { OnOk result (text.new.items ≡ text.old.items ++ flat_map service_held router.now.services) }
+    ensures room { OnErr result (vec_capacity text.old < length text.old.items + length (flat_map service_held router.now.services)) }
+    ensures kept { vec_capacity text.old ≤ vec_capacity text.new }
 {
     for place in 0..router.services() {
         if let Some(held) = router.service_at(place) {

@@ -1,5 +1,5 @@
 //! What a router makes of an event.
-ghost use Rattle.std.specs.Prelude.{Some};
+ghost use Rattle.std.specs.Prelude.{◌≡◌, ◌++◌, Some};
 ghost use Rattle.ipx_router.specs.OutcomeWord.{outcome_word};
 
 use crate::why::Why;
@@ -38,26 +38,38 @@ pub enum Outcome {
     Dropped(Why),
 }
 
-/// A few words, as `already running`; of an event that was dropped those of a `drop` line, as `drop NoRoute`.
+impl Outcome {
+    /// A few words, as `already running`, in two parts that follow one another; the second is empty but for an event that was
+    /// dropped, whose words are those of a `drop` line, as `drop ` and `NoRoute`.
+    pub fn words(self) -> (&'static str, &'static str)
+        ensures { result.0.now ++ result.1.now ≡ outcome_word self }
+    {
+        match self {
+            Outcome::Started => ("started", ""),
+            Outcome::AlreadyRunning => ("already running", ""),
+            Outcome::Stopped => ("stopped", ""),
+            Outcome::Ticked => ("ticked", ""),
+            Outcome::Learned => ("learned", ""),
+            Outcome::Answered => ("answered", ""),
+            Outcome::Forwarded => ("forwarded", ""),
+            Outcome::Propagated => ("propagated", ""),
+            Outcome::WentDown => ("went down", ""),
+            Outcome::CameUp => ("came up", ""),
+            Outcome::AlreadyDown => ("already down", ""),
+            Outcome::AlreadyUp => ("already up", ""),
+            Outcome::Local => ("local", ""),
+            Outcome::Dropped(why) => ("drop ", why.word()),
+        }
+    }
+}
+
+/// The words of the outcome, as `already running` or `drop NoRoute`.
 impl fmt::Display for Outcome {
     ghost output = { λ outcome. Some (outcome_word outcome) };
 
     fn fmt<W: fmt::Write>(&self, f: &mut fmt::Formatter<W>) -> fmt::Result {
-        match *self {
-            Outcome::Started => f.write_str("started"),
-            Outcome::AlreadyRunning => f.write_str("already running"),
-            Outcome::Stopped => f.write_str("stopped"),
-            Outcome::Ticked => f.write_str("ticked"),
-            Outcome::Learned => f.write_str("learned"),
-            Outcome::Answered => f.write_str("answered"),
-            Outcome::Forwarded => f.write_str("forwarded"),
-            Outcome::Propagated => f.write_str("propagated"),
-            Outcome::WentDown => f.write_str("went down"),
-            Outcome::CameUp => f.write_str("came up"),
-            Outcome::AlreadyDown => f.write_str("already down"),
-            Outcome::AlreadyUp => f.write_str("already up"),
-            Outcome::Local => f.write_str("local"),
-            Outcome::Dropped(why) => write!(f, "drop {why}"),
-        }
+        let (first, second) = self.words();
+        f.write_str(first)?;
+        f.write_str(second)
     }
 }

@@ -47,45 +47,48 @@ pub enum Why {
     DownPort,
 }
 
-/// One word, as in a `drop` line: the name of the reason, and behind a colon that of a reader's fault, as in
-/// `Malformed:Short`.
+impl Why {
+    /// One word, as in a `drop` line: the name of the reason, and behind a colon that of a reader's fault, as in
+    /// `Malformed:Short`.
+    pub fn word(self) -> &'static str
+        ensures { result.now ≡ why_word self }
+    {
+        match self {
+            Why::NotRunning => "NotRunning",
+            Why::Malformed(PacketFault::Short) => "Malformed:Short",
+            Why::Malformed(PacketFault::LengthSmall) => "Malformed:LengthSmall",
+            Why::Malformed(PacketFault::LengthBeyond) => "Malformed:LengthBeyond",
+            Why::OwnEcho => "OwnEcho",
+            Why::BadSource => "BadSource",
+            Why::CrossedShort => "CrossedShort",
+            Why::CrossedFull => "CrossedFull",
+            Why::CrossedSeen => "CrossedSeen",
+            Why::Elsewhere => "Elsewhere",
+            Why::OtherSocket => "OtherSocket",
+            Why::NotNeighbour => "NotNeighbour",
+            Why::BadRip(RipFault::Short) => "BadRip:Short",
+            Why::BadRip(RipFault::Operation(_)) => "BadRip:Operation",
+            Why::BadRip(RipFault::NoEntry) => "BadRip:NoEntry",
+            Why::BadRip(RipFault::TooMany) => "BadRip:TooMany",
+            Why::BadSap(SapFault::Short) => "BadSap:Short",
+            Why::BadSap(SapFault::Operation(_)) => "BadSap:Operation",
+            Why::BadSap(SapFault::NoEntry) => "BadSap:NoEntry",
+            Why::BadSap(SapFault::TooMany) => "BadSap:TooMany",
+            Why::NearestReply => "NearestReply",
+            Why::TooManyRouters => "TooManyRouters",
+            Why::FarSide => "FarSide",
+            Why::NoRoute => "NoRoute",
+            Why::TooLong => "TooLong",
+            Why::DownPort => "DownPort",
+        }
+    }
+}
+
+/// The word of the reason.
 impl fmt::Display for Why {
     ghost output = { λ why. Some (why_word why) };
 
     fn fmt<W: fmt::Write>(&self, f: &mut fmt::Formatter<W>) -> fmt::Result {
-        f.write_str(word(*self))
-    }
-}
-
-fn word(why: Why) -> &'static str
-    ensures { result.now ≡ why_word why }
-{
-    match why {
-        Why::NotRunning => "NotRunning",
-        Why::Malformed(PacketFault::Short) => "Malformed:Short",
-        Why::Malformed(PacketFault::LengthSmall) => "Malformed:LengthSmall",
-        Why::Malformed(PacketFault::LengthBeyond) => "Malformed:LengthBeyond",
-        Why::OwnEcho => "OwnEcho",
-        Why::BadSource => "BadSource",
-        Why::CrossedShort => "CrossedShort",
-        Why::CrossedFull => "CrossedFull",
-        Why::CrossedSeen => "CrossedSeen",
-        Why::Elsewhere => "Elsewhere",
-        Why::OtherSocket => "OtherSocket",
-        Why::NotNeighbour => "NotNeighbour",
-        Why::BadRip(RipFault::Short) => "BadRip:Short",
-        Why::BadRip(RipFault::Operation(_)) => "BadRip:Operation",
-        Why::BadRip(RipFault::NoEntry) => "BadRip:NoEntry",
-        Why::BadRip(RipFault::TooMany) => "BadRip:TooMany",
-        Why::BadSap(SapFault::Short) => "BadSap:Short",
-        Why::BadSap(SapFault::Operation(_)) => "BadSap:Operation",
-        Why::BadSap(SapFault::NoEntry) => "BadSap:NoEntry",
-        Why::BadSap(SapFault::TooMany) => "BadSap:TooMany",
-        Why::NearestReply => "NearestReply",
-        Why::TooManyRouters => "TooManyRouters",
-        Why::FarSide => "FarSide",
-        Why::NoRoute => "NoRoute",
-        Why::TooLong => "TooLong",
-        Why::DownPort => "DownPort",
+        f.write_str(self.word())
     }
 }

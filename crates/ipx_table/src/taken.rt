@@ -42,29 +42,30 @@ impl Taken {
             Taken::Nothing | Taken::Worse | Taken::Full => false,
         }
     }
+
+    /// One word: `withdrawn`, `nothing`, `changed` or `refreshed` (as `Refreshed::changed` says), `replaced`, `worse`,
+    /// `admitted`, `full`.
+    pub fn word(self) -> &'static str
+        ensures { result.now ≡ taken_word self }
+    {
+        match self {
+            Taken::Withdrawn => "withdrawn",
+            Taken::Nothing => "nothing",
+            Taken::Refreshed { changed: true } => "changed",
+            Taken::Refreshed { changed: false } => "refreshed",
+            Taken::Replaced => "replaced",
+            Taken::Worse => "worse",
+            Taken::Admitted => "admitted",
+            Taken::Full => "full",
+        }
+    }
 }
 
-/// One word: `withdrawn`, `nothing`, `changed` or `refreshed` (as `Refreshed::changed` says), `replaced`, `worse`, `admitted`,
-/// `full`.
+/// The word of what was done.
 impl fmt::Display for Taken {
     ghost output = { λ taken. Some (taken_word taken) };
 
     fn fmt<W: fmt::Write>(&self, f: &mut fmt::Formatter<W>) -> fmt::Result {
-        f.write_str(word(*self))
-    }
-}
-
-fn word(taken: Taken) -> &'static str
-    ensures { result.now ≡ taken_word taken }
-{
-    match taken {
-        Taken::Withdrawn => "withdrawn",
-        Taken::Nothing => "nothing",
-        Taken::Refreshed { changed: true } => "changed",
-        Taken::Refreshed { changed: false } => "refreshed",
-        Taken::Replaced => "replaced",
-        Taken::Worse => "worse",
-        Taken::Admitted => "admitted",
-        Taken::Full => "full",
+        f.write_str(self.word())
     }
 }

@@ -10,6 +10,7 @@
 //! - `damaged`: packets with bytes cut off or changed, and floods of them.
 //! - `devices`: runs of `replay` and `decode` on devices that give or take few bytes, or fail.
 //! - `endless`: readers that give bytes for ever, and a capture that ends at each of its bytes.
+//! - `messages`: the message of every fault, and the words of every outcome, reason and operation, and of all that a table does.
 //! - `program_words`, `exit_statuses`: the words of the command line, the end of a run.
 #![tactic(auto)]
 
@@ -25,6 +26,8 @@ mod endless;
 mod exit_statuses;
 #[cfg(test)]
 mod internet;
+#[cfg(test)]
+mod messages;
 #[cfg(test)]
 mod own_offer;
 #[cfg(test)]

@@ -3,8 +3,8 @@
 
 use crate::same::same;
 use ipx_wire::{
-    Address, Crossed, Failed, Header, Intake, MOST_CALLS, Network, Node, NotHex, Operation, Outlet,
-    Rip, Sap, ServiceName, Socket,
+    Address, Crossed, Failed, Header, Intake, MOST_CALLS, Network, Node, NotHex, Outlet, Rip, Sap,
+    ServiceName, Socket,
 };
 use std::alloc::Global;
 use std::fmt::{Debug, Display};
@@ -97,14 +97,6 @@ fn shows_a_name_as_one_word(rt: HostRuntime) -> Result<(), Fail> {
 }
 
 #[test]
-fn shows_an_operation(rt: HostRuntime) -> Result<(), Fail> {
-    let (request, response) = (Operation::Request, Operation::Response);
-    let shown = format!(in rt.alloc(); "{request} {response}")?;
-    same(&rt, shown.as_str(), "request response");
-    Ok(())
-}
-
-#[test]
 fn parses_texts(rt: HostRuntime) -> Result<(), Fail> {
     same(&rt, "00000000".parse::<Network>(), Ok(Network::LOCAL));
     same(&rt, "ffffffff".parse::<Network>(), Ok(Network::ALL_ROUTES));
@@ -113,9 +105,6 @@ fn parses_texts(rt: HostRuntime) -> Result<(), Fail> {
     same(&rt, "0000000".parse::<Network>(), Err(NotHex));
     same(&rt, "FFFFFFFFFFFF".parse::<Node>(), Ok(Node::BROADCAST));
     same(&rt, "00000000000G".parse::<Node>(), Err(NotHex));
-    let shown = format!(in rt.alloc(); "{NotHex}")?;
-    let wanted = "not the hexadecimal digits of a network or a node";
-    same(&rt, shown.as_str(), wanted);
     Ok(())
 }
 

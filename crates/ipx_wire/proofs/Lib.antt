@@ -1,3 +1,4 @@
+pub mod AddressWords
 pub mod Crossings
 pub mod Entries
 pub mod Forwarded

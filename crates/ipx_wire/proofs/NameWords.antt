@@ -1,7 +1,13 @@
-use Rattle.std.proofs.Common.{◌≡◌, ℕ, ◌+◌, ◌<◌, List, [], ◌++◌, length, take, get_or, refl, sym, ap, ◌∙◌}
+use Rattle.std.proofs.Common.{◌≡◌, ℕ, ◌+◌, ◌<◌, Bool, true, false, if◌then◌else◌, arith, List, [], ◌∷◌, ◌++◌, length, take, get_or, refl, sym, ap, ◌∙◌}
+use Rattle.std.proofs.lemmas.Bool.Decides.{nat_tests}
 use Rattle.std.proofs.lemmas.List.{flat_map_more, take_more}
+use Rattle.std.proofs.lemmas.Str.{IsAscii-append}
+use Rattle.std.proofs.lemmas.Str.Ascii.{IsAscii-cons, IsAscii-nil}
 use Rattle.std.specs.List.{flat_map}
-use Rattle.ipx_wire.specs.NameWord.{byte_word, name_word}
+use Rattle.std.specs.Str.{IsAscii}
+use Rattle.hex.specs.Hex.{encode_upper}
+use Rattle.ipx_wire.proofs.HexText.{IsAscii-encode_upper}
+use Rattle.ipx_wire.specs.NameWord.{byte_word, is_plain_byte, name_word}
 
 -- no bytes, no word
 pub name_word-none : name_word [] ≡ []
@@ -13,3 +19,21 @@ pub name_word-more : (xs : List ℕ) (i : ℕ) → i < length xs → name_word (
 unfolding name_word
 name_word-more xs i below =
     flat_map_more byte_word [] (take i xs) (get_or xs i 0) ∙ ap (flat_map byte_word) (sym (take_more xs i 0 below))
+
+-- ---- the word is ASCII
+
+ascii_cases : (b : ℕ) (plain : Bool) → (plain ≡ true → b < 128) → IsAscii (if plain then b ∷ [] else 0x5C ∷ encode_upper (b ∷ []))
+ascii_cases b true small = IsAscii-cons b [] (small refl) IsAscii-nil
+ascii_cases b false small = IsAscii-cons 0x5C _ (omega arith) (IsAscii-encode_upper (b ∷ []))
+
+IsAscii-byte_word : (b : ℕ) → IsAscii (byte_word b)
+IsAscii-byte_word b = ascii_cases b (is_plain_byte b) (λ plain. grind (arith, nat_tests))
+
+pub IsAscii-name_word : (name : List ℕ) → IsAscii (name_word name)
+unfolding name_word
+IsAscii-name_word [] = IsAscii-nil
+IsAscii-name_word (b ∷ name) = IsAscii-append (byte_word b) (name_word name) (IsAscii-byte_word b) (IsAscii-name_word name)
+
+-- as the front of a room that it was written to
+pub ascii_front : (front name : List ℕ) → front ≡ name_word name → IsAscii front
+ascii_front front name e = rw e (IsAscii-name_word name)

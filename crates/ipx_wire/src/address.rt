@@ -1,6 +1,7 @@
-ghost use Rattle.std.specs.Prelude.{Some};
+ghost use Rattle.std.specs.Prelude.{◌≡◌, Some};
 ghost use Rattle.ipx_wire.specs.AddressWord.{address_word};
 
+use crate::hex_text::{put_text, write_ascii};
 use crate::network::Network;
 use crate::node::Node;
 use crate::socket::Socket;
@@ -17,17 +18,27 @@ pub struct Address {
     pub socket: Socket,
 }
 
+impl Address {
+    /// Network, node and socket in upper-case hexadecimal digits, separated by points, as ASCII.
+    #[tactic(auto, unfolding(crate::specs::AddressWord::address_word))]
+    pub fn word(self) -> [u8; 26]
+        ensures { result ≡ address_word self }
+    {
+        let mut word = [0; 26];
+        let at = put_text(&mut word, 0, &self.network.digits());
+        let at = put_text(&mut word, at, b".");
+        let at = put_text(&mut word, at, &self.node.digits());
+        let at = put_text(&mut word, at, b".");
+        put_text(&mut word, at, &self.socket.digits());
+        word
+    }
+}
+
 /// Network, node and socket in upper-case hexadecimal digits, separated by points, as in `00000010.0000000000AA.0453`.
 impl fmt::Display for Address {
     ghost output = { λ address. Some (address_word address) };
 
-    #[tactic(auto, unfolding(crate::specs::AddressWord::address_word))]
     fn fmt<W: fmt::Write>(&self, f: &mut fmt::Formatter<W>) -> fmt::Result {
-        let Address {
-            network,
-            node,
-            socket,
-        } = self;
-        write!(f, "{network}.{node}.{socket}")
+        write_ascii(f, &self.word())
     }
 }

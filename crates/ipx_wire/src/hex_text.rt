@@ -1,5 +1,5 @@
 //! Bytes as upper-case hexadecimal text, two digits a byte.
-ghost use Rattle.std.specs.Prelude.{◌≡◌, ◌*◌, ◌<◌, ◌≤◌, length, slice_index, Some};
+ghost use Rattle.std.specs.Prelude.{◌≡◌, ◌+◌, ◌*◌, ◌<◌, ◌≤◌, ◌++◌, length, slice_index, take, Some};
 ghost use Rattle.std.specs.Fmt.{WritesOnOk};
 ghost use Rattle.std.specs.Str.{IsAscii};
 ghost use Rattle.hex.specs.Hex.{encode_upper, upper_digits};
@@ -48,6 +48,19 @@ pub fn put_digits(out: &mut [u8], bytes: &[u8])
         out[2 * i] = digit(byte / 16);
         out[2 * i + 1] = digit(byte % 16);
     }
+}
+
+/// Writes a text behind the first `at` bytes, and tells where it ends.
+#[inline]
+pub fn put_text(room: &mut [u8], at: usize, text: &[u8]) -> usize
+    requires { at + length text.now ≤ length room.old }
+    ensures room { take result room.new ≡ take at room.old ++ text.now }
+    ensures end { result ≡ at + length text.now }
+    ensures size { length room.new ≡ length room.old }
+{
+    let end = at + text.len();
+    room[at..end].copy_from_slice(text);
+    end
 }
 
 /// Writes digits, or other ASCII, as they are.

@@ -9,7 +9,9 @@
 //! - What is read lends slices of its bytes, and nothing here takes memory. An intake asks its source
 //!   once a call, and a bounded number of times; an outlet gives once a call.
 //! - Lists of entries ([`Rip`], [`SapEntries`]) have `len`, `get(k)`, `entry(k)` for a `k` that is known to be below
-//!   `len`, and `entries`; the networks crossed ([`Crossed`]) alike, with `get(k)` for such a `k`. Numbers, addresses and names have `Display` and a `Debug` of the same digits.
+//!   `len`, and `entries`; the networks crossed ([`Crossed`]) alike, with `get(k)` for such a `k`.
+//! - Numbers, addresses, names and operations are told as bytes or words that can't fail (`digits`, `word`, `put_word`), and have
+//!   `Display` and a `Debug` of the same.
 //!
 //! It computes no checksum, knows no link headers, and decides nothing: which packet is answered,
 //! forwarded or dropped is a router's matter.
@@ -51,7 +53,7 @@ pub use crate::crossed_iter::CrossedIter;
 pub use crate::failed::Failed;
 pub use crate::forward::{change_to_crossed, change_to_forwarded, write_crossed, write_forwarded};
 pub use crate::header::Header;
-pub use crate::hex_text::Hex;
+pub use crate::hex_text::{Hex, put_digits};
 pub use crate::intake::{Intake, MOST_CALLS};
 pub use crate::network::Network;
 pub use crate::node::Node;

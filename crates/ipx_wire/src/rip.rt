@@ -19,7 +19,7 @@ pub enum Operation {
 }
 
 impl Operation {
-    ghost use Rattle.ipx_wire.specs.Rip.{operation_number};
+    ghost use Rattle.ipx_wire.specs.Rip.{operation_number, operation_word};
 
     /// The number that stands for it in a packet: 1 request, 2 response.
     pub fn number(self) -> u16
@@ -30,6 +30,16 @@ impl Operation {
             Operation::Response => 2,
         }
     }
+
+    /// `request` or `response`.
+    pub fn word(self) -> &'static str
+        ensures { result.now ≡ operation_word self }
+    {
+        match self {
+            Operation::Request => "request",
+            Operation::Response => "response",
+        }
+    }
 }
 
 /// `request` or `response`.
@@ -37,16 +47,7 @@ impl fmt::Display for Operation {
     ghost output = { λ operation. Some (operation_word operation) };
 
     fn fmt<W: fmt::Write>(&self, f: &mut fmt::Formatter<W>) -> fmt::Result {
-        f.write_str(word(*self))
-    }
-}
-
-fn word(operation: Operation) -> &'static str
-    ensures { result.now ≡ operation_word operation }
-{
-    match operation {
-        Operation::Request => "request",
-        Operation::Response => "response",
+        f.write_str(self.word())
     }
 }
 

@@ -9,7 +9,8 @@ ghost use Rattle.std.specs.Cmp.Lexicographic.{nat_list_eq_equiv, nat_list_cmp_to
 ghost use Rattle.ipx_wire.specs.NameWord.{name_word};
 ghost use Rattle.ipx_wire.specs.Name.{IsName, IsNoName, IsServiceName, name_of, name_field, name_order, same_name, default_name};
 
-use crate::name_word::write_name;
+use crate::hex_text::write_ascii;
+use crate::name_word::put_name;
 use std::cmp::Ordering;
 use std::fmt;
 use std::hash::{Hash, Hasher};
@@ -42,6 +43,9 @@ impl Model for ServiceName {
 impl ServiceName {
     /// How many bytes a packet keeps for a name.
     pub const SIZE: usize = 48;
+
+    /// How many bytes the word of a name has at most: three for each of 47.
+    pub const LONGEST_WORD: usize = 141;
 
     /// The name in the field of a packet: the bytes before its first zero. Where the field begins
     /// with a zero, or has none, there is no name.
@@ -80,6 +84,16 @@ impl ServiceName {
     {
         self.field
     }
+
+    /// Writes the name as one word into the front of `room`, as ASCII, and tells how many bytes it has.
+    ///
+    /// A byte that isn't visible ASCII, and the backslash, is written as a backslash and two upper-case hexadecimal digits.
+    pub fn put_word(&self, room: &mut [u8; ServiceName::LONGEST_WORD]) -> usize
+        ensures word { take result room.new ≡ name_word self.now }
+        ensures most { result ≤ 141 }
+    {
+        put_name(room, self.bytes())
+    }
 }
 
 /// The name as one word: a byte that isn't visible ASCII, and the backslash, as a backslash and two upper-case hexadecimal
@@ -88,7 +102,9 @@ impl fmt::Display for ServiceName {
     ghost output = { λ name. Some (name_word name) };
 
     fn fmt<W: fmt::Write>(&self, f: &mut fmt::Formatter<W>) -> fmt::Result {
-        write_name(f, self.bytes())
+        let mut room = [0; ServiceName::LONGEST_WORD];
+        let count = self.put_word(&mut room);
+        write_ascii(f, &room[..count])
     }
 }
 

@@ -1,44 +1,44 @@
-ghost use Rattle.std.specs.Prelude.{◌≡◌, ◌++◌, Some, OnOk, string_bytes};
+ghost use Rattle.std.specs.Prelude.{◌≡◌, ◌++◌, OnOk, ◌+◌, ◌<◌, ◌≤◌, length, OnErr};
+ghost use Rattle.std.specs.Vec.{vec_capacity};
 ghost use Rattle.ipx_cmd.specs.CaptureWord.{capture_word};
 ghost use Rattle.ipx_cmd.specs.Shown.{capture_fault_text};
 
+use crate::text::put_decimal;
 use ipx_capture::CaptureFault;
 use std::alloc::AllocError;
-use std::fmt;
-use std::fmt::Display;
-
-/// A fault of a capture file as one word.
-#[derive(Clone, Copy, Debug)]
-struct CaptureWord(CaptureFault);
-
-impl Display for CaptureWord {
-    ghost output = { λ word. Some (capture_word word.0) };
-
-    fn fmt<W: fmt::Write>(&self, f: &mut fmt::Formatter<W>) -> fmt::Result {
-        match self.0 {
-            CaptureFault::CutHeader => f.write_str("CutHeader"),
-            CaptureFault::Magic => f.write_str("Magic"),
-            CaptureFault::Version => f.write_str("Version"),
-            CaptureFault::Link => f.write_str("Link"),
-            CaptureFault::RecordLong => f.write_str("RecordLong"),
-            CaptureFault::CutRecord => f.write_str("CutRecord"),
-            CaptureFault::Read => f.write_str("Read"),
-            CaptureFault::Memory => f.write_str("Memory"),
-        }
-    }
-}
 
 /// Appends the line of the fault that ends a capture: at the record of this number, or at the header with 0.
 ///
 /// An error is out of memory.
 #[tactic(auto, unfolding(crate::specs::Shown::capture_fault_text))]
 pub(crate) fn fault_line(
-    text: &mut String,
+    text: &mut Vec<u8>,
     number: u64,
     fault: CaptureFault,
 ) -> Result<(), AllocError>
-    ensures { OnOk result (string_bytes text.new ≡ string_bytes text.old ++ capture_fault_text number fault) }
+    ensures text { OnOk result (text.new.items ≡ text.old.items ++ capture_fault_text number fault) }
+    ensures room { OnErr result (vec_capacity text.old < length text.old.items + length (capture_fault_text number fault)) }
+    ensures kept { vec_capacity text.old ≤ vec_capacity text.new }
 {
-    let word = CaptureWord(fault);
-    writeln!(text, "record {number}: {word}")
+    text.extend_from_slice(b"record ")?;
+    put_decimal(text, number)?;
+    text.extend_from_slice(b": ")?;
+    text.extend_from_slice(word(fault).as_bytes())?;
+    text.extend_from_slice(b"\n")
+}
+
+/// A fault of a capture file as one word.
+fn word(fault: CaptureFault) -> &'static str
+    ensures { result.now ≡ capture_word fault }
+{
+    match fault {
+        CaptureFault::CutHeader => "CutHeader",
+        CaptureFault::Magic => "Magic",
+        CaptureFault::Version => "Version",
+        CaptureFault::Link => "Link",
+        CaptureFault::RecordLong => "RecordLong",
+        CaptureFault::CutRecord => "CutRecord",
+        CaptureFault::Read => "Read",
+        CaptureFault::Memory => "Memory",
+    }
 }

@@ -1,4 +1,5 @@
-ghost use Rattle.std.specs.Prelude.{◌≡◌, ◌++◌, OnOk, string_bytes, Ok};
+ghost use Rattle.std.specs.Prelude.{◌≡◌, ◌++◌, OnOk, Ok, ◌+◌, ◌<◌, ◌≤◌, length, OnErr};
+ghost use Rattle.std.specs.Vec.{vec_capacity};
 ghost use Rattle.std.specs.List.{flat_map};
 ghost use Rattle.ipx_wire.specs.Crossed.{crossed_of};
 ghost use Rattle.ipx_cmd.specs.CrossedText.{crossed_text, network_after};
@@ -11,30 +12,40 @@ use std::alloc::AllocError;
 ///
 /// An error is out of memory.
 #[tactic(auto, unfolding(crate::specs::CrossedText::crossed_text))]
-pub(crate) fn crossed_line(text: &mut String, control: u8, payload: &[u8]) -> Result<(), AllocError>
-    ensures { OnOk result (string_bytes text.new ≡ string_bytes text.old ++ crossed_text (crossed_of control payload.now)) }
+pub(crate) fn crossed_line(
+    text: &mut Vec<u8>,
+    control: u8,
+    payload: &[u8],
+) -> Result<(), AllocError>
+    ensures text { OnOk result (text.new.items ≡ text.old.items ++ crossed_text (crossed_of control payload.now)) }
+    ensures room { OnErr result (vec_capacity text.old < length text.old.items + length (crossed_text (crossed_of control payload.now))) }
+    ensures kept { vec_capacity text.old ≤ vec_capacity text.new }
 {
     match Crossed::read(control, payload) {
         Ok(crossed) => network_line(text, &crossed),
         Err(fault) => {
-            let word = word(fault);
-            writeln!(text, "crossed bad {word}")
+            text.extend_from_slice(b"crossed bad ")?;
+            text.extend_from_slice(word(fault).as_bytes())?;
+            text.extend_from_slice(b"\n")
         }
     }
 }
 
 #[tactic(auto, unfolding(crate::specs::CrossedText::crossed_text))]
-fn network_line(text: &mut String, crossed: &Crossed<'_>) -> Result<(), AllocError>
-    ensures { OnOk result (string_bytes text.new ≡ string_bytes text.old ++ crossed_text (Ok crossed.now)) }
+fn network_line(text: &mut Vec<u8>, crossed: &Crossed<'_>) -> Result<(), AllocError>
+    ensures text { OnOk result (text.new.items ≡ text.old.items ++ crossed_text (Ok crossed.now)) }
+    ensures room { OnErr result (vec_capacity text.old < length text.old.items + length (crossed_text (Ok crossed.now))) }
+    ensures kept { vec_capacity text.old ≤ vec_capacity text.new }
 {
-    text.push_str("crossed")?;
+    text.extend_from_slice(b"crossed")?;
     add_networks(text, crossed)?;
-    text.push_str("\n")?;
-    Ok(())
+    text.extend_from_slice(b"\n")
 }
 
-fn add_networks(text: &mut String, crossed: &Crossed<'_>) -> Result<(), AllocError>
-    ensures { OnOk result (string_bytes text.new ≡ string_bytes text.old ++ flat_map network_after crossed.now) }
+fn add_networks(text: &mut Vec<u8>, crossed: &Crossed<'_>) -> Result<(), AllocError>
+    ensures text { OnOk result (text.new.items ≡ text.old.items ++ flat_map network_after crossed.now) }
+    ensures room { OnErr result (vec_capacity text.old < length text.old.items + length (flat_map network_after crossed.now)) }
+    ensures kept { vec_capacity text.old ≤ vec_capacity text.new }
 {
     for place in 0..crossed.len() {
         add_network(text, crossed.get(place))?;
@@ -43,10 +54,13 @@ fn add_networks(text: &mut String, crossed: &Crossed<'_>) -> Result<(), AllocErr
 }
 
 #[tactic(auto, unfolding(crate::specs::CrossedText::network_after))]
-fn add_network(text: &mut String, network: Network) -> Result<(), AllocError>
-    ensures { OnOk result (string_bytes text.new ≡ string_bytes text.old ++ network_after network) }
+fn add_network(text: &mut Vec<u8>, network: Network) -> Result<(), AllocError>
+    ensures text { OnOk result (text.new.items ≡ text.old.items ++ network_after network) }
+    ensures room { OnErr result (vec_capacity text.old < length text.old.items + length (network_after network)) }
+    ensures kept { vec_capacity text.old ≤ vec_capacity text.new }
 {
-    write!(text, " {network}")
+    text.extend_from_slice(b" ")?;
+    text.extend_from_slice(&network.digits())
 }
 
 fn word(fault: CrossedFault) -> &'static str

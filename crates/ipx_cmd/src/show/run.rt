@@ -1,6 +1,6 @@
 //! A run of `decode`: records are read one by one, and their text is written in large pieces, but always before the reader is
 //! asked again.
-ghost use Rattle.std.specs.Prelude.{◌≡◌, [], false, IfErr, IfOk, OnErr, OnOk, string_bytes};
+ghost use Rattle.std.specs.Prelude.{◌≡◌, [], false, IfErr, IfOk, OnErr, OnOk};
 ghost use Rattle.ipx_wire.specs.Ends.{Input};
 ghost use Rattle.ipx_capture.specs.Place.{Opened, keeps, place};
 ghost use Rattle.ipx_cmd.specs.Decoded.{CutOff, Decoded};
@@ -31,7 +31,7 @@ pub fn decode<R: Read, W: Write>(
     ensures err { OnErr result (CutOff intake.old intake.new outlet.old outlet.new) }
     ensures fault { IfErr result (IsFaultOf intake.new.failed outlet.new.failed) }
 {
-    let mut text = String::new(alloc);
+    let mut text = Vec::new(alloc);
     match Capture::from_reader(intake, alloc) {
         Ok(mut capture) => {
             let answer = show_records(&mut capture, &mut text, outlet);
@@ -45,10 +45,10 @@ pub fn decode<R: Read, W: Write>(
 /// Shows the records behind the header.
 fn show_records<R: Read, W: Write>(
     capture: &mut Capture<'_, R>,
-    text: &mut String,
+    text: &mut Vec<u8>,
     outlet: &mut Outlet<W>,
 ) -> Result<Ended, RunFault>
-    requires text { string_bytes text.old ≡ [] }
+    requires text { text.old.items ≡ [] }
     requires capture { (before : Input) × Opened before (place capture.old) }
     requires outlet { outlet.old.failed ≡ false }
     ensures same_reference { keeps capture.new ≡ keeps capture.old }
@@ -76,12 +76,12 @@ fn show_records<R: Read, W: Write>(
 /// Writes the text where much has gathered, or where the reader will be asked next.
 fn write_some<W: Write>(
     is_ready: bool,
-    text: &mut String,
+    text: &mut Vec<u8>,
     outlet: &mut Outlet<W>,
 ) -> Result<(), RunFault>
     requires { outlet.old.failed ≡ false }
-    ensures ok { OnOk result (Moved outlet.old outlet.new (string_bytes text.old) (string_bytes text.new)) }
-    ensures err { OnErr result (WroteFront outlet.old outlet.new (string_bytes text.old)) }
+    ensures ok { OnOk result (Moved outlet.old outlet.new text.old.items text.new.items) }
+    ensures err { OnErr result (WroteFront outlet.old outlet.new text.old.items) }
     ensures fault { IfErr result (IsFaultOf false outlet.new.failed) }
 {
     if is_ready && text.len() < LARGE {
@@ -92,13 +92,13 @@ fn write_some<W: Write>(
 
 /// Ends a run at a fault of its capture.
 fn refused<W: Write>(
-    text: &mut String,
+    text: &mut Vec<u8>,
     outlet: &mut Outlet<W>,
     number: u64,
     fault: CaptureFault,
 ) -> Result<Ended, RunFault>
     requires { outlet.old.failed ≡ false }
-    ensures { Refuses fault number outlet.old outlet.new (string_bytes text.old) result }
+    ensures { Refuses fault number outlet.old outlet.new text.old.items result }
 {
     match fault {
         CaptureFault::Read => Err(RunFault::Read),
@@ -109,13 +109,13 @@ fn refused<W: Write>(
 
 /// Writes the text and the line of the fault behind it.
 fn tell<W: Write>(
-    text: &mut String,
+    text: &mut Vec<u8>,
     outlet: &mut Outlet<W>,
     number: u64,
     fault: CaptureFault,
 ) -> Result<Ended, RunFault>
     requires { outlet.old.failed ≡ false }
-    ensures { Tells number fault outlet.old outlet.new (string_bytes text.old) result }
+    ensures { Tells number fault outlet.old outlet.new text.old.items result }
 {
     fault_line(text, number, fault)?;
     flush(text, outlet)?;

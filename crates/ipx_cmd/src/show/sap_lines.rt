@@ -1,4 +1,5 @@
-ghost use Rattle.std.specs.Prelude.{◌≡◌, ◌++◌, OnOk, string_bytes, Ok};
+ghost use Rattle.std.specs.Prelude.{◌≡◌, ◌++◌, OnOk, Ok, ◌+◌, ◌<◌, ◌≤◌, length, OnErr};
+ghost use Rattle.std.specs.Vec.{vec_capacity};
 ghost use Rattle.std.specs.List.{flat_map};
 ghost use Rattle.ipx_wire.specs.Sap.{sap_of};
 ghost use Rattle.ipx_wire.specs.declared.sap.Sap.TheVariants.{Query, Response};
@@ -6,47 +7,59 @@ ghost use Rattle.ipx_cmd.specs.SapText.{sap_text, scope_word, service_entry_text
 ghost use Rattle.ipx_router.specs.WhyWord.{sap_word};
 
 use crate::service_words::add_service;
-use ipx_wire::{Hex, Sap, SapEntries, SapEntry, SapFault, Service};
+use crate::text::put_hex;
+use ipx_wire::{Sap, SapEntries, SapEntry, SapFault, Service};
 use std::alloc::AllocError;
 
 /// Appends the lines of service advertising, or the one that says why the data are none.
 ///
 /// An error is out of memory.
 #[tactic(auto, unfolding(crate::specs::SapText::sap_text))]
-pub(crate) fn sap_lines(text: &mut String, payload: &[u8]) -> Result<(), AllocError>
-    ensures { OnOk result (string_bytes text.new ≡ string_bytes text.old ++ sap_text (sap_of payload.now)) }
+pub(crate) fn sap_lines(text: &mut Vec<u8>, payload: &[u8]) -> Result<(), AllocError>
+    ensures text { OnOk result (text.new.items ≡ text.old.items ++ sap_text (sap_of payload.now)) }
+    ensures room { OnErr result (vec_capacity text.old < length text.old.items + length (sap_text (sap_of payload.now))) }
+    ensures kept { vec_capacity text.old ≤ vec_capacity text.new }
 {
     match Sap::read(payload) {
         Ok(Sap::Query { nearest, kind }) => query_line(text, nearest, kind),
         Ok(Sap::Response { nearest, entries }) => services(text, nearest, &entries),
         Err(fault) => {
-            let word = fault_word(fault);
-            writeln!(text, "sap bad {word}")
+            text.extend_from_slice(b"sap bad ")?;
+            text.extend_from_slice(fault_word(fault).as_bytes())?;
+            text.extend_from_slice(b"\n")
         }
     }
 }
 
 #[tactic(auto, unfolding(crate::specs::SapText::sap_text))]
-fn query_line(text: &mut String, nearest: bool, kind: u16) -> Result<(), AllocError>
-    ensures { OnOk result (string_bytes text.new ≡ string_bytes text.old ++ sap_text (Ok (Query nearest kind))) }
+fn query_line(text: &mut Vec<u8>, nearest: bool, kind: u16) -> Result<(), AllocError>
+    ensures text { OnOk result (text.new.items ≡ text.old.items ++ sap_text (Ok (Query nearest kind))) }
+    ensures room { OnErr result (vec_capacity text.old < length text.old.items + length (sap_text (Ok (Query nearest kind)))) }
+    ensures kept { vec_capacity text.old ≤ vec_capacity text.new }
 {
-    let scope = scope(nearest);
-    let kind = kind.to_be_bytes();
-    let kind = Hex(&kind);
-    writeln!(text, "sap {scope}-query {kind}")
+    text.extend_from_slice(b"sap ")?;
+    text.extend_from_slice(scope(nearest).as_bytes())?;
+    text.extend_from_slice(b"-query ")?;
+    put_hex(text, &kind.to_be_bytes())?;
+    text.extend_from_slice(b"\n")
 }
 
 #[tactic(auto, unfolding(crate::specs::SapText::sap_text))]
-fn services(text: &mut String, nearest: bool, entries: &SapEntries<'_>) -> Result<(), AllocError>
-    ensures { OnOk result (string_bytes text.new ≡ string_bytes text.old ++ sap_text (Ok (Response nearest entries.now))) }
+fn services(text: &mut Vec<u8>, nearest: bool, entries: &SapEntries<'_>) -> Result<(), AllocError>
+    ensures text { OnOk result (text.new.items ≡ text.old.items ++ sap_text (Ok (Response nearest entries.now))) }
+    ensures room { OnErr result (vec_capacity text.old < length text.old.items + length (sap_text (Ok (Response nearest entries.now)))) }
+    ensures kept { vec_capacity text.old ≤ vec_capacity text.new }
 {
-    let scope = scope(nearest);
-    writeln!(text, "sap {scope}-response")?;
+    text.extend_from_slice(b"sap ")?;
+    text.extend_from_slice(scope(nearest).as_bytes())?;
+    text.extend_from_slice(b"-response\n")?;
     add_entries(text, entries)
 }
 
-fn add_entries(text: &mut String, entries: &SapEntries<'_>) -> Result<(), AllocError>
-    ensures { OnOk result (string_bytes text.new ≡ string_bytes text.old ++ flat_map service_entry_text entries.now) }
+fn add_entries(text: &mut Vec<u8>, entries: &SapEntries<'_>) -> Result<(), AllocError>
+    ensures text { OnOk result (text.new.items ≡ text.old.items ++ flat_map service_entry_text entries.now) }
+    ensures room { OnErr result (vec_capacity text.old < length text.old.items + length (flat_map service_entry_text entries.now)) }
+    ensures kept { vec_capacity text.old ≤ vec_capacity text.new }
 {
     for place in 0..entries.len() {
         add_entry(text, &entries.entry(place))?;
@@ -55,8 +68,10 @@ fn add_entries(text: &mut String, entries: &SapEntries<'_>) -> Result<(), AllocE
 }
 
 #[tactic(auto, unfolding(crate::specs::SapText::service_entry_text))]
-fn add_entry(text: &mut String, entry: &SapEntry) -> Result<(), AllocError>
-    ensures { OnOk result (string_bytes text.new ≡ string_bytes text.old ++ service_entry_text entry.now) }
+fn add_entry(text: &mut Vec<u8>, entry: &SapEntry) -> Result<(), AllocError>
+    ensures text { OnOk result (text.new.items ≡ text.old.items ++ service_entry_text entry.now) }
+    ensures room { OnErr result (vec_capacity text.old < length text.old.items + length (service_entry_text entry.now)) }
+    ensures kept { vec_capacity text.old ≤ vec_capacity text.new }
 {
     match entry.name {
         Some(name) => {
@@ -67,9 +82,9 @@ fn add_entry(text: &mut String, entry: &SapEntry) -> Result<(), AllocError>
                 hops: entry.hops,
             };
             add_service(text, &service)?;
-            text.push_str("\n")
+            text.extend_from_slice(b"\n")
         }
-        None => text.push_str("service bad\n"),
+        None => text.extend_from_slice(b"service bad\n"),
     }
 }
 

@@ -1,4 +1,4 @@
-use Rattle.std.proofs.Common.{ap, ◌++◌, ◌∙◌, string_bytes}
+use Rattle.std.proofs.Common.{ap, ◌++◌, ◌∙◌}
 use Rattle.ipx_router.specs.Happened.{happened}
 use Rattle.ipx_internet.specs.Moment.{net_at}
 use Rattle.ipx_router.specs.declared.outcome.Outcome.{Outcome}
@@ -13,5 +13,5 @@ returns-in_ok-write_dropped-in-Ok-clause-stands g c = where_ok c.write_much.resu
 
 pub returns-in_ok-write_dropped-in-Ok-clause-says : goal.returns-in_ok-write_dropped-in-Ok-clause-says
 returns-in_ok-write_dropped-in-Ok-clause-says g c = λ q stands.
-    c.write_much.ensures.says (string_bytes c.args.text.now) (event_said (net_at c.args.internet.now) q c.args.router (happened c.args.event))
-    (c.in_ok-write_dropped-in-Ok.ensures ∙ ap (λ (o : Outcome). string_bytes c.args.text.now ++ dropped_text (reason o)) (c.in-Ok.ensures.outcome q stands))
+    c.write_much.ensures.says c.args.text.now.items (event_said (net_at c.args.internet.now) q c.args.router (happened c.args.event))
+    (c.in_ok-write_dropped-in-Ok.ensures.text ∙ ap (λ (o : Outcome). c.args.text.now.items ++ dropped_text (reason o)) (c.in-Ok.ensures.outcome q stands))

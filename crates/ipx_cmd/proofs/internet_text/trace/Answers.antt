@@ -1,14 +1,14 @@
-use Rattle.std.proofs.Common.{ap, Err, codes, string_bytes}
+use Rattle.std.proofs.Common.{ap, Err, codes}
 use Rattle.ipx_cmd.proofs.InternetTexts.{limit_says, traced_says}
 use Rattle.ipx_cmd.proofs.internet_text.trace.Goals as goal
 
-pub returns-in_ok-push_str-in-Err-Limit-clause-says : goal.returns-in_ok-push_str-in-Err-Limit-clause-says
-returns-in_ok-push_str-in-Err-Limit-clause-says g c = λ q stands there.
-    limit_says c.args.internet.now q c.args.router c.args.port c.args.limit c.args.bytes.now c.args.outlet.now c.write_much.new.outlet (string_bytes c.args.text.now)
-    (string_bytes c.write_much.new.text) stands c.write_much.result (c.in-Err-Limit.ensures.limit (ap Err c.in-Err-Limit.field-0-is))
-    (c.write_much.ensures.says (string_bytes c.args.text.now) (codes "limit\n") c.in_ok-push_str-in-Err-Limit.ensures.bytes)
+pub returns-in_ok-extend_from_slice-in-Err-Limit-clause-says : goal.returns-in_ok-extend_from_slice-in-Err-Limit-clause-says
+returns-in_ok-extend_from_slice-in-Err-Limit-clause-says g c = λ q stands there.
+    limit_says c.args.internet.now q c.args.router c.args.port c.args.limit c.args.bytes.now c.args.outlet.now c.write_much.new.outlet c.args.text.now.items
+    c.write_much.new.text.items stands c.write_much.result (c.in-Err-Limit.ensures.limit (ap Err c.in-Err-Limit.field-0-is))
+    (c.write_much.ensures.says c.args.text.now.items (codes "limit\n") c.in_ok-extend_from_slice-in-Err-Limit.ensures.items)
 
 pub returns-in-Ok-clause-says : goal.returns-in-Ok-clause-says
 returns-in-Ok-clause-says g c = λ q stands there.
-    traced_says c.args.internet.now q c.args.router c.args.port c.args.limit c.args.bytes.now c.args.outlet.now c.write_trace.new.outlet (string_bytes c.args.text.now)
-    (string_bytes c.write_trace.new.text) stands c.in-Ok.trace c.write_trace.result c.in-Ok.ensures.is_tree c.in-Ok.ensures.outcomes c.in-Ok.ensures.few c.write_trace.ensures.says
+    traced_says c.args.internet.now q c.args.router c.args.port c.args.limit c.args.bytes.now c.args.outlet.now c.write_trace.new.outlet c.args.text.now.items
+    c.write_trace.new.text.items stands c.in-Ok.trace c.write_trace.result c.in-Ok.ensures.is_tree c.in-Ok.ensures.outcomes c.in-Ok.ensures.few c.write_trace.ensures.says

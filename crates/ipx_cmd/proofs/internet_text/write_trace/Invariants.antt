@@ -1,6 +1,5 @@
-use Rattle.std.proofs.Common.{string_bytes}
 use Rattle.ipx_cmd.proofs.InternetTexts.{CopiesSoFar}
 use Rattle.ipx_cmd.proofs.internet_text.write_trace.Given as goal
 
 abbrev pub invariant-loop-number : goal.invariant-loop-number
-invariant-loop-number g l = CopiesSoFar l.trace l.initial.outlet l.outlet (string_bytes l.initial.text) (string_bytes l.text) l.number
+invariant-loop-number g l = CopiesSoFar l.trace l.initial.outlet l.outlet l.initial.text.items l.text.items l.number

@@ -1,4 +1,4 @@
-use Rattle.std.proofs.Common.{rules, ◌≡◌, ◌<◌, ◌≤◌, ◌∙◌, arith, length, length-take, string_bytes}
+use Rattle.std.proofs.Common.{rules, ◌≡◌, ◌<◌, ◌≤◌, ◌∙◌, arith, length, length-take}
 use Rattle.ipx_cmd.specs.WroteFront.{IsFaultOf}
 use Rattle.ipx_cmd.specs.declared.ended.Ended.TheVariants.{Done}
 use Rattle.ipx_cmd.proofs.MidScript.{fault_in_piece, given_up_at_read, given_up_in_piece, known_now, script_start, so_far}
@@ -9,20 +9,20 @@ use Rattle.ipx_cmd.proofs.play.play_script.Goals as goal
 pub loop-count-init : goal.loop-count-init
 loop-count-init g c =
     let p = c.new-player.result in
-    script_start g.M.Act.acts g.M.Act.stands c.args.machine p.machine p.number p.pending.items c.args.intake.now c.args.outlet.now (string_bytes c.new-text.result) c.requires.known
-    c.new-player.ensures.machine c.new-player.ensures.number c.new-player.ensures.pending c.new-text.ensures.bytes c.requires.intake c.requires.outlet
+    script_start g.M.Act.acts g.M.Act.stands c.args.machine p.machine p.number p.pending.items c.args.intake.now c.args.outlet.now c.new-text.result.items c.requires.known
+    c.new-player.ensures.machine c.new-player.ensures.number c.new-player.ensures.pending c.new-text.ensures.items c.requires.intake c.requires.outlet
 
 pub returns-in_default-clause-err : goal.returns-in_default-clause-err
 returns-in_default-clause-err g c =
     let l = c.loop-count in
     given_up_at_read g.M.Act.acts g.M.Act.stands c.args.machine l.player.machine l.player.number l.player.pending.items c.args.intake.now l.intake c.read.new.self c.args.outlet.now l.outlet
-    (string_bytes l.text) l.invariant c.in_default.ensures.err
+    l.text.items l.invariant c.in_default.ensures.err
 
 pub returns-in_default-clause-read : goal.returns-in_default-clause-read
 returns-in_default-clause-read g c = λ is.
     let l = c.loop-count in
     so_far g.M.Act.acts g.M.Act.stands c.args.machine l.player.machine l.player.number l.player.pending.items c.args.intake.now l.intake c.read.new.self c.args.outlet.now l.outlet
-    (string_bytes l.text) l.invariant c.in_default.ensures.err
+    l.text.items l.invariant c.in_default.ensures.err
 
 pub play_end-requires-clause-line : goal.play_end-requires-clause-line
 play_end-requires-clause-line g c = c.loop-count.invariant.line
@@ -30,7 +30,7 @@ play_end-requires-clause-line g c = c.loop-count.invariant.line
 pub play_end-requires-clause-known : goal.play_end-requires-clause-known
 play_end-requires-clause-known g c =
     let l = c.loop-count in
-    known_now g.M.Act.acts g.M.Act.stands c.args.machine l.player.machine l.player.number l.player.pending.items c.args.intake.now l.intake c.args.outlet.now l.outlet (string_bytes l.text)
+    known_now g.M.Act.acts g.M.Act.stands c.args.machine l.player.machine l.player.number l.player.pending.items c.args.intake.now l.intake c.args.outlet.now l.outlet l.text.items
     l.invariant
 
 pub play_end-requires-clause-outlet : goal.play_end-requires-clause-outlet
@@ -43,7 +43,7 @@ returns-then-count-eq0-clause-ok g c =
     let room : length c.read.new.buf ≡ 8192 = search rules in
     let some : 0 < length c.read.new.buf = omega (arith, room) in
     played_end_of g.M.Act.acts g.M.Act.stands c.args.machine l.player.machine l.player.number l.player.pending.items c.args.intake.now l.intake c.read.new.self c.args.outlet.now l.outlet
-    c.play_end.new.outlet (string_bytes l.text) c.read.new.buf c.in-Ok.count c.play_end.result l.invariant c.in-Ok.ensures.ok zero some c.play_end.ensures.completed
+    c.play_end.new.outlet l.text.items c.read.new.buf c.in-Ok.count c.play_end.result l.invariant c.in-Ok.ensures.ok zero some c.play_end.ensures.completed
 
 pub returns-then-count-eq0-clause-err : goal.returns-then-count-eq0-clause-err
 returns-then-count-eq0-clause-err g c =
@@ -52,19 +52,19 @@ returns-then-count-eq0-clause-err g c =
     let room : length c.read.new.buf ≡ 8192 = search rules in
     let some : 0 < length c.read.new.buf = omega (arith, room) in
     given_up_at_end_of g.M.Act.acts g.M.Act.stands c.args.machine l.player.machine l.player.number l.player.pending.items c.args.intake.now l.intake c.read.new.self c.args.outlet.now l.outlet
-    c.play_end.new.outlet (string_bytes l.text) c.read.new.buf c.in-Ok.count c.play_end.result l.invariant c.in-Ok.ensures.ok zero some c.play_end.ensures.unfinished
+    c.play_end.new.outlet l.text.items c.read.new.buf c.in-Ok.count c.play_end.result l.invariant c.in-Ok.ensures.ok zero some c.play_end.ensures.unfinished
 
 pub returns-then-count-eq0-clause-read : goal.returns-then-count-eq0-clause-read
 returns-then-count-eq0-clause-read g c = λ is state at.
     let l = c.loop-count in
     no_read_at_end g.M.Act.acts g.M.Act.stands c.args.machine l.player.machine l.player.number l.player.pending.items c.args.intake.now l.intake c.read.new.self c.args.outlet.now l.outlet
-    c.play_end.new.outlet (string_bytes l.text) c.read.new.buf c.in-Ok.count c.play_end.result l.invariant c.in-Ok.ensures.ok c.play_end.ensures.unfinished is state at
+    c.play_end.new.outlet l.text.items c.read.new.buf c.in-Ok.count c.play_end.result l.invariant c.in-Ok.ensures.ok c.play_end.ensures.unfinished is state at
 
 pub returns-then-count-eq0-clause-fault : goal.returns-then-count-eq0-clause-fault
 returns-then-count-eq0-clause-fault g c =
     let l = c.loop-count in
     fault_at_end_of g.M.Act.acts g.M.Act.stands c.args.machine l.player.machine l.player.number l.player.pending.items c.args.intake.now l.intake c.read.new.self c.args.outlet.now l.outlet
-    c.play_end.new.outlet (string_bytes l.text) c.read.new.buf c.in-Ok.count c.play_end.result l.invariant c.in-Ok.ensures.ok c.play_end.ensures.unfinished
+    c.play_end.new.outlet l.text.items c.read.new.buf c.in-Ok.count c.play_end.result l.invariant c.in-Ok.ensures.ok c.play_end.ensures.unfinished
 
 pub returns-then-count-eq0-clause-fine_intake : goal.returns-then-count-eq0-clause-fine_intake
 returns-then-count-eq0-clause-fine_intake g c = on_ok_always c.play_end.result (c.in-Ok.ensures.ok.fine ∙ c.loop-count.invariant.fine_in)
@@ -75,7 +75,7 @@ play_piece-requires-clause-line g c = c.loop-count.invariant.line
 pub play_piece-requires-clause-known : goal.play_piece-requires-clause-known
 play_piece-requires-clause-known g c =
     let l = c.loop-count in
-    known_now g.M.Act.acts g.M.Act.stands c.args.machine l.player.machine l.player.number l.player.pending.items c.args.intake.now l.intake c.args.outlet.now l.outlet (string_bytes l.text)
+    known_now g.M.Act.acts g.M.Act.stands c.args.machine l.player.machine l.player.number l.player.pending.items c.args.intake.now l.intake c.args.outlet.now l.outlet l.text.items
     l.invariant
 
 pub play_piece-requires-clause-number : goal.play_piece-requires-clause-number
@@ -91,14 +91,14 @@ returns-in_err-play_piece-clause-err g c =
     let l = c.loop-count in
     on_err_always c.from_residual.result
     (given_up_in_piece g.M.Act.acts g.M.Act.stands c.args.machine l.player.machine l.player.number l.player.pending.items c.args.intake.now l.intake c.read.new.self c.args.outlet.now l.outlet
-    c.play_piece.new.outlet (string_bytes l.text) c.read.new.buf c.in-Ok.count c.in_err-play_piece.field-0.0 l.invariant c.in-Ok.ensures.ok c.in_err-play_piece.ensures.gave_up)
+    c.play_piece.new.outlet l.text.items c.read.new.buf c.in-Ok.count c.in_err-play_piece.field-0.0 l.invariant c.in-Ok.ensures.ok c.in_err-play_piece.ensures.gave_up)
 
 pub returns-in_err-play_piece-clause-read : goal.returns-in_err-play_piece-clause-read
 returns-in_err-play_piece-clause-read g c = λ is state at.
     let l = c.loop-count in
     no_read c.read.new.self.failed c.play_piece.new.outlet.failed c.in_err-play_piece.field-0.0 c.from_residual.result c.from_residual.ensures.1
     (fault_in_piece g.M.Act.acts g.M.Act.stands c.args.machine l.player.machine l.player.number l.player.pending.items c.args.intake.now l.intake c.read.new.self c.args.outlet.now l.outlet
-    c.play_piece.new.outlet (string_bytes l.text) c.read.new.buf c.in-Ok.count c.in_err-play_piece.field-0.0 l.invariant c.in-Ok.ensures.ok c.in_err-play_piece.ensures.gave_up state at)
+    c.play_piece.new.outlet l.text.items c.read.new.buf c.in-Ok.count c.in_err-play_piece.field-0.0 l.invariant c.in-Ok.ensures.ok c.in_err-play_piece.ensures.gave_up state at)
     (c.in-Ok.ensures.ok.fine ∙ l.invariant.fine_in) is
 
 pub returns-in_err-play_piece-clause-fault : goal.returns-in_err-play_piece-clause-fault
@@ -107,13 +107,13 @@ returns-in_err-play_piece-clause-fault g c =
     err_by (λ why. (state : g.M.Act.State) → g.M.Act.stands c.args.machine state → IsFaultOf c.read.new.self.failed c.play_piece.new.outlet.failed why)
     c.in_err-play_piece.field-0.0 c.from_residual.result c.from_residual.ensures.1
     (fault_in_piece g.M.Act.acts g.M.Act.stands c.args.machine l.player.machine l.player.number l.player.pending.items c.args.intake.now l.intake c.read.new.self c.args.outlet.now l.outlet
-    c.play_piece.new.outlet (string_bytes l.text) c.read.new.buf c.in-Ok.count c.in_err-play_piece.field-0.0 l.invariant c.in-Ok.ensures.ok c.in_err-play_piece.ensures.gave_up)
+    c.play_piece.new.outlet l.text.items c.read.new.buf c.in-Ok.count c.in_err-play_piece.field-0.0 l.invariant c.in-Ok.ensures.ok c.in_err-play_piece.ensures.gave_up)
 
 pub returns-in-BadInput-clause-ok : goal.returns-in-BadInput-clause-ok
 returns-in-BadInput-clause-ok g c =
     let l = c.loop-count in
     played_bad_at g.M.Act.acts g.M.Act.stands c.args.machine l.player.machine c.play_piece.new.player.machine l.player.number l.player.pending.items c.args.intake.now l.intake c.read.new.self
-    c.args.outlet.now l.outlet c.play_piece.new.outlet (string_bytes l.text) (string_bytes c.play_piece.new.text) c.play_piece.new.player.number c.play_piece.new.player.pending.items
+    c.args.outlet.now l.outlet c.play_piece.new.outlet l.text.items c.play_piece.new.text.items c.play_piece.new.player.number c.play_piece.new.player.pending.items
     c.read.new.buf c.in-Ok.count c.in_ok-play_piece.field-0 l.invariant c.in-Ok.ensures.ok c.in-BadInput.is c.in_ok-play_piece.ensures.passed
 
 pub returns-in-BadInput-clause-fine_intake : goal.returns-in-BadInput-clause-fine_intake
@@ -127,6 +127,6 @@ loop-count-preserved g c =
     let ended : c.in_ok-play_piece.field-0 ≡ Done = search rules in
     let new = c.play_piece.new in
     script_more_at g.M.Act.acts g.M.Act.stands c.args.machine l.player.machine new.player.machine l.player.number new.player.number l.player.pending.items new.player.pending.items
-    c.args.intake.now l.intake c.read.new.self c.args.outlet.now l.outlet new.outlet (string_bytes l.text) (string_bytes new.text) c.read.new.buf c.in-Ok.count c.in_ok-play_piece.field-0
+    c.args.intake.now l.intake c.read.new.self c.args.outlet.now l.outlet new.outlet l.text.items new.text.items c.read.new.buf c.in-Ok.count c.in_ok-play_piece.field-0
     l.invariant c.in-Ok.ensures.ok most c.read.ensures.calls ended c.in_ok-play_piece.ensures.passed c.in_ok-play_piece.ensures.line c.in_ok-play_piece.ensures.emptied
     c.in_ok-play_piece.ensures.fine c.play_piece.ensures.number

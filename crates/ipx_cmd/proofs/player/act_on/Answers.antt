@@ -1,11 +1,10 @@
-use Rattle.std.proofs.Common.{string_bytes}
 use Rattle.ipx_cmd.proofs.Stretches.{off_line_of, went_line_of}
 use Rattle.ipx_cmd.proofs.player.act_on.Goals as goal
 
 pub returns-clause-went : goal.returns-clause-went
 returns-clause-went g c = went_line_of g.M.Act.acts g.M.Act.stands c.args.machine.now c.act.new.self c.args.line.now c.without_return.result.now c.args.outlet.now c.act.new.outlet
-    (string_bytes c.args.text.now) (string_bytes c.act.new.text) c.act.result c.requires.line c.without_return.ensures c.act.ensures.acted
+    c.args.text.now.items c.act.new.text.items c.act.result c.requires.line c.without_return.ensures c.act.ensures.acted
 
 pub returns-clause-off : goal.returns-clause-off
 returns-clause-off g c = off_line_of g.M.Act.acts g.M.Act.stands c.args.machine.now c.args.line.now c.without_return.result.now c.args.outlet.now c.act.new.outlet
-    (string_bytes c.args.text.now) (string_bytes c.act.new.text) c.act.result c.requires.outlet c.requires.line c.without_return.ensures c.act.ensures.halted
+    c.args.text.now.items c.act.new.text.items c.act.result c.requires.outlet c.requires.line c.without_return.ensures c.act.ensures.halted

@@ -1,4 +1,4 @@
-use Rattle.std.proofs.Common.{ap, ◌∙◌, string_bytes, option_map, Option, Some, Ok}
+use Rattle.std.proofs.Common.{ap, ◌∙◌, option_map, Option, Some, Ok}
 use Rattle.std.proofs.lemmas.Result.{err_from_is_err_and}
 use Rattle.ipx_cmd.specs.InternetMachine.{Standing}
 use Rattle.ipx_cmd.specs.InternetStands.{IsStanding}
@@ -12,11 +12,11 @@ pub returns-in_err-order-clause-halted : goal.returns-in_err-order-clause-halted
 returns-in_err-order-clause-halted g c =
     let p = err_from_is_err_and c.from_residual.result c.from_residual.ensures.1 in
     rw (p.1, p.2) (λ state stands.
-    refused_line c.args.self.now state c.args.line.now c.args.outlet.now (string_bytes c.args.text.now) _ c.requires stands c.in_err-order.ensures.refused)
+    refused_line c.args.self.now state c.args.line.now c.args.outlet.now c.args.text.now.items _ c.requires stands c.in_err-order.ensures.refused)
 
 pub returns-in_default-clause-acted : goal.returns-in_default-clause-acted
 returns-in_default-clause-acted g c = λ state stands.
-    skipped c.args.self.now c.read.new.self state c.args.line.now c.args.outlet.now (string_bytes c.args.text.now) c.requires stands c.read.ensures.same
+    skipped c.args.self.now c.read.new.self state c.args.line.now c.args.outlet.now c.args.text.now.items c.requires stands c.read.ensures.same
     (c.in_ok-order.ensures.order ∙ ap (λ (o : Option Order). Ok (option_map (request_of c.read.new.self.buffer) o)) c.in_default.is)
 
 pub returns-in-Router-clause-acted : goal.returns-in-Router-clause-acted
@@ -24,12 +24,12 @@ returns-in-Router-clause-acted g c =
     let meaning = c.in_ok-order.ensures.order
     ∙ ap (λ (o : Option Order). Ok (option_map (request_of c.read.new.self.buffer) o)) (c.in-Some.is ∙ ap Some c.in-Router.is) in
     on_ok c.name_router.result c.name_router.ensures.net (λ net state stands.
-    router_named c.args.self.now c.read.new.self c.name_router.new.self state c.args.line.now c.args.outlet.now (string_bytes c.args.text.now) c.requires stands
+    router_named c.args.self.now c.read.new.self c.name_router.new.self state c.args.line.now c.args.outlet.now c.args.text.now.items c.requires stands
     c.read.ensures.same meaning net c.name_router.ensures.internet)
 
 pub returns-in-Router-clause-halted : goal.returns-in-Router-clause-halted
 returns-in-Router-clause-halted g c = on_err c.name_router.result c.name_router.ensures.refused (λ halt refused state stands.
-    no_memory state c.args.line.now c.args.outlet.now (string_bytes c.args.text.now) halt c.requires refused)
+    no_memory state c.args.line.now c.args.outlet.now c.args.text.now.items halt c.requires refused)
 
 pub name_port-requires : goal.name_port-requires
 name_port-requires g c =
@@ -43,10 +43,10 @@ returns-in-Port g c =
     record {
       fine = where_ok c.name_port.result c.requires;
       acted = on_both c.name_port.result c.name_port.ensures.named c.name_port.ensures.net (λ named net state stands.
-          port_named c.args.self.now c.read.new.self c.name_port.new.self state c.args.line.now c.in-Port.named c.args.outlet.now (string_bytes c.args.text.now) c.requires stands
+          port_named c.args.self.now c.read.new.self c.name_port.new.self state c.args.line.now c.in-Port.named c.args.outlet.now c.args.text.now.items c.requires stands
           c.read.ensures.same meaning named net c.name_port.ensures.internet);
       halted = on_err c.name_port.result c.name_port.ensures.refused (λ halt stops state stands.
-          port_unnamed c.args.self.now state c.args.line.now c.in-Port.named c.args.outlet.now (string_bytes c.args.text.now) halt c.requires stands meaning stops);
+          port_unnamed c.args.self.now state c.args.line.now c.in-Port.named c.args.outlet.now c.args.text.now.items halt c.requires stands meaning stops);
     }
 
 pub returns-in_err-make_internet : goal.returns-in_err-make_internet
@@ -57,7 +57,7 @@ returns-in_err-make_internet g c =
       fine = tt;
       acted = tt;
       halted = λ state stands.
-          unmade_line c.args.self.now state c.args.line.now c.read.new.self.buffer c.in-Some.order c.args.outlet.now (string_bytes c.args.text.now) _ c.requires
+          unmade_line c.args.self.now state c.args.line.now c.read.new.self.buffer c.in-Some.order c.args.outlet.now c.args.text.now.items _ c.requires
           (unlike_naming c.in-Some.order c.in_default-order.not-Router c.in_default-order-2.not-Port) stands meaning
           (c.in_err-make_internet.ensures.refused state (still c.args.self.now c.read.new.self state c.read.ensures.same stands));
     })
@@ -71,7 +71,7 @@ returns g c =
     record {
       fine = c.obey.ensures.fine;
       acted = line_acted c.args.self.now c.make_internet.new.self c.obey.new.self c.args.line.now c.read.new.self.buffer c.in-Some.order c.args.outlet.now c.obey.new.outlet
-          (string_bytes c.args.text.now) (string_bytes c.obey.new.text) c.obey.result unlike meaning makes c.make_internet.ensures.buffer c.obey.ensures.acted;
+          c.args.text.now.items c.obey.new.text.items c.obey.result unlike meaning makes c.make_internet.ensures.buffer c.obey.ensures.acted;
       halted = line_halted c.args.self.now c.make_internet.new.self c.args.line.now c.read.new.self.buffer c.in-Some.order c.args.outlet.now c.obey.new.outlet
-          (string_bytes c.args.text.now) (string_bytes c.obey.new.text) c.obey.result unlike meaning makes c.make_internet.ensures.buffer c.obey.ensures.halted;
+          c.args.text.now.items c.obey.new.text.items c.obey.result unlike meaning makes c.make_internet.ensures.buffer c.obey.ensures.halted;
     }

@@ -1,4 +1,4 @@
-use Rattle.std.proofs.Common.{ℕ, List, ◌≡◌, ◌+◌, ◌++◌, ◌∷◌, subst, arith, length, length-append, string_bytes, ap, sym}
+use Rattle.std.proofs.Common.{ℕ, List, ◌≡◌, ◌+◌, ◌++◌, ◌∷◌, subst, arith, length, length-append, ap, sym}
 use Rattle.std.proofs.lemmas.List.Elements.{All-append}
 use Rattle.ipx_cmd.specs.Lines.{line_feed}
 use Rattle.ipx_cmd.proofs.Cuts.{not_feed}
@@ -9,7 +9,7 @@ use Rattle.ipx_cmd.proofs.player.Player.play.Goals as goal
 
 pub loop-front-init : goal.loop-front-init
 loop-front-init g c = mid_start g.M.Act.acts g.M.Act.stands c.args.self.now.machine c.args.self.now.number c.args.self.now.pending.items c.args.piece.now c.args.outlet.now
-    (string_bytes c.args.text.now) c.requires.line c.requires.outlet
+    c.args.text.now.items c.requires.line c.requires.outlet
 
 pub end_line-requires-clause-line : goal.end_line-requires-clause-line
 end_line-requires-clause-line g c = c.loop-front.invariant.line
@@ -33,10 +33,10 @@ returns-in_err-end_line-clause-off g c =
     let s = c.args.self.now in
     let l = c.loop-front in
     let new = c.end_line.new in
-    off_by g.M.Act.acts g.M.Act.stands s.machine s.number (s.pending.items ++ c.args.piece.now) c.args.outlet.now new.outlet (string_bytes c.args.text.now) (string_bytes new.text)
+    off_by g.M.Act.acts g.M.Act.stands s.machine s.number (s.pending.items ++ c.args.piece.now) c.args.outlet.now new.outlet c.args.text.now.items new.text.items
     new.self.number c.in_err-end_line.field-0.0 c.from_residual.result c.from_residual.ensures.1
     (mid_off g.M.Act.acts g.M.Act.stands s.machine l.self.machine s.number l.self.number new.self.number s.pending.items l.self.pending.items c.args.piece.now l.rest.now
-    c.in-Some.front.now c.in-Some.behind.now c.args.outlet.now l.outlet new.outlet (string_bytes c.args.text.now) (string_bytes l.text) (string_bytes new.text) c.in_err-end_line.field-0.0
+    c.in-Some.front.now c.in-Some.behind.now c.args.outlet.now l.outlet new.outlet c.args.text.now.items l.text.items new.text.items c.in_err-end_line.field-0.0
     l.invariant c.in-Some.ensures.1 c.in_err-end_line.ensures.off)
 
 pub loop-front-smaller : goal.loop-front-smaller
@@ -48,9 +48,9 @@ loop-front-preserved g c =
     let l = c.loop-front in
     let new = c.end_line.new in
     subst (λ (p : List ℕ). Midpiece g.M.Act.acts g.M.Act.stands s.machine new.self.machine s.number new.self.number s.pending.items p c.args.piece.now c.in-Some.behind.now
-    c.args.outlet.now new.outlet (string_bytes c.args.text.now) (string_bytes new.text)) (sym c.in_ok-end_line.ensures.line)
+    c.args.outlet.now new.outlet c.args.text.now.items new.text.items) (sym c.in_ok-end_line.ensures.line)
     (mid_line g.M.Act.acts g.M.Act.stands s.machine l.self.machine new.self.machine s.number l.self.number new.self.number s.pending.items l.self.pending.items c.args.piece.now l.rest.now
-    c.in-Some.front.now c.in-Some.behind.now c.args.outlet.now l.outlet new.outlet (string_bytes c.args.text.now) (string_bytes l.text) (string_bytes new.text)
+    c.in-Some.front.now c.in-Some.behind.now c.args.outlet.now l.outlet new.outlet c.args.text.now.items l.text.items new.text.items
     l.invariant c.in-Some.ensures.1 c.in_ok-end_line.ensures.went none_pending c.end_line.ensures.number c.in_ok-end_line.ensures.fine)
 
 pub keep-requires-clause-line : goal.keep-requires-clause-line
@@ -68,7 +68,7 @@ returns-clause-went g c =
     let l = c.loop-front in
     let new = c.keep.new.self in
     mid_end g.M.Act.acts g.M.Act.stands s.machine l.self.machine new.machine s.number l.self.number new.number s.pending.items l.self.pending.items c.args.piece.now l.rest.now
-    new.pending.items c.args.outlet.now l.outlet (string_bytes c.args.text.now) (string_bytes l.text) c.keep.result l.invariant c.keep.ensures.machine c.keep.ensures.number
+    new.pending.items c.args.outlet.now l.outlet c.args.text.now.items l.text.items c.keep.result l.invariant c.keep.ensures.machine c.keep.ensures.number
     c.keep.ensures.kept c.keep.ensures.line
 
 pub returns-clause-off : goal.returns-clause-off
@@ -76,5 +76,5 @@ returns-clause-off g c =
     let s = c.args.self.now in
     let l = c.loop-front in
     mid_kept g.M.Act.acts g.M.Act.stands s.machine l.self.machine s.number l.self.number c.keep.new.self.number s.pending.items l.self.pending.items c.args.piece.now l.rest.now
-    c.args.outlet.now l.outlet (string_bytes c.args.text.now) (string_bytes l.text) c.keep.result l.invariant
+    c.args.outlet.now l.outlet c.args.text.now.items l.text.items c.keep.result l.invariant
     (All-append not_feed l.self.pending.items l.rest.now l.invariant.line.one c.in_default.ensures) c.keep.ensures.number c.keep.ensures.refused

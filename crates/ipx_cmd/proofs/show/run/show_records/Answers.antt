@@ -1,4 +1,4 @@
-use Rattle.std.proofs.Common.{[], refl, ap, ◌∙◌, string_bytes, Ok, Err, Some, None}
+use Rattle.std.proofs.Common.{[], refl, ap, ◌∙◌, Ok, Err, Some, None}
 use Rattle.std.proofs.KnownBytes.{Consumes-nil}
 use Rattle.ipx_capture.specs.Place.{place, record_of}
 use Rattle.ipx_cmd.specs.Decoded.{CutOff, Decoded}
@@ -8,22 +8,22 @@ use Rattle.ipx_cmd.proofs.show.run.show_records.Goals as goal
 
 pub loop-capture-init : goal.loop-capture-init
 loop-capture-init g c =
-    (midway_start c.requires.capture.0 (place c.args.capture.now) c.args.outlet.now (string_bytes c.args.text.now) c.requires.capture.1 c.requires.text c.requires.outlet, refl)
+    (midway_start c.requires.capture.0 (place c.args.capture.now) c.args.outlet.now c.args.text.now.items c.requires.capture.1 c.requires.text c.requires.outlet, refl)
 
 pub returns-in_err-write_some-clause-err : goal.returns-in_err-write_some-clause-err
 returns-in_err-write_some-clause-err g c =
     let from = place c.args.capture.now in
     let now = place c.loop-capture.capture in
     on_err_always c.from_residual.result (λ before opened. cut before from now c.args.outlet.now c.loop-capture.outlet c.write_some.new.outlet
-    (string_bytes c.loop-capture.text) c.loop-capture.shown now.input [] opened c.loop-capture.invariant.0 (Consumes-nil now.input.left) c.in_err-write_some.ensures.err)
+    c.loop-capture.text.items c.loop-capture.shown now.input [] opened c.loop-capture.invariant.0 (Consumes-nil now.input.left) c.in_err-write_some.ensures.err)
 
 pub returns-in_err-record_lines-in-Ok-Some-clause-err : goal.returns-in_err-record_lines-in-Ok-Some-clause-err
 returns-in_err-record_lines-in-Ok-Some-clause-err g c =
     let from = place c.args.capture.now in
     let now = place c.loop-capture.capture in
     let next = place c.next.follows.lender-at-none in
-    let text = string_bytes c.write_some.new.text in
-    let m = midway_moved from now c.args.outlet.now c.loop-capture.outlet c.write_some.new.outlet (string_bytes c.loop-capture.text) text c.loop-capture.shown c.loop-capture.invariant.0 c.in_ok-write_some.ensures.ok in
+    let text = c.write_some.new.text.items in
+    let m = midway_moved from now c.args.outlet.now c.loop-capture.outlet c.write_some.new.outlet c.loop-capture.text.items text c.loop-capture.shown c.loop-capture.invariant.0 c.in_ok-write_some.ensures.ok in
     let t = takes_of now next c.next.result (Ok (Some c.in-Ok-Some.captured)) c.loop-capture.invariant.0.goes_on c.next.follows.holds-at-none.0 (c.in-Ok-Some.is ∙ ap Ok c.in-Ok-Some.field-0-is) in
     on_err_always c.from_residual-in_err-record_lines-in-Ok-Some.result (λ before opened. cut before from now c.args.outlet.now c.write_some.new.outlet c.write_some.new.outlet
     text c.loop-capture.shown next.input t.more opened m t.read (wrote_none c.write_some.new.outlet c.write_some.new.outlet text refl))
@@ -33,17 +33,17 @@ loop-capture-smaller g c =
     let now = place c.loop-capture.capture in
     let next = place c.next.follows.lender-at-none in
     let t = takes_of now next c.next.result (Ok (Some c.in-Ok-Some.captured)) c.loop-capture.invariant.0.goes_on c.next.follows.holds-at-none.0 (c.in-Ok-Some.is ∙ ap Ok c.in-Ok-Some.field-0-is) in
-    shrinks (place c.args.capture.now) now next c.args.outlet.now c.loop-capture.outlet (string_bytes c.loop-capture.text) c.loop-capture.shown (record_of c.in-Ok-Some.captured) c.loop-capture.invariant.0 t
+    shrinks (place c.args.capture.now) now next c.args.outlet.now c.loop-capture.outlet c.loop-capture.text.items c.loop-capture.shown (record_of c.in-Ok-Some.captured) c.loop-capture.invariant.0 t
 
 pub loop-capture-preserved : goal.loop-capture-preserved
 loop-capture-preserved g c =
     let from = place c.args.capture.now in
     let now = place c.loop-capture.capture in
     let next = place c.next.follows.lender-at-none in
-    let text = string_bytes c.write_some.new.text in
-    let m = midway_moved from now c.args.outlet.now c.loop-capture.outlet c.write_some.new.outlet (string_bytes c.loop-capture.text) text c.loop-capture.shown c.loop-capture.invariant.0 c.in_ok-write_some.ensures.ok in
+    let text = c.write_some.new.text.items in
+    let m = midway_moved from now c.args.outlet.now c.loop-capture.outlet c.write_some.new.outlet c.loop-capture.text.items text c.loop-capture.shown c.loop-capture.invariant.0 c.in_ok-write_some.ensures.ok in
     let t = takes_of now next c.next.result (Ok (Some c.in-Ok-Some.captured)) c.loop-capture.invariant.0.goes_on c.next.follows.holds-at-none.0 (c.in-Ok-Some.is ∙ ap Ok c.in-Ok-Some.field-0-is) in (
-      midway_took from now next c.args.outlet.now c.write_some.new.outlet text (string_bytes c.record_lines.new.text) c.loop-capture.shown (record_of c.in-Ok-Some.captured) m t c.in_ok-record_lines-in-Ok-Some.ensures,
+      midway_took from now next c.args.outlet.now c.write_some.new.outlet text c.record_lines.new.text.items c.loop-capture.shown (record_of c.in-Ok-Some.captured) m t c.in_ok-record_lines-in-Ok-Some.ensures.text,
       c.next.follows.holds-at-none.1 ∙ c.loop-capture.invariant.1,
     )
 
@@ -52,8 +52,8 @@ returns-in_err-flush-in-Ok-None-clause-err g c =
     let from = place c.args.capture.now in
     let now = place c.loop-capture.capture in
     let next = place c.next.follows.lender-at-none in
-    let text = string_bytes c.write_some.new.text in
-    let m = midway_moved from now c.args.outlet.now c.loop-capture.outlet c.write_some.new.outlet (string_bytes c.loop-capture.text) text c.loop-capture.shown c.loop-capture.invariant.0 c.in_ok-write_some.ensures.ok in
+    let text = c.write_some.new.text.items in
+    let m = midway_moved from now c.args.outlet.now c.loop-capture.outlet c.write_some.new.outlet c.loop-capture.text.items text c.loop-capture.shown c.loop-capture.invariant.0 c.in_ok-write_some.ensures.ok in
     let t = takes_of now next c.next.result (Ok None) c.loop-capture.invariant.0.goes_on c.next.follows.holds-at-none.0 (c.in-Ok-None.is ∙ ap Ok c.in-Ok-None.field-0-is) in
     on_err_always c.from_residual-in_err-flush-in-Ok-None.result (λ before opened. cut before from now c.args.outlet.now c.write_some.new.outlet c.flush.new.outlet
     text c.loop-capture.shown next.input t.more opened m t.read c.in_err-flush-in-Ok-None.ensures.err)
@@ -63,8 +63,8 @@ returns-in-Ok-None-clause-ok g c = λ before opened.
     let from = place c.args.capture.now in
     let now = place c.loop-capture.capture in
     let next = place c.next.follows.lender-at-none in
-    let text = string_bytes c.write_some.new.text in
-    let m = midway_moved from now c.args.outlet.now c.loop-capture.outlet c.write_some.new.outlet (string_bytes c.loop-capture.text) text c.loop-capture.shown c.loop-capture.invariant.0 c.in_ok-write_some.ensures.ok in
+    let text = c.write_some.new.text.items in
+    let m = midway_moved from now c.args.outlet.now c.loop-capture.outlet c.write_some.new.outlet c.loop-capture.text.items text c.loop-capture.shown c.loop-capture.invariant.0 c.in_ok-write_some.ensures.ok in
     let t = takes_of now next c.next.result (Ok None) c.loop-capture.invariant.0.goes_on c.next.follows.holds-at-none.0 (c.in-Ok-None.is ∙ ap Ok c.in-Ok-None.field-0-is) in
     done before from now next c.args.outlet.now c.write_some.new.outlet c.flush.new.outlet text c.loop-capture.shown opened m t c.in_ok-flush-in-Ok-None.ensures.ok
 
@@ -73,8 +73,8 @@ returns-in-Err-clause-ok g c =
     let from = place c.args.capture.now in
     let now = place c.loop-capture.capture in
     let next = place c.next.follows.lender-at-none in
-    let text = string_bytes c.write_some.new.text in
-    let m = midway_moved from now c.args.outlet.now c.loop-capture.outlet c.write_some.new.outlet (string_bytes c.loop-capture.text) text c.loop-capture.shown c.loop-capture.invariant.0 c.in_ok-write_some.ensures.ok in
+    let text = c.write_some.new.text.items in
+    let m = midway_moved from now c.args.outlet.now c.loop-capture.outlet c.write_some.new.outlet c.loop-capture.text.items text c.loop-capture.shown c.loop-capture.invariant.0 c.in_ok-write_some.ensures.ok in
     let t = takes_of now next c.next.result (Err c.in-Err.fault) c.loop-capture.invariant.0.goes_on c.next.follows.holds-at-none.0 c.in-Err.is in
     if_ok_all (λ before ended. Decoded before next.input c.args.outlet.now c.refused.new.outlet ended) c.refused.result (λ before opened.
     fault_ok before from now next c.args.outlet.now c.write_some.new.outlet c.refused.new.outlet text c.loop-capture.shown c.in-Err.fault c.refused.result opened m t c.refused.ensures)
@@ -84,8 +84,8 @@ returns-in-Err-clause-err g c =
     let from = place c.args.capture.now in
     let now = place c.loop-capture.capture in
     let next = place c.next.follows.lender-at-none in
-    let text = string_bytes c.write_some.new.text in
-    let m = midway_moved from now c.args.outlet.now c.loop-capture.outlet c.write_some.new.outlet (string_bytes c.loop-capture.text) text c.loop-capture.shown c.loop-capture.invariant.0 c.in_ok-write_some.ensures.ok in
+    let text = c.write_some.new.text.items in
+    let m = midway_moved from now c.args.outlet.now c.loop-capture.outlet c.write_some.new.outlet c.loop-capture.text.items text c.loop-capture.shown c.loop-capture.invariant.0 c.in_ok-write_some.ensures.ok in
     let t = takes_of now next c.next.result (Err c.in-Err.fault) c.loop-capture.invariant.0.goes_on c.next.follows.holds-at-none.0 c.in-Err.is in
     on_err_all (λ before. CutOff before next.input c.args.outlet.now c.refused.new.outlet) c.refused.result (λ before opened.
     fault_err before from now next c.args.outlet.now c.write_some.new.outlet c.refused.new.outlet text c.loop-capture.shown c.in-Err.fault c.refused.result opened m t c.refused.ensures)

@@ -1,7 +1,16 @@
+use Rattle.std.proofs.Common.{arith}
 use Rattle.ipx_cmd.specs.SapText.{service_entry_text}
-use Rattle.ipx_cmd.proofs.Listed.{listed_more}
+use Rattle.ipx_cmd.proofs.Exits.{on_err_always}
+use Rattle.ipx_cmd.proofs.Listed.{listed_full, listed_more}
 use Rattle.ipx_cmd.proofs.show.sap_lines.add_entries.Goals as goal
 
 pub loop-place-preserved : goal.loop-place-preserved
-loop-place-preserved c =
-    listed_more service_entry_text c.args.entries.now c.loop-place.place c.entry.result _ _ _ c.entry.ensures c.loop-place.invariant c.in_ok-add_entry.ensures
+loop-place-preserved c = (
+  listed_more service_entry_text c.args.entries.now c.loop-place.place c.entry.result _ _ _ c.entry.ensures c.loop-place.invariant.0 c.in_ok-add_entry.ensures.text,
+  omega (arith, c.loop-place.invariant.1, c.in_ok-add_entry.ensures.kept),
+)
+
+pub returns-in_err-add_entry-clause-room : goal.returns-in_err-add_entry-clause-room
+returns-in_err-add_entry-clause-room c =
+    on_err_always c.from_residual.result
+    (listed_full service_entry_text c.args.entries.now c.loop-place.place c.entry.result _ _ _ _ c.entry.ensures c.loop-place.invariant.0 c.loop-place.invariant.1 c.in_err-add_entry.ensures.room)
