@@ -5,6 +5,7 @@ use crate::same::same;
 use ipx_cmd::{Ended, RunFault, decode, replay};
 use ipx_wire::{Intake, Outlet};
 use std::alloc::Global;
+use std::cell::Cell;
 use std::io;
 use std::io::{ErrorKind, Read, Write};
 
@@ -21,6 +22,15 @@ fn play(heap: Global, script: &[u8]) -> (Result<Ended, RunFault>, Vec<u8>) {
     let answer = replay(heap, &mut intake, &mut outlet);
     drop(outlet);
     (answer, text)
+}
+
+/// The lines of these bytes that have their end.
+fn closed(given: &[u8]) -> &[u8] {
+    let open = given
+        .rsplit(|byte| *byte == b'\n')
+        .next()
+        .map_or(0, |line| line.len());
+    &given[..given.len().saturating_sub(open)]
 }
 
 /// Gives at most `most` bytes a call, and is interrupted at call number `last`.
@@ -78,6 +88,45 @@ impl Write for Narrow<'_> {
     }
 }
 
+/// Gives at most `most` bytes a call, and notes at each how many bytes were written until then.
+#[derive(Drop)]
+struct Watching<'a> {
+    rest: &'a [u8],
+    most: usize,
+    written: &'a Cell<usize>,
+    seen: &'a mut Vec<usize>,
+}
+
+impl Read for Watching<'_> {
+    fn read(&mut self, buf: &mut [u8]) -> io::Result<usize> {
+        if self.seen.push(self.written.get()).is_err() {
+            return Err(io::Error::from(ErrorKind::OutOfMemory));
+        }
+        let count = buf.len().min(self.most).min(self.rest.len());
+        let (given, rest) = self.rest.split_at(count);
+        buf[..count].copy_from_slice(given);
+        self.rest = rest;
+        Ok(count)
+    }
+}
+
+/// Counts the bytes that it takes.
+#[derive(Drop)]
+struct Counting<'a> {
+    written: &'a Cell<usize>,
+}
+
+impl Write for Counting<'_> {
+    fn write(&mut self, buf: &[u8]) -> io::Result<usize> {
+        self.written.set(self.written.get().wrapping_add(buf.len()));
+        Ok(buf.len())
+    }
+
+    fn flush(&mut self) -> io::Result<()> {
+        Ok(())
+    }
+}
+
 /// Gives comment signs without end, and counts the calls.
 #[derive(Drop)]
 struct Endless<'a> {
@@ -119,8 +168,34 @@ fn a_byte_at_a_time_changes_nothing(rt: HostRuntime) {
     }
 }
 
-/// A line is written before the next piece is asked for: what came before a failed read is the text of all lines that
-/// were given whole.
+/// At each call of the reader the text of all lines that it gave whole is written.
+#[test]
+fn lines_are_answered_before_more_is_asked_for(rt: HostRuntime) {
+    let heap = rt.alloc();
+    for most in [12, 40, 9999] {
+        let written = Cell::new(0);
+        let mut seen = Vec::new(heap);
+        let mut intake = Intake::new(Watching {
+            rest: SCRIPT,
+            most,
+            written: &written,
+            seen: &mut seen,
+        });
+        let mut outlet = Outlet::new(Counting { written: &written });
+        let answer = replay(heap, &mut intake, &mut outlet);
+        drop(intake);
+        drop(outlet);
+        assert_eq!(rt; answer, Ok(Ended::Done), "{most}");
+        assert_eq!(rt; seen.len(), SCRIPT.len().div_ceil(most) + 1, "{most}");
+        for (calls, count) in seen.iter().enumerate() {
+            let given = &SCRIPT[..SCRIPT.len().min(most.saturating_mul(calls))];
+            let (_, wanted) = play(heap, closed(given));
+            assert_eq!(rt; *count, wanted.len(), "{most} a call, call {calls}");
+        }
+    }
+}
+
+/// What was written when a reader fails is the text of all lines that were given whole.
 #[test]
 fn a_failed_read_leaves_the_text_so_far(rt: HostRuntime) {
     let heap = rt.alloc();
@@ -137,12 +212,7 @@ fn a_failed_read_leaves_the_text_so_far(rt: HostRuntime) {
         let answer = replay(heap, &mut intake, &mut outlet);
         drop(outlet);
         let given = &SCRIPT[..SCRIPT.len().min(12 * (last - 1))];
-        let open = given
-            .rsplit(|byte| *byte == b'\n')
-            .next()
-            .map_or(0, |line| line.len());
-        let closed = given.len().saturating_sub(open);
-        let (_, wanted) = play(heap, &given[..closed]);
+        let (_, wanted) = play(heap, closed(given));
         assert_eq!(rt; answer, Err(RunFault::Read), "call {last}");
         assert!(rt; intake.failed(), "call {last}");
         assert_eq!(rt; text.as_slice(), wanted.as_slice(), "call {last}");
