@@ -26,7 +26,7 @@ ghost use Rattle.ipx_internet.specs.Log.{Sending, Reception, reception_at, IsFor
 ghost use Rattle.ipx_internet.specs.Meanwhile.{IsWithoutRoute, IsWithoutService, SaysOnly, IsBusyTick, StaysGone, EachTick};
 ghost use Rattle.ipx_internet.specs.Most.{most, most_of, most_on_network, most_ports as ports_at_most};
 ghost use Rattle.ipx_internet.specs.Queue.{Delivery, Queued, deliveries_of, history_of, queued, settled_one, settled};
-ghost use Rattle.ipx_internet.specs.Real.{IsReal};
+ghost use Rattle.ipx_internet.specs.Real.{IsReal, led_over};
 ghost use Rattle.ipx_internet.specs.Rounds.{IsDelivery, IsOwnStep, rounds, handed_out, most_caused, most_rounds, most_own_rounds};
 ghost use Rattle.ipx_internet.specs.Run.{Step, Settles, IsStep, AreHistories, Run, begun, forgotten, happens, stepped, run_of};
 ghost use Rattle.ipx_internet.specs.Moment.{Moment, StandsFor, net_at};
@@ -275,7 +275,7 @@ pub fn ticks_pass()
     ipx_router::laws::packets();
 }
 
-/// What is gone is gone everywhere after 2,895 ticks, whatever was in the tables before: where nobody has a port up on a network,
+/// What is gone is gone everywhere after 2,880 ticks, whatever was in the tables before: where nobody has a port up on a network,
 /// no router has a route to it; and no router has any service, as no router announces one of its own.
 ///
 /// In a tick each router has one second, in any order, deliveries happen in between, and in the end nothing waits. Nothing
@@ -299,7 +299,7 @@ pub fn gone()
 
 /// What is gone stays gone, whatever else happens meanwhile: starts and stops, ports that go down and come up, packets of hosts.
 ///
-/// After 2,895 ticks no router has a route to a network on which no port was up since they began, if no packet of a host said that it
+/// After 2,880 ticks no router has a route to a network on which no port was up since they began, if no packet of a host said that it
 /// is reached; and no router has a service that no host announced since then. In a tick each router has one second, everything else
 /// happens in any order, and in the end nothing waits. A host may ask what it likes, but a request for routes is not sent from the socket
 /// of SAP, nor a query for services from that of RIP: the answer would be read as what it is not.
@@ -324,14 +324,23 @@ pub fn gone_meanwhile()
     ipx_router::laws::packets();
 }
 
-/// Every route is of a real way after 2,895 such ticks, whatever was in the tables before: each came by a port that is up from a
-/// router that has the network on another port, or has such a route by another one; all those ports are up, and hops and
-/// ticks are those of that way. So no route leads over a port that has been down that long.
+/// Every route is of a real way after 2,880 such ticks, whatever was in the tables before: each came by a port that is up from a
+/// router that has the network on another port, or has such a route by another one. All those ports are up, neighbour by
+/// neighbour, and hops and ticks are those of that way.
+///
+/// So no route is of a way that leads over a port that has been down that long (`down`). The port by which a route came is up after
+/// any number of ticks (`own_ports`).
 pub fn real()
     ensures routes { (net : Internet) (most_routes most_services : ℕ) (histories : List History) (ticks : List (List Step)) (router : ℕ)
         → IsInternet net → AreHistories net histories → AreTicks net most_routes most_services (begun histories) ticks → most_ticks_gone ≤ length ticks
         → router < length net
         → AllByRecursion (IsReal net (ups net histories) router)
+        (offers (routes_held (ports_of net router) most_routes (history_of (ticked net most_routes most_services (begun histories) ticks).histories router))) }
+    ensures down { (net : Internet) (most_routes most_services : ℕ) (histories : List History) (ticks : List (List Step)) (router : ℕ) (place : Place)
+        → IsInternet net → AreHistories net histories → AreTicks net most_routes most_services (begun histories) ticks → most_ticks_gone ≤ length ticks
+        → router < length net → is_up (ups net histories place.router) place.port ≡ false
+        → AllByRecursion
+        (λ r. (real : IsReal net (ups net histories) router r) × AllByRecursion (λ p. p ≢ place) (led_over net (ups net histories) router r real))
         (offers (routes_held (ports_of net router) most_routes (history_of (ticked net most_routes most_services (begun histories) ticks).histories router))) }
     ensures own_ports { (net : Internet) (most_routes most_services : ℕ) (histories : List History) (ticks : List (List Step)) (router : ℕ)
         → IsInternet net → AreHistories net histories → AreTicks net most_routes most_services (begun histories) ticks → router < length net

@@ -16,7 +16,7 @@ use Rattle.ipx_router.specs.History.{History, Start, Second, Packet}
 use Rattle.ipx_router.specs.Port.{own_address, everyone}
 use Rattle.ipx_internet.specs.Internet.{ports_of}
 use Rattle.ipx_internet.specs.Queue.{history_of}
-use Rattle.ipx_internet.specs.Real.{IsReal, next}
+use Rattle.ipx_internet.specs.Real.{IsReal, next, led_over}
 use Rattle.ipx_internet.specs.Run.{begun, run_of}
 use Rattle.ipx_internet.specs.Ticks.{seconds_of, IsTick, a_tick, ups, IsGone}
 use Rattle.ipx_internet.proofs.examples.Waiting.{segment}
@@ -66,5 +66,10 @@ neither_has = refl
 -- the second router's route is to a network that the first has on its other port
 pub is_real : IsReal segment (ups segment before) 1 (route 0x10 0 2)
 unfolding header_bytes address_bytes network_bytes packet_of header_at address_at items network_at entry_bytes entry_at rip_of sap_of
-is_real = next (at 0 1) 0 (record { other = λ (same : 1 ≡ 0). omega (arith, same); reaches = refl; network = refl; node = refl }) refl
-    (λ (same : 0 ≡ 1). omega (arith, same)) refl
+is_real = next (at 0 1) 0 refl (λ (same : 0 ≡ 1). omega (arith, same))
+    (record { other = λ (same : 1 ≡ 0). omega (arith, same); here = refl; there = refl; network = refl; wanted = refl; offer = refl })
+
+-- the way leads over that route's port, the first router's on the same segment, and the first router's on the network itself
+pub leads_over : led_over segment (ups segment before) 1 (route 0x10 0 2) is_real ≡ at 1 0 ∷ at 0 1 ∷ at 0 0 ∷ []
+unfolding header_bytes address_bytes network_bytes packet_of header_at address_at items network_at entry_bytes entry_at rip_of sap_of is_real
+leads_over = refl
