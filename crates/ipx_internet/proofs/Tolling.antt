@@ -107,7 +107,7 @@ module _ (net : Internet) (laws : Layouts) (is : IsInternet net) (most_routes mo
   settles_all P one (suc n) = (one, settles_all P one n)
 
   -- of a tick, each is one that there is
-  of_tick : (step : Step) → IsOfTick net step → IsStep net step
+  pub of_tick : (step : Step) → IsOfTick net step → IsStep net step
   of_tick (Happens router Second) is = (is.0, tt, tt)
   of_tick (Happens router Start) is = absurd (true≢false (sym is.1))
   of_tick (Happens router Stop) is = absurd (true≢false (sym is.1))
@@ -153,7 +153,7 @@ module _ (net : Internet) (laws : Layouts) (is : IsInternet net) (most_routes mo
       event_sound histories queue d.to.router (Packet d.to.port d.bytes) (router_there net d.to.router d.to.port first.place) first.place first.bytes
       (record { are = sound.are; waits = sound.waits.1 })
 
-  step_sound : (run : Run) (step : Step) → IsStep net step → Sound (forgotten run) → Sound (forgotten (stepped net most_routes most_services run step))
+  pub step_sound : (run : Run) (step : Step) → IsStep net step → Sound (forgotten run) → Sound (forgotten (stepped net most_routes most_services run step))
   step_sound run (Happens router event) is_step sound =
       subst (λ (q : Queued). Sound q) (sym (events net most_routes most_services run router event None))
       (event_sound run.histories (map (λ w. w.delivery) run.waiting) router event is_step.0 is_step.1 is_step.2 sound)

@@ -362,3 +362,45 @@ pub fn real()
     ipx_wire::laws::reread();
     ipx_router::laws::packets();
 }
+
+/// Whatever waits when the ticks begin, forged packets too, one tick more is enough for what the three laws above say: the first one
+/// ends with nothing that waits.
+///
+/// So after more than 2,880 ticks no router has a route to a network on which nobody has a port up, none has any service, and every
+/// route is of a real way. Where anything else happens meanwhile, it is so of what stayed gone after the first tick.
+pub fn whatever_waits()
+    ensures networks { (net : Internet) (most_routes most_services : ℕ) (run : Run) (ticks : List (List Step)) (router : ℕ) (network : Network)
+        → IsInternet net → AreHistories net run.histories → AllByRecursion (λ w. IsDelivery net w.delivery) run.waiting
+        → AreTicks net most_routes most_services run ticks → most_ticks_gone < length ticks → router < length net → IsGone net run.histories network
+        → AllByRecursion (λ r. r.network ≢ network)
+        (offers (routes_held (ports_of net router) most_routes (history_of (ticked net most_routes most_services run ticks).histories router))) }
+    ensures services { (net : Internet) (most_routes most_services : ℕ) (run : Run) (ticks : List (List Step)) (router : ℕ)
+        → IsInternet net → AreHistories net run.histories → AllByRecursion (λ w. IsDelivery net w.delivery) run.waiting
+        → AreTicks net most_routes most_services run ticks → most_ticks_gone < length ticks → router < length net
+        → services_held (ports_of net router) most_services (history_of (ticked net most_routes most_services run ticks).histories router) ≡ [] }
+    ensures routes { (net : Internet) (most_routes most_services : ℕ) (run : Run) (ticks : List (List Step)) (router : ℕ)
+        → IsInternet net → AreHistories net run.histories → AllByRecursion (λ w. IsDelivery net w.delivery) run.waiting
+        → AreTicks net most_routes most_services run ticks → most_ticks_gone < length ticks → router < length net
+        → AllByRecursion (IsReal net (ups net run.histories) router)
+        (offers (routes_held (ports_of net router) most_routes (history_of (ticked net most_routes most_services run ticks).histories router))) }
+    ensures networks_meanwhile { (net : Internet) (most_routes most_services : ℕ) (run : Run) (first : List Step) (ticks : List (List Step)) (router : ℕ) (network : Network)
+        → IsInternet net → AreHistories net run.histories → AllByRecursion (λ w. IsDelivery net w.delivery) run.waiting
+        → EachTick net most_routes most_services (IsBusyTick net most_routes most_services) run (first ∷ ticks) → most_ticks_gone ≤ length ticks
+        → router < length net
+        → EachTick net most_routes most_services (StaysGone net most_routes most_services network) (run_of net most_routes most_services run first) ticks
+        → AllByRecursion (AllByRecursion (SaysOnly (IsWithoutRoute network))) ticks
+        → AllByRecursion (λ r. r.network ≢ network)
+        (offers (routes_held (ports_of net router) most_routes (history_of (ticked net most_routes most_services run (first ∷ ticks)).histories router))) }
+    ensures services_meanwhile { (net : Internet) (most_routes most_services : ℕ) (run : Run) (first : List Step) (ticks : List (List Step)) (router : ℕ)
+        (key : ℕ × List ℕ)
+        → IsInternet net → AreHistories net run.histories → AllByRecursion (λ w. IsDelivery net w.delivery) run.waiting
+        → EachTick net most_routes most_services (IsBusyTick net most_routes most_services) run (first ∷ ticks) → most_ticks_gone ≤ length ticks
+        → router < length net → AllByRecursion (AllByRecursion (SaysOnly (IsWithoutService key))) ticks
+        → AllByRecursion (λ s. (s.service.kind, s.service.name) ≢ key)
+        (offers (services_held (ports_of net router) most_services (history_of (ticked net most_routes most_services run (first ∷ ticks)).histories router))) }
+{
+    ipx_wire::laws::readings();
+    ipx_wire::laws::service_readings();
+    ipx_wire::laws::reread();
+    ipx_router::laws::packets();
+}
