@@ -44,13 +44,13 @@ module _ (IsFine : Network → Type 0) (IsServed : ℕ × List ℕ → Type 0) w
   -- ---- what is said, when so many ticks have begun: of what is reached, what is fine, or was told soon enough
 
   abbrev pub RouteSaid : ℕ → RipEntry → Type 0
-  RouteSaid begun e = e.hops < unreachable → IsFine e.network ⊎ (begun ≤ 181 * e.hops)
+  RouteSaid begun e = e.hops < unreachable → IsFine e.network ⊎ (begun ≤ 180 * e.hops)
 
   abbrev pub ServiceSaid : ℕ → Service → Type 0
-  ServiceSaid begun s = s.hops < unreachable → IsServed (s.kind, s.name) ⊎ (begun ≤ 181 * s.hops)
+  ServiceSaid begun s = s.hops < unreachable → IsServed (s.kind, s.name) ⊎ (begun ≤ 180 * s.hops)
 
   abbrev pub EntrySaid : ℕ → SapEntry → Type 0
-  EntrySaid begun e = e.hops < unreachable → (name : List ℕ) → e.name ≡ Some name → IsServed (e.kind, name) ⊎ (begun ≤ 181 * e.hops)
+  EntrySaid begun e = e.hops < unreachable → (name : List ℕ) → e.name ≡ Some name → IsServed (e.kind, name) ⊎ (begun ≤ 180 * e.hops)
 
   -- every network, and every service
   abbrev pub AllFine : Type 0
@@ -116,7 +116,7 @@ module _ (IsFine : Network → Type 0) (IsServed : ℕ × List ℕ → Type 0) w
       ServiceOld =
           IsOldOffer service_reading service_order service_total most_services (map (λ p. p.service_share) ports) (λ s. s.service.hops) (λ s. refl) FineService had
 
-      sooner : {A : Type 0} (hops : ℕ) → A ⊎ (begun ≤ 181 * hops) → A ⊎ (had ≤ 181 * hops)
+      sooner : {A : Type 0} (hops : ℕ) → A ⊎ (begun ≤ 180 * hops) → A ⊎ (had ≤ 180 * hops)
       sooner hops (inl fine) = inl fine
       sooner hops (inr soon) = inr (omega (arith, soon, late))
 

@@ -1,6 +1,6 @@
 -- What a router sends for any event but a packet: broadcasts, which nobody sends on, and whose requests and queries come from the
 -- sockets of RIP and SAP. One round later only replies wait, in which all that is reached is one hop away, at least.
-use Rattle.std.proofs.Common.{◌≡◌, refl, sym, ap, ◌∙◌, subst, ◌⊎◌, ℕ, ◌<◌, ◌==◌, Bool, true, false, if◌then◌else◌, List, [], ◌∷◌, ◌++◌, length, flat_map, Option, Some, None, IfSome, Result, Ok, Err, inl, inr, arith}
+use Rattle.std.proofs.Common.{◌≡◌, refl, sym, ap, ◌∙◌, subst, ◌⊎◌, ℕ, ◌<◌, ◌==◌, Bool, true, false, if◌then◌else◌, List, [], ◌∷◌, ◌++◌, length, map, flat_map, Option, Some, None, IfSome, Result, Ok, Err, inl, inr, arith}
 use Rattle.std.specs.List.{AllByRecursion}
 use Rattle.std.proofs.lemmas.Bool.{cases_Bool, eq-eqb}
 use Rattle.ipx_wire.specs.Numbers.{rip_type, sap_type}
@@ -40,17 +40,17 @@ use Rattle.ipx_router.proofs.SaidOnce.{one_read}
 use Rattle.ipx_router.proofs.Tables.{source_of, came_in}
 use Rattle.ipx_router.proofs.ToldFits.{told_fits, told_services_fit}
 use Rattle.ipx_internet.specs.Internet.{Internet, IsInternet, ports_of, port_of}
-use Rattle.ipx_internet.specs.Queue.{Delivery, Queued, deliveries_of, history_of, sends_at, queued}
+use Rattle.ipx_internet.specs.Queue.{Delivery, Queued, deliveries_of, history_of, sends_at, queued, settled_one}
 use Rattle.ipx_internet.specs.Rounds.{IsDelivery, IsOwnEvent, IsOwnStep, rounds}
 use Rattle.ipx_internet.specs.Run.{Step, Happens, Settles, AreHistories, Run, forgotten, stepped, run_of}
 use Rattle.ipx_internet.proofs.Announced.{told_all, told_services_all}
 use Rattle.ipx_internet.proofs.Delivering.{keeps_histories, all_wait}
-use Rattle.ipx_internet.proofs.Ebbing.{Ebbs, at_all}
+use Rattle.ipx_internet.proofs.Ebbing.{Ebbs, at_all, ebbs_still}
 use Rattle.ipx_internet.proofs.Lists.{all_of, all_then, all-append, all-filter}
 use Rattle.ipx_internet.proofs.Nearing.{Live, news_farther, news_services_farther}
 use Rattle.ipx_internet.proofs.Offered.{EachHeard}
 use Rattle.ipx_internet.proofs.Paging.{IsRipPage, IsSapPage, Tellable, IsAnswering, rip_pages, sap_pages}
-use Rattle.ipx_internet.proofs.Queues.{events}
+use Rattle.ipx_internet.proofs.Queues.{events, deliveries}
 use Rattle.ipx_internet.proofs.Receivers.{ports_at, receives_is}
 use Rattle.ipx_internet.proofs.Replying.{Layouts, IsCast, IsOnward, not_onward, rip_reply, sap_reply, unsaid, said, answered}
 use Rattle.ipx_internet.proofs.Rounding.{sents, sent_for, each_delivery, Steps, Holds, rounded}
@@ -142,45 +142,11 @@ module _ (net : Internet) (laws : Layouts) (is : IsInternet net) (most_routes mo
   abbrev pub Own : Delivery → Type 0
   Own d = IsDelivery net d × IsOwnSent (port_of net d.to) d.bytes
 
-  -- ---- events, one after the other
+  -- and of deliveries of that: replies in which all that is reached is one hop away, at least
+  abbrev pub Caused : Delivery → Type 0
+  Caused d = Own d ⊎ Ebbs net laws is most_routes most_services 1 d
 
-  pub record Opens (q : Queued) : Type 0 where
-    pub are : AreHistories net q.histories
-    pub waiting : AllByRecursion Own q.queue
-
-  event_opens : (q : Queued) (router : ℕ) (event : Event) → router < length net → IsOwnEvent (ports_of net router) event → Opens q
-      → Opens (queued net most_routes most_services q router event)
-  event_opens q router event within own opens =
-      let ports = ports_of net router in
-      let past = history_of q.histories router in
-      let on = own_on ports event own in
-      let all_on = all-append (IsOnPort ports) past (event ∷ []) (opens.are.on_ports router) (on.0, tt) in
-      let all_bytes = all-append IsOfBytes past (event ∷ []) (opens.are.of_bytes router) (on.1, tt) in
-      let sent = sends_at net most_routes most_services q.histories router event in
-      let up = ports_sending ports past event in
-      let bytes = laws.bytes ports most_routes most_services past event (ports_at net is router) all_on all_bytes in
-      let laid = laws.layouts ports most_routes most_services past event (ports_at net is router) all_on all_bytes in
-      let routes = offers (routes_held ports most_routes past) in
-      record {
-        are = histories_more net q.histories router event opens.are within on.0 on.1;
-        waiting = all-append Own q.queue (flat_map (deliveries_of net router) sent) opens.waiting
-            (each_delivery net most_routes most_services Own (λ s. IsBytes s.bytes × IsSentFor ports up routes (running past) event s) router
-            (λ s to both place received. (
-              record { place = place; bytes = both.0 },
-              own_moves (port_at ports s.port) (port_of net to) s.bytes (receives_is net (record { router = router; port = s.port }) s.link to received).network
-                  (broadcast_own laws ports up s both.0 (broadcasts_of ports up routes (running past) event own s both.1)),
-            )) sent (all_both (λ s. IsBytes s.bytes) (IsSentFor ports up routes (running past) event) sent bytes laid));
-      }
-
-  pub steps_open : (steps : List Step) (run : Run) → AllByRecursion (IsOwnStep net) steps → Opens (forgotten run)
-      → Opens (forgotten (run_of net most_routes most_services run steps))
-  steps_open [] run all opens = opens
-  steps_open (Settles ∷ steps) run all opens = absurd all.0
-  steps_open (Happens router event ∷ steps) run all opens =
-      steps_open steps (stepped net most_routes most_services run (Happens router event)) all.1
-      (subst Opens (sym (events net most_routes most_services run router event None)) (event_opens (forgotten run) router event all.0.0 all.0.1 opens))
-
-  -- ---- the first round
+  -- ---- a delivery of a broadcast
 
   module _ (histories : List History) (d : Delivery) (are : AreHistories net histories) (own : Own d) where
     abbrev ports : List Port
@@ -346,13 +312,77 @@ module _ (net : Internet) (laws : Layouts) (is : IsInternet net) (most_routes mo
         (sent_for net most_routes most_services histories d)
         (all_wait net laws is most_routes most_services histories are d own.0 (IsTold P Q) (told_moves P Q) all_told)
 
-  first_round : Steps net most_routes most_services (AreHistories net) Own (λ histories. Ebbs net laws is most_routes most_services 1)
+  -- ---- steps, one after the other
+
+  pub record Opens (q : Queued) : Type 0 where
+    pub are : AreHistories net q.histories
+    pub waiting : AllByRecursion Caused q.queue
+
+  event_opens : (q : Queued) (router : ℕ) (event : Event) → router < length net → IsOwnEvent (ports_of net router) event → Opens q
+      → Opens (queued net most_routes most_services q router event)
+  event_opens q router event within own opens =
+      let ports = ports_of net router in
+      let past = history_of q.histories router in
+      let on = own_on ports event own in
+      let all_on = all-append (IsOnPort ports) past (event ∷ []) (opens.are.on_ports router) (on.0, tt) in
+      let all_bytes = all-append IsOfBytes past (event ∷ []) (opens.are.of_bytes router) (on.1, tt) in
+      let sent = sends_at net most_routes most_services q.histories router event in
+      let up = ports_sending ports past event in
+      let bytes = laws.bytes ports most_routes most_services past event (ports_at net is router) all_on all_bytes in
+      let laid = laws.layouts ports most_routes most_services past event (ports_at net is router) all_on all_bytes in
+      let routes = offers (routes_held ports most_routes past) in
+      record {
+        are = histories_more net q.histories router event opens.are within on.0 on.1;
+        waiting = all-append Caused q.queue (flat_map (deliveries_of net router) sent) opens.waiting
+            (each_delivery net most_routes most_services Caused (λ s. IsBytes s.bytes × IsSentFor ports up routes (running past) event s) router
+            (λ s to both place received. inl (
+              record { place = place; bytes = both.0 },
+              own_moves (port_at ports s.port) (port_of net to) s.bytes (receives_is net (record { router = router; port = s.port }) s.link to received).network
+                  (broadcast_own laws ports up s both.0 (broadcasts_of ports up routes (running past) event own s both.1)),
+            )) sent (all_both (λ s. IsBytes s.bytes) (IsSentFor ports up routes (running past) event) sent bytes laid));
+      }
+
+  -- what is sent for such a delivery
+  caused_ebbs : (histories : List History) (d : Delivery) → AreHistories net histories → Caused d
+      → AllByRecursion (Ebbs net laws is most_routes most_services 1) (sent_for net most_routes most_services histories d)
+  caused_ebbs histories d are (inl own) = first_ebbs histories d are own
+  caused_ebbs histories d are (inr ebbs) = ebbs_still net laws is most_routes most_services 1 histories d are ebbs
+
+  delivery_there : (d : Delivery) → Caused d → IsDelivery net d
+  delivery_there d (inl own) = own.0
+  delivery_there d (inr ebbs) = ebbs.calm.0
+
+  delivery_opens : (histories : List History) (queue : List Delivery) → Opens (record { histories = histories; queue = queue })
+      → Opens (settled_one net most_routes most_services (record { histories = histories; queue = queue }))
+  delivery_opens histories [] opens = opens
+  delivery_opens histories (d ∷ queue) opens =
+      let first = opens.waiting.0 in
+      record {
+        are = keeps_histories net laws is most_routes most_services histories opens.are d (delivery_there d first);
+        waiting = all-append Caused queue (sent_for net most_routes most_services histories d) opens.waiting.1
+            (all_then (Ebbs net laws is most_routes most_services 1) Caused (λ e ebbs. inr ebbs) (sent_for net most_routes most_services histories d)
+            (caused_ebbs histories d opens.are first));
+      }
+
+  pub steps_open : (steps : List Step) (run : Run) → AllByRecursion (IsOwnStep net) steps → Opens (forgotten run)
+      → Opens (forgotten (run_of net most_routes most_services run steps))
+  steps_open [] run all opens = opens
+  steps_open (Settles ∷ steps) run all opens =
+      steps_open steps (stepped net most_routes most_services run Settles) all.1
+      (subst Opens (sym (deliveries net most_routes most_services run)) (delivery_opens run.histories (map (λ w. w.delivery) run.waiting) opens))
+  steps_open (Happens router event ∷ steps) run all opens =
+      steps_open steps (stepped net most_routes most_services run (Happens router event)) all.1
+      (subst Opens (sym (events net most_routes most_services run router event None)) (event_opens (forgotten run) router event all.0.0 all.0.1 opens))
+
+  -- ---- the first round
+
+  first_round : Steps net most_routes most_services (AreHistories net) Caused (λ histories. Ebbs net laws is most_routes most_services 1)
   first_round = record {
-    keeps = λ histories d are own. keeps_histories net laws is most_routes most_services histories are d own.0;
-    sends = λ histories d are own. first_ebbs histories d are own;
-    lasts = λ histories d other are own new. new;
+    keeps = λ histories d are old. keeps_histories net laws is most_routes most_services histories are d (delivery_there d old);
+    sends = λ histories d are old. caused_ebbs histories d are old;
+    lasts = λ histories d other are old new. new;
   }
 
   pub ebbs_soon : (q : Queued) → Opens q
       → Holds net most_routes most_services (AreHistories net) (λ histories. Ebbs net laws is most_routes most_services 1) (rounds net most_routes most_services 1 q)
-  ebbs_soon q opens = rounded net most_routes most_services (AreHistories net) Own (λ histories. Ebbs net laws is most_routes most_services 1) first_round q opens.are opens.waiting
+  ebbs_soon q opens = rounded net most_routes most_services (AreHistories net) Caused (λ histories. Ebbs net laws is most_routes most_services 1) first_round q opens.are opens.waiting

@@ -25,6 +25,14 @@ at_all (HeardRip source rip) = all_of (λ e. Live 0 e.hops) (λ e near. omega ar
 at_all (HeardSap source (Query nearest kind)) = tt
 at_all (HeardSap source (Response nearest entries)) = all_of (λ e. Live 0 e.hops) (λ e near. omega arith) entries
 
+-- what is one hop more away is that far away
+no_nearer : (least : ℕ) (m : Heard) → EachHeard (λ e. Live (suc least) e.hops) (λ e. Live (suc least) e.hops) m → EachHeard (λ e. Live least e.hops) (λ e. Live least e.hops) m
+no_nearer least (HeardRip source rip) far =
+    all_then (λ e. Live (suc least) e.hops) (λ e. Live least e.hops) (λ e live near. let more = live near in omega (arith, more)) rip.entries far
+no_nearer least (HeardSap source (Query nearest kind)) far = tt
+no_nearer least (HeardSap source (Response nearest entries)) far =
+    all_then (λ e. Live (suc least) e.hops) (λ e. Live least e.hops) (λ e live near. let more = live near in omega (arith, more)) entries far
+
 module _ (net : Internet) (laws : Layouts) (is : IsInternet net) (most_routes most_services : ℕ) where
   -- a reply in which all that is alive is so many hops away, at least
   pub record Ebbs (least : ℕ) (d : Delivery) : Type 0 where
@@ -48,6 +56,14 @@ module _ (net : Internet) (laws : Layouts) (is : IsInternet net) (most_routes mo
         (sent_for net most_routes most_services histories d)
         (telling net laws is most_routes most_services histories are d old.calm P Q
         (news_farther least at past d.to.port d.bytes says most_routes) (news_services_farther least at past d.to.port d.bytes says most_services))
+
+  -- so many hops away still, at least
+  pub ebbs_still : (least : ℕ) (histories : List History) (d : Delivery) → AreHistories net histories → Ebbs least d
+      → AllByRecursion (Ebbs least) (sent_for net most_routes most_services histories d)
+  ebbs_still least histories d are old =
+      all_then (Ebbs (suc least)) (Ebbs least)
+      (λ e ebbs. record { calm = ebbs.calm; says = λ p m read heard. no_nearer least m (ebbs.says p m read heard) })
+      (sent_for net most_routes most_services histories d) (ebbs_then least histories d are old)
 
   pub ebbing : (least : ℕ) → Steps net most_routes most_services (AreHistories net) (Ebbs least) (λ histories. Ebbs (suc least))
   ebbing least = record {

@@ -25,7 +25,7 @@ use Rattle.ipx_router.proofs.Counting.{network_total, service_total}
 use Rattle.ipx_router.proofs.Every.{all_both}
 use Rattle.ipx_router.proofs.Histories.{ports_stay, none_up}
 use Rattle.ipx_router.proofs.Offering.{facts_from-more}
-use Rattle.ipx_router.proofs.Tables.{came_in}
+use Rattle.ipx_router.proofs.Tables.{came_in, heard_up}
 use Rattle.ipx_router.proofs.Upheld.{held_routes_up, held_services_up}
 use Rattle.ipx_internet.specs.Internet.{Internet, Place, ports_of, port_of, network_of}
 use Rattle.ipx_internet.specs.Queue.{Delivery}
@@ -48,15 +48,20 @@ module _ (net : Internet) (up : ℕ → List ℕ) where
     pub network : network_of net to ≡ network_of net from
     pub on : is_up (up from.router) from.port ≡ true
 
+  -- and hears of such an entry: the port is up, and its router takes routes to that network
+  pub record Hears (to : Place) (e : RipEntry) : Type 0 where
+    pub up_here : is_up (up to.router) to.port ≡ true
+    pub wanted : takes_no_route (ports_of net to.router) e.network ≡ false
+
   -- an entry that is sent on a port, when so many ticks have begun: if it is alive, then whoever learns of it has a route of a real
   -- way, or it was said soon enough
   abbrev pub RouteSaid : ℕ → Place → RipEntry → Type 0
   RouteSaid begun from e =
       e.hops < unreachable
-      → ((to : Place) → Reaches from to → IsReal net up to.router (route_offer to.port (port_of net from).node e)) ⊎ (begun ≤ 181 * e.hops)
+      → ((to : Place) → Reaches from to → Hears to e → IsReal net up to.router (route_offer to.port (port_of net from).node e)) ⊎ (begun ≤ 180 * e.hops)
 
   abbrev pub ServiceSaid : ℕ → Service → Type 0
-  ServiceSaid begun s = s.hops < unreachable → begun ≤ 181 * s.hops
+  ServiceSaid begun s = s.hops < unreachable → begun ≤ 180 * s.hops
 
   -- what waits for a port
   pub record Arrives (begun : ℕ) (d : Delivery) : Type 0 where
@@ -154,18 +159,19 @@ module _ (net : Internet) (up : ℕ → List ℕ) where
       ServiceOld =
           IsOldOffer service_reading service_order service_total most_services (map (λ p. p.service_share) ports) (λ s. s.service.hops) (λ s. refl) (λ s. ⊥) had
 
-      routes_old : (entries : List RipEntry) → AllByRecursion (RouteSaid begun from) entries
+      routes_old : is_up (up router) number ≡ true → (entries : List RipEntry) → AllByRecursion (RouteSaid begun from) entries
           → AllByRecursion (OffersOf RouteOld) (routes_offered ports number (port_of net from).node entries)
-      routes_old [] all = tt
-      routes_old (e ∷ entries) all = elim (cases_Bool (takes_no_route ports e.network)) [
-        | inl none ↦ rw none (routes_old entries all.1)
-        | inr taken ↦ rw taken ((λ near. one (all.0 near)), routes_old entries all.1)
+      routes_old on [] all = tt
+      routes_old on (e ∷ entries) all = elim (cases_Bool (takes_no_route ports e.network)) [
+        | inl none ↦ rw none (routes_old on entries all.1)
+        | inr taken ↦ rw taken ((λ near. one taken (all.0 near)), routes_old on entries all.1)
       ]
         where
-          one : ((to : Place) → Reaches from to → IsReal net up to.router (route_offer to.port (port_of net from).node e)) ⊎ (begun ≤ 181 * e.hops)
-              → IsReal net up router (route_offer number (port_of net from).node e) ⊎ (had ≤ 181 * e.hops)
-          one (inl real) = inl (real (record { router = router; port = number }) reaches)
-          one (inr soon) = inr (omega (arith, soon, late))
+          one : takes_no_route ports e.network ≡ false
+              → ((to : Place) → Reaches from to → Hears to e → IsReal net up to.router (route_offer to.port (port_of net from).node e)) ⊎ (begun ≤ 180 * e.hops)
+              → IsReal net up router (route_offer number (port_of net from).node e) ⊎ (had ≤ 180 * e.hops)
+          one wanted (inl real) = inl (real (record { router = router; port = number }) reaches (record { up_here = on; wanted = wanted }))
+          one wanted (inr soon) = inr (omega (arith, soon, late))
 
       services_old : (services : List Service) → AllByRecursion (ServiceSaid begun) services
           → AllByRecursion (OffersOf ServiceOld) (services_offered number (port_of net from).node (map sap_entry services))
@@ -175,13 +181,13 @@ module _ (net : Internet) (up : ℕ → List ℕ) where
       abbrev OldHeard : Heard → Type 0
       OldHeard m = AllByRecursion (OffersOf RouteOld) (routes_heard ports number (Some m)) × AllByRecursion (OffersOf ServiceOld) (services_heard number (Some m))
 
-      page_old : (p : Parts) (m : Heard) → packet_of bytes ≡ Ok p → heard_in p ≡ Some m → IsNewsSent (RouteSaid begun from) (ServiceSaid begun) (port_of net from) bytes
+      page_old : is_up (up router) number ≡ true → (p : Parts) (m : Heard) → packet_of bytes ≡ Ok p → heard_in p ≡ Some m → IsNewsSent (RouteSaid begun from) (ServiceSaid begun) (port_of net from) bytes
           → OldHeard m
-      page_old p m read e (inl page) =
+      page_old on p m read e (inl page) =
           let port = port_of net from in
           it_is OldHeard m (HeardRip (own_address port) (record { operation = Response; entries = page.page }))
-          (page_heard (RouteSaid begun from) (own_address port) (everyone port) bytes refl page p m read e) (routes_old page.page page.each, tt)
-      page_old p m read e (inr page) =
+          (page_heard (RouteSaid begun from) (own_address port) (everyone port) bytes refl page p m read e) (routes_old on page.page page.each, tt)
+      page_old on p m read e (inr page) =
           let port = port_of net from in
           it_is OldHeard m (HeardSap (own_services port) (SapResponse false (map sap_entry page.page)))
           (services_heard_of (ServiceSaid begun) (own_services port) (every_server port) false bytes refl page p m read e) (tt, services_old page.page page.each)
@@ -201,7 +207,8 @@ module _ (net : Internet) (up : ℕ → List ℕ) where
         old_heard None e = (tt, tt)
         old_heard (Some m) e =
             let came = came_in ports (ports_up ports history) number (running history) bytes m e in
-            page_old came.packet m came.read (near came.packet m came.near) news
+            let on = subst (λ (us : List ℕ). is_up us number ≡ true) endures.ups (heard_up ports (ports_up ports history) number (running history) bytes m e) in
+            page_old on came.packet m came.read (near came.packet m came.near) news
 
         pub packet_endures : Endures had (history ++ Packet number bytes ∷ [])
         packet_endures =
@@ -243,8 +250,8 @@ module _ (net : Internet) (up : ℕ → List ℕ) where
       beside : (j other : ℕ) → is_up (up router) other ≡ true → (other == j) ≡ false
           → RouteSaid begun (place j) (told_at (port_at ports j).cost (direct_entry ports other))
       beside j other on apart near =
-          inl (λ to reaches. next (place j) other (record { other = reaches.other; reaches = reaches.on; network = reaches.network; node = refl }) on
-          (eqb-false other j apart) refl)
+          inl (λ to reaches hears. next (place j) other on (eqb-false other j apart)
+          (record { other = reaches.other; here = hears.up_here; there = reaches.on; network = reaches.network; wanted = hears.wanted; offer = refl }))
 
       -- a route that was learned elsewhere
       learned_said : (j : ℕ) (r : RouteOffer) → RouteHeld r → (r.port == j) ≡ false → RouteSaid begun (place j) (told_at (port_at ports j).cost (entry_of r))
@@ -253,12 +260,12 @@ module _ (net : Internet) (up : ℕ → List ℕ) where
           e : RipEntry
           e = told_at (port_at ports j).cost (entry_of r)
 
-          by : IsReal net up router r ⊎ (had ≤ 181 * r.hops + 179)
-              → ((to : Place) → Reaches (place j) to → IsReal net up to.router (route_offer to.port (port_of net (place j)).node e)) ⊎ (begun ≤ 181 * e.hops)
+          by : IsReal net up router r ⊎ (had ≤ 180 * r.hops + 179)
+              → ((to : Place) → Reaches (place j) to → Hears to e → IsReal net up to.router (route_offer to.port (port_of net (place j)).node e)) ⊎ (begun ≤ 180 * e.hops)
           by (inr old) = inr (omega (arith, old, soon))
           by (inl real) =
-              inl (λ to reaches. farther (place j) r (record { other = reaches.other; reaches = reaches.on; network = reaches.network; node = refl }) held.1
-              (eqb-false r.port j apart) refl near real)
+              inl (λ to reaches hears. farther (place j) r (eqb-false r.port j apart)
+              (record { other = reaches.other; here = hears.up_here; there = reaches.on; network = reaches.network; wanted = hears.wanted; offer = refl }) near real)
 
       ended_said : (j : ℕ) (e : RipEntry) → RouteSaid begun (place j) (dead e)
       ended_said j e near = absurd (omega (arith, near))
@@ -284,7 +291,7 @@ module _ (net : Internet) (up : ℕ → List ℕ) where
       service_said : (s : ServiceOffer) → ServiceHeld s → ServiceSaid begun (one_farther s.service)
       service_said s held near = by held.0
         where
-          by : ⊥ ⊎ (had ≤ 181 * s.service.hops + 179) → begun ≤ 181 * (s.service.hops + 1)
+          by : ⊥ ⊎ (had ≤ 180 * s.service.hops + 179) → begun ≤ 180 * (s.service.hops + 1)
           by (inl never) = absurd never
           by (inr old) = omega (arith, old, soon)
 

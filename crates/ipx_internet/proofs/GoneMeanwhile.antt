@@ -1,4 +1,4 @@
--- Whatever else happens meanwhile, after 2,895 ticks there is no route to a network that is gone, and no service that nobody announces.
+-- Whatever else happens meanwhile, after 2,880 ticks there is no route to a network that is gone, and no service that nobody announces.
 use Rattle.std.proofs.Common.{◌≡◌, ◌≢◌, refl, subst, ℕ, ◌+◌, ◌<◌, ◌≤◌, true, List, [], ◌∷◌, length, map, inl, inr, arith}
 use Rattle.std.specs.List.{AllByRecursion}
 use Rattle.std.proofs.lemmas.Bool.{both_ways}
@@ -19,13 +19,13 @@ use Rattle.ipx_router.proofs.Counting.{network_total, service_total}
 use Rattle.ipx_internet.specs.Internet.{Internet, IsInternet, ports_of}
 use Rattle.ipx_internet.specs.Meanwhile.{AreWithout, IsWithoutRoute, AsksElsewhere, IsWithoutService, SaysOnly, IsBusyTick, StaysGone, EachTick}
 use Rattle.ipx_internet.specs.Queue.{history_of}
-use Rattle.ipx_internet.specs.Run.{Step, AreHistories, Run, begun, stepped, run_of}
+use Rattle.ipx_internet.specs.Run.{Step, AreHistories, Run, stepped, run_of}
 use Rattle.ipx_internet.specs.Ticks.{ticked, most_ticks_gone, ups, networks_up, IsGone}
 use Rattle.ipx_internet.proofs.Abiding.{RouteSaid, EntrySaid, RipSaid, Said}
 use Rattle.ipx_internet.proofs.Aging.{at_last}
 use Rattle.ipx_internet.proofs.Gone.{among_ups}
 use Rattle.ipx_internet.proofs.Lists.{all_of, all_then}
-use Rattle.ipx_internet.proofs.Meantime.{Stays, AlwaysStays, ticks_rest, begun_rests}
+use Rattle.ipx_internet.proofs.Meantime.{Stays, AlwaysStays, ticks_rest, quiet_rests}
 use Rattle.ipx_internet.proofs.Replying.{Layouts}
 
 -- what holds of each tick, and says something else of it
@@ -35,11 +35,11 @@ each_then net most_routes most_services P Q step run [] each = tt
 each_then net most_routes most_services P Q step run (steps ∷ ticks) each =
     (step run steps each.0, each_then net most_routes most_services P Q step (run_of net most_routes most_services run steps) ticks each.1)
 
-module _ (net : Internet) (laws : Layouts) (is : IsInternet net) (most_routes most_services : ℕ) (histories : List History) (are : AreHistories net histories)
-    (ticks : List (List Step)) (busy : EachTick net most_routes most_services (IsBusyTick net most_routes most_services) (begun histories) ticks)
+module _ (net : Internet) (laws : Layouts) (is : IsInternet net) (most_routes most_services : ℕ) (first : Run) (are : AreHistories net first.histories)
+    (quiet : first.waiting ≡ []) (ticks : List (List Step)) (busy : EachTick net most_routes most_services (IsBusyTick net most_routes most_services) first ticks)
     (long : most_ticks_gone ≤ length ticks) (router : ℕ) (within : router < length net) where
   abbrev past : History
-  past = history_of (ticked net most_routes most_services (begun histories) ticks).histories router
+  past = history_of (ticked net most_routes most_services first ticks).histories router
 
   abbrev ports : List Port
   ports = ports_of net router
@@ -73,14 +73,14 @@ module _ (net : Internet) (laws : Layouts) (is : IsInternet net) (most_routes mo
     always run [] gone = gone_stays run.histories gone
     always run (step ∷ steps) gone = (gone_stays run.histories gone.0, always (stepped net most_routes most_services run step) steps gone.1)
 
-    pub no_route : EachTick net most_routes most_services (StaysGone net most_routes most_services network) (begun histories) ticks
+    pub no_route : EachTick net most_routes most_services (StaysGone net most_routes most_services network) first ticks
         → AllByRecursion (AllByRecursion (SaysOnly (IsWithoutRoute network))) ticks
         → AllByRecursion (λ r. r.network ≢ network) (offers (routes_held ports most_routes past))
     no_route gone says =
-        let rests = ticks_rest IsOther Any net laws is most_routes most_services (IsWithoutRoute network) routeless 0 (begun histories) ticks
-        (begun_rests IsOther Any net laws is most_routes most_services histories are) busy
+        let rests = ticks_rest IsOther Any net laws is most_routes most_services (IsWithoutRoute network) routeless 0 first ticks
+        (quiet_rests IsOther Any net laws is most_routes most_services first are quiet) busy
         (each_then net most_routes most_services (StaysGone net most_routes most_services network) (AlwaysStays IsOther Any net laws is most_routes most_services)
-        always (begun histories) ticks gone) says in
+        always first ticks gone) says in
         at_last route_reading network_order network_total most_routes (map (λ p. p.route_share) ports) (λ r. r.hops) (λ r. refl) (λ r. r.network ≢ network)
         (length ticks + 0) (route_facts ports past) (omega (arith, long)) (rests.routers router within).routes
 
@@ -115,8 +115,8 @@ module _ (net : Internet) (laws : Layouts) (is : IsInternet net) (most_routes mo
     pub no_such_service : AllByRecursion (AllByRecursion (SaysOnly (IsWithoutService key))) ticks
         → AllByRecursion (λ s. (s.service.kind, s.service.name) ≢ key) (offers (services_held ports most_services past))
     no_such_service says =
-        let rests = ticks_rest Every IsOtherKey net laws is most_routes most_services (IsWithoutService key) serviceless 0 (begun histories) ticks
-        (begun_rests Every IsOtherKey net laws is most_routes most_services histories are) busy (anyhow_each (begun histories) ticks) says in
+        let rests = ticks_rest Every IsOtherKey net laws is most_routes most_services (IsWithoutService key) serviceless 0 first ticks
+        (quiet_rests Every IsOtherKey net laws is most_routes most_services first are quiet) busy (anyhow_each first ticks) says in
         at_last service_reading service_order service_total most_services (map (λ p. p.service_share) ports) (λ s. s.service.hops) (λ s. refl)
         (λ s. (s.service.kind, s.service.name) ≢ key)
         (length ticks + 0) (service_facts ports past) (omega (arith, long)) (rests.routers router within).services

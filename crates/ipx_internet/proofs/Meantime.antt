@@ -14,7 +14,7 @@ use Rattle.ipx_internet.specs.Internet.{Internet, IsInternet, ports_of}
 use Rattle.ipx_internet.specs.Meanwhile.{IsWith, SaysOnly, IsBusyTick, EachTick}
 use Rattle.ipx_internet.specs.Queue.{Delivery, Queued, deliveries_of, history_of, with_event, sends_at, queued, settled_one}
 use Rattle.ipx_internet.specs.Rounds.{IsDelivery}
-use Rattle.ipx_internet.specs.Run.{Step, Happens, Settles, IsStep, AreHistories, Run, Waiting, begun, forgotten, stepped, run_of}
+use Rattle.ipx_internet.specs.Run.{Step, Happens, Settles, IsStep, AreHistories, Run, Waiting, forgotten, stepped, run_of}
 use Rattle.ipx_internet.specs.Ticks.{seconds_of, ticked, ups}
 use Rattle.ipx_internet.proofs.Abiding.{Said, Tells, EventTells, Abides, abides_first, event_abides}
 use Rattle.ipx_internet.proofs.Aging.{passed}
@@ -50,7 +50,7 @@ own_seconds router (PortDown number) rest = let e = no_second router (PortDown n
 own_seconds router (PortUp number) rest = let e = no_second router (PortUp number) rest refl in omega (arith, e)
 
 -- the histories of all routers, where one had an event
-each_so : (P : ℕ → History → Type 0) (histories : List History) (router : ℕ) (event : Event) → router < length histories → (other : ℕ)
+pub each_so : (P : ℕ → History → Type 0) (histories : List History) (router : ℕ) (event : Event) → router < length histories → (other : ℕ)
     → (other ≡ router → P router (history_of histories router ++ event ∷ [])) → (other ≢ router → P other (history_of histories other))
     → P other (history_of (with_event histories router event) other)
 each_so P histories router event listed other here elsewhere = elim (cases_eq other router) [
@@ -266,9 +266,9 @@ module _ (IsFine : Network → Type 0) (IsServed : ℕ × List ℕ → Type 0) (
         let same : length ticks + suc so_far ≡ length (steps ∷ ticks) + so_far = omega arith in
         subst (λ (n : ℕ). Rests n (ticked net most_routes most_services next ticks)) same later
 
-  pub begun_rests : (histories : List History) → AreHistories net histories → Rests 0 (begun histories)
-  begun_rests histories are = record {
+  pub quiet_rests : (run : Run) → AreHistories net run.histories → run.waiting ≡ [] → Rests 0 run
+  quiet_rests run are quiet = record {
     are = are;
-    routers = λ router within. abides_first IsFine IsServed (ports_of net router) most_routes most_services (history_of histories router);
-    quiet = refl;
+    routers = λ router within. abides_first IsFine IsServed (ports_of net router) most_routes most_services (history_of run.histories router);
+    quiet = quiet;
   }

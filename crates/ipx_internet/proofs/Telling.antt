@@ -105,9 +105,9 @@ module _ (IsFine : Network → Type 0) (IsServed : ℕ × List ℕ → Type 0) (
             (all_then Named (λ s. EntrySaid IsFine IsServed begun (sap_entry s)) (λ s said near name same. named s name same (said near)) page.page page.each))
       ]
     where
-      named : (s : Service) (name : List ℕ) → Some s.name ≡ Some name → IsServed (s.kind, s.name) ⊎ (begun ≤ 181 * s.hops)
-          → IsServed (s.kind, name) ⊎ (begun ≤ 181 * s.hops)
-      named s name same said = it_is (λ (n : List ℕ). IsServed (s.kind, n) ⊎ (begun ≤ 181 * s.hops)) name s.name same said
+      named : (s : Service) (name : List ℕ) → Some s.name ≡ Some name → IsServed (s.kind, s.name) ⊎ (begun ≤ 180 * s.hops)
+          → IsServed (s.kind, name) ⊎ (begun ≤ 180 * s.hops)
+      named s name same said = it_is (λ (n : List ℕ). IsServed (s.kind, n) ⊎ (begun ≤ 180 * s.hops)) name s.name same said
 
       by : (p : Parts) → Answers p.payload → heard_in p ≡ Some m → to.socket.0 ≡ rip_socket
           → elim (rip_of p.payload) [ Ok rip ↦ Some (HeardRip p.header.source rip) | Err fault ↦ None ] ≡ Some m

@@ -7,15 +7,15 @@ use Rattle.ipx_wire.specs.declared.rip.RipEntry.{RipEntry}
 use Rattle.ipx_wire.specs.declared.service.Service.{Service}
 use Rattle.ipx_router.specs.Facts.{heard_after, routes_held, services_held, offers}
 use Rattle.ipx_router.specs.Heard.{Heard}
-use Rattle.ipx_router.specs.History.{Event, History, Start, Stop, Second, Packet, PortDown, PortUp, IsOnPort, IsOfBytes, is_second, ports_up}
+use Rattle.ipx_router.specs.History.{Event, History, Start, Stop, Second, Packet, PortDown, PortUp, IsOnPort, IsOfBytes, is_second}
 use Rattle.ipx_router.specs.Port.{Port, port_at}
 use Rattle.ipx_router.specs.Relays.{Sent}
 use Rattle.ipx_router.specs.Told.{told}
 use Rattle.ipx_router.proofs.Every.{all_both}
 use Rattle.ipx_internet.specs.Internet.{Internet, Place, IsInternet, ports_of, port_of}
 use Rattle.ipx_internet.specs.Queue.{Delivery, Queued, deliveries_of, history_of, with_event, sends_at, queued, settled_one}
-use Rattle.ipx_internet.specs.Run.{Step, Happens, Settles, AreHistories, Run, Waiting, begun, forgotten, stepped, run_of}
-use Rattle.ipx_internet.specs.Ticks.{is_second_of, seconds_of, IsOfTick, IsTick, ticked, AreTicks}
+use Rattle.ipx_internet.specs.Run.{Step, Happens, Settles, AreHistories, Run, Waiting, forgotten, stepped, run_of}
+use Rattle.ipx_internet.specs.Ticks.{is_second_of, seconds_of, IsOfTick, IsTick, ticked, AreTicks, ups}
 use Rattle.ipx_internet.proofs.Casting.{all_cast}
 use Rattle.ipx_internet.proofs.Delivering.{there}
 use Rattle.ipx_internet.proofs.Enduring.{RouteSaid, ServiceSaid, Arrives, Endures, at_begin, second_endures, packet_endures, routes_said, changes_said, services_said, service_changes_said}
@@ -337,10 +337,16 @@ module _ (net : Internet) (laws : Layouts) (is : IsInternet net) (most_routes mo
       let same : length ticks + suc so_far ≡ length (steps ∷ ticks) + so_far = omega arith in
       subst (λ (n : ℕ). Rests n (ticked net most_routes most_services next ticks)) same later
 
-  pub begun_rests : (histories : List History) → AreHistories net histories
-      → ((router : ℕ) → ports_up (ports_of net router) (history_of histories router) ≡ up router) → Rests 0 (begun histories)
-  begun_rests histories are same = record {
+  pub quiet_rests : (run : Run) → AreHistories net run.histories → ((router : ℕ) → ups net run.histories router ≡ up router) → run.waiting ≡ [] → Rests 0 run
+  quiet_rests run are same quiet = record {
     are = are;
-    routers = λ router within. at_begin net up most_routes most_services router (history_of histories router) (same router);
-    quiet = refl;
+    routers = λ router within. at_begin net up most_routes most_services router (history_of run.histories router) (same router);
+    quiet = quiet;
   }
+
+  -- after ticks from there
+  pub rested : (run : Run) (ticks : List (List Step)) → AreHistories net run.histories → ((router : ℕ) → ups net run.histories router ≡ up router)
+      → run.waiting ≡ [] → AreTicks net most_routes most_services run ticks → Rests (length ticks) (ticked net most_routes most_services run ticks)
+  rested run ticks are same quiet passes =
+      let count : length ticks + 0 ≡ length ticks = omega arith in
+      subst (λ (n : ℕ). Rests n (ticked net most_routes most_services run ticks)) count (ticks_rest 0 run ticks (quiet_rests run are same quiet) passes)

@@ -113,7 +113,7 @@ module _ (IsFine : Network → Type 0) (IsServed : ℕ × List ℕ → Type 0) (
     learned_said : (cost : ℕ) (r : RouteOffer) → RouteHeld r → E (told_at cost (entry_of r))
     learned_said cost r held near = by held.0
       where
-        by : IsFine r.network ⊎ (had ≤ 181 * r.hops + 179) → IsFine r.network ⊎ (begun ≤ 181 * (r.hops + 1))
+        by : IsFine r.network ⊎ (had ≤ 180 * r.hops + 179) → IsFine r.network ⊎ (begun ≤ 180 * (r.hops + 1))
         by (inl fine) = inl fine
         by (inr old) = inr (omega (arith, old, soon))
 
@@ -123,8 +123,8 @@ module _ (IsFine : Network → Type 0) (IsServed : ℕ × List ℕ → Type 0) (
     service_said : (s : ServiceOffer) → ServiceHeld s → N (farther s.service)
     service_said s held near = by held.0
       where
-        by : IsServed (s.service.kind, s.service.name) ⊎ (had ≤ 181 * s.service.hops + 179)
-            → IsServed (s.service.kind, s.service.name) ⊎ (begun ≤ 181 * (s.service.hops + 1))
+        by : IsServed (s.service.kind, s.service.name) ⊎ (had ≤ 180 * s.service.hops + 179)
+            → IsServed (s.service.kind, s.service.name) ⊎ (begun ≤ 180 * (s.service.hops + 1))
         by (inl fine) = inl fine
         by (inr old) = inr (omega (arith, old, soon))
 

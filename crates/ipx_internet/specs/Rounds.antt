@@ -45,10 +45,12 @@ abbrev pub IsOwnEvent : List Port → Event → Type 0
 IsOwnEvent ports (Packet number bytes) = ⊥
 IsOwnEvent ports event = IsOnPort ports event
 
+-- such an event, or a delivery of what was sent for one, or for such a delivery
 abbrev pub IsOwnStep : Internet → Step → Type 0
 IsOwnStep net (Happens router event) = (router < length net) × IsOwnEvent (ports_of net router) event
-IsOwnStep net Settles = ⊥
+IsOwnStep net Settles = Unit
 
--- the rounds after which nothing waits where nothing but such events happened: what routers send of their own isn't sent on
+-- the rounds after which nothing waits where nothing but such events and deliveries happened: what routers send of their own isn't
+-- sent on
 abbrev pub most_own_rounds : Internet → ℕ
 most_own_rounds net = 17 + length net

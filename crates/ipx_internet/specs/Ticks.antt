@@ -41,13 +41,22 @@ module _ (net : Internet) (most_routes most_services : ℕ) where
   AreTicks run [] = Unit
   AreTicks run (steps ∷ ticks) = IsTick run steps × AreTicks (run_of net most_routes most_services run steps) ticks
 
--- a tick as a computer may play it: all seconds, by router, then so many deliveries
-abbrev pub a_tick : ℕ → ℕ → List Step
-a_tick routers deliveries = map (λ router. Happens router Second) (numbers routers) ++ replicate deliveries Settles
+-- a tick as a computer may play it: all seconds, in an order of the routers, then so many deliveries
+abbrev pub a_tick_by : List ℕ → ℕ → List Step
+a_tick_by order deliveries = map (λ router. Happens router Second) order ++ replicate deliveries Settles
 
--- the ticks after which what is gone is gone everywhere: 181 for each of 15 hops, and 180
+-- by their numbers
+abbrev pub a_tick : ℕ → ℕ → List Step
+a_tick routers deliveries = a_tick_by (numbers routers) deliveries
+
+-- each router once, in any order
+pub record IsOrder (net : Internet) (order : List ℕ) : Type 0 where
+  pub there : AllByRecursion (λ router. router < length net) order
+  pub once : (router : ℕ) → router < length net → length (filter (λ other. other == router) order) ≡ 1
+
+-- the ticks after which what is gone is gone everywhere: 180 for each number of hops from 0 to 15
 abbrev pub most_ticks_gone : ℕ
-most_ticks_gone = 2895
+most_ticks_gone = 2880
 
 -- the ports of a router that are up
 abbrev pub ups : Internet → List History → ℕ → List ℕ

@@ -26,11 +26,11 @@ ghost use Rattle.ipx_internet.specs.Log.{Sending, Reception, reception_at, IsFor
 ghost use Rattle.ipx_internet.specs.Meanwhile.{IsWithoutRoute, IsWithoutService, SaysOnly, IsBusyTick, StaysGone, EachTick};
 ghost use Rattle.ipx_internet.specs.Most.{most, most_of, most_on_network, most_ports as ports_at_most};
 ghost use Rattle.ipx_internet.specs.Queue.{Delivery, Queued, deliveries_of, history_of, queued, settled_one, settled};
-ghost use Rattle.ipx_internet.specs.Real.{IsReal};
+ghost use Rattle.ipx_internet.specs.Real.{IsReal, led_over};
 ghost use Rattle.ipx_internet.specs.Rounds.{IsDelivery, IsOwnStep, rounds, handed_out, most_caused, most_rounds, most_own_rounds};
 ghost use Rattle.ipx_internet.specs.Run.{Step, Settles, IsStep, AreHistories, Run, begun, forgotten, happens, stepped, run_of};
 ghost use Rattle.ipx_internet.specs.Moment.{Moment, StandsFor, net_at};
-ghost use Rattle.ipx_internet.specs.Ticks.{IsTick, AreTicks, ticked, a_tick, most_ticks_gone, ups, IsGone};
+ghost use Rattle.ipx_internet.specs.Ticks.{seconds_of, IsTick, AreTicks, ticked, a_tick, a_tick_by, IsOrder, most_ticks_gone, ups, IsGone};
 ghost use Rattle.ipx_internet.specs.Traced.{tree, routers_of, routers_after};
 ghost use Rattle.ipx_internet.specs.Tree.{Router, router_now, IsRouter, Copy, net_of, sent_on, children, tree_to, IsTree};
 ghost use Rattle.ipx_internet.specs.Weight.{weight, weights, CanCome, IsBounded};
@@ -259,8 +259,11 @@ pub fn weighs()
     ipx_router::laws::within_capacity();
 }
 
-/// Time can always pass: from any run, whatever waits, there is a tick, of which all seconds come first; and there are any
-/// number of ticks, one after the other.
+/// Time can always pass: from any run, whatever waits, there is a tick, of which all seconds come first, by the numbers of the
+/// routers (`one`) or in any other order of them (`any_order`); and there are any number of ticks, one after the other.
+///
+/// Whatever else happens, it is part of a busy tick (`busy`): any events and deliveries in which each router has one second are one,
+/// with deliveries enough behind them.
 pub fn ticks_pass()
     ensures one { (net : Internet) (most_routes most_services : ℕ) (run : Run) → IsInternet net → AreHistories net run.histories
         → AllByRecursion (λ w. IsDelivery net w.delivery) run.waiting
@@ -268,6 +271,13 @@ pub fn ticks_pass()
     ensures as_many { (net : Internet) (most_routes most_services : ℕ) (run : Run) (count : ℕ) → IsInternet net → AreHistories net run.histories
         → AllByRecursion (λ w. IsDelivery net w.delivery) run.waiting
         → (ticks : List (List Step)) × (length ticks ≡ count) × AreTicks net most_routes most_services run ticks }
+    ensures any_order { (net : Internet) (most_routes most_services : ℕ) (run : Run) (order : List ℕ) → IsInternet net → AreHistories net run.histories
+        → AllByRecursion (λ w. IsDelivery net w.delivery) run.waiting → IsOrder net order
+        → (deliveries : ℕ) × IsTick net most_routes most_services run (a_tick_by order deliveries) }
+    ensures busy { (net : Internet) (most_routes most_services : ℕ) (run : Run) (steps : List Step) → IsInternet net → AreHistories net run.histories
+        → AllByRecursion (λ w. IsDelivery net w.delivery) run.waiting → AllByRecursion (IsStep net) steps
+        → ((router : ℕ) → router < length net → seconds_of router steps ≡ 1)
+        → (deliveries : ℕ) × IsBusyTick net most_routes most_services run (steps ++ replicate deliveries Settles) }
 {
     ipx_wire::laws::readings();
     ipx_wire::laws::service_readings();
@@ -275,7 +285,7 @@ pub fn ticks_pass()
     ipx_router::laws::packets();
 }
 
-/// What is gone is gone everywhere after 2,895 ticks, whatever was in the tables before: where nobody has a port up on a network,
+/// What is gone is gone everywhere after 2,880 ticks, whatever was in the tables before: where nobody has a port up on a network,
 /// no router has a route to it; and no router has any service, as no router announces one of its own.
 ///
 /// In a tick each router has one second, in any order, deliveries happen in between, and in the end nothing waits. Nothing
@@ -299,7 +309,7 @@ pub fn gone()
 
 /// What is gone stays gone, whatever else happens meanwhile: starts and stops, ports that go down and come up, packets of hosts.
 ///
-/// After 2,895 ticks no router has a route to a network on which no port was up since they began, if no packet of a host said that it
+/// After 2,880 ticks no router has a route to a network on which no port was up since they began, if no packet of a host said that it
 /// is reached; and no router has a service that no host announced since then. In a tick each router has one second, everything else
 /// happens in any order, and in the end nothing waits. A host may ask what it likes, but a request for routes is not sent from the socket
 /// of SAP, nor a query for services from that of RIP: the answer would be read as what it is not.
@@ -324,19 +334,70 @@ pub fn gone_meanwhile()
     ipx_router::laws::packets();
 }
 
-/// Every route is of a real way after 2,895 such ticks, whatever was in the tables before: each came by a port that is up from a
-/// router that has the network on another port, or has such a route by another one; all those ports are up, and hops and
-/// ticks are those of that way. So no route leads over a port that has been down that long.
+/// Every route is of a real way after 2,880 such ticks, whatever was in the tables before: each came by a port that is up from a
+/// router that has the network on another port, or has such a route by another one. All those ports are up, neighbour by
+/// neighbour, and hops and ticks are those of that way.
+///
+/// So no route is of a way that leads over a port that has been down that long (`down`). The port by which a route came is up after
+/// any number of ticks (`own_ports`).
 pub fn real()
     ensures routes { (net : Internet) (most_routes most_services : ℕ) (histories : List History) (ticks : List (List Step)) (router : ℕ)
         → IsInternet net → AreHistories net histories → AreTicks net most_routes most_services (begun histories) ticks → most_ticks_gone ≤ length ticks
         → router < length net
         → AllByRecursion (IsReal net (ups net histories) router)
         (offers (routes_held (ports_of net router) most_routes (history_of (ticked net most_routes most_services (begun histories) ticks).histories router))) }
+    ensures down { (net : Internet) (most_routes most_services : ℕ) (histories : List History) (ticks : List (List Step)) (router : ℕ) (place : Place)
+        → IsInternet net → AreHistories net histories → AreTicks net most_routes most_services (begun histories) ticks → most_ticks_gone ≤ length ticks
+        → router < length net → is_up (ups net histories place.router) place.port ≡ false
+        → AllByRecursion
+        (λ r. (real : IsReal net (ups net histories) router r) × AllByRecursion (λ p. p ≢ place) (led_over net (ups net histories) router r real))
+        (offers (routes_held (ports_of net router) most_routes (history_of (ticked net most_routes most_services (begun histories) ticks).histories router))) }
     ensures own_ports { (net : Internet) (most_routes most_services : ℕ) (histories : List History) (ticks : List (List Step)) (router : ℕ)
         → IsInternet net → AreHistories net histories → AreTicks net most_routes most_services (begun histories) ticks → router < length net
         → AllByRecursion (λ r. is_up (ups net histories router) r.port ≡ true)
         (offers (routes_held (ports_of net router) most_routes (history_of (ticked net most_routes most_services (begun histories) ticks).histories router))) }
+{
+    ipx_wire::laws::readings();
+    ipx_wire::laws::service_readings();
+    ipx_wire::laws::reread();
+    ipx_router::laws::packets();
+}
+
+/// Whatever waits when the ticks begin, forged packets too, one tick more is enough for what the three laws above say: the first one
+/// ends with nothing that waits.
+///
+/// So after more than 2,880 ticks no router has a route to a network on which nobody has a port up, none has any service, and every
+/// route is of a real way. Where anything else happens meanwhile, it is so of what stayed gone after the first tick.
+pub fn whatever_waits()
+    ensures networks { (net : Internet) (most_routes most_services : ℕ) (run : Run) (ticks : List (List Step)) (router : ℕ) (network : Network)
+        → IsInternet net → AreHistories net run.histories → AllByRecursion (λ w. IsDelivery net w.delivery) run.waiting
+        → AreTicks net most_routes most_services run ticks → most_ticks_gone < length ticks → router < length net → IsGone net run.histories network
+        → AllByRecursion (λ r. r.network ≢ network)
+        (offers (routes_held (ports_of net router) most_routes (history_of (ticked net most_routes most_services run ticks).histories router))) }
+    ensures services { (net : Internet) (most_routes most_services : ℕ) (run : Run) (ticks : List (List Step)) (router : ℕ)
+        → IsInternet net → AreHistories net run.histories → AllByRecursion (λ w. IsDelivery net w.delivery) run.waiting
+        → AreTicks net most_routes most_services run ticks → most_ticks_gone < length ticks → router < length net
+        → services_held (ports_of net router) most_services (history_of (ticked net most_routes most_services run ticks).histories router) ≡ [] }
+    ensures routes { (net : Internet) (most_routes most_services : ℕ) (run : Run) (ticks : List (List Step)) (router : ℕ)
+        → IsInternet net → AreHistories net run.histories → AllByRecursion (λ w. IsDelivery net w.delivery) run.waiting
+        → AreTicks net most_routes most_services run ticks → most_ticks_gone < length ticks → router < length net
+        → AllByRecursion (IsReal net (ups net run.histories) router)
+        (offers (routes_held (ports_of net router) most_routes (history_of (ticked net most_routes most_services run ticks).histories router))) }
+    ensures networks_meanwhile { (net : Internet) (most_routes most_services : ℕ) (run : Run) (first : List Step) (ticks : List (List Step)) (router : ℕ) (network : Network)
+        → IsInternet net → AreHistories net run.histories → AllByRecursion (λ w. IsDelivery net w.delivery) run.waiting
+        → EachTick net most_routes most_services (IsBusyTick net most_routes most_services) run (first ∷ ticks) → most_ticks_gone ≤ length ticks
+        → router < length net
+        → EachTick net most_routes most_services (StaysGone net most_routes most_services network) (run_of net most_routes most_services run first) ticks
+        → AllByRecursion (AllByRecursion (SaysOnly (IsWithoutRoute network))) ticks
+        → AllByRecursion (λ r. r.network ≢ network)
+        (offers (routes_held (ports_of net router) most_routes (history_of (ticked net most_routes most_services run (first ∷ ticks)).histories router))) }
+    ensures services_meanwhile { (net : Internet) (most_routes most_services : ℕ) (run : Run) (first : List Step) (ticks : List (List Step)) (router : ℕ)
+        (key : ℕ × List ℕ)
+        → IsInternet net → AreHistories net run.histories → AllByRecursion (λ w. IsDelivery net w.delivery) run.waiting
+        → EachTick net most_routes most_services (IsBusyTick net most_routes most_services) run (first ∷ ticks) → most_ticks_gone ≤ length ticks
+        → router < length net → AllByRecursion (AllByRecursion (SaysOnly (IsWithoutService key))) ticks
+        → AllByRecursion (λ s. (s.service.kind, s.service.name) ≢ key)
+        (offers (services_held (ports_of net router) most_services (history_of (ticked net most_routes most_services run (first ∷ ticks)).histories router))) }
 {
     ipx_wire::laws::readings();
     ipx_wire::laws::service_readings();

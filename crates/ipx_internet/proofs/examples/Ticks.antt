@@ -1,6 +1,6 @@
 -- Two routers on one segment have routes to 99h, where nobody has a port: the first heard of it from a host, 179 seconds ago, the
 -- second from the first. One tick later neither has one, and the second has a route of a real way.
-use Rattle.std.proofs.Common.{◌≡◌, refl, ℕ, zero, suc, ◌<◌, List, [], ◌∷◌, map, replicate, arith}
+use Rattle.std.proofs.Common.{◌≡◌, refl, ℕ, zero, suc, ◌<◌, ◌==◌, List, [], ◌∷◌, length, map, filter, replicate, None, arith}
 use Rattle.ipx_wire.specs.Address.{address_bytes, address_at}
 use Rattle.ipx_wire.specs.Crossed.{network_bytes, network_at}
 use Rattle.ipx_wire.specs.Items.{items}
@@ -16,9 +16,9 @@ use Rattle.ipx_router.specs.History.{History, Start, Second, Packet}
 use Rattle.ipx_router.specs.Port.{own_address, everyone}
 use Rattle.ipx_internet.specs.Internet.{ports_of}
 use Rattle.ipx_internet.specs.Queue.{history_of}
-use Rattle.ipx_internet.specs.Real.{IsReal, next}
-use Rattle.ipx_internet.specs.Run.{begun, run_of}
-use Rattle.ipx_internet.specs.Ticks.{seconds_of, IsTick, a_tick, ups, IsGone}
+use Rattle.ipx_internet.specs.Real.{IsReal, next, led_over}
+use Rattle.ipx_internet.specs.Run.{Run, begun, run_of}
+use Rattle.ipx_internet.specs.Ticks.{seconds_of, IsTick, a_tick, a_tick_by, IsOrder, ups, IsGone}
 use Rattle.ipx_internet.proofs.examples.Waiting.{segment}
 use Rattle.ipx_internet.proofs.examples.Words.{network, port_on, route, at}
 
@@ -59,6 +59,36 @@ is_tick = record { passes = ((omega arith, refl), ((omega arith, refl), (tt, tt)
     each (suc zero) within = refl
     each (suc (suc router)) within = absurd (omega (arith, within))
 
+-- the second router may have its second first
+pub is_order : IsOrder segment (1 ∷ 0 ∷ [])
+is_order = record { there = (omega arith, (omega arith, tt)); once = once }
+  where
+    once : (router : ℕ) → router < 2 → length (filter (λ other. other == router) (1 ∷ 0 ∷ [])) ≡ 1
+    once zero within = refl
+    once (suc zero) within = refl
+    once (suc (suc router)) within = absurd (omega (arith, within))
+
+pub is_tick_too : IsTick segment 8 8 (begun before) (a_tick_by (1 ∷ 0 ∷ []) 1)
+unfolding header_bytes address_bytes network_bytes packet_of header_at address_at items network_at entry_bytes entry_at rip_of sap_of
+is_tick_too = record { passes = ((omega arith, refl), ((omega arith, refl), (tt, tt))); each = each; quiet = refl }
+  where
+    each : (router : ℕ) → router < 2 → seconds_of router (a_tick_by (1 ∷ 0 ∷ []) 1) ≡ 1
+    each zero within = refl
+    each (suc zero) within = refl
+    each (suc (suc router)) within = absurd (omega (arith, within))
+
+-- where a forged response waits as well, which says that 99h is one hop from the first router, a tick takes one delivery more
+abbrev forged : Run
+forged = record {
+  histories = before;
+  waiting = record { delivery = record { to = at 1 0; bytes = said 0x20 2 (entry 1 2 ∷ []) }; origin = None } ∷ [];
+  log = [];
+}
+
+pub left : map (λ n. length (run_of segment 8 8 forged (a_tick 2 n)).waiting) (0 ∷ 1 ∷ 2 ∷ []) ≡ 2 ∷ 1 ∷ 0 ∷ []
+unfolding header_bytes address_bytes network_bytes packet_of header_at address_at items network_at entry_bytes entry_at rip_of sap_of
+left = refl
+
 pub neither_has : networks after 0 ∷ networks after 1 ∷ [] ≡ [] ∷ (0x10 ∷ []) ∷ []
 unfolding header_bytes address_bytes network_bytes packet_of header_at address_at items network_at entry_bytes entry_at rip_of sap_of
 neither_has = refl
@@ -66,5 +96,10 @@ neither_has = refl
 -- the second router's route is to a network that the first has on its other port
 pub is_real : IsReal segment (ups segment before) 1 (route 0x10 0 2)
 unfolding header_bytes address_bytes network_bytes packet_of header_at address_at items network_at entry_bytes entry_at rip_of sap_of
-is_real = next (at 0 1) 0 (record { other = λ (same : 1 ≡ 0). omega (arith, same); reaches = refl; network = refl; node = refl }) refl
-    (λ (same : 0 ≡ 1). omega (arith, same)) refl
+is_real = next (at 0 1) 0 refl (λ (same : 0 ≡ 1). omega (arith, same))
+    (record { other = λ (same : 1 ≡ 0). omega (arith, same); here = refl; there = refl; network = refl; wanted = refl; offer = refl })
+
+-- the way leads over that route's port, the first router's on the same segment, and the first router's on the network itself
+pub leads_over : led_over segment (ups segment before) 1 (route 0x10 0 2) is_real ≡ at 1 0 ∷ at 0 1 ∷ at 0 0 ∷ []
+unfolding header_bytes address_bytes network_bytes packet_of header_at address_at items network_at entry_bytes entry_at rip_of sap_of is_real
+leads_over = refl

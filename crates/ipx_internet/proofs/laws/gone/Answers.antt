@@ -1,5 +1,11 @@
+use Rattle.std.proofs.Common.{refl, ℕ, List, length}
+use Rattle.ipx_router.specs.History.{History}
+use Rattle.ipx_internet.specs.Internet.{Internet, IsInternet}
+use Rattle.ipx_internet.specs.Run.{Step, AreHistories, begun}
+use Rattle.ipx_internet.specs.Ticks.{AreTicks, ticked, ups}
 use Rattle.ipx_internet.proofs.Gone.{no_network, no_service}
 use Rattle.ipx_internet.proofs.Replying.{Layouts}
+use Rattle.ipx_internet.proofs.Ticking.{Rests, rested}
 use Rattle.ipx_internet.proofs.laws.gone.Goals as goal
 
 -- the laws of packets and routers
@@ -25,10 +31,17 @@ layouts c = record {
   bytes = c.packets.ensures.bytes;
 }
 
+module _ (c : goal.After-packets) (net : Internet) (most_routes most_services : ℕ) (histories : List History) (ticks : List (List Step)) (is : IsInternet net)
+    (are : AreHistories net histories) (passes : AreTicks net most_routes most_services (begun histories) ticks) where
+  rests : Rests net (layouts c) is most_routes most_services (ups net histories) (length ticks) (ticked net most_routes most_services (begun histories) ticks)
+  rests = rested net (layouts c) is most_routes most_services (ups net histories) (begun histories) ticks are (λ router. refl) refl passes
+
 pub returns-clause-networks : goal.returns-clause-networks
 returns-clause-networks c net most_routes most_services histories ticks router network is are passes long within =
-    no_network net (layouts c) is most_routes most_services histories are ticks passes router within long network
+    no_network net (layouts c) is most_routes most_services histories (length ticks) (ticked net most_routes most_services (begun histories) ticks)
+    (rests c net most_routes most_services histories ticks is are passes) router within long network
 
 pub returns-clause-services : goal.returns-clause-services
 returns-clause-services c net most_routes most_services histories ticks router is are passes long within =
-    no_service net (layouts c) is most_routes most_services histories are ticks passes router within long
+    no_service net (layouts c) is most_routes most_services histories (length ticks) (ticked net most_routes most_services (begun histories) ticks)
+    (rests c net most_routes most_services histories ticks is are passes) router within long

@@ -1,3 +1,5 @@
+use Rattle.std.proofs.Common.{refl}
+use Rattle.ipx_internet.specs.Run.{begun}
 use Rattle.ipx_internet.proofs.GoneMeanwhile.{no_route, no_such_service}
 use Rattle.ipx_internet.proofs.Replying.{Layouts}
 use Rattle.ipx_internet.proofs.laws.gone_meanwhile.Goals as goal
@@ -27,8 +29,8 @@ layouts c = record {
 
 pub returns-clause-networks : goal.returns-clause-networks
 returns-clause-networks c net most_routes most_services histories ticks router network is are busy long within gone says =
-    no_route net (layouts c) is most_routes most_services histories are ticks busy long router within network gone says
+    no_route net (layouts c) is most_routes most_services (begun histories) are refl ticks busy long router within network gone says
 
 pub returns-clause-services : goal.returns-clause-services
 returns-clause-services c net most_routes most_services histories ticks router key is are busy long within says =
-    no_such_service net (layouts c) is most_routes most_services histories are ticks busy long router within key says
+    no_such_service net (layouts c) is most_routes most_services (begun histories) are refl ticks busy long router within key says

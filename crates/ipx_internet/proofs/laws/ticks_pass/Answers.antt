@@ -1,5 +1,5 @@
 use Rattle.ipx_internet.proofs.Replying.{Layouts}
-use Rattle.ipx_internet.proofs.Tolling.{can_pass, as_many}
+use Rattle.ipx_internet.proofs.Tolling.{can_pass, as_many, in_order, can_be_busy}
 use Rattle.ipx_internet.proofs.laws.ticks_pass.Goals as goal
 
 -- the laws of packets and routers
@@ -30,3 +30,11 @@ returns-clause-one c net most_routes most_services run is are waits = can_pass n
 
 pub returns-clause-as_many : goal.returns-clause-as_many
 returns-clause-as_many c net most_routes most_services run count is are waits = as_many net (layouts c) is most_routes most_services run count are waits
+
+pub returns-clause-any_order : goal.returns-clause-any_order
+returns-clause-any_order c net most_routes most_services run order is are waits each =
+    in_order net (layouts c) is most_routes most_services run order are waits each
+
+pub returns-clause-busy : goal.returns-clause-busy
+returns-clause-busy c net most_routes most_services run steps is are waits all each =
+    can_be_busy net (layouts c) is most_routes most_services run steps are waits all each

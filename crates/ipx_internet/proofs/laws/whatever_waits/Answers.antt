@@ -1,0 +1,55 @@
+use Rattle.ipx_internet.specs.Run.{run_of}
+use Rattle.ipx_internet.specs.Ticks.{ticked}
+use Rattle.ipx_internet.proofs.Clearing.{rests_later, are_after}
+use Rattle.ipx_internet.proofs.Gone.{all_real, no_network, no_service}
+use Rattle.ipx_internet.proofs.GoneMeanwhile.{no_route, no_such_service}
+use Rattle.ipx_internet.proofs.Replying.{Layouts}
+use Rattle.ipx_internet.proofs.laws.whatever_waits.Goals as goal
+
+-- the laws of packets and routers
+layouts : goal.After-packets → Layouts
+layouts c = record {
+  readings = record {
+    packet_read = c.readings.ensures.packet_read;
+    packet_front = c.readings.ensures.packet_front;
+    rip_read = c.readings.ensures.rip_read;
+    sap_read = c.service_readings.ensures.sap_read;
+  };
+  again = record {
+    rip_packet_again = c.reread.ensures.rip_packet;
+    rip_again = c.reread.ensures.rip;
+    query_packet_again = c.reread.ensures.query_packet;
+    query_again = c.reread.ensures.query;
+    sap_packet_again = c.reread.ensures.sap_packet;
+    sap_again = c.reread.ensures.sap;
+    forwarded_again = c.reread.ensures.forwarded;
+    propagated_again = c.reread.ensures.propagated;
+  };
+  layouts = c.packets.ensures.layouts;
+  bytes = c.packets.ensures.bytes;
+}
+
+pub returns-clause-networks : goal.returns-clause-networks
+returns-clause-networks c net most_routes most_services run ticks router network is are waits passes long within =
+    let rests = rests_later net (layouts c) is most_routes most_services run are waits ticks passes long in
+    no_network net (layouts c) is most_routes most_services run.histories rests.count (ticked net most_routes most_services run ticks) rests.rests router within rests.long network
+
+pub returns-clause-services : goal.returns-clause-services
+returns-clause-services c net most_routes most_services run ticks router is are waits passes long within =
+    let rests = rests_later net (layouts c) is most_routes most_services run are waits ticks passes long in
+    no_service net (layouts c) is most_routes most_services run.histories rests.count (ticked net most_routes most_services run ticks) rests.rests router within rests.long
+
+pub returns-clause-routes : goal.returns-clause-routes
+returns-clause-routes c net most_routes most_services run ticks router is are waits passes long within =
+    let rests = rests_later net (layouts c) is most_routes most_services run are waits ticks passes long in
+    all_real net (layouts c) is most_routes most_services run.histories rests.count (ticked net most_routes most_services run ticks) rests.rests router within rests.long
+
+pub returns-clause-networks_meanwhile : goal.returns-clause-networks_meanwhile
+returns-clause-networks_meanwhile c net most_routes most_services run first ticks router network is are waits busy long within gone says =
+    no_route net (layouts c) is most_routes most_services (run_of net most_routes most_services run first)
+    (are_after net (layouts c) is most_routes most_services run are waits first busy.0) busy.0.quiet ticks busy.1 long router within network gone says
+
+pub returns-clause-services_meanwhile : goal.returns-clause-services_meanwhile
+returns-clause-services_meanwhile c net most_routes most_services run first ticks router key is are waits busy long within says =
+    no_such_service net (layouts c) is most_routes most_services (run_of net most_routes most_services run first)
+    (are_after net (layouts c) is most_routes most_services run are waits first busy.0) busy.0.quiet ticks busy.1 long router within key says
