@@ -1,5 +1,5 @@
 -- Calls of `next`, and the records of the bytes that the source's calls gave, whatever the source is.
-use Rattle.std.proofs.Common.{◌≡◌, ℕ, zero, suc, ◌+◌, ◌<◌, ◌≤◌, List, [], ◌∷◌, ◌++◌, length, drop, refl, sym, ap, subst, ◌∙◌, arith, Option, Some, None, Result, Ok, Err, append_assoc, append-nil, length-append, length-drop, drop_at}
+use Rattle.std.proofs.Common.{◌≡◌, ℕ, zero, suc, ◌+◌, ◌<◌, List, [], ◌∷◌, ◌++◌, length, drop, refl, sym, ap, ◌∙◌, arith, Option, Some, None, Result, Ok, append_assoc, length-drop, drop_at}
 use Rattle.ipx_wire.specs.Ends.{Input}
 use Rattle.ipx_wire.specs.declared.failed.Failed.{Failed}
 use Rattle.ipx_capture.specs.Asks.{Ask, all_came}

@@ -1,5 +1,5 @@
 -- How far the buffer of a capture grows.
-use Rattle.std.proofs.Common.{◌≡◌, Bool, true, false, if◌then◌else◌, ℕ, ◌+◌, ◌<◌, ◌≤◌, List, length, refl, arith, inl, inr}
+use Rattle.std.proofs.Common.{◌≡◌, Bool, true, false, if◌then◌else◌, ℕ, ◌+◌, ◌≤◌, List, length, refl, arith, inl, inr}
 use Rattle.std.proofs.lemmas.Bool.{lt-leb, le-leb, cases_lt}
 use Rattle.std.specs.Prelude.{nat_le}
 use Rattle.ipx_capture.specs.Records.{kept_count, size_of_first}

@@ -1,10 +1,10 @@
 -- What calls to a source add up to.
-use Rattle.std.proofs.Common.{◌≡◌, ℕ, ◌<◌, ◌≤◌, Bool, false, true, List, [], ◌∷◌, ◌++◌, length, take, refl, sym, ap, subst, ◌∙◌, arith, append_assoc, length-append, append-nil, Result, Ok}
+use Rattle.std.proofs.Common.{◌≡◌, ℕ, ◌<◌, ◌≤◌, false, true, List, [], ◌∷◌, ◌++◌, length, take, refl, sym, ap, ◌∙◌, arith, append_assoc, length-append, append-nil, Result, Ok}
 use Rattle.std.proofs.lemmas.Bool.{false≢true}
 use Rattle.std.proofs.KnownBytes.{Consumes-nil, Consumes-trans}
 use Rattle.ipx_wire.specs.Ends.{Input}
 use Rattle.ipx_wire.specs.declared.failed.Failed.{Failed}
-use Rattle.ipx_capture.specs.Asks.{Fetched, MeetsEnd, Lacks}
+use Rattle.ipx_capture.specs.Asks.{Fetched, Lacks}
 use Rattle.ipx_capture.specs.declared.capture_fault.CaptureFault.{CaptureFault}
 use Rattle.ipx_capture.specs.Reads.{Gained, Filled, Gathered, Lost}
 use Rattle.ipx_capture.proofs.Fetching.{AllGave, fetched_from, fetched_none, fetched_trans, all_gave-append, meets_later}

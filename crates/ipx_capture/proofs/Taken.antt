@@ -3,7 +3,7 @@ use Rattle.std.proofs.Common.{◌≡◌, Bool, ℕ, ◌+◌, ◌<◌, ◌≤◌,
 use Rattle.std.proofs.KnownBytes.{Consumes-trans}
 use Rattle.ipx_wire.specs.Ends.{Input}
 use Rattle.ipx_wire.specs.declared.failed.Failed.{Failed}
-use Rattle.ipx_capture.specs.Asks.{Fetched, Lacks, TellsNothing}
+use Rattle.ipx_capture.specs.Asks.{Lacks, TellsNothing}
 use Rattle.ipx_capture.specs.Given.{TakesBy}
 use Rattle.ipx_wire.specs.Piece.{piece}
 use Rattle.ipx_capture.specs.Numbered.{numbered}

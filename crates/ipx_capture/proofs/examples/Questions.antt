@@ -1,7 +1,7 @@
 -- Calls to a source that counts them: each leads from a number to the next.
-use Rattle.std.proofs.Common.{◌≡◌, ℕ, ◌+◌, ◌<◌, List, [], ◌∷◌, ◌++◌, refl, ap, arith, lit<, length, Result, Ok, Err}
+use Rattle.std.proofs.Common.{◌≡◌, ℕ, ◌+◌, List, [], ◌∷◌, ◌++◌, refl, ap, arith, lit<, length, Result, Ok}
 use Rattle.ipx_wire.specs.declared.failed.Failed.{Failed}
-use Rattle.ipx_capture.specs.Asks.{Ask, Asks, Fetched, MeetsEnd, Lacks, all_came}
+use Rattle.ipx_capture.specs.Asks.{Ask, Asks, Fetched, MeetsEnd, Lacks}
 use Rattle.ipx_capture.specs.Records.{size_of_first}
 use Rattle.ipx_capture.specs.declared.order.Order.TheVariants.{Little}
 use Rattle.ipx_capture.proofs.examples.Words.{zeros, little_record, typed}

@@ -1,6 +1,6 @@
-use Rattle.std.proofs.Common.{◌≡◌, ◌-◌, ◌∙◌, ap, length, drop, refl, arith, subst}
+use Rattle.std.proofs.Common.{◌-◌, length, drop, refl, arith, subst}
 use Rattle.ipx_capture.specs.Reads.{LostFront}
-use Rattle.ipx_capture.proofs.Filling.{filling_none, filling_more, filled_all, filled_end, filling_lost}
+use Rattle.ipx_capture.proofs.Filling.{filling_none, filling_more, filled_end, filling_lost}
 use Rattle.ipx_capture.proofs.Once.{on_err_all}
 use Rattle.ipx_capture.proofs.Pieces.{front_written, length_written}
 use Rattle.ipx_capture.proofs.taking.read_front.Goals as goal

@@ -1,4 +1,4 @@
-use Rattle.std.proofs.Common.{◌≡◌, ◌-◌, ◌<◌, ◌≤◌, length, take}
+use Rattle.std.proofs.Common.{◌≡◌, ◌-◌, length}
 use Rattle.ipx_capture.proofs.Filling.{Filling}
 use Rattle.ipx_capture.proofs.taking.read_front.Given as goal
 

@@ -1,4 +1,4 @@
-use Rattle.std.proofs.Common.{◌≡◌, ◌+◌, ◌≤◌, sym, ap, refl, ◌∙◌, arith, subst, true, false, length}
+use Rattle.std.proofs.Common.{◌≡◌, ◌+◌, ap, ◌∙◌, arith, subst}
 use Rattle.std.proofs.lemmas.Result.{err_from_is_err_and}
 use Rattle.ipx_capture.specs.Reads.{Gathered}
 use Rattle.ipx_capture.specs.Records.{kept_count, wire_count}

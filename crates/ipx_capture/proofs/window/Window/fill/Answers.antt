@@ -1,5 +1,4 @@
 use Rattle.std.proofs.Common.{◌≡◌, ◌+◌, ◌++◌, [], arith, ap, drop, refl, ◌∙◌, length, length-drop}
-use Rattle.std.specs.Io.KnownBytes.{Consumes, Keeps}
 use Rattle.ipx_wire.specs.Piece.{piece}
 use Rattle.ipx_capture.specs.Asks.{Lacks}
 use Rattle.ipx_capture.proofs.Fetching.{fetched_failed}

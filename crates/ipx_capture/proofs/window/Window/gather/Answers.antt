@@ -1,7 +1,7 @@
 use Rattle.std.proofs.lemmas.Result.{err_from_is_err_and}
 use Rattle.std.proofs.Common.{◌<◌, arith, ap, length}
 use Rattle.ipx_capture.proofs.Pieces.{length_piece}
-use Rattle.ipx_capture.proofs.Reading.{gathered_all, gathered_end, gathering_lost, gathering_more, gathering_none}
+use Rattle.ipx_capture.proofs.Reading.{gathered_end, gathering_lost, gathering_more, gathering_none}
 use Rattle.ipx_capture.proofs.window.Window.gather.Goals as goal
 
 pub returns-in_err-fill-clause-err : goal.returns-in_err-fill-clause-err
