@@ -31,19 +31,24 @@ none_left xs more left l end =
 known : (p q : Place) (xs : List ℕ) (answer : Result (Option Record) CaptureFault) → p.input.left ≡ Some xs → (t : Takes p q answer) → Left xs t.more q.input.left
 known p q xs answer e t = left_of q.input.left xs t.more (subst (λ (l : Option (List ℕ)). Consumes l q.input.left t.more) e t.read)
 
--- the record that a call tells stands at the front of all bytes left
-taken_first : (p q : Place) (xs : List ℕ) (r : Record) → (e : p.input.left ≡ Some xs) → (t : Takes p q (Ok (Some r))) → first_record p.order (p.taken + 1) (p.ahead ++ xs) ≡ Ok (Some r)
-taken_first p q xs r e t =
-    let l = known p q xs (Ok (Some r)) e t in
-    ap (λ b. first_record p.order (p.taken + 1) (p.ahead ++ b)) l.all ∙ ap (first_record p.order (p.taken + 1)) (sym (append_assoc p.ahead t.more l.rest))
-    ∙ first_append p.order (p.taken + 1) (p.ahead ++ t.more) l.rest r t.gives.0
+-- the record that a call tells stands at the front of all bytes, whatever follows
+pub told_first : (p q : Place) (rest : List ℕ) (r : Record) → (t : Takes p q (Ok (Some r))) → first_record p.order (p.taken + 1) (p.ahead ++ (t.more ++ rest)) ≡ Ok (Some r)
+told_first p q rest r t =
+    ap (first_record p.order (p.taken + 1)) (sym (append_assoc p.ahead t.more rest)) ∙ first_append p.order (p.taken + 1) (p.ahead ++ t.more) rest r t.gives.0
 
 -- and what is left then stands behind it
+pub told_rest : (p q : Place) (rest : List ℕ) (r : Record) → (t : Takes p q (Ok (Some r))) → q.ahead ++ rest ≡ behind r (p.ahead ++ (t.more ++ rest))
+told_rest p q rest r t =
+    ap (λ b. b ++ rest) t.gives.1 ∙ sym (behind_append p.order (p.taken + 1) (p.ahead ++ t.more) rest r t.gives.0) ∙ ap (behind r) (append_assoc p.ahead t.more rest)
+
+-- the same of a reader that tells its bytes
+taken_first : (p q : Place) (xs : List ℕ) (r : Record) → (e : p.input.left ≡ Some xs) → (t : Takes p q (Ok (Some r))) → first_record p.order (p.taken + 1) (p.ahead ++ xs) ≡ Ok (Some r)
+taken_first p q xs r e t =
+    let l = known p q xs (Ok (Some r)) e t in ap (λ b. first_record p.order (p.taken + 1) (p.ahead ++ b)) l.all ∙ told_first p q l.rest r t
+
 taken_rest : (p q : Place) (xs : List ℕ) (r : Record) → (e : p.input.left ≡ Some xs) → (t : Takes p q (Ok (Some r))) → q.ahead ++ (known p q xs (Ok (Some r)) e t).rest ≡ behind r (p.ahead ++ xs)
 taken_rest p q xs r e t =
-    let l = known p q xs (Ok (Some r)) e t in
-    ap (λ b. b ++ l.rest) t.gives.1 ∙ sym (behind_append p.order (p.taken + 1) (p.ahead ++ t.more) l.rest r t.gives.0)
-    ∙ ap (behind r) (append_assoc p.ahead t.more l.rest ∙ ap (λ b. p.ahead ++ b) (sym l.all))
+    let l = known p q xs (Ok (Some r)) e t in told_rest p q l.rest r t ∙ ap (λ b. behind r (p.ahead ++ b)) (sym l.all)
 
 -- so does the end, or a fault of the file
 ended_first : (p q : Place) (xs : List ℕ) (fault : Option CaptureFault) → p.input.left ≡ Some xs → Takes p q (ending fault) → IsOfFile fault
@@ -71,10 +76,22 @@ from_first : (most : ℕ) (p : Place) (n : ℕ) (b : List ℕ) (r : Record) → 
     → records_from (suc most) p.order n b ≡ before r (records_from most p.order (n + 1) (behind r b))
 from_first most p n b r e = ap (λ x. from_front x (λ s. records_from most p.order (n + 1) (behind s b))) e
 
-from_end : (most : ℕ) (p : Place) (n : ℕ) (b : List ℕ) (fault : Option CaptureFault) → first_record p.order n b ≡ ending fault
+pub from_end : (most : ℕ) (p : Place) (n : ℕ) (b : List ℕ) (fault : Option CaptureFault) → first_record p.order n b ≡ ending fault
     → records_from (suc most) p.order n b ≡ record { records = []; fault = fault }
 from_end most p n b None e = ap (λ x. from_front x (λ s. records_from most p.order (n + 1) (behind s b))) e
 from_end most p n b (Some fault) e = ap (λ x. from_front x (λ s. records_from most p.order (n + 1) (behind s b))) e
+
+-- a record, and those that follow it
+pub step_on : (most : ℕ) (p m : Place) (all left : List ℕ) (r : Record) (rs : List Record) (fault : Option CaptureFault) → first_record p.order (p.taken + 1) all ≡ Ok (Some r)
+    → left ≡ behind r all → Takes p m (Ok (Some r)) → records_from most m.order (m.taken + 1) left ≡ record { records = rs; fault = fault }
+    → records_from (suc most) p.order (p.taken + 1) all ≡ record { records = r ∷ rs; fault = fault }
+step_on most p m all left r rs fault first rest t later =
+    from_first most p (p.taken + 1) all r first
+    ∙ ap (before r) (
+    ap (records_from most p.order (p.taken + 1 + 1)) (sym rest)
+    ∙ ap (λ o. records_from most o (p.taken + 1 + 1) left) (sym t.order)
+    ∙ ap (λ n. records_from most m.order (n + 1) left) (sym t.taken)
+    ∙ later)
 
 pub calls_are : (told : List Record) (most : ℕ) (p q ended : Place) (xs : List ℕ) (fault : Option CaptureFault) → p.input.left ≡ Some xs → length (p.ahead ++ xs) < most
     → Calls p told q → Takes q ended (ending fault) → IsOfFile fault → records_from most p.order (p.taken + 1) (p.ahead ++ xs) ≡ record { records = told; fault = fault }
@@ -87,13 +104,7 @@ calls_are (r ∷ rs) (suc most) p q ended xs fault e few (m, t, calls) end of =
     let rest = taken_rest p m xs r e t in
     let size = first_size p.order (p.taken + 1) (p.ahead ++ xs) r first in
     let less : length (m.ahead ++ l.rest) < most = omega (arith, ap length rest, length-drop (16 + length r.bytes) (p.ahead ++ xs), size) in
-    let later = calls_are rs most m q ended l.rest fault l.is less calls end of in
-    from_first most p (p.taken + 1) (p.ahead ++ xs) r first
-    ∙ ap (before r) (
-    ap (records_from most p.order (p.taken + 1 + 1)) (sym rest)
-    ∙ ap (λ o. records_from most o (p.taken + 1 + 1) (m.ahead ++ l.rest)) (sym t.order)
-    ∙ ap (λ n. records_from most m.order (n + 1) (m.ahead ++ l.rest)) (sym t.taken)
-    ∙ later)
+    step_on most p m (p.ahead ++ xs) (m.ahead ++ l.rest) r rs fault first rest t (calls_are rs most m q ended l.rest fault l.is less calls end of)
 
 -- further bytes change no header
 pub header_append : (a b : List ℕ) → 24 ≤ length a → header_of (a ++ b) ≡ header_of a

@@ -1,7 +1,7 @@
 -- The record at the front of bytes, by how many of them there are.
-use Rattle.std.proofs.Common.{◌≡◌, ◌≢◌, ◌==◌, false, ℕ, ◌+◌, ◌<◌, ◌≤◌, List, ◌++◌, length, take, drop, refl, inl, inr, sym, ap, ◌∙◌, arith, Ok, Err, Some, None, length-drop, length-append}
+use Rattle.std.proofs.Common.{◌≡◌, ◌≢◌, ◌==◌, true, false, ℕ, ◌+◌, ◌<◌, ◌≤◌, List, [], ◌∷◌, ◌++◌, length, take, drop, refl, inl, inr, sym, ap, ◌∙◌, arith, Ok, Err, Some, None, length-drop, length-append}
 use Rattle.std.proofs.lemmas.List.{take-append-le, drop-append-le}
-use Rattle.std.proofs.lemmas.Bool.{lt-ltb, le-ltb, ne_eqb, cases_lt, cases_eq, eqb-false}
+use Rattle.std.proofs.lemmas.Bool.{lt-ltb, le-ltb, ne_eqb, cases_lt, cases_eq, eqb-true, eqb-false}
 use Rattle.ipx_wire.specs.Piece.{piece}
 use Rattle.ipx_capture.specs.Records.{Record, first_record, kept_count, wire_count, behind}
 use Rattle.ipx_capture.specs.Order.{u32_in}
@@ -45,6 +45,14 @@ pub some_bytes : (l m : List ℕ) → l ≡ m → false ≡ (length l == 0) → 
 some_bytes l m same h =
     let some : length l ≢ 0 = eqb-false (length l) 0 (sym h) in
     omega (arith, ap length same)
+
+pub no_bytes : (l : List ℕ) → length l ≡ 0 → l ≡ []
+no_bytes [] e = refl
+no_bytes (b ∷ l) e = absurd (omega arith)
+
+-- bytes that are none
+pub none_ahead : (l m : List ℕ) → l ≡ m → true ≡ (length l == 0) → m ≡ []
+none_ahead l m same h = no_bytes m (omega (arith, ap length same, eqb-true (length l) 0 (sym h)))
 
 -- how the bytes at the front are, by what is told of them
 pub record IsWhole (order : Order) (n : ℕ) (b : List ℕ) (r : Record) : Type 0 where

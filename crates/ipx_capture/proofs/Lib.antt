@@ -1,8 +1,12 @@
-pub mod Asking
 pub mod Calling
+pub mod Fetching
+pub mod Filling
 pub mod First
 pub mod Frames
+pub mod GivenBytes
+pub mod Growing
 pub mod Heading
+pub mod Once
 pub mod Pieces
 pub mod ReadAgain
 pub mod Reading

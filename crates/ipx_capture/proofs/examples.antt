@@ -3,4 +3,5 @@ pub mod CutFiles
 pub mod Frames
 pub mod Headers
 pub mod OneRecord
+pub mod Questions
 pub mod Words

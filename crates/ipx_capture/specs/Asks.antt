@@ -20,21 +20,26 @@ abbrev pub all_came : List Ask → List ℕ
 all_came [] = []
 all_came (a ∷ later) = came a.buffer a.answer ++ all_came later
 
--- these calls, and no others, lead a source from one state to another; and each is made while the bytes that are there lack something
+-- these calls, and no others, lead a source from one state to another. Each is made while the bytes that are there lack something, has
+-- room for at least one byte, and is the last where it gives none
 abbrev pub Asks : (ℕ → List ℕ → Result ℕ Failed → ℕ → Type 0) → (List ℕ → Type 0) → List Ask → List ℕ → ℕ → ℕ → Type 0
 Asks asked Lack [] bytes before after = after ≡ before
 Asks asked Lack (a ∷ later) bytes before after =
-    Lack bytes × asked before a.buffer a.answer a.state × Asks asked Lack later (bytes ++ came a.buffer a.answer) a.state after
+    Lack bytes × (0 < length a.buffer) × asked before a.buffer a.answer a.state × (came a.buffer a.answer ≡ [] → later ≡ [])
+    × Asks asked Lack later (bytes ++ came a.buffer a.answer) a.state after
 
--- some such calls, or none; what they give stands behind the old bytes
-pub record Asked (asked : ℕ → List ℕ → Result ℕ Failed → ℕ → Type 0) (Lack : List ℕ → Type 0) (old new : List ℕ) (before after : ℕ) : Type 0 where
+-- the last of these calls found the source at its end: it answered that no byte came
+pub record MeetsEnd (asks : List Ask) : Type 0 where
+  pub front : List Ask
+  pub last : Ask
+  pub are : asks ≡ front ++ last ∷ []
+  pub none : last.answer ≡ Ok 0
+
+-- some such calls, or none, gave these bytes
+pub record Fetched (asked : ℕ → List ℕ → Result ℕ Failed → ℕ → Type 0) (Lack : List ℕ → Type 0) (old more : List ℕ) (before after : ℕ) : Type 0 where
   pub asks : List Ask
   pub calls : Asks asked Lack asks old before after
-  pub grown : new ≡ old ++ all_came asks
-
--- a source is asked only while the bytes that are there lack something
-abbrev pub AskedOnly : (ℕ → List ℕ → Result ℕ Failed → ℕ → Type 0) → (List ℕ → Type 0) → List ℕ → ℕ → ℕ → Type 0
-AskedOnly asked Lack old before after = (new : List ℕ) × Asked asked Lack old new before after
+  pub gave : more ≡ all_came asks
 
 -- there are fewer bytes than are needed
 abbrev pub Lacks : ℕ → List ℕ → Type 0

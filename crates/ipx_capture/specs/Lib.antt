@@ -2,6 +2,7 @@ pub mod Asks
 pub mod Calls
 pub mod Frame
 pub mod Framed
+pub mod Given
 pub mod Header
 pub mod Numbered
 pub mod Order

@@ -1,12 +1,13 @@
 -- How far a capture has been read, and what a call of `next` does.
-use Rattle.std.specs.Prelude.{◌≡◌, ℕ, ◌+◌, ◌≤◌, true, false, List, [], ◌++◌, length, Option, Some, None, Result, Ok, Err, IsOk, OnOk}
+use Rattle.std.specs.Prelude.{◌≡◌, ℕ, ◌+◌, ◌<◌, ◌≤◌, true, false, List, [], ◌++◌, length, Option, Some, None, Result, Ok, Err, IsOk, OnOk}
 use Rattle.std.specs.Borrow.{GName}
 use Rattle.std.specs.Io.KnownBytes.{Consumes, IsAtEnd}
 use Rattle.ipx_wire.specs.declared.source.Source.{Ghosts}
 use Rattle.ipx_wire.specs.Ends.{Input}
 use Rattle.ipx_capture.specs.Header.{header_of, header_size}
 use Rattle.ipx_capture.specs.Reads.{most_calls, Gained}
-use Rattle.ipx_capture.specs.Records.{Record, first_record, behind, is_ready}
+use Rattle.ipx_capture.specs.Records.{Record, first_record, behind, is_ready, size_of_first}
+use Rattle.ipx_capture.specs.Window.{Grows, least_room, most_room}
 use Rattle.ipx_capture.specs.declared.capture.Captured.{Captured}
 use Rattle.ipx_capture.specs.declared.capture.Capture.{Capture}
 use Rattle.ipx_capture.specs.declared.capture_fault.CaptureFault.{CaptureFault}
@@ -16,17 +17,18 @@ use Rattle.ipx_capture.specs.declared.standing.Standing.{Standing}
 use Rattle.ipx_capture.specs.declared.standing.Standing.TheVariants.{Open, Ended, Broken}
 
 -- how far a capture has been read: its byte order, how many records were taken, which bytes were read and not taken yet,
--- whether its end was told, and its intake
+-- for how many bytes its buffer has memory, whether its end was told, and its intake
 pub record Place : Type 0 where
   pub order : Order
   pub taken : ℕ
   pub ahead : List ℕ
+  pub memory : ℕ
   pub standing : Standing
   pub input : Input
 
 -- how far a capture has been read
 abbrev pub place : {S : Type 0} {asking : Ghosts S} → Capture S asking → Place
-place c = record { order = c.order; taken = c.taken; ahead = c.window.ahead; standing = c.standing; input = c.intake.now }
+place c = record { order = c.order; taken = c.taken; ahead = c.window.ahead; memory = c.window.memory; standing = c.standing; input = c.intake.now }
 
 -- the name of the reference to the intake that a capture keeps
 abbrev pub keeps : {S : Type 0} {asking : Ghosts S} → Capture S asking → GName
@@ -69,7 +71,8 @@ Gives order n bytes rest after (Err Version) = ⊥
 Gives order n bytes rest after (Err Link) = ⊥
 
 -- the bytes that the reader gave meanwhile follow those ahead, and the next record is taken from all of them; the reader isn't asked
--- where those ahead tell what comes next
+-- where those ahead tell what comes next. The buffer grows no further than that record needs, and the fault of the memory is told only
+-- where it had less room
 pub record Takes (old new : Place) (answer : Result (Option Record) CaptureFault) : Type 0 where
   pub more : List ℕ
   pub read : Consumes old.input.left new.input.left more
@@ -79,6 +82,9 @@ pub record Takes (old new : Place) (answer : Result (Option Record) CaptureFault
   pub order : new.order ≡ old.order
   pub still : is_ready old.order old.ahead ≡ true → new.input ≡ old.input
   pub gained : OnOk answer (Gained old.input new.input more)
+  pub room : Grows (size_of_first old.order (old.ahead ++ more)) old.memory new.memory
+  pub most : new.memory ≤ most_room
+  pub refused : answer ≡ Err Memory → old.memory < size_of_first old.order (old.ahead ++ more)
 
 -- the same where the end or a fault may have been told: it is told again, and nothing is read
 abbrev pub Continues : Standing → Place → Place → Result (Option Record) CaptureFault → Type 0
@@ -104,6 +110,7 @@ pub record Opened (before : Input) (p : Place) : Type 0 where
   pub begun : Begun before p.input p.order
   pub none : p.taken ≡ 0
   pub fresh : p.ahead ≡ []
+  pub room : p.memory ≡ least_room
   pub goes_on : p.standing ≡ Open
 
 -- the fault is that of the bytes; or else the intake failed, or behind a header no memory was left

@@ -48,6 +48,11 @@ first_record order n bytes =
 abbrev pub is_ready : Order → List ℕ → Bool
 is_ready order bytes = nat_le record_header (length bytes) && (nat_lt most_kept (kept_count order bytes) || nat_le (record_header + kept_count order bytes) (length bytes))
 
+-- how many bytes the record at the front takes with its header: only this where it isn't whole, or says that the record is too long
+abbrev pub size_of_first : Order → List ℕ → ℕ
+size_of_first order bytes =
+    record_header + (if nat_le record_header (length bytes) && nat_le (kept_count order bytes) most_kept then kept_count order bytes else 0)
+
 -- the bytes behind a record at their front
 abbrev pub behind : Record → List ℕ → List ℕ
 behind r bytes = drop (record_header + length r.bytes) bytes

@@ -2,7 +2,7 @@
 ghost use Rattle.std.specs.Prelude.{◌≡◌, ◌+◌, ◌*◌, ◌≤◌, false, length};
 ghost use Rattle.ipx_capture.specs.Reads.{most_calls};
 ghost use Rattle.ipx_capture.specs.Records.{record_header};
-ghost use Rattle.ipx_capture.specs.Window.{most_room};
+ghost use Rattle.ipx_capture.specs.Window.{least_room, most_room};
 ghost use Rattle.ipx_capture.specs.declared.standing.Standing.TheVariants.{Open};
 
 use crate::capture_fault::CaptureFault;
@@ -23,6 +23,7 @@ pub struct Capture<'a, S: Source> {
     standing: Standing,
     ghost few: { standing ≡ Open → record_header * taken + length window.ahead ≤ most_room * intake.now.calls },
     ghost bounded: { standing ≡ Open → intake.now.calls ≤ most_calls },
+    ghost room: { (least_room ≤ window.memory) × (window.memory ≤ most_room) },
     ghost fine: { standing ≡ Open → intake.now.failed ≡ false },
 }
 
@@ -44,8 +45,8 @@ impl<'a, S: Source> Capture<'a, S> {
     ghost use mir.Syntax.{named};
     ghost use Rattle.ipx_wire.specs.contracts.intake.Intake.{the_row as intake_row};
     ghost use Rattle.ipx_capture.specs.contracts.capture.Capture.{the_row};
-    ghost use Rattle.ipx_capture.specs.Asks.{AskedOnly, TellsNothing};
-    ghost use Rattle.ipx_capture.specs.Place.{place, keeps, told, Nexts, Opened, Unopened};
+    ghost use Rattle.ipx_capture.specs.Given.{BegunBy, UnopenedBy, TakesBy};
+    ghost use Rattle.ipx_capture.specs.Place.{place, keeps, told, Nexts, Opened};
     ghost use Rattle.ipx_capture.specs.Numbered.{numbered};
     ghost use Rattle.ipx_capture.specs.Records as spec;
 
@@ -56,18 +57,19 @@ impl<'a, S: Source> Capture<'a, S> {
     ) -> Result<Capture<'a, S>, CaptureFault>
         requires fine { intake.old.failed ≡ false }
         ensures ok { IfOk result (λ c. Opened intake.old (place c)) }
+        ensures by { IfOk result (λ c. BegunBy S.asked intake.old (place c).input (place c).order) }
         ensures same_reference { IfOk result (λ c. keeps c ≡ intake.entry.ghost_name) }
-        ensures* err { sem 𝓛 (RestsIfErr (intake_row S.row S.Source) intake.entry keeps result (λ after. IfErr result (Unopened intake.old after))) }
+        ensures* err { sem 𝓛 (RestsIfErr (intake_row S.row S.Source) intake.entry keeps result (λ after. IfErr result (UnopenedBy S.asked intake.old after))) }
     {
         let (order, window) = begin(intake, alloc)?;
         Ok(Capture::begun(intake, order, window))
     }
 
     fn begun(intake: &'a mut Intake<S>, order: Order, window: Window) -> Capture<'a, S>
-        requires fresh { window.ahead ≡ [] }
+        requires fresh { (window.ahead ≡ []) × (window.memory ≡ least_room) }
         requires bounded { intake.old.calls ≤ most_calls }
         requires fine { intake.old.failed ≡ false }
-        ensures place { place result ≡ record { order = order; taken = 0; ahead = []; standing = Standing.Open; input = intake.old } }
+        ensures place { place result ≡ record { order = order; taken = 0; ahead = []; memory = least_room; standing = Standing.Open; input = intake.old } }
         ensures same_reference { keeps result ≡ intake.entry.ghost_name }
     {
         Capture {
@@ -91,9 +93,9 @@ impl<'a, S: Source> Capture<'a, S> {
     /// The next record; none at the end of the file.
     ///
     /// An end or a fault that was told is told again by each later call. The source is asked only while the bytes that were read don't tell what
-    /// comes next: a record too long is told as soon as its header is there.
+    /// comes next: a record too long is reported as soon as its header is there.
     pub fn next(&mut self) -> Result<Option<Captured<'_>>, CaptureFault>
-        ensures* after { sem 𝓛 (Rests (the_row (record { mir = named 1; lft = [] }) S.row S.Source) self.entry (λ new. Nexts (place self.old) (place new) (told result) × (keeps new ≡ keeps self.old) × AskedOnly S.asked (TellsNothing (place self.old).order) (place self.old).ahead (place self.old).input.state (place new).input.state)) }
+        ensures* after { sem 𝓛 (Rests (the_row (record { mir = named 1; lft = [] }) S.row S.Source) self.entry (λ new. Nexts (place self.old) (place new) (told result) × (keeps new ≡ keeps self.old) × ((place self.old).standing ≡ Open → TakesBy S.asked (place self.old) (place new) (told result)))) }
     {
         let Some(wire) = self.advance()? else {
             return Ok(None);
@@ -116,7 +118,7 @@ impl<'a, S: Source> Capture<'a, S> {
     fn advance(&mut self) -> Result<Option<u32>, CaptureFault>
         ensures after { Nexts (place self.old) (place self.new) (numbered self.new.taken self.new.window.taken result) }
         ensures same_reference { keeps self.new ≡ keeps self.old }
-        ensures asked { AskedOnly S.asked (TellsNothing (place self.old).order) (place self.old).ahead (place self.old).input.state (place self.new).input.state }
+        ensures by { (place self.old).standing ≡ Open → TakesBy S.asked (place self.old) (place self.new) (numbered self.new.taken self.new.window.taken result) }
     {
         match self.standing {
             Standing::Open => {}

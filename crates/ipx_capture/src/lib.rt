@@ -11,6 +11,7 @@
 //! It reads no packet, looks at no time, and leaves alone what isn't Ethernet.
 #![tactic(auto)]
 
+mod asking;
 mod capture;
 mod capture_fault;
 mod file_header;

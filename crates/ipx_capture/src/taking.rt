@@ -1,12 +1,12 @@
 //! What a capture does with the bytes of its reader.
-ghost use Rattle.std.specs.Prelude.{◌≡◌, [], true, false, ℕ, List, IfOk, IfErr, OnErr};
-ghost use Rattle.std.specs.Io.KnownBytes.{Consumes};
-ghost use Rattle.ipx_capture.specs.Asks.{AskedOnly, TellsNothing};
-ghost use Rattle.ipx_capture.specs.Place.{Begun, Unopened};
-ghost use Rattle.ipx_capture.specs.Reads.{FilledFront};
+ghost use Rattle.std.specs.Prelude.{◌≡◌, ◌≤◌, [], true, false, IfOk, IfErr, OnErr, length};
+ghost use Rattle.ipx_capture.specs.Given.{BegunBy, UnopenedBy};
+ghost use Rattle.ipx_capture.specs.Reads.{FilledFront, LostFront};
 ghost use Rattle.ipx_capture.specs.Taking.{Took};
+ghost use Rattle.ipx_capture.specs.Window.{least_room};
 ghost use Rattle.ipx_capture.specs.Records as spec;
 
+use crate::asking::ask;
 use crate::capture_fault::CaptureFault;
 use crate::file_header;
 use crate::order::Order;
@@ -26,8 +26,9 @@ pub(crate) fn begin<S: Source>(
     alloc: Global,
 ) -> Result<(Order, Window), CaptureFault>
     requires { intake.old.failed ≡ false }
-    ensures ok { IfOk result (λ made. Begun intake.old intake.new made.0 × (made.1.ahead ≡ [])) }
-    ensures err { IfErr result (Unopened intake.old intake.new) }
+    ensures ok { IfOk result (λ made. BegunBy S.asked intake.old intake.new made.0) }
+    ensures window { IfOk result (λ made. (made.1.ahead ≡ []) × (made.1.memory ≡ least_room)) }
+    ensures err { IfErr result (UnopenedBy S.asked intake.old intake.new) }
 {
     let order = read_header(intake)?;
     let window = Window::new(alloc)?;
@@ -36,8 +37,8 @@ pub(crate) fn begin<S: Source>(
 
 fn read_header<S: Source>(intake: &mut Intake<S>) -> Result<Order, CaptureFault>
     requires { intake.old.failed ≡ false }
-    ensures ok { IfOk result (Begun intake.old intake.new) }
-    ensures err { IfErr result (λ fault. Unopened intake.old intake.new fault) }
+    ensures ok { IfOk result (BegunBy S.asked intake.old intake.new) }
+    ensures err { IfErr result (UnopenedBy S.asked intake.old intake.new) }
 {
     let mut header = [0; file_header::SIZE];
     let Ok(count) = read_front(intake, &mut header) else {
@@ -48,13 +49,12 @@ fn read_header<S: Source>(intake: &mut Intake<S>) -> Result<Order, CaptureFault>
 
 /// Fills a buffer from its front on, as far as there are bytes.
 fn read_front<S: Source>(intake: &mut Intake<S>, bytes: &mut [u8]) -> Result<usize, Failed>
-    ensures ok { IfOk result (FilledFront bytes.new intake.old intake.new) }
-    ensures err { OnErr result (intake.new.failed ≡ true) }
-    ensures read { OnErr result ((front : List ℕ) × Consumes intake.old.left intake.new.left front) }
+    ensures ok { IfOk result (FilledFront S.asked bytes.new intake.old intake.new) }
+    ensures err { OnErr result (LostFront S.asked (length bytes.old) intake.old intake.new) }
 {
     let mut at = 0;
     while at < bytes.len() {
-        let count = intake.read(&mut bytes[at..])?;
+        let count = ask(intake, &mut bytes[at..])?;
         if count == 0 {
             return Ok(at);
         }
@@ -69,10 +69,10 @@ pub(crate) fn take_record<S: Source>(
     window: &mut Window,
     order: Order,
 ) -> Result<Option<u32>, CaptureFault>
-    requires { intake.old.failed ≡ false }
-    ensures took { Took order window.old.ahead window.new intake.old intake.new result }
+    requires fine { intake.old.failed ≡ false }
+    requires room { least_room ≤ window.old.memory }
+    ensures took { Took S.asked order window.old window.new intake.old intake.new result }
     ensures still { spec.is_ready order window.old.ahead ≡ true → intake.new ≡ intake.old }
-    ensures asked { AskedOnly S.asked (TellsNothing order) window.old.ahead intake.old.state intake.new.state }
 {
     if !window.gather(intake, HEADER)? {
         if window.ahead().is_empty() {

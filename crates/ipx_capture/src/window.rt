@@ -1,12 +1,11 @@
 //! The buffer of a capture: bytes that were read, and of these the record that is lent.
 ghost use Rattle.std.specs.Prelude.{◌≡◌, ◌+◌, ◌-◌, ◌<◌, ◌≤◌, [], true, false, IfOk, IfErr, OnOk, OnErr, length, take, drop, vec_capacity, vec_len, max};
-ghost use Rattle.std.specs.Io.KnownBytes.{Consumes, IsAtEnd};
-ghost use Rattle.ipx_wire.specs.Ends.{LostInput};
 ghost use Rattle.ipx_wire.specs.Piece.{piece};
-ghost use Rattle.ipx_capture.specs.Asks.{Asked, AskedOnly, Lacks};
-ghost use Rattle.ipx_capture.specs.Reads.{most_calls};
-ghost use Rattle.ipx_capture.specs.Window.{most_room};
+ghost use Rattle.ipx_capture.specs.Reads.{CameOnce, FailedOnce};
+ghost use Rattle.ipx_capture.specs.Window.{Grows, least_room, most_room};
+ghost use Rattle.ipx_capture.specs.declared.capture_fault.CaptureFault.TheVariants.{Memory};
 
+use crate::asking::ask;
 use crate::capture_fault::CaptureFault;
 use ipx_wire::{Failed, Intake, Source};
 use std::alloc::{AllocError, Global};
@@ -34,7 +33,7 @@ impl Model for Window {
 
     ghost Value = { Held };
 
-    ghost view = { λ w. record { taken = piece w.bytes.items w.start w.kept; ahead = piece w.bytes.items w.from w.count } };
+    ghost view = { λ w. record { taken = piece w.bytes.items w.start w.kept; ahead = piece w.bytes.items w.from w.count; memory = vec_capacity w.bytes } };
 
     ghost invariant = { λ w. Fits (length w.bytes.items) (vec_capacity w.bytes) w.start w.kept w.from w.count };
 }
@@ -43,7 +42,8 @@ impl Window {
     ghost use Rattle.ipx_capture.specs.Reads.{Filled, Gathered, Lost};
 
     pub fn new(alloc: Global) -> Result<Window, AllocError>
-        ensures { IfOk result (λ w. w.ahead ≡ []) }
+        ensures fresh { IfOk result (λ w. w.ahead ≡ []) }
+        ensures memory { IfOk result (λ w. w.memory ≡ least_room) }
     {
         let mut bytes = Vec::with_capacity(alloc, SIZE)?;
         lengthen(&mut bytes, SIZE);
@@ -75,6 +75,7 @@ impl Window {
         requires { header + kept ≤ length self.old.ahead }
         ensures taken { self.new.taken ≡ piece self.old.ahead header kept }
         ensures ahead { self.new.ahead ≡ drop (header + kept) self.old.ahead }
+        ensures memory { self.new.memory ≡ self.old.memory }
     {
         self.start = self.from + header;
         self.kept = kept;
@@ -90,10 +91,10 @@ impl Window {
     ) -> Result<bool, CaptureFault>
         requires fine { intake.old.failed ≡ false }
         requires few { need ≤ most_room }
-        ensures ok { IfOk result (Gathered self.old.ahead self.new.ahead intake.old intake.new need) }
-        ensures err { IfErr result (Lost intake.old intake.new) }
-        ensures asked { OnOk result (Asked S.asked (Lacks need) self.old.ahead self.new.ahead intake.old.state intake.new.state) }
-        ensures in_vain { OnErr result (AskedOnly S.asked (Lacks need) self.old.ahead intake.old.state intake.new.state) }
+        ensures ok { IfOk result (Gathered S.asked self.old.ahead self.new.ahead intake.old intake.new need) }
+        ensures err { IfErr result (Lost S.asked self.old.ahead intake.old intake.new need) }
+        ensures memory { Grows need self.old.memory self.new.memory }
+        ensures refused { IfErr result (λ fault. fault ≡ Memory → self.old.memory < need) }
         ensures still { need ≤ length self.old.ahead → (intake.new ≡ intake.old) × (self.new.ahead ≡ self.old.ahead) }
     {
         while self.count < need {
@@ -113,10 +114,10 @@ impl Window {
         requires fine { intake.old.failed ≡ false }
         requires more { length self.old.ahead < need }
         requires few { need ≤ most_room }
-        ensures ok { IfOk result (λ n. Filled self.old.ahead self.new.ahead intake.old intake.new n) }
-        ensures err { IfErr result (Lost intake.old intake.new) }
-        ensures asked { OnOk result (Asked S.asked (Lacks need) self.old.ahead self.new.ahead intake.old.state intake.new.state) }
-        ensures in_vain { OnErr result (AskedOnly S.asked (Lacks need) self.old.ahead intake.old.state intake.new.state) }
+        ensures ok { IfOk result (Filled S.asked self.old.ahead self.new.ahead intake.old intake.new) }
+        ensures err { IfErr result (Lost S.asked self.old.ahead intake.old intake.new need) }
+        ensures memory { Grows need self.old.memory self.new.memory }
+        ensures refused { IfErr result (λ fault. fault ≡ Memory → self.old.memory < need) }
     {
         self.from = make_room(&mut self.bytes, self.from, self.count, need)?;
         let end = self.from + self.count;
@@ -154,7 +155,8 @@ fn make_room(
     ensures kept { IfOk result (λ at. piece bytes.new.items at count ≡ piece bytes.old.items from count) }
     ensures grows { vec_len bytes.old ≤ vec_len bytes.new }
     ensures most { vec_len bytes.new ≤ max need (vec_len bytes.old) }
-    ensures memory { vec_capacity bytes.new ≤ max need (vec_capacity bytes.old) }
+    ensures memory { Grows need (vec_capacity bytes.old) (vec_capacity bytes.new) }
+    ensures refused { OnErr result (vec_capacity bytes.old < need) }
 {
     if need <= bytes.len() - from {
         return Ok(from);
@@ -180,7 +182,8 @@ fn grow(bytes: &mut Vec<u8>, need: usize) -> Result<(), AllocError>
     ensures front { take (vec_len bytes.old) bytes.new.items ≡ bytes.old.items }
     ensures grows { vec_len bytes.old ≤ vec_len bytes.new }
     ensures most { vec_len bytes.new ≤ max need (vec_len bytes.old) }
-    ensures memory { vec_capacity bytes.new ≤ max need (vec_capacity bytes.old) }
+    ensures memory { Grows need (vec_capacity bytes.old) (vec_capacity bytes.new) }
+    ensures refused { OnErr result (vec_capacity bytes.old < need) }
 {
     if bytes.len() < need {
         bytes.reserve_exact(need - bytes.len())?;
@@ -211,16 +214,8 @@ fn read_behind<S: Source>(
     ensures len { vec_len bytes.new ≡ vec_len bytes.old }
     ensures capacity { vec_capacity bytes.new ≡ vec_capacity bytes.old }
     ensures front { take end bytes.new.items ≡ take end bytes.old.items }
-    ensures bound { IfOk result (λ n. end + n ≤ vec_len bytes.new) }
-    ensures read { IfOk result (λ n. Consumes intake.old.left intake.new.left (piece bytes.new.items end n)) }
-    ensures ends { IfOk result (λ n. n ≡ 0 → IsAtEnd intake.new.left) }
-    ensures fine { OnOk result (intake.new.failed ≡ intake.old.failed) }
-    ensures counted { OnOk result (intake.new.calls ≡ intake.old.calls + 1) }
-    ensures bounded { OnOk result (intake.new.calls ≤ most_calls) }
-    ensures err { OnErr result (LostInput intake.old intake.new) }
-    ensures once { intake.old.calls < most_calls → S.asked intake.old.state (drop end bytes.new.items) result intake.new.state }
-    ensures spared { most_calls ≤ intake.old.calls → intake.new.state ≡ intake.old.state }
-    ensures limit { OnOk result (intake.old.calls < most_calls) }
+    ensures ok { IfOk result (CameOnce S.asked intake.old intake.new (drop end bytes.new.items)) }
+    ensures err { OnErr result (FailedOnce S.asked intake.old intake.new) }
 {
-    intake.read(&mut bytes[end..])
+    ask(intake, &mut bytes[end..])
 }

@@ -6,7 +6,9 @@ use Rattle.std.proofs.lemmas.List.{take-append-drop}
 use Rattle.std.specs.Io.KnownBytes.{Appends, Consumes, IsAtEnd}
 use Rattle.std.specs.List.{flat_map}
 use Rattle.ipx_wire.specs.Ends.{Input, Output}
+use Rattle.ipx_wire.specs.declared.failed.Failed.{Failed}
 use Rattle.ipx_capture.specs.Calls.{ending}
+use Rattle.ipx_capture.specs.Given.{UnopenedBy}
 use Rattle.ipx_capture.specs.Header.{header_of}
 use Rattle.ipx_capture.specs.Place.{Place, Opened, Unopened, Takes, Nexts, Continues, told}
 use Rattle.ipx_capture.specs.Records.{Record, Contents, records, records_from, behind_header, first_record}
@@ -342,6 +344,7 @@ pub header_exit : (before new : Input) (from to : Output) (text : List ℕ) (fau
 header_exit before new from to text fault r none u w = header_told before new from to fault r u (subst (λ (x : List ℕ). Refuses fault 0 from to x r) none w)
 
 -- the header that was refused
-pub unopened_at : {T : Type 0} (before new : Input) (fault : CaptureFault) (r : Result T CaptureFault) → OnErr r (IfErr r (Unopened before new)) → r ≡ Err fault
-    → Unopened before new fault
-unopened_at {T = T} before new fault r h e = subst (λ (x : Result T CaptureFault). OnErr x (IfErr x (Unopened before new))) e h
+pub unopened_at : {T : Type 0} {asked : ℕ → List ℕ → Result ℕ Failed → ℕ → Type 0} (before new : Input) (fault : CaptureFault) (r : Result T CaptureFault)
+    → OnErr r (IfErr r (UnopenedBy asked before new)) → r ≡ Err fault → Unopened before new fault
+unopened_at {T = T} {asked = asked} before new fault r h e =
+    let by : UnopenedBy asked before new fault = subst (λ (x : Result T CaptureFault). OnErr x (IfErr x (UnopenedBy asked before new))) e h in by.unopened

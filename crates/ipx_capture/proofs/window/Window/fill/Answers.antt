@@ -1,8 +1,8 @@
-use Rattle.std.proofs.Common.{◌≡◌, ◌+◌, ◌++◌, arith, ap, sym, subst, drop, ◌∙◌, length, inl, inr, Ok}
-use Rattle.std.proofs.lemmas.Bool.{cases_lt}
+use Rattle.std.proofs.Common.{◌≡◌, ◌+◌, ◌++◌, [], arith, ap, drop, refl, ◌∙◌, length, length-drop}
 use Rattle.ipx_wire.specs.Piece.{piece}
-use Rattle.ipx_capture.specs.Asks.{Asked, Lacks, came}
-use Rattle.ipx_capture.proofs.Asking.{asked_none, asked_once, on_err_all}
+use Rattle.ipx_capture.specs.Asks.{Lacks}
+use Rattle.ipx_capture.proofs.Fetching.{fetched_failed}
+use Rattle.ipx_capture.proofs.Once.{kept_none}
 use Rattle.ipx_capture.proofs.Pieces.{piece_front, piece_grown, length_piece}
 use Rattle.ipx_capture.proofs.window.Window.fill.Goals as goal
 
@@ -13,60 +13,36 @@ returns-clause-ok g c =
     let roomed = c.make_room.new.bytes.items in
     let now = c.read_behind.new.bytes.items in
     let got = c.in-Ok.got in
+    let came = c.in-Ok.ensures.ok in
     let more = piece now (at + w.count) got in
-    let counted : length more ≡ got = length_piece now (at + w.count) got (omega (arith, c.in-Ok.ensures.bound)) in
+    let counted : length more ≡ got = length_piece now (at + w.count) got (omega (arith, came.bound, came.room, length-drop (at + w.count) now)) in
     let front : piece now at w.count ≡ c.args.self.now.ahead =
     piece_front now roomed at w.count c.read_behind.ensures.front ∙ c.in_ok-self-inside.ensures.kept ∙ ap (λ h. h.ahead) c.self.view_is in
     record {
       more = more;
-      gained = record { read = c.in-Ok.ensures.read; few = omega (arith, counted, c.in-Ok.ensures.bound, c.in-Ok.ensures.counted); bounded = λ _. c.in-Ok.ensures.bounded };
+      gained = record { read = came.read; few = omega (arith, counted, came.bound, length-drop (at + w.count) now, came.counted, c.self.invariant.most, c.read_behind.ensures.len, c.in_ok-self-inside.ensures.most, c.requires.few); bounded = λ _. came.bounded };
       grown = piece_grown now at w.count got ∙ ap (λ l. l ++ more) front;
       counted = counted;
-      fine = c.in-Ok.ensures.fine;
-      ended = c.in-Ok.ensures.ends;
+      fine = came.fine;
+      ended = came.ended;
+      buffer = drop (at + w.count) now;
+      room = came.room;
+      once = came.once;
+      gave = refl;
     }
 
-pub returns-clause-asked : goal.returns-clause-asked
-returns-clause-asked g c =
-    let w = c.self.inside in
-    let at = c.in_ok-self-inside.field-0 in
-    let roomed = c.make_room.new.bytes.items in
-    let now = c.read_behind.new.bytes.items in
-    let got = c.in-Ok.got in
-    let old = c.args.self.now.ahead in
+pub returns-in_default-clause-err : goal.returns-in_default-clause-err
+returns-in_default-clause-err g c =
     let before = c.args.intake.now in
     let after = c.read_behind.new.intake in
-    let buffer = drop (at + w.count) now in
-    let front : piece now at w.count ≡ old =
-    piece_front now roomed at w.count c.read_behind.ensures.front ∙ c.in_ok-self-inside.ensures.kept ∙ ap (λ h. h.ahead) c.self.view_is in
-    let grown = piece_grown now at w.count got ∙ ap (λ l. l ++ piece now (at + w.count) got) front in
-    let did = subst (λ answer. g.S.Source.asked before.state buffer answer after.state) c.in-Ok.is (c.read_behind.ensures.once c.in-Ok.ensures.limit) in
-    subst (λ new. Asked g.S.Source.asked (Lacks c.args.need) old new before.state after.state) (sym grown)
-    (asked_once g.S.Source.asked (Lacks c.args.need) old buffer (Ok got) before.state after.state c.requires.more did)
-
-pub returns-in_default-clause-in_vain : goal.returns-in_default-clause-in_vain
-returns-in_default-clause-in_vain g c =
-    let w = c.self.inside in
-    let at = c.in_ok-self-inside.field-0 in
     let old = c.args.self.now.ahead in
-    let before = c.args.intake.now in
-    let after = c.read_behind.new.intake in
-    let buffer = drop (at + w.count) c.read_behind.new.bytes.items in
-    elim (cases_lt before.calls 16777216) [
-      | inl few ↦ (
-        old ++ came buffer c.read_behind.result,
-        asked_once g.S.Source.asked (Lacks c.args.need) old buffer c.read_behind.result before.state after.state c.requires.more (c.read_behind.ensures.once few),
-      )
-      | inr all ↦ (
-        old,
-        subst (λ s. Asked g.S.Source.asked (Lacks c.args.need) old old before.state s) (sym (c.read_behind.ensures.spared all))
-            (asked_none g.S.Source.asked (Lacks c.args.need) old before.state),
-      )
-    ]
-
-pub returns-in_err-self-inside-clause-in_vain : goal.returns-in_err-self-inside-clause-in_vain
-returns-in_err-self-inside-clause-in_vain g c =
-    on_err_all c.from_residual.result (c.args.self.now.ahead, asked_none g.S.Source.asked (Lacks c.args.need) c.args.self.now.ahead c.args.intake.now.state)
+    let failed = c.in_default.ensures.err in
+    record {
+      more = [];
+      read = kept_none before.left after.left failed.lost.left;
+      told = failed.lost.told;
+      fetched = fetched_failed g.S.Source.asked (Lacks c.args.need) old before.state after.state c.requires.more failed.made;
+    }
 
 pub invariant_of-self-in_default : goal.invariant_of-self-in_default
 invariant_of-self-in_default g c =
@@ -78,7 +54,7 @@ invariant_of-self-in_default g c =
       ahead = omega (arith, b.len, m.room, c.requires.more, ap (λ h. length h.ahead) c.self.view_is, length_piece c.self.inside.bytes.items c.self.inside.from c.self.inside.count i.ahead);
       some = omega (arith, i.some, b.len, m.grows);
       most = omega (arith, i.most, b.len, m.most, c.requires.few);
-      memory = omega (arith, i.memory, b.capacity, m.memory, c.requires.few);
+      memory = omega (arith, i.memory, b.capacity, m.memory.needed, c.requires.few);
     }
 
 pub invariant_of-self-2 : goal.invariant_of-self-2
@@ -88,8 +64,8 @@ invariant_of-self-2 g c =
     let m = c.in_ok-self-inside.ensures in
     record {
       taken = omega (arith, i.taken, b.len, m.grows);
-      ahead = omega (arith, c.in-Ok.ensures.bound);
+      ahead = omega (arith, c.in-Ok.ensures.ok.bound, c.in-Ok.ensures.ok.room, length-drop (c.in_ok-self-inside.field-0 + c.self.inside.count) c.read_behind.new.bytes.items);
       some = omega (arith, i.some, b.len, m.grows);
       most = omega (arith, i.most, b.len, m.most, c.requires.few);
-      memory = omega (arith, i.memory, b.capacity, m.memory, c.requires.few);
+      memory = omega (arith, i.memory, b.capacity, m.memory.needed, c.requires.few);
     }
