@@ -344,7 +344,7 @@ pub header_exit : (before new : Input) (from to : Output) (text : List ℕ) (fau
 header_exit before new from to text fault r none u w = header_told before new from to fault r u (subst (λ (x : List ℕ). Refuses fault 0 from to x r) none w)
 
 -- the header that was refused
-pub unopened_at : {T : Type 0} {asked : ℕ → List ℕ → Result ℕ Failed → ℕ → Type 0} (before new : Input) (fault : CaptureFault) (r : Result T CaptureFault)
+pub unopened_at : {T : Type 0} (asked : ℕ → List ℕ → Result ℕ Failed → ℕ → Type 0) (before new : Input) (fault : CaptureFault) (r : Result T CaptureFault)
     → OnErr r (IfErr r (UnopenedBy asked before new)) → r ≡ Err fault → Unopened before new fault
-unopened_at {T = T} {asked = asked} before new fault r h e =
+unopened_at {T = T} asked before new fault r h e =
     let by : UnopenedBy asked before new fault = subst (λ (x : Result T CaptureFault). OnErr x (IfErr x (UnopenedBy asked before new))) e h in by.unopened
