@@ -15,6 +15,7 @@ use Rattle.ipx_internet.specs.Internet.{Internet}
 use Rattle.ipx_internet.specs.Traced.{tree}
 use Rattle.ipx_cmd.specs.InternetMachine.{Standing, acts, nothing_yet, untouched}
 use Rattle.ipx_cmd.specs.InternetText.{copy_text, copy_words}
+use Rattle.ipx_cmd.specs.Output.{route_words}
 use Rattle.ipx_cmd.specs.Simulated.{simulated, simulated_end, sofar, judged}
 use Rattle.ipx_cmd.specs.TableText.{routes_text, route_held}
 use Rattle.ipx_cmd.specs.declared.ended.Ended.TheVariants.{Done, BadInput}
@@ -113,12 +114,12 @@ started = routers ++ codes "start 0\nstart 1\n"
 -- what they send each other is handed out: each has a route to the other's network
 pub both_learn : simulated (started ++ codes "settle 8\nroutes 0\nroutes 1\n")
     ≡ codes "quiet\nroute 00000030 1 2 1 000000000003 0\nroute 00000010 1 2 0 000000000002 0\n"
-unfolding acts hex_on_literals encode_with digits header_bytes address_bytes network_bytes packet_of header_at address_at items network_at entry_bytes entry_at rip_of sap_of routes_text route_held
+unfolding acts hex_on_literals encode_with digits header_bytes address_bytes network_bytes packet_of header_at address_at items network_at entry_bytes entry_at rip_of sap_of routes_text route_held route_words
 both_learn = refl
 
 -- the second one hears the first before that hears anything
 pub first_delivery : simulated (started ++ codes "settle 1\nroutes 0\nroutes 1\n") ≡ codes "left 5\nroute 00000010 1 2 0 000000000002 0\n"
-unfolding acts hex_on_literals encode_with digits header_bytes address_bytes network_bytes packet_of header_at address_at items network_at entry_bytes entry_at rip_of sap_of routes_text route_held
+unfolding acts hex_on_literals encode_with digits header_bytes address_bytes network_bytes packet_of header_at address_at items network_at entry_bytes entry_at rip_of sap_of routes_text route_held route_words
 first_delivery = refl
 
 -- then a packet from 10h goes by both to 30h

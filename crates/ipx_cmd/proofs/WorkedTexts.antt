@@ -2,7 +2,7 @@ use Rattle.std.proofs.Common.{◌≡◌, [], ◌∷◌, codes, refl}
 use Rattle.std.specs.Fmt.{digits}
 use Rattle.hex.specs.Hex.{encode_with}
 use Rattle.ipx_cmd.specs.declared.fault.LineFault.TheVariants.{Hex}
-use Rattle.ipx_cmd.specs.Output.{out_text, drop_text, route_text, fault_text}
+use Rattle.ipx_cmd.specs.Output.{out_text, drop_text, route_text, route_words, fault_text}
 
 -- two bytes to every node
 pub a_packet : out_text 0 (255 ∷ 255 ∷ 255 ∷ 255 ∷ 255 ∷ 255 ∷ []) (0 ∷ 171 ∷ []) ≡ codes "out 0 FFFFFFFFFFFF 00AB\n"
@@ -20,7 +20,7 @@ a_drop = refl
 
 -- a route of the largest values
 pub a_route : route_text (record { network = record { 0 = 48 }; hops = 15; ticks = 65535; port = 1; node = record { 0 = 0 ∷ 0 ∷ 0 ∷ 0 ∷ 0 ∷ 187 ∷ [] } }) 179 ≡ codes "route 00000030 15 65535 1 0000000000BB 179\n"
-unfolding encode_with digits
+unfolding encode_with digits route_words
 a_route = refl
 
 -- what is wrong with the third line

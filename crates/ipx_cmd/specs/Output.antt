@@ -25,11 +25,14 @@ out_text port node bytes =
 abbrev pub drop_text : List ℕ → List ℕ
 drop_text why = codes "drop " ++ why ++ codes "\n"
 
+-- a route as words: `route NET HOPS TICKS`
+unfoldable pub route_words : RouteOffer → List ℕ
+route_words route = codes "route " ++ network_word route.network.0 ++ codes " " ++ decimal route.hops ++ codes " " ++ decimal route.ticks
+
 -- a route that is held: `route NET HOPS TICKS PORT NODE AGE`
 abbrev pub route_text : RouteOffer → ℕ → List ℕ
 route_text route age =
-    codes "route " ++ network_word route.network.0 ++ codes " " ++ decimal route.hops ++ codes " " ++ decimal route.ticks ++ codes " "
-    ++ decimal route.port ++ codes " " ++ encode_upper route.node.0 ++ codes " " ++ decimal age ++ codes "\n"
+    route_words route ++ codes " " ++ decimal route.port ++ codes " " ++ encode_upper route.node.0 ++ codes " " ++ decimal age ++ codes "\n"
 
 -- a service that is held: `service TYPE NAME NET NODE SOCKET HOPS PORT AGE`
 unfoldable pub service_text : ServiceOffer → ℕ → List ℕ

@@ -2,7 +2,7 @@
 ghost use Rattle.std.specs.Prelude.{◌≡◌, ◌++◌, OnOk, ◌+◌, ◌<◌, ◌≤◌, length, OnErr};
 ghost use Rattle.std.specs.Vec.{vec_capacity};
 ghost use Rattle.ipx_router.specs.WhyWord.{why_word};
-ghost use Rattle.ipx_cmd.specs.Output.{out_text, drop_text, route_text, service_text, fault_text};
+ghost use Rattle.ipx_cmd.specs.Output.{out_text, drop_text, route_text, route_words, service_text, fault_text};
 
 use crate::fault::LineFault;
 use crate::service_words::add_service;
@@ -54,26 +54,31 @@ pub(crate) fn route_line(text: &mut Vec<u8>, route: &RouteOffer, age: u8) -> Res
     ensures room { OnErr result (vec_capacity text.old < length text.old.items + length (route_text route.now age)) }
     ensures kept { vec_capacity text.old ≤ vec_capacity text.new }
 {
-    let RouteOffer {
-        network,
-        hops,
-        ticks,
-        port,
-        node,
-    } = *route;
-    text.extend_from_slice(b"route ")?;
-    text.extend_from_slice(&network.digits())?;
+    add_route(text, route)?;
     text.extend_from_slice(b" ")?;
-    put_decimal(text, u64::from(hops))?;
+    put_decimal(text, u64::from(route.port))?;
     text.extend_from_slice(b" ")?;
-    put_decimal(text, u64::from(ticks))?;
-    text.extend_from_slice(b" ")?;
-    put_decimal(text, u64::from(port))?;
-    text.extend_from_slice(b" ")?;
-    text.extend_from_slice(&node.digits())?;
+    text.extend_from_slice(&route.node.digits())?;
     text.extend_from_slice(b" ")?;
     put_decimal(text, u64::from(age))?;
     text.extend_from_slice(b"\n")
+}
+
+/// Appends the words of a route: its network, and how far away that is.
+///
+/// An error means out of memory.
+#[tactic(auto, unfolding(crate::specs::Output::route_words))]
+fn add_route(text: &mut Vec<u8>, route: &RouteOffer) -> Result<(), AllocError>
+    ensures text { OnOk result (text.new.items ≡ text.old.items ++ route_words route.now) }
+    ensures room { OnErr result (vec_capacity text.old < length text.old.items + length (route_words route.now)) }
+    ensures kept { vec_capacity text.old ≤ vec_capacity text.new }
+{
+    text.extend_from_slice(b"route ")?;
+    text.extend_from_slice(&route.network.digits())?;
+    text.extend_from_slice(b" ")?;
+    put_decimal(text, u64::from(route.hops))?;
+    text.extend_from_slice(b" ")?;
+    put_decimal(text, u64::from(route.ticks))
 }
 
 /// Appends the line of a service in the table: its age is in seconds.

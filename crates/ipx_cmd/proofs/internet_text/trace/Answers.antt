@@ -1,6 +1,13 @@
 use Rattle.std.proofs.Common.{ap, Err, codes}
+use Rattle.std.proofs.lemmas.Result.{err_from_is_err_and}
 use Rattle.ipx_cmd.proofs.InternetTexts.{limit_says, traced_says}
+use Rattle.ipx_cmd.proofs.Saying.{says_memory}
 use Rattle.ipx_cmd.proofs.internet_text.trace.Goals as goal
+
+pub returns-in_err-extend_from_slice-in-Err-Limit-clause-says : goal.returns-in_err-extend_from_slice-in-Err-Limit-clause-says
+returns-in_err-extend_from_slice-in-Err-Limit-clause-says g c =
+    let p = err_from_is_err_and c.from_residual.result c.from_residual.ensures.1 in
+    rw (p.1, p.2) (λ q stands there. says_memory c.args.outlet.now c.args.text.now.items c.extend_from_slice.new.self.items _ c.requires)
 
 pub returns-in_ok-extend_from_slice-in-Err-Limit-clause-says : goal.returns-in_ok-extend_from_slice-in-Err-Limit-clause-says
 returns-in_ok-extend_from_slice-in-Err-Limit-clause-says g c = λ q stands there.

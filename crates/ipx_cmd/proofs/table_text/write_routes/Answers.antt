@@ -17,9 +17,9 @@ loop-place-preserved c = elim c.match-route_at.branch [
   | in_default w ↦ absurd (not_past c.args.router.now.routes c.loop-place.place (sym c.route_at.ensures.value ∙ w.in_default.is) (omega (arith, c.loop-place-test.true, c.routes-place-end.ensures.value)))
 ]
 
-pub returns-in_err-route_line-in-Some-clause-room : goal.returns-in_err-route_line-in-Some-clause-room
+pub returns-in_err-route_line-clause-room : goal.returns-in_err-route_line-clause-room
 unfolding route_held
-returns-in_err-route_line-in-Some-clause-room c =
+returns-in_err-route_line-clause-room c =
     on_err_always c.from_residual.result
     (listed_full route_held c.args.router.now.routes c.loop-place.place c.in-Some.held _ _ _ _ (sym c.route_at.ensures.value ∙ c.in-Some.is)
-    c.loop-place.invariant.0 c.loop-place.invariant.1 c.in_err-route_line-in-Some.ensures.room)
+    c.loop-place.invariant.0 c.loop-place.invariant.1 c.in_err-route_line.ensures.room)

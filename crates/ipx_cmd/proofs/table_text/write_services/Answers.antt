@@ -17,9 +17,9 @@ loop-place-preserved c = elim c.match-service_at.branch [
   | in_default w ↦ absurd (not_past c.args.router.now.services c.loop-place.place (sym c.service_at.ensures.value ∙ w.in_default.is) (omega (arith, c.loop-place-test.true, c.services-place-end.ensures.value)))
 ]
 
-pub returns-in_err-service_line-in-Some-clause-room : goal.returns-in_err-service_line-in-Some-clause-room
+pub returns-in_err-service_line-clause-room : goal.returns-in_err-service_line-clause-room
 unfolding service_held
-returns-in_err-service_line-in-Some-clause-room c =
+returns-in_err-service_line-clause-room c =
     on_err_always c.from_residual.result
     (listed_full service_held c.args.router.now.services c.loop-place.place c.in-Some.held _ _ _ _ (sym c.service_at.ensures.value ∙ c.in-Some.is)
-    c.loop-place.invariant.0 c.loop-place.invariant.1 c.in_err-service_line-in-Some.ensures.room)
+    c.loop-place.invariant.0 c.loop-place.invariant.1 c.in_err-service_line.ensures.room)
