@@ -1,5 +1,5 @@
 -- An outbox as its callers see it: the packets that were sent, and the room that is left for more.
-use Rattle.std.specs.Prelude.{◌≡◌, ℕ, ◌+◌, ◌≤◌, List, [], ◌∷◌, ◌++◌, length}
+use Rattle.std.specs.Prelude.{◌≡◌, ℕ, ◌+◌, ◌*◌, ◌≤◌, max, List, [], ◌∷◌, ◌++◌, length}
 use Rattle.std.specs.List.{AllByRecursion}
 use Rattle.ipx_router.specs.Relays.{Sent}
 
@@ -33,6 +33,15 @@ pub record Fits (o : Contents) (packets : List Sent) : Type 0 where
 -- no memory was taken, and none given back
 abbrev pub KeepsMemory : Contents → Contents → Type 0
 KeepsMemory old new = new.memory ≡ old.memory
+
+-- room for that many more packets and bytes was made: memory for packets was taken only where places for them were missing, and
+-- memory for bytes only where bytes were. What there is then is at most twice what there was, or just what is needed with what
+-- was sent before
+pub record TakesRoom (old new : Contents) (packets bytes : ℕ) : Type 0 where
+  pub places_there : packets ≤ old.places → new.memory.packets ≡ old.memory.packets
+  pub bytes_there : bytes ≤ old.spare → new.memory.bytes ≡ old.memory.bytes
+  pub most_places : new.memory.packets ≤ max (2 * old.memory.packets) (length old.sent + packets)
+  pub most_bytes : new.memory.bytes ≤ max (2 * old.memory.bytes) (total old.sent + bytes)
 
 -- these packets were sent; they took just the room that they need, and no memory
 pub record Appends (old new : Contents) (packets : List Sent) : Type 0 where

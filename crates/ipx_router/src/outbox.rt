@@ -1,12 +1,12 @@
 //! The outbox: what a router sends goes into room that its caller made before, and taking it out leaves that room.
-ghost use Rattle.std.specs.Prelude.{◌≡◌, ◌↔◌, ◌==◌, true, ℕ, ◌+◌, ◌-◌, ◌<◌, ◌≤◌, [], ◌∷◌, ◌++◌, length, take, slice_get, Some, IsOk, OnOk, OnErr};
+ghost use Rattle.std.specs.Prelude.{◌≡◌, ◌↔◌, ◌==◌, true, ℕ, ◌+◌, ◌-◌, ◌<◌, ◌≤◌, [], ◌∷◌, ◌++◌, length, take, slice_get, Some, IsOk, OnOk, OnErr, max, ◌*◌};
 ghost use Rattle.std.specs.Vec.{vec_len, vec_capacity};
 ghost use Rattle.ipx_wire.specs.Forward.{forwarded, propagated};
 ghost use Rattle.ipx_wire.specs.Numbers.{most_entries, most_services};
 ghost use Rattle.ipx_wire.specs.Write.{packet_bytes, rip_packet, query_packet};
 ghost use Rattle.ipx_wire.specs.WriteServices.{sap_packet};
 ghost use Rattle.ipx_wire.specs.declared.network.Network.{Network};
-ghost use Rattle.ipx_router.specs.Outbox.{HasRoom, Fits, Appends, KeepsMemory, total};
+ghost use Rattle.ipx_router.specs.Outbox.{Memory, HasRoom, Fits, Appends, KeepsMemory, TakesRoom, total};
 ghost use Rattle.ipx_router.specs.Port.{broadcast};
 ghost use Rattle.ipx_router.specs.Relays.{Sent};
 
@@ -68,9 +68,10 @@ impl Model for Outbox {
 }
 
 impl Outbox {
-    /// An outbox without packets and without room.
+    /// An outbox without packets and without room, which takes no memory.
     pub fn new(alloc: Global) -> Outbox
-        ensures { result.sent ≡ [] }
+        ensures sent { result.sent ≡ [] }
+        ensures memory { result.memory ≡ record { packets = 0; bytes = 0 } }
     {
         Outbox {
             slots: Vec::new(alloc),
@@ -80,16 +81,19 @@ impl Outbox {
     }
 
     /// Makes room for that many packets more, and that many bytes. The packets stay, whether it could or not, and so does
-    /// the room that was there; it is refused only where that room was missing.
+    /// the room that was there; it is refused only where that room was missing, and takes memory only then: at least as much
+    /// again as there was, so that packets that come one by one rarely ask for more.
     pub fn reserve(&mut self, need: Need) -> Result<(), OutOfMemory>
         ensures room { OnOk result (HasRoom self.new need.packets need.bytes) }
         ensures there { HasRoom self.old need.packets need.bytes → IsOk result }
         ensures refused { OnErr result (HasRoom self.old need.packets need.bytes → ⊥) }
         ensures sent { self.new.sent ≡ self.old.sent }
         ensures kept { (packets bytes : ℕ) → HasRoom self.old packets bytes → HasRoom self.new packets bytes }
+        ensures still { HasRoom self.old need.packets need.bytes → KeepsMemory self.old self.new }
+        ensures takes { TakesRoom self.old self.new need.packets need.bytes }
     {
-        self.slots.reserve(need.packets)?;
-        lengthen(&mut self.bytes, self.used, need.bytes)
+        add_places(&mut self.slots, need.packets)?;
+        add_bytes(&mut self.bytes, self.used, need.bytes)
     }
 
     /// Whether that many packets more, and that many bytes, fit into the room that is there.
@@ -224,20 +228,51 @@ impl Outbox {
     }
 }
 
+/// Makes places for that many more packets, where fewer are left.
+fn add_places(slots: &mut Vec<Slot>, more: usize) -> Result<(), OutOfMemory>
+    ensures items { slots.new.items ≡ slots.old.items }
+    ensures len { vec_len slots.new ≡ vec_len slots.old }
+    ensures larger { vec_capacity slots.old ≤ vec_capacity slots.new }
+    ensures room { OnOk result (vec_len slots.new + more ≤ vec_capacity slots.new) }
+    ensures there { vec_len slots.old + more ≤ vec_capacity slots.old → IsOk result }
+    ensures still { vec_len slots.old + more ≤ vec_capacity slots.old → vec_capacity slots.new ≡ vec_capacity slots.old }
+    ensures most { vec_capacity slots.new ≤ max (2 * vec_capacity slots.old) (vec_len slots.old + more) }
+{
+    let left = slots.capacity() - slots.len();
+    if left < more {
+        slots.reserve_exact(more.max(left.saturating_add(slots.capacity())))?;
+    }
+    Ok(())
+}
+
 /// Makes the room longer where fewer than that many bytes of it are left behind those that are used.
-fn lengthen(bytes: &mut Vec<u8>, used: usize, more: usize) -> Result<(), OutOfMemory>
+fn add_bytes(bytes: &mut Vec<u8>, used: usize, more: usize) -> Result<(), OutOfMemory>
     requires { used ≤ vec_len bytes.old }
     ensures kept { take (vec_len bytes.old) bytes.new.items ≡ bytes.old.items }
     ensures longer { vec_len bytes.old ≤ vec_len bytes.new }
     ensures room { OnOk result (used + more ≤ vec_len bytes.new) }
     ensures there { used + more ≤ vec_len bytes.old → IsOk result }
+    ensures still { used + more ≤ vec_len bytes.old → vec_capacity bytes.new ≡ vec_capacity bytes.old }
+    ensures most { vec_capacity bytes.new ≤ max (2 * vec_capacity bytes.old) (used + more) }
 {
     let left = bytes.len() - used;
     if left < more {
-        bytes.reserve(more - left)?;
-        bytes.resize(used + more, 0)?;
+        let grown = bytes.capacity().max(more - left);
+        bytes.reserve_exact(grown)?;
+        lengthen(bytes);
     }
     Ok(())
+}
+
+/// Puts zeros behind the bytes, as many as there is memory for.
+fn lengthen(bytes: &mut Vec<u8>)
+    ensures len { vec_len bytes.new ≡ vec_capacity bytes.old }
+    ensures front { take (vec_len bytes.old) bytes.new.items ≡ bytes.old.items }
+    ensures capacity { vec_capacity bytes.new ≡ vec_capacity bytes.old }
+{
+    while bytes.len() < bytes.capacity() {
+        bytes.push_reserved(0);
+    }
 }
 
 /// Writes a packet into the room, from `start` on, and returns its length.

@@ -6,7 +6,7 @@ ghost use Rattle.ipx_router.specs.Facts.{route_facts, route_facts_of, service_fa
 ghost use Rattle.ipx_router.specs.Happened.{happened};
 ghost use Rattle.ipx_router.specs.History.{History, IsOnPort, IsOfBytes};
 ghost use Rattle.ipx_router.specs.Following.{Follows, sends_between, outcome_at};
-ghost use Rattle.ipx_router.specs.Needs.{HasRoomFor, packets_needed, bytes_needed};
+ghost use Rattle.ipx_router.specs.Needs.{HasRoomFor, TakesRoomFor, packets_needed, bytes_needed};
 ghost use Rattle.ipx_router.specs.Outbox.{Appends, AppendsAtMost, KeepsMemory};
 ghost use Rattle.ipx_router.specs.Outcomes.{outcome};
 ghost use Rattle.ipx_router.specs.Routes.{route_rules};
@@ -40,7 +40,7 @@ impl<const P: usize, const R: usize, const S: usize> Router<P, R, S> {
     }
 
     /// Takes an event of a port that there is: changes the router, and appends what is sent to the outbox, which has the
-    /// room that it needs. It takes no memory.
+    /// room that it needs, and as much memory afterwards as before.
     pub fn handle(&mut self, event: Event<'_>, outbox: &mut Outbox) -> Outcome
         requires port { IsOnPort self.old.ports (happened event) }
         requires room { HasRoomFor self.old (happened event) outbox.old }
@@ -94,7 +94,7 @@ impl<const P: usize, const R: usize, const S: usize> Router<P, R, S> {
         }
     }
 
-    /// Makes the room that the event needs, then handles it. Where that room can't be made, the router and what the outbox
+    /// Makes the room that the event needs, where it is missing, then handles it. Where that room can't be made, the router and what the outbox
     /// has stay as they were.
     pub fn step(&mut self, event: Event<'_>, outbox: &mut Outbox) -> Result<Outcome, OutOfMemory>
         requires port { IsOnPort self.old.ports (happened event) }
@@ -115,6 +115,8 @@ impl<const P: usize, const R: usize, const S: usize> Router<P, R, S> {
             → KeepsNew (service_rules self.old.ports S) (service_facts self.old.ports h) (service_facts_of self.old.ports h (happened event.entry)) self.new.services) }
         ensures router { OnErr result (self.new ≡ self.old) }
         ensures outbox { OnErr result (outbox.new.sent ≡ outbox.old.sent) }
+        ensures still { HasRoomFor self.old (happened event.entry) outbox.old → KeepsMemory outbox.old outbox.new }
+        ensures takes { TakesRoomFor self.old (happened event.entry) outbox.old outbox.new }
     {
         let need = self.need(&event);
         outbox.reserve(need)?;
