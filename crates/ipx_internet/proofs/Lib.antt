@@ -9,6 +9,7 @@ pub mod Burdens
 pub mod Bytes
 pub mod Casting
 pub mod Changing
+pub mod Costs
 pub mod Counts
 pub mod Courses
 pub mod Delivering
