@@ -17,6 +17,11 @@ use Rattle.ipx_internet.proofs.Gaining.{few_more, same_or_fewer}
 use Rattle.ipx_internet.proofs.Leaving.{OffersOf, Left, several}
 use Rattle.ipx_internet.proofs.Lists.{all_then}
 
+-- what is told of a key, by the offer that it has now
+abbrev pub telling : {O : Type 0} → (O → ℕ) → Option O → ℕ
+telling told (Some o) = told o
+telling told None = 1
+
 -- the first of those that pass counts if it passes
 pub sum_filtered : {X : Type 0} (p : X → Bool) (w : X → ℕ) (x : X) (xs : List X) → sum_by w (filter p (x ∷ xs)) ≡ (if p x then w x else 0) + sum_by w (filter p xs)
 sum_filtered {X} p w x xs = by (p x)
@@ -68,14 +73,9 @@ module _ {O K : Type 0} (reading : Reading O K) (order : K → K → Ordering) (
     abbrev now : List (Fact O) → List O
     now facts = offers (held rules facts)
 
-    -- what is told of a key, by what it has now
-    abbrev pub telling : Option O → ℕ
-    telling (Some o) = told o
-    telling None = 1
-
     -- a key that has what it had costs nothing
     abbrev cost_of : Option O → Option O → ℕ
-    cost_of before after = if same_or_none reading.key order same before after then 0 else telling after
+    cost_of before after = if same_or_none reading.key order same before after then 0 else telling told after
 
     -- an offer that isn't down may bring a record, and be told of
     abbrev pub brings : Fact O → ℕ
@@ -84,7 +84,7 @@ module _ {O K : Type 0} (reading : Reading O K) (order : K → K → Ordering) (
     brings (PortEnd port) = 0
     brings End = 0
 
-    costs_few : (before after : Option O) → cost_of before after ≤ telling after
+    costs_few : (before after : Option O) → cost_of before after ≤ telling told after
     costs_few before after = elim (cases_Bool (same_or_none reading.key order same before after)) [
       | inl e ↦ rw e (omega arith)
       | inr e ↦ rw e (omega arith)
@@ -114,9 +114,9 @@ module _ {O K : Type 0} (reading : Reading O K) (order : K → K → Ordering) (
             by (inr ends) =
                 let few = costs_few (at key base) (at key (now next)) in
                 elim ends.left [
-                  | inl none ↦ let e = ap telling none in omega (arith, few, e, one)
+                  | inl none ↦ let e = ap (telling told) none in omega (arith, few, e, one)
                   | inr (is, up) ↦
-                      let e = ap telling is in
+                      let e = ap (telling told) is in
                       let same_offer = ap told ends.such in
                       let whole = enough (ap reading.is_down (sym ends.such) ∙ up) in
                       omega (arith, few, e, same_offer, whole)
@@ -186,15 +186,15 @@ module _ {O K : Type 0} (reading : Reading O K) (order : K → K → Ordering) (
     -- ---- what changed
 
     counted : (before after : List O) (keys : List K)
-        → sum_by (λ c. telling c.after) (filter (differs reading.key order same) (map (change_at reading.key order same before after) keys))
+        → sum_by (λ c. telling told c.after) (filter (differs reading.key order same) (map (change_at reading.key order same before after) keys))
         ≤ sum_by (λ key. cost_of (at key before) (at key after)) keys
     counted before after [] = omega arith
     counted before after (key ∷ keys) =
         let rest = counted before after keys in
         let c : Change O = change_at reading.key order same before after key in
         let sum = sum_by-cons (λ key. cost_of (at key before) (at key after)) key keys in
-        let first = sum_filtered (differs reading.key order same) (λ (c : Change O). telling c.after) c (map (change_at reading.key order same before after) keys) in
-        let one = either_way (same_or_none reading.key order same (at key before) (at key after)) (telling (at key after)) in
+        let first = sum_filtered (differs reading.key order same) (λ (c : Change O). telling told c.after) c (map (change_at reading.key order same before after) keys) in
+        let one = either_way (same_or_none reading.key order same (at key before) (at key after)) (telling told (at key after)) in
         omega (arith, rest, sum, first, one)
       where
         either_way : (b : Bool) (n : ℕ) → (if not b then n else 0) ≡ (if b then 0 else n)
@@ -202,7 +202,7 @@ module _ {O K : Type 0} (reading : Reading O K) (order : K → K → Ordering) (
         either_way false n = refl
 
     pub changes_cost : (new facts : List (Fact O)) → AllByRecursion (OffersOf (λ o. Unit {0})) new
-        → sum_by (λ c. telling c.after) (changes reading.key order same (now facts) (now (facts ++ new))) + length (held rules (facts ++ new))
+        → sum_by (λ c. telling told c.after) (changes reading.key order same (now facts) (now (facts ++ new))) + length (held rules (facts ++ new))
         ≤ length (held rules facts) + sum_by brings new
     changes_cost new facts all =
         let keys = put_keys reading.key order same (now facts) (put_keys reading.key order same (now (facts ++ new)) []) in

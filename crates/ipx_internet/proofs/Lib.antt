@@ -4,6 +4,7 @@ pub mod Aging
 pub mod Announced
 pub mod Batched
 pub mod Beginning
+pub mod Bringing
 pub mod Broadcasting
 pub mod Burdens
 pub mod Bytes
@@ -31,6 +32,7 @@ pub mod GoneMeanwhile
 pub mod Handing
 pub mod Hearing
 pub mod Holding
+pub mod Landing
 pub mod Lasting
 pub mod Leaving
 pub mod Lightening
@@ -62,6 +64,7 @@ pub mod Saying
 pub mod SendingOn
 pub mod Sends
 pub mod Settling
+pub mod Sheets
 pub mod Sorting
 pub mod Spending
 pub mod Spreading
