@@ -2,6 +2,7 @@ pub mod Abiding
 pub mod Adding
 pub mod Aging
 pub mod Announced
+pub mod Asking
 pub mod Batched
 pub mod Beginning
 pub mod Bringing
@@ -40,6 +41,7 @@ pub mod Lists
 pub mod Measuring
 pub mod Meantime
 pub mod Messages
+pub mod Misreading
 pub mod Names
 pub mod Nearing
 pub mod Now

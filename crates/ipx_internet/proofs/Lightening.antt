@@ -1,8 +1,11 @@
 -- A delivery that a router hears leaves less weight than there was: what is sent for it, and what the tables hold then, weigh less than the
 -- delivery and what they held.
-use Rattle.std.proofs.Common.{◌≡◌, refl, sym, ap, ap₂, ◌∙◌, subst, ◌⊎◌, ℕ, zero, suc, ◌+◌, ◌-◌, ◌*◌, ◌<◌, ◌≤◌, ◌&&◌, not, true, List, [], ◌∷◌, ◌++◌, length, flat_map, Option, Some, IfSome, inl, inr, arith, mul-le-mul_left, mul-le-mul_right, mul-add, mul_assoc, mul_comm}
-use Rattle.std.specs.List.{AllByRecursion, sum_by}
-use Rattle.ipx_wire.specs.Rip.{IsEntry}
+use Rattle.std.proofs.Common.{◌≡◌, refl, sym, ap, ap₂, ◌∙◌, subst, ◌⊎◌, ℕ, zero, suc, ◌+◌, ◌-◌, ◌*◌, ◌<◌, ◌≤◌, ◌==◌, ◌&&◌, ◌||◌, not, if◌then◌else◌, Bool, true, false, List, [], ◌∷◌, ◌++◌, length, flat_map, Option, Some, IfSome, inl, inr, arith, mul-le-mul_left, mul-le-mul_right, mul-add, mul_assoc, mul_comm}
+use Rattle.std.specs.List.{AllByRecursion, sum_by, list_any}
+use Rattle.std.proofs.lemmas.List.{length-map}
+use Rattle.ipx_table.specs.declared.held.Held.{Held}
+use Rattle.ipx_wire.specs.Rip.{RipParts, IsEntry}
+use Rattle.ipx_wire.specs.declared.address.Address.{Address}
 use Rattle.ipx_wire.specs.declared.rip.Operation.{Operation}
 use Rattle.ipx_wire.specs.declared.rip.Operation.TheVariants.{Request, Response}
 use Rattle.ipx_wire.specs.declared.rip.RipEntry.{RipEntry}
@@ -13,39 +16,47 @@ use Rattle.ipx_router.specs.Facts.{routes_heard, services_heard, routes_held, se
 use Rattle.ipx_router.specs.Heard.{Heard, HeardRip, HeardSap}
 use Rattle.ipx_router.specs.History.{History, Packet, IsOnPort, IsOfBytes, running, is_down, ports_up}
 use Rattle.ipx_router.specs.News.{route_told, service_told, news, news_services, same_route, same_service}
-use Rattle.ipx_router.specs.Port.{Port, port_at, is_up, numbers, reply_to}
+use Rattle.ipx_router.specs.Numbers.{all_routes, every_service}
+use Rattle.ipx_router.specs.Port.{Port, broadcast, port_at, is_up, numbers, reply_to, same_node}
 use Rattle.ipx_router.specs.Relays.{Sent}
 use Rattle.ipx_router.specs.Routes.{route_reading, network_order}
-use Rattle.ipx_router.specs.Sends.{Holding, news_on, heard_sends, rip_sends, asked}
+use Rattle.ipx_router.specs.Sends.{Holding, news_on, heard_sends, rip_sends, sap_sends, asked, of_kind, nearest_of}
 use Rattle.ipx_router.specs.Services.{service_reading, service_order}
-use Rattle.ipx_router.specs.Told.{told}
+use Rattle.ipx_router.specs.Told.{told, told_services}
 use Rattle.ipx_router.specs.declared.route_offer.RouteOffer.{RouteOffer}
 use Rattle.ipx_router.specs.declared.service_offer.ServiceOffer.{ServiceOffer}
-use Rattle.ipx_router.proofs.ByteFields.{IsTellable}
+use Rattle.ipx_router.proofs.ByteFields.{IsPlace as IsWritten, IsTellable}
 use Rattle.ipx_router.proofs.Every.{all_both}
 use Rattle.ipx_router.proofs.Fitting.{held_routes_fit, held_services_fit}
+use Rattle.ipx_router.proofs.Hearing.{heard_is}
 use Rattle.ipx_router.proofs.Histories.{ports_stay}
-use Rattle.ipx_router.proofs.Lengths.{length-filter, length-numbers}
+use Rattle.ipx_router.proofs.Lengths.{length-filter, length-numbers, length-told, length-told_services}
 use Rattle.ipx_router.proofs.NewsFits.{ChangeOf, changes_fit, anything, news_fit, news_services_fit}
 use Rattle.ipx_router.proofs.Owned.{Writable}
 use Rattle.ipx_router.proofs.PortPlaces.{ports_up-within}
-use Rattle.ipx_internet.specs.Internet.{Internet, IsInternet, ports_of}
-use Rattle.ipx_internet.specs.InternetWeight.{most_hearers, entry_weight}
+use Rattle.ipx_router.proofs.Tables.{source_of, heard_up}
+use Rattle.ipx_router.proofs.ToldFits.{told_fits, told_services_fit}
+use Rattle.ipx_internet.specs.Internet.{Internet, IsInternet, NodesDiffer, ports_of}
+use Rattle.ipx_internet.specs.InternetWeight.{most_hearers, entry_weight, routes_weight, most_answered, request_weight, query_weight, message_weight}
 use Rattle.ipx_internet.specs.Most.{most_ports, most_on_network}
 use Rattle.ipx_internet.specs.Queue.{Delivery, deliveries_of, history_of}
 use Rattle.ipx_internet.specs.Rounds.{IsDelivery}
 use Rattle.ipx_internet.specs.Run.{AreHistories}
+use Rattle.ipx_internet.proofs.Asking.{all_told, all_told_services, nearest_such, one_nearest, entries_answer, services_answer, nearest_answer}
 use Rattle.ipx_internet.proofs.Bringing.{route_told_weight, service_told_weight, brings, service_brings}
 use Rattle.ipx_internet.proofs.Burdens.{IsHeardOf, heard_of, message_weighs, entries_weight, response_weighs, entries_pay}
 use Rattle.ipx_internet.proofs.Costs.{telling}
 use Rattle.ipx_internet.proofs.Counts.{router_small}
 use Rattle.ipx_internet.proofs.Landing.{w}
-use Rattle.ipx_internet.proofs.Lists.{all_then, all-append}
+use Rattle.ipx_internet.proofs.Lists.{all_then, all-append, all-filter}
+use Rattle.ipx_internet.proofs.Misreading.{IsTold, IsToldService}
 use Rattle.ipx_internet.proofs.Outlays as outlays
 use Rattle.ipx_internet.proofs.Paging.{IsAnswering, Tellable}
 use Rattle.ipx_internet.proofs.Receivers.{ports_at}
 use Rattle.ipx_internet.proofs.Replying.{Layouts, said}
 use Rattle.ipx_internet.proofs.Rounding.{sents, sent_for}
+use Rattle.ipx_internet.proofs.Totalling.{Rooms}
+use Rattle.ipx_internet.proofs.Wire.{Wire}
 use Rattle.ipx_internet.proofs.Tolls.{routes_told, services_told, route_change, service_change, all_changes, on_ports}
 
 -- the records of a router came by ports that are up
@@ -245,3 +256,130 @@ module _ (net : Internet) (laws : Layouts) (ups : OnUps) (is : IsInternet net) (
         let light = sent_light answers in
         let pay = paid in
         omega (arith, whole, response, light, pay)
+
+    -- ---- a request or a query
+
+    -- it offers nothing
+    stays : routes_heard ports number (Some m) ≡ [] → services_heard number (Some m) ≡ [] → held_now ≡ held_before
+    stays no_routes no_services =
+        outlays.all_stays ports most_routes most_services history number d.bytes (ap (routes_heard ports number) e ∙ no_routes) (ap (services_heard number) e ∙ no_services)
+
+    -- where an answer is all that is sent, it is lighter
+    answer_lighter : (weight : ℕ) → w net most_routes most_services d ≡ weight → held_now ≡ held_before
+        → weigh (flat_map (deliveries_of net router) (heard_sends ports before after number m)) + 1 ≤ weight → Lighter
+    answer_lighter weight whole same light =
+        let either = said laws ports (ports_at net is router) most_routes most_services history (are.on_ports router) (are.of_bytes router)
+        number d.bytes delivery.place delivery.bytes m e in
+        let held = ap (λ (n : ℕ). most_hearers net * n) same in
+        elim either [
+          | inl none ↦
+              let nothing_sent = ap (λ (ss : List Sent). weigh (flat_map (deliveries_of net router) ss)) none in
+              omega (arith, nothing_sent, held, whole, light)
+          | inr these ↦
+              let all = ap (λ (ss : List Sent). weigh (flat_map (deliveries_of net router) ss)) these in
+              omega (arith, all, held, whole, light)
+        ]
+
+    up_there : is_up before.up number ≡ true
+    up_there = heard_up ports (ports_up ports history) number (running history) d.bytes m e
+
+    module _ (wire : Wire) (rooms : Rooms) (differ : NodesDiffer net) where
+      source_is : IsWritten (source_of m)
+      source_is = (heard_is laws.readings ports (ports_up ports history) number d.bytes delivery.bytes (running history) m e).source
+
+      asked_lighter : (source : Address) (rip : RipParts) → m ≡ HeardRip source rip → rip.operation ≡ Request → Lighter
+      asked_lighter source rip is_rip request =
+          let of = of_packet in
+          let all = told ports before.up before.routes number in
+          let entries = asked rip.entries all in
+          let one : same_node source.node broadcast ≡ false = subst (λ (h : Heard). same_node (source_of h).node broadcast ≡ false) is_rip of.source in
+          let written : IsWritten source = subst (λ (h : Heard). IsWritten (source_of h)) is_rip source_is in
+          let fits = all_both IsEntry IsTold all
+          (told_fits ports (ports_at net is router) before.up before.routes number (ports_up-within ports history) (held_routes_fit laws.readings ports most_routes history (are.of_bytes router)))
+          (all_told ports (ports_at net is router) number delivery.place before.up before.routes) in
+          let fewer = length-filter (λ e. list_any (λ w. (w.network.0 == all_routes) || (w.network.0 == e.network.0)) rip.entries) all in
+          let few_told = length-told ports before.up before.routes number up_there in
+          let as_many = length-map (routes_held ports most_routes history) (λ (h : Held RouteOffer). h.offer) in
+          let room = rooms.routes ports most_routes history in
+          let few = few_ups in
+          let ups_same = ap length same_ups in
+          let within : length entries ≤ most_answered net most_routes = omega (arith, fewer, few_told, as_many, room, few, ups_same) in
+          let light = entries_answer wire net laws is differ most_routes most_services router number delivery.place source one written entries
+          (all-filter (Writable IsTold) _ all fits) within in
+          let sends : heard_sends ports before after number m ≡ rip_sends ports number (reply_to (port_at ports number) source) Response entries =
+          ap (heard_sends ports before after number) is_rip
+          ∙ ap (λ (o : Operation). elim o [
+            | Response ↦ flat_map (news_on ports before after) after.up
+            | Request ↦ rip_sends ports number (reply_to (port_at ports number) source) Response entries
+          ]) request in
+          let weight : w net most_routes most_services d ≡ request_weight net most_routes source.socket.0 =
+          message_weighs net most_routes most_services d m of
+          ∙ ap (message_weight net most_routes most_services) is_rip
+          ∙ ap (λ (o : Operation). elim o [ Response ↦ 1 + routes_weight net rip.entries | Request ↦ request_weight net most_routes source.socket.0 ]) request in
+          let sent_light = ap (λ (ss : List Sent). weigh (flat_map (deliveries_of net router) ss)) sends in
+          answer_lighter (request_weight net most_routes source.socket.0) weight
+          (stays (ap (λ (h : Heard). routes_heard ports number (Some h)) is_rip
+          ∙ ap (λ (o : Operation). elim o [ Response ↦ routes_heard ports number (Some (HeardRip source (record { operation = Response; entries = rip.entries }))) | Request ↦ [] ]) request)
+          (ap (λ (h : Heard). services_heard number (Some h)) is_rip))
+          (omega (arith, light, sent_light))
+
+      queried_lighter : (source : Address) (nearest : Bool) (kind : ℕ) → m ≡ HeardSap source (Query nearest kind) → Lighter
+      queried_lighter source nearest kind is_sap =
+          let sent_light = ap (λ (h : Heard). weigh (flat_map (deliveries_of net router) (heard_sends ports before after number h))) is_sap in
+          let light = by nearest in
+          answer_lighter (query_weight net most_services nearest source.socket.0)
+          (message_weighs net most_routes most_services d m of_packet ∙ ap (message_weight net most_routes most_services) is_sap)
+          (stays (ap (λ (h : Heard). routes_heard ports number (Some h)) is_sap) (ap (λ (h : Heard). services_heard number (Some h)) is_sap))
+          (omega (arith, sent_light, light))
+        where
+          one : same_node source.node broadcast ≡ false
+          one = subst (λ (h : Heard). same_node (source_of h).node broadcast ≡ false) is_sap of_packet.source
+
+          written : IsWritten source
+          written = subst (λ (h : Heard). IsWritten (source_of h)) is_sap source_is
+
+          all : List Service
+          all = told_services before.services number
+
+          services : List Service
+          services = of_kind kind (told_services before.services number)
+
+          fits : AllByRecursion (Tellable IsToldService) (of_kind kind (told_services before.services number))
+          fits =
+              all-filter (Tellable IsToldService) _ (told_services before.services number)
+              (all_both IsTellable IsToldService (told_services before.services number)
+              (told_services_fit before.services number (held_services_fit laws.readings ports most_services history (are.of_bytes router)))
+              (all_told_services before.services number))
+
+          few : length (of_kind kind (told_services before.services number)) ≤ most_services
+          few =
+              let fewer = length-filter (λ s. (kind == every_service) || (s.kind == kind)) (told_services before.services number) in
+              let few_told = length-told_services before.services number in
+              let as_many = length-map (services_held ports most_services history) (λ (h : Held ServiceOffer). h.offer) in
+              let room = rooms.services ports most_services history in
+              omega (arith, fewer, few_told, as_many, room)
+
+          by : (nearest : Bool)
+              → weigh (flat_map (deliveries_of net router) (sap_sends ports number (reply_to (port_at ports number) source) nearest
+              (if nearest then nearest_of (of_kind kind (told_services before.services number)) else of_kind kind (told_services before.services number)))) + 1
+              ≤ query_weight net most_services nearest source.socket.0
+          by false = services_answer wire net laws is differ most_routes most_services router number delivery.place source one written
+              (of_kind kind (told_services before.services number)) fits few
+          by true =
+              let these = of_kind kind (told_services before.services number) in
+              nearest_answer wire net laws is differ most_routes most_services router number delivery.place source one written
+              (nearest_of these) (nearest_such (Tellable IsToldService) these fits) (one_nearest these)
+
+      -- ---- whatever was heard
+
+      pub heard_lighter : Lighter
+      heard_lighter = by m refl
+        where
+          by : (n : Heard) → m ≡ n → Lighter
+          by (HeardRip source rip) same = of_operation rip.operation refl
+            where
+              of_operation : (o : Operation) → rip.operation ≡ o → Lighter
+              of_operation Request request = asked_lighter source rip same request
+              of_operation Response response = response_lighter (subst (λ (h : Heard). IsAnswering h) (sym same) response)
+          by (HeardSap source (Query nearest kind)) same = queried_lighter source nearest kind same
+          by (HeardSap source (SapResponse nearest entries)) same = response_lighter (subst (λ (h : Heard). IsAnswering h) (sym same) tt)

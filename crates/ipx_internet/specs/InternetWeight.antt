@@ -8,11 +8,11 @@ use Rattle.ipx_wire.specs.declared.rip.Operation.TheVariants.{Request, Response 
 use Rattle.ipx_wire.specs.declared.rip.RipEntry.{RipEntry}
 use Rattle.ipx_wire.specs.declared.sap.Sap.TheVariants.{Query, Response as SapResponse}
 use Rattle.ipx_wire.specs.declared.sap_entries.SapEntry.{SapEntry}
-use Rattle.ipx_router.specs.Bounds.{route_sheets, service_sheets}
 use Rattle.ipx_router.specs.Facts.{routes_held, services_held}
 use Rattle.ipx_router.specs.Heard.{Heard, HeardRip, HeardSap, heard_in}
 use Rattle.ipx_router.specs.History.{History}
-use Rattle.ipx_router.specs.Numbers.{unreachable, most_routers, propagated_type, rip_socket, sap_socket, services_a_page, service_size, entry_size}
+use Rattle.ipx_router.specs.Numbers.{unreachable, most_routers, propagated_type, rip_socket, sap_socket, entries_a_page, services_a_page, service_size, entry_size}
+use Rattle.ipx_router.specs.Pages.{sheets}
 use Rattle.ipx_router.specs.Port.{Port, is_local, numbers}
 use Rattle.ipx_router.specs.Stands.{State}
 use Rattle.ipx_router.specs.Why.{is_propagated, is_for_rip, is_for_sap}
@@ -49,7 +49,7 @@ services_weight net entries = sum_by (λ e. entry_weight net e.hops) entries
 
 -- the most entries of an answer: all routes, and the networks of the other ports
 abbrev pub most_answered : Internet → ℕ → ℕ
-most_answered net most_routes = most_routes + most_ports net - 1
+most_answered net most_routes = most_routes + (most_ports net - 1)
 
 -- so many entries of routes are as long as one of services
 abbrev pub entries_a_service : ℕ
@@ -59,7 +59,7 @@ entries_a_service = service_size / entry_size
 abbrev pub request_weight : Internet → ℕ → ℕ → ℕ
 request_weight net most_routes socket =
     let entries = most_answered net most_routes in
-    1 + route_sheets (most_ports net) most_routes
+    1 + sheets entries_a_page entries
     + (if socket == rip_socket then entries * entry_weight net 1
     else if socket == sap_socket then (entries / entries_a_service) * entry_weight net 1
     else 0)
@@ -69,7 +69,7 @@ request_weight net most_routes socket =
 abbrev pub query_weight : Internet → ℕ → Bool → ℕ → ℕ
 query_weight net most_services nearest socket =
     if nearest then 2
-    else 1 + service_sheets most_services
+    else 1 + sheets services_a_page most_services
     + (if socket == rip_socket then (min (services_a_page - 1) most_services * entries_a_service) * entry_weight net 0
     else if socket == sap_socket then most_services * entry_weight net 1
     else 0)
