@@ -7,16 +7,15 @@ use Rattle.ipx_router.specs.Heard.{Heard}
 use Rattle.ipx_router.specs.History.{History, Packet, IsOnPort}
 use Rattle.ipx_router.specs.Port.{Port, numbers}
 use Rattle.ipx_internet.specs.Internet.{Internet, IsInternet, NodesDiffer, ports_of}
-use Rattle.ipx_internet.specs.InternetWeight.{on_all_ports, delivery_weight, weight_of, records_of, records_after, queued_weight}
+use Rattle.ipx_internet.specs.InternetWeight.{most_hearers, delivery_weight, weight_of, records_of, records_after, queued_weight}
 use Rattle.ipx_internet.specs.Queue.{Delivery, Queued, history_of, settled}
 use Rattle.ipx_internet.specs.Rounds.{IsDelivery}
 use Rattle.ipx_internet.specs.Run.{AreHistories}
 use Rattle.ipx_internet.specs.Tree.{IsRouter, router_now}
 use Rattle.ipx_internet.proofs.Bytes.{SentOn}
 use Rattle.ipx_internet.proofs.Delivering.{there}
-use Rattle.ipx_internet.proofs.Lightening.{Silence, heard_lighter}
+use Rattle.ipx_internet.proofs.Lightening.{OnUps, heard_lighter}
 use Rattle.ipx_internet.proofs.Outlays as outlays
-use Rattle.ipx_internet.proofs.Outlays.{OwnKeys}
 use Rattle.ipx_internet.proofs.Passing.{unheard_lighter}
 use Rattle.ipx_internet.proofs.Replying.{Layouts}
 use Rattle.ipx_internet.proofs.Rounding.{happened, sent_for}
@@ -60,8 +59,7 @@ pub record Weighed : Type 0 where
   pub relaying : Relaying
   pub over : SentOn
   pub layouts : Layouts
-  pub keys : OwnKeys
-  pub sending : Silence
+  pub ups : OnUps
   pub rooms : Rooms
   pub right : (ports : List Port) (most_routes : ℕ) (history : History) → AllByRecursion (IsOnPort ports) history → IsRouter (router_now ports most_routes history)
 
@@ -80,23 +78,23 @@ module _ (laws : Weighed) (net : Internet) (is : IsInternet net) (differ : Nodes
     after = happened net most_routes most_services histories d
 
     abbrev held_before : ℕ
-    held_before = outlays.held_before laws.keys (ports_of net router) most_routes most_services history d.to.port d.bytes
+    held_before = outlays.held_before (ports_of net router) most_routes most_services history d.to.port d.bytes
 
     abbrev held_now : ℕ
-    held_now = outlays.held_now laws.keys (ports_of net router) most_routes most_services history d.to.port d.bytes
+    held_now = outlays.held_now (ports_of net router) most_routes most_services history d.to.port d.bytes
 
     -- at its router
-    here : on_all_ports net * held_now + weigh (sent_for net most_routes most_services histories d) + 1
-        ≤ on_all_ports net * held_before + delivery_weight net most_routes most_services d
-    here = by (outlays.heard_now laws.keys (ports_of net router) most_routes most_services history d.to.port d.bytes) refl
+    here : most_hearers net * held_now + weigh (sent_for net most_routes most_services histories d) + 1
+        ≤ most_hearers net * held_before + delivery_weight net most_routes most_services d
+    here = by (outlays.heard_now (ports_of net router) most_routes most_services history d.to.port d.bytes) refl
       where
-        by : (o : Option Heard) → outlays.heard_now laws.keys (ports_of net router) most_routes most_services history d.to.port d.bytes ≡ o
-            → on_all_ports net * held_now + weigh (sent_for net most_routes most_services histories d) + 1
-            ≤ on_all_ports net * held_before + delivery_weight net most_routes most_services d
+        by : (o : Option Heard) → outlays.heard_now (ports_of net router) most_routes most_services history d.to.port d.bytes ≡ o
+            → most_hearers net * held_now + weigh (sent_for net most_routes most_services histories d) + 1
+            ≤ most_hearers net * held_before + delivery_weight net most_routes most_services d
         by None e =
-            unheard_lighter laws.wire laws.relaying laws.over laws.layouts laws.keys net is differ most_routes most_services histories are
+            unheard_lighter laws.wire laws.relaying laws.over laws.layouts net is differ most_routes most_services histories are
             (λ k. laws.right (ports_of net k) most_routes (history_of histories k) (are.on_ports k)) d delivery e
-        by (Some m) e = heard_lighter net laws.layouts laws.keys laws.sending laws.rooms is most_routes most_services histories are d delivery m e
+        by (Some m) e = heard_lighter net laws.layouts laws.ups is most_routes most_services histories are d delivery m e laws.wire laws.rooms differ
 
     -- at all others nothing changes
     elsewhere : records_after net most_routes most_services after + held_before ≡ records_after net most_routes most_services histories + held_now
@@ -119,9 +117,9 @@ module _ (laws : Weighed) (net : Internet) (is : IsInternet net) (differ : Nodes
     lighter queue =
         let one = here in
         let all = elsewhere in
-        let before = mul-add (on_all_ports net) (records_after net most_routes most_services after) held_before in
-        let now = mul-add (on_all_ports net) (records_after net most_routes most_services histories) held_now in
-        let same = ap (λ (n : ℕ). on_all_ports net * n) all in
+        let before = mul-add (most_hearers net) (records_after net most_routes most_services after) held_before in
+        let now = mul-add (most_hearers net) (records_after net most_routes most_services histories) held_now in
+        let same = ap (λ (n : ℕ). most_hearers net * n) all in
         let joined = sum_by-append (delivery_weight net most_routes most_services) queue (sent_for net most_routes most_services histories d) in
         let first = sum_by-cons (delivery_weight net most_routes most_services) d queue in
         omega (arith, one, before, now, same, joined, first)

@@ -2,14 +2,17 @@ pub mod Abiding
 pub mod Adding
 pub mod Aging
 pub mod Announced
+pub mod Asking
 pub mod Batched
 pub mod Beginning
+pub mod Bringing
 pub mod Broadcasting
 pub mod Burdens
 pub mod Bytes
 pub mod Casting
 pub mod Changing
 pub mod Clearing
+pub mod Costs
 pub mod Counts
 pub mod Courses
 pub mod Delivering
@@ -31,6 +34,7 @@ pub mod GoneMeanwhile
 pub mod Handing
 pub mod Hearing
 pub mod Holding
+pub mod Landing
 pub mod Lasting
 pub mod Leaving
 pub mod Lightening
@@ -38,6 +42,7 @@ pub mod Lists
 pub mod Measuring
 pub mod Meantime
 pub mod Messages
+pub mod Misreading
 pub mod Names
 pub mod Nearing
 pub mod Now
@@ -62,6 +67,7 @@ pub mod Saying
 pub mod SendingOn
 pub mod Sends
 pub mod Settling
+pub mod Sheets
 pub mod Sorting
 pub mod Spending
 pub mod Spreading

@@ -1,20 +1,22 @@
--- Weights are measured one by one: how often entries may be told on, what records and deliveries weigh together.
-use Rattle.std.proofs.Common.{◌≡◌, refl, sym, ap, ◌∙◌, get_or, ℕ, zero, suc, ◌+◌, ◌-◌, ◌*◌, ◌^◌, ◌<◌, ◌≤◌, max, true, false, List, [], ◌∷◌, length, map, drop, slice_get, Some, Ok, inl, inr, arith}
+-- Weights are measured one by one: what packets say, and what records and deliveries weigh together.
+use Rattle.std.proofs.Common.{◌≡◌, refl, sym, ap, ◌∙◌, get_or, ℕ, zero, suc, ◌+◌, ◌-◌, ◌*◌, ◌^◌, ◌<◌, ◌≤◌, ◌==◌, true, false, List, [], ◌∷◌, length, map, drop, slice_get, Some, Ok, inl, inr, arith}
 use Rattle.std.specs.List.{AllByRecursion, sum_by}
 use Rattle.std.proofs.lemmas.Bool.{cases_lt}
 use Rattle.std.proofs.lemmas.List.{drop_more}
 use Rattle.std.proofs.lemmas.List.Sums.{sum_by-cons}
 use Rattle.ipx_wire.specs.Packet.{Parts}
 use Rattle.ipx_wire.specs.Rip.{RipParts, rip_of}
-use Rattle.ipx_router.specs.Heard.{HeardRip}
-use Rattle.ipx_router.specs.Numbers.{unreachable}
+use Rattle.ipx_wire.specs.Sap.{sap_of}
+use Rattle.ipx_wire.specs.declared.sap.Sap.{Sap}
+use Rattle.ipx_router.specs.Heard.{HeardRip, HeardSap}
+use Rattle.ipx_router.specs.Numbers.{propagated_type}
 use Rattle.ipx_router.specs.Stands.{State}
-use Rattle.ipx_router.specs.Why.{is_propagated, is_for_rip}
+use Rattle.ipx_router.specs.Why.{is_for_rip, is_for_sap}
 use Rattle.ipx_internet.specs.Internet.{Internet}
-use Rattle.ipx_internet.specs.InternetWeight.{on_all_ports, tellings, message_weight, said_weight, delivery_weight, records_at, internet_weight}
+use Rattle.ipx_internet.specs.InternetWeight.{most_hearers, message_weight, said_weight, delivery_weight, records_at, internet_weight}
 use Rattle.ipx_internet.specs.Moment.{Moment, net_at}
-use Rattle.ipx_internet.specs.Scales.{saturated}
 use Rattle.ipx_internet.specs.Simulated.{IsComing}
+use Rattle.ipx_internet.specs.Scales.{saturated}
 use Rattle.ipx_internet.proofs.Handing.{first_left, some_router}
 use Rattle.ipx_internet.proofs.Settling.{none_of}
 
@@ -29,20 +31,6 @@ module _ {X : Type 0} where
   -- the element at hand stands first in what is left
   pub next_left : (xs : List X) (k : ℕ) (x : X) → k < length xs → x ≡ get_or xs k x → drop k xs ≡ x ∷ drop (k + 1) xs
   next_left xs k x there is = drop_more xs k x there ∙ ap (λ y. y ∷ drop (k + 1) xs) (sym is)
-
-  -- ---- the most of some
-
-  module _ (hops : X → ℕ) (xs : List X) (k so_far all : ℕ) (is : max so_far (tellings (map hops (drop k xs))) ≡ all) where
-    pub most_next : (x : X) → slice_get xs k ≡ Some x → (told : ℕ) → told ≡ unreachable - hops x
-        → max (max so_far told) (tellings (map hops (drop (k + 1) xs))) ≡ all
-    most_next x got told is_told =
-        let whole = ap (λ (ys : List X). tellings (map hops ys)) (first_left xs k x got) in
-        omega (arith, is, whole, is_told)
-
-    pub most_whole : length xs ≤ k → so_far ≡ all
-    most_whole end =
-        let none = ap (λ (ys : List X). tellings (map hops ys)) (none_left xs k end) in
-        omega (arith, is, none)
 
   -- ---- the sum of some
 
@@ -59,11 +47,15 @@ module _ {X : Type 0} where
         let none = ap (sum_by w) (none_left xs k end) in
         omega (arith, is, none, few)
 
--- ---- what routing information weighs
+-- ---- what a packet says
 
-pub rip_said : (net : Internet) (routes services : ℕ) (p : Parts) (rip : RipParts) → is_propagated p.header ≡ false → is_for_rip p.header ≡ true
+pub rip_said : (net : Internet) (routes services : ℕ) (p : Parts) (rip : RipParts) → (p.header.kind == propagated_type) ≡ false → is_for_rip p.header ≡ true
     → rip_of p.payload ≡ Ok rip → said_weight net routes services p ≡ message_weight net routes services (HeardRip p.header.source rip)
 rip_said net routes services p rip plain for_rip read = rw (plain, for_rip, read) refl
+
+pub sap_said : (net : Internet) (routes services : ℕ) (p : Parts) (sap : Sap) → (p.header.kind == propagated_type) ≡ false → is_for_rip p.header ≡ false
+    → is_for_sap p.header ≡ true → sap_of p.payload ≡ Ok sap → said_weight net routes services p ≡ message_weight net routes services (HeardSap p.header.source sap)
+sap_said net routes services p sap plain other for_sap read = rw (plain, other, for_sap, read) refl
 
 -- ---- an internet without routers
 
@@ -77,6 +69,6 @@ nothing_weighs most_routes most_services m none coming = elim (cases_lt 0 (lengt
   | inr empty ↦
       let no_length : length m.queue ≡ 0 = omega (arith, empty) in
       let queue = ap (sum_by (delivery_weight (net_at m) most_routes most_services)) (none_of m.queue no_length) in
-      let held = ap (λ (states : List State). on_all_ports (net_at m) * records_at states) none in
+      let held = ap (λ (states : List State). most_hearers (net_at m) * records_at states) none in
       omega (arith, queue, held)
 ]

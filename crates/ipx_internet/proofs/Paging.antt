@@ -79,9 +79,11 @@ every_server_is port is = record {
 -- ---- pages
 
 module _ (readings : Readings) (again : Rereadings) (ports : List Port) (number : ℕ) (is_port : IsPort (port_at ports number)) where
-  rip_page : (P : RipEntry → Type 0) (to : Address) → IsPlace to → (page : List RipEntry) → IsPage entries_a_page (Writable P) page
-      → IsRipPage P (own_address (port_at ports number)) to (entries_sent ports number to Response page).bytes
-  rip_page P to to_is page is =
+  -- a page, read again
+  pub rip_again : (P : RipEntry → Type 0) (to : Address) → IsPlace to → (page : List RipEntry) → IsPage entries_a_page (Writable P) page
+      → (packet_of (entries_sent ports number to Response page).bytes ≡ Ok (rip_packet_parts (own_address (port_at ports number)) to Response page))
+      × (rip_of (rip_payload Response page) ≡ Ok (record { operation = Response; entries = page }))
+  rip_again P to to_is page is =
       let from = own_address (port_at ports number) in
       let from_is = own_is (port_at ports number) is_port in
       let entries : AllByRecursion IsEntry page = all_then (Writable P) IsEntry (λ e one. one.0) page is.each in
@@ -91,13 +93,16 @@ module _ (readings : Readings) (again : Rereadings) (ports : List Port) (number 
       let said : RipParts = record { operation = Response; entries = page } in
       let says : IsRip parts.payload said =
       subst (λ payload. IsRip payload said) (append-nil (rip_payload Response page)) (again.rip_again Response page [] entries is.some is.most (omega arith)) in
-      record {
-        page = page;
-        some = is.some;
-        each = all_then (Writable P) P (λ e one. one.1) page is.each;
-        read = (readings.packet_read (packet_bytes parts) parts bytes).1 read;
-        says = (readings.rip_read parts.payload said (parts_bytes (packet_bytes parts) parts bytes read).payload).1 says;
-      }
+      (
+        (readings.packet_read (packet_bytes parts) parts bytes).1 read,
+        (readings.rip_read parts.payload said (parts_bytes (packet_bytes parts) parts bytes read).payload).1 says,
+      )
+
+  rip_page : (P : RipEntry → Type 0) (to : Address) → IsPlace to → (page : List RipEntry) → IsPage entries_a_page (Writable P) page
+      → IsRipPage P (own_address (port_at ports number)) to (entries_sent ports number to Response page).bytes
+  rip_page P to to_is page is =
+      let both = rip_again P to to_is page is in
+      record { page = page; some = is.some; each = all_then (Writable P) P (λ e one. one.1) page is.each; read = both.0; says = both.1 }
 
   pub rip_pages : (P : RipEntry → Type 0) (to : Address) → IsPlace to → (entries : List RipEntry) → AllByRecursion (Writable P) entries
       → AllByRecursion (λ s. IsRipPage P (own_address (port_at ports number)) to s.bytes × (s.port ≡ number)) (rip_sends ports number to Response entries)
@@ -106,9 +111,10 @@ module _ (readings : Readings) (again : Rereadings) (ports : List Port) (number 
       (entries_sent ports number to Response) (λ page is. (rip_page P to to_is page is, refl)) (pages entries_a_page entries)
       (all_pages (Writable P) entries_a_page (omega arith) entries all)
 
-  sap_page : (Q : Service → Type 0) (to : Address) → IsPlace to → (nearest : Bool) (page : List Service) → IsPage services_a_page (Tellable Q) page
-      → IsSapPage Q (own_services (port_at ports number)) to nearest (services_sent ports number to nearest page).bytes
-  sap_page Q to to_is nearest page is =
+  pub sap_again : (Q : Service → Type 0) (to : Address) → IsPlace to → (nearest : Bool) (page : List Service) → IsPage services_a_page (Tellable Q) page
+      → (packet_of (services_sent ports number to nearest page).bytes ≡ Ok (sap_packet_parts (own_services (port_at ports number)) to nearest page))
+      × (sap_of (sap_payload nearest page) ≡ Ok (SapResponse nearest (map entry_of page)))
+  sap_again Q to to_is nearest page is =
       let from = own_services (port_at ports number) in
       let from_is = services_is (port_at ports number) is_port in
       let tellable : AllByRecursion IsTellable page = all_then (Tellable Q) IsTellable (λ s one. one.0) page is.each in
@@ -119,13 +125,16 @@ module _ (readings : Readings) (again : Rereadings) (ports : List Port) (number 
       let said : Sap = SapResponse nearest (map entry_of page) in
       let says : IsSap parts.payload said =
       subst (λ payload. IsSap payload said) (append-nil (sap_payload nearest page)) (again.sap_again nearest page [] is.some is.most ranges (omega arith)) in
-      record {
-        page = page;
-        some = is.some;
-        each = all_then (Tellable Q) Q (λ s one. one.1) page is.each;
-        read = (readings.packet_read (packet_bytes parts) parts bytes).1 read;
-        says = (readings.sap_read parts.payload said (parts_bytes (packet_bytes parts) parts bytes read).payload).1 says;
-      }
+      (
+        (readings.packet_read (packet_bytes parts) parts bytes).1 read,
+        (readings.sap_read parts.payload said (parts_bytes (packet_bytes parts) parts bytes read).payload).1 says,
+      )
+
+  sap_page : (Q : Service → Type 0) (to : Address) → IsPlace to → (nearest : Bool) (page : List Service) → IsPage services_a_page (Tellable Q) page
+      → IsSapPage Q (own_services (port_at ports number)) to nearest (services_sent ports number to nearest page).bytes
+  sap_page Q to to_is nearest page is =
+      let both = sap_again Q to to_is nearest page is in
+      record { page = page; some = is.some; each = all_then (Tellable Q) Q (λ s one. one.1) page is.each; read = both.0; says = both.1 }
 
   pub sap_pages : (Q : Service → Type 0) (to : Address) → IsPlace to → (nearest : Bool) (services : List Service) → AllByRecursion (Tellable Q) services
       → AllByRecursion (λ s. IsSapPage Q (own_services (port_at ports number)) to nearest s.bytes × (s.port ≡ number)) (sap_sends ports number to nearest services)

@@ -21,8 +21,7 @@ use Rattle.ipx_internet.specs.Simulated.{moment, net_among}
 use Rattle.ipx_internet.specs.Tree.{root}
 use Rattle.ipx_internet.specs.declared.internet.Settled.{Settled}
 use Rattle.ipx_internet.specs.declared.internet.Settled.TheVariants.{Quiet, Left}
-use Rattle.ipx_internet.proofs.Burdens.{said_of, some_said}
-use Rattle.ipx_internet.proofs.Weighed.{at_least_one}
+use Rattle.ipx_internet.proofs.Landing.{at_least_one}
 use Rattle.ipx_internet.proofs.Ways.{nothing, it_is}
 
 -- ---- sums by number
@@ -140,10 +139,8 @@ module _ (most_routes most_services : ℕ) where
       by [] none = refl
       by (d ∷ queue) none =
           let sum = sum_by-cons (delivery_weight (net_at m) most_routes most_services) d queue in
-          let said = some_said (net_at m) most_routes most_services (packet_of d.bytes) in
-          let scaled = mul-le-mul_right (said_of (net_at m) most_routes most_services (packet_of d.bytes)) (at_least_one (net_at m) (root d.to d.bytes)) in
-          let one = one-mul (said_of (net_at m) most_routes most_services (packet_of d.bytes)) in
-          absurd (omega (arith, none, sum, said, scaled, one))
+          let some = at_least_one (net_at m) most_routes most_services d in
+          absurd (omega (arith, none, sum, some))
 
 -- so it is told
 pub quiet_told : (queue : List Delivery) (s : Settled) → IsToldOf queue s → queue ≡ [] → s ≡ Quiet

@@ -1,11 +1,10 @@
--- Numbers that are counted up to the greatest of a word: sums, products, and what is compounded.
-use Rattle.std.proofs.Common.{◌≡◌, refl, ap, ap₂, ◌∙◌, ℕ, zero, suc, ◌+◌, ◌-◌, ◌*◌, ◌^◌, ◌≤◌, inl, inr, arith, mul-le-mul_right, one-mul, mul_comm}
+-- Numbers that are counted up to the greatest of a word: sums, products, and what grows by levels.
+use Rattle.std.proofs.Common.{◌≡◌, refl, ap, ap₂, ◌∙◌, ℕ, zero, suc, ◌+◌, ◌-◌, ◌*◌, ◌^◌, ◌≤◌, inl, inr, arith, mul-le-mul_right, one-mul, mul_comm, mul-add}
 use Rattle.std.proofs.lemmas.Bool.{cases_lt}
-use Rattle.ipx_wire.specs.Numbers.{most_entries}
 use Rattle.ipx_internet.specs.Internet.{Internet}
-use Rattle.ipx_internet.specs.InternetWeight.{on_all_ports, on_other_ports, response_weight}
+use Rattle.ipx_internet.specs.InternetWeight.{most_hearers, weight_in_reach}
 use Rattle.ipx_internet.specs.Most.{most_of}
-use Rattle.ipx_internet.specs.Scales.{saturated, compounded}
+use Rattle.ipx_internet.specs.Scales.{saturated}
 
 -- the greatest number of a word
 abbrev most : ℕ
@@ -43,26 +42,32 @@ scaled a b = elim (cases_lt b (2 ^ 64)) [
   ]
 ]
 
--- one more time
-pub compounded_more : (a b n : ℕ) → compounded a b (n + 1) ≡ a + b * compounded a b n
-compounded_more a b n = let e : n + 1 ≡ suc n = omega arith in ap (compounded a b) e
+-- a product as it is counted, and a number more
+pub scaled_more : (a b n times product : ℕ) → times ≡ saturated a → n ≡ saturated b → product ≡ saturated (times * n) → product ≡ saturated (a * b)
+scaled_more a b n times product is_times is_n is =
+    is ∙ ap₂ (λ (x y : ℕ). saturated (x * y)) is_times is_n ∙ scaled a b
 
--- ---- weights are compounded
+-- ---- weights are counted so, one level more
 
-pub most_compounded : (degree n : ℕ) → most_of degree n ≡ compounded 1 degree n
-most_compounded degree zero = refl
-most_compounded degree (suc n) = ap (λ (k : ℕ). 1 + degree * k) (most_compounded degree n)
+-- a packet that is sent on once more
+pub tree_next : (d n degree whole product sum next : ℕ) → degree ≡ saturated d → whole ≡ saturated (most_of d n) → product ≡ saturated (degree * whole)
+    → sum ≡ saturated (product + 1) → next ≡ n + 1 → sum ≡ saturated (most_of d next)
+tree_next d n degree whole product sum next is_degree is_whole is_product is_sum is_next =
+    let times = scaled_more d (most_of d n) whole degree product is_degree is_whole is_product in
+    let more : next ≡ suc n = omega (arith, is_next) in
+    let level = ap (most_of d) more in
+    omega (arith, times, is_sum, level)
 
-pub response_compounded : (net : Internet) (n : ℕ) → response_weight net n ≡ compounded (on_all_ports net * (most_entries + 1) + 1) (on_other_ports net) n
-response_compounded net zero = refl
-response_compounded net (suc n) =
-    let rest = ap (λ (k : ℕ). on_other_ports net * k) (response_compounded net n) in
-    omega (arith, rest)
-
--- one more time, as it is counted
-pub compounded_next : (a b n once others whole times sum : ℕ) → once ≡ saturated a → others ≡ saturated b → whole ≡ saturated (compounded a b n)
-    → times ≡ saturated (others * whole) → sum ≡ saturated (once + times) → sum ≡ saturated (compounded a b (n + 1))
-compounded_next a b n once others whole times sum is_once is_others is_whole is_times is_sum =
-    let product = ap₂ (λ (x y : ℕ). saturated (x * y)) is_others is_whole ∙ scaled b (compounded a b n) in
-    let next = compounded_more a b n in
-    omega (arith, is_once, is_times, is_sum, product, next)
+-- an entry that one router more may take
+pub reach_next : (net : Internet) (n hearers whole sum product next : ℕ) → hearers ≡ saturated (most_hearers net) → whole ≡ saturated (weight_in_reach net n)
+    → sum ≡ saturated (whole + 2) → product ≡ saturated (hearers * sum) → next ≡ n + 1 → product ≡ saturated (weight_in_reach net next)
+reach_next net n hearers whole sum product next is_hearers is_whole is_sum is_product is_next =
+    let d = most_hearers net in
+    let w = weight_in_reach net n in
+    let two_more : sum ≡ saturated (w + 2) = omega (arith, is_whole, is_sum) in
+    let times = scaled_more d (w + 2) sum hearers product is_hearers two_more is_product in
+    let split = mul-add d w 2 in
+    let twice = mul_comm d 2 in
+    let more : next ≡ suc n = omega (arith, is_next) in
+    let level = ap (weight_in_reach net) more in
+    omega (arith, times, split, twice, level)

@@ -1,40 +1,48 @@
--- What is sent for a response weighs: on each port a page at most, which may be told on once less; on the port on which the response
--- came, one that nothing comes of.
-use Rattle.std.proofs.Common.{◌≡◌, ◌≢◌, refl, sym, ap, ◌∙◌, ℕ, zero, suc, ◌+◌, ◌-◌, ◌*◌, ◌<◌, ◌≤◌, ◌==◌, if◌then◌else◌, true, false, List, [], ◌∷◌, ◌++◌, length, flat_map, IfSome, inl, inr, arith, append-nil, mul-le-mul_right, mul_assoc, mul-one, suc-mul}
+-- What is told of changes weighs, on all ports together: of each change as much as is told of it, once for each that hears it.
+use Rattle.std.proofs.Common.{◌≡◌, ◌≢◌, refl, sym, ap, ◌∙◌, ℕ, zero, suc, ◌+◌, ◌-◌, ◌*◌, ◌<◌, ◌≤◌, ◌==◌, if◌then◌else◌, Bool, true, false, List, [], ◌∷◌, ◌++◌, length, map, flat_map, Option, Some, None, IfSome, inl, inr, arith, Ordering, mul-le-mul_left, mul-le-mul_right, mul-add, suc-mul, is_eq, ◌⊎◌}
 use Rattle.std.specs.List.{AllByRecursion, sum_by, list_any}
 use Rattle.std.proofs.lemmas.Bool.{cases_Bool, cases_eq, both_ways, eq-eqb, ne_eqb, eqb-true, or_cases}
 use Rattle.std.proofs.lemmas.Grind.{flat_map-append}
-use Rattle.std.proofs.lemmas.List.{length-map}
-use Rattle.std.proofs.lemmas.List.Sums.{sum_by-cons, sum_by-append}
+use Rattle.std.proofs.lemmas.List.Sums.{sum_by-cons, sum_by-append, sum_by-le-sum_by}
+use Rattle.ipx_wire.specs.WriteServices.{entry_of}
 use Rattle.ipx_wire.specs.declared.rip.RipEntry.{RipEntry}
+use Rattle.ipx_wire.specs.declared.sap_entries.SapEntry.{SapEntry}
 use Rattle.ipx_wire.specs.declared.service.Service.{Service}
-use Rattle.ipx_router.specs.Facts.{heard_after, routes_held, services_held, offers}
-use Rattle.ipx_router.specs.History.{History, Packet}
-use Rattle.ipx_router.specs.News.{route_now, news, service_now, news_services}
-use Rattle.ipx_router.specs.Numbers.{unreachable}
-use Rattle.ipx_router.specs.Port.{Port, port_at}
+use Rattle.ipx_router.specs.Changes.{Change, put_keys, change_at, differs, changes}
+use Rattle.ipx_router.specs.News.{route_now, route_told, news, service_now, service_told, news_services, same_route, same_service}
+use Rattle.ipx_router.specs.Numbers.{unreachable, rip_socket, sap_socket, entries_a_page, services_a_page}
+use Rattle.ipx_router.specs.Pages.{pages}
+use Rattle.ipx_router.specs.Port.{Port, IsPort, port_at, is_up, own_address, own_services, everyone, every_server}
 use Rattle.ipx_router.specs.Relays.{Sent}
+use Rattle.ipx_router.specs.Routes.{route_reading, network_order}
 use Rattle.ipx_router.specs.Sends.{broadcasts, rip_broadcast, sap_broadcast}
-use Rattle.ipx_router.specs.Told.{is_reached_on, told}
+use Rattle.ipx_router.specs.Services.{service_reading, service_order}
+use Rattle.ipx_router.specs.Told.{is_reached_on, entry_of as route_entry, dead, dead_service}
 use Rattle.ipx_router.specs.declared.route_offer.RouteOffer.{RouteOffer}
 use Rattle.ipx_router.specs.declared.service_offer.ServiceOffer.{ServiceOffer}
-use Rattle.ipx_internet.specs.Delivery.{delivered, receives}
-use Rattle.ipx_internet.specs.Different.{AreDifferent}
-use Rattle.ipx_internet.specs.Internet.{Internet, Place, IsInternet, IsPlace, ports_of, port_of}
-use Rattle.ipx_internet.specs.InternetWeight.{response_weight, delivery_weight}
+use Rattle.ipx_router.proofs.Owned.{Writable}
+use Rattle.ipx_router.proofs.PageCounts.{length-pages}
+use Rattle.ipx_router.proofs.PageItems.{IsPage, all_pages}
+use Rattle.ipx_router.proofs.PortPlaces.{port-all}
+use Rattle.ipx_internet.specs.Delivery.{delivered}
+use Rattle.ipx_internet.specs.Internet.{Internet, Place, IsInternet, ports_of}
+use Rattle.ipx_internet.specs.InternetWeight.{entry_weight, routes_weight, services_weight}
 use Rattle.ipx_internet.specs.Most.{most_on_network}
-use Rattle.ipx_internet.specs.Queue.{Delivery, deliveries_of}
-use Rattle.ipx_internet.proofs.Burdens.{MayTell, sum_few, told_light}
+use Rattle.ipx_internet.specs.Queue.{deliveries_of}
+use Rattle.ipx_internet.proofs.Bringing.{told_weight, route_told_weight, service_told_weight}
+use Rattle.ipx_internet.proofs.Costs.{telling}
 use Rattle.ipx_internet.proofs.Counts.{delivered_few}
-use Rattle.ipx_internet.proofs.Lists.{all_of, all-append, all-map}
-use Rattle.ipx_internet.proofs.Nearing.{Live, route_left, service_left, news_all, news_services_all}
-use Rattle.ipx_internet.proofs.Offered.{EachHeard, routes_left, services_left}
-use Rattle.ipx_internet.proofs.Places.{delivered_within}
-use Rattle.ipx_internet.proofs.Receivers.{receives_is}
-use Rattle.ipx_internet.proofs.Saying.{IsTold, told_moves}
+use Rattle.ipx_internet.proofs.Landing.{w, pages_land, lists_land, rip_heard, sap_heard, farther_lighter}
+use Rattle.ipx_internet.proofs.Lists.{all-map}
+use Rattle.ipx_internet.proofs.Paging.{Tellable, everyone_is, every_server_is}
+use Rattle.ipx_internet.proofs.Receivers.{ports_at}
+use Rattle.ipx_internet.proofs.Replying.{Layouts}
+use Rattle.ipx_internet.proofs.Sheets.{sum_one_more, sum_both, sum_mapped, sum_flat, sum_each, paged_one_more}
+
+-- ---- on ports but one
 
 -- as many times as one less, and once more
-pub one_less : (n x : ℕ) → 1 ≤ n → n * x ≡ (n - 1) * x + x
+one_less : (n x : ℕ) → 1 ≤ n → n * x ≡ (n - 1) * x + x
 one_less zero x some = absurd (omega (arith, some))
 one_less (suc n) x some =
     let step = suc-mul n x in
@@ -42,202 +50,211 @@ one_less (suc n) x some =
     let scaled = ap (λ (k : ℕ). k * x) same in
     omega (arith, step, scaled)
 
--- how often what is sent on a port may be told on, where what came on a port may be told on so often: on that port never
-abbrev pub left_on : ℕ → ℕ → ℕ → ℕ
-left_on number k j = if j == number then 0 else k - 1
+-- where one port is left out, the others make one less
+pub left_out : (port n : ℕ) (up : List ℕ) → is_up up port ≡ true → sum_by (λ j. if port == j then 0 else n) up + n ≤ length up * n
+left_out port n [] there = absurd (both_ways false refl there)
+left_out port n (j ∷ up) there =
+    let sum = sum_by-cons (λ j. if port == j then 0 else n) j up in
+    elim (cases_eq port j) [
+      | inl here ↦
+          let one : (if port == j then 0 else n) ≡ 0 = rw (eq-eqb port j here) refl in
+          let rest = all_of_them up in
+          omega (arith, sum, one, rest)
+      | inr other ↦
+          let one : (if port == j then 0 else n) ≡ n = rw (ne_eqb port j other) refl in
+          let rest = left_out port n up (behind other (or_cases (j == port) (is_up up port) there)) in
+          omega (arith, sum, one, rest)
+    ]
+  where
+    at_most : (b : Bool) → (if b then 0 else n) ≤ n
+    at_most true = omega arith
+    at_most false = omega arith
 
--- ---- what is said of changes
+    all_of_them : (js : List ℕ) → sum_by (λ j. if port == j then 0 else n) js ≤ length js * n
+    all_of_them [] = omega arith
+    all_of_them (i ∷ js) =
+        let first = sum_by-cons (λ j. if port == j then 0 else n) i js in
+        let rest = all_of_them js in
+        let one = at_most (port == i) in
+        omega (arith, first, rest, one)
 
-module _ (k : ℕ) (ports : List Port) (history : History) (number : ℕ) (bytes : List ℕ)
-    (all : IfSome (heard_after ports history number bytes) (EachHeard (λ e. Live (unreachable - k) e.hops) (λ e. Live (unreachable - k) e.hops))) (capacity : ℕ) where
-  abbrev now : History
-  now = history ++ Packet number bytes ∷ []
+    behind : port ≢ j → ((j == port) ≡ true) ⊎ (is_up up port ≡ true) → is_up up port ≡ true
+    behind other (inl e) = absurd (other (sym (eqb-true j port e)))
+    behind other (inr later) = later
 
-  -- what ended may be told on by nobody
-  ended_few : (j : ℕ) → MayTell (left_on number k j) unreachable
-  ended_few j = omega arith
+module _ (net : Internet) where
+  -- ---- entries and services that are told
 
-  -- what came on that port may be told on elsewhere
-  elsewhere : (j port : ℕ) → port ≡ number → (port == j) ≡ false → left_on number k j ≡ k - 1
-  elsewhere j port here other = elim (cases_Bool (j == number)) [
-    | inr e ↦ rw e refl
-    | inl e ↦ absurd (both_ways (port == j) other (eq-eqb port j (here ∙ sym (eqb-true j number e))))
+  abbrev pub routes_told : List RipEntry → ℕ
+  routes_told entries = sum_by (λ e. 1 + entry_weight net e.hops) entries
+
+  abbrev pub services_told : List Service → ℕ
+  services_told services = sum_by (λ s. 1 + entry_weight net s.hops) services
+
+  route_now_weighs : (port : Port) (r : RouteOffer) → entry_weight net (route_now port r).hops ≤ entry_weight net (r.hops + 1)
+  route_now_weighs port r = elim (cases_Bool (is_reached_on r.hops)) [
+    | inl e ↦ rw e (omega arith)
+    | inr e ↦ rw e (omega arith)
   ]
 
-  now_few : (j port : ℕ) (p : Port) (route : RouteOffer) → port ≡ number → (port == j) ≡ false → unreachable - k ≤ route.hops → MayTell (left_on number k j) (route_now p route).hops
-  now_few j port p route here other far =
-      let left = elsewhere j port here other in
-      elim (cases_Bool (is_reached_on route.hops)) [
-        | inl e ↦ rw e (omega (arith, left, far))
-        | inr e ↦ rw e (ended_few j)
-      ]
+  service_now_weighs : (s : ServiceOffer) → entry_weight net (service_now s).hops ≤ entry_weight net (s.service.hops + 1)
+  service_now_weighs s = elim (cases_Bool (is_reached_on s.service.hops)) [
+    | inl e ↦ rw e (omega arith)
+    | inr e ↦ rw e (omega arith)
+  ]
 
-  now_service_few : (j port : ℕ) (offer : ServiceOffer) → port ≡ number → (port == j) ≡ false → unreachable - k ≤ offer.service.hops
-      → MayTell (left_on number k j) (service_now offer).hops
-  now_service_few j port offer here other far =
-      let left = elsewhere j port here other in
-      elim (cases_Bool (is_reached_on offer.service.hops)) [
-        | inl e ↦ rw e (omega (arith, left, far))
-        | inr e ↦ rw e (ended_few j)
-      ]
+  -- ---- one change
 
-  abbrev FromHere : RouteOffer → Type 0
-  FromHere r = Live (unreachable - k) r.hops × (r.port ≡ number)
+  -- on all ports but one
+  but_one : (up : List ℕ) (port n : ℕ) (f : ℕ → ℕ) → ((j : ℕ) → f j ≤ (if port == j then 0 else n)) → is_up up port ≡ true → sum_by f up ≤ (length up - 1) * n
+  but_one up port n f each there =
+      let fewer = sum_by-le-sum_by f (λ j. if port == j then 0 else n) up each in
+      let all = left_out port n up there in
+      let some = some_there up there in
+      let parts = one_less (length up) n some in
+      omega (arith, fewer, all, parts)
+    where
+      some_there : (js : List ℕ) → is_up js port ≡ true → 1 ≤ length js
+      some_there [] there = absurd (both_ways false refl there)
+      some_there (j ∷ js) there = omega arith
 
-  abbrev ServiceFromHere : ServiceOffer → Type 0
-  ServiceFromHere s = Live (unreachable - k) s.service.hops × (s.port ≡ number)
+  one_unless : {X : Type 0} (v : X → ℕ) (b : Bool) (x : X) (n : ℕ) → v x ≤ n → sum_by v (if b then [] else x ∷ []) ≤ (if b then 0 else n)
+  one_unless v true x n few = omega arith
+  one_unless v false x n few = let one = sum_by-cons v x [] in omega (arith, one, few)
 
-  pub news_few : (j : ℕ) → AllByRecursion (λ e. MayTell (left_on number k j) e.hops)
-      (news ports (offers (routes_held ports capacity history)) (offers (routes_held ports capacity now)) j)
-  news_few j =
-      news_all FromHere (offers (routes_held ports capacity history)) (offers (routes_held ports capacity now))
-      (routes_left (λ e. Live (unreachable - k) e.hops) (λ e. Live (unreachable - k) e.hops) FromHere ServiceFromHere number
-      (λ node e is. (is, refl)) (λ node e name named is. (is, refl)) ports history bytes all capacity)
-      (λ e. MayTell (left_on number k j) e.hops) ports j
-      (λ key route told other.
-      let left = route_left FromHere key route told in
-      now_few j route.port (port_at ports j) route left.0.1 other (left.0.0 left.1))
-      (λ c route told was is. ended_few j)
+  pub route_change : (ports : List Port) (up : List ℕ) (before after : Option RouteOffer) → IfSome before (λ r. is_up up r.port ≡ true) → IfSome after (λ r. is_up up r.port ≡ true)
+      → sum_by (λ j. routes_told (route_told ports j (record { before = before; after = after }))) up ≤ (length up - 1) * telling (route_told_weight net) after
+  route_change ports up before (Some r) was is =
+      but_one up r.port (route_told_weight net r) (λ j. routes_told (route_told ports j (record { before = before; after = Some r })))
+      (λ j.
+      let light = route_now_weighs (port_at ports j) r in
+      one_unless (λ e. 1 + entry_weight net e.hops) (r.port == j) (route_now (port_at ports j) r) (route_told_weight net r) (omega (arith, light)))
+      is
+  route_change ports up (Some r) None was is =
+      but_one up r.port 1 (λ j. routes_told (route_told ports j (record { before = Some r; after = None })))
+      (λ j. one_unless (λ e. 1 + entry_weight net e.hops) (r.port == j) (dead (route_entry r)) 1 (omega arith))
+      was
+  route_change ports up None None was is = nothing_told up
+    where
+      nothing_told : (js : List ℕ) → sum_by (λ j. routes_told (route_told ports j (record { before = None; after = None }))) js ≤ (length up - 1) * 1
+      nothing_told [] = omega arith
+      nothing_told (j ∷ js) =
+          let rest = nothing_told js in
+          let sum = sum_by-cons (λ j. routes_told (route_told ports j (record { before = None; after = None }))) j js in
+          omega (arith, rest, sum)
 
-  pub news_services_few : (j : ℕ) → AllByRecursion (λ s. MayTell (left_on number k j) s.hops)
-      (news_services (offers (services_held ports capacity history)) (offers (services_held ports capacity now)) j)
-  news_services_few j =
-      news_services_all ServiceFromHere (offers (services_held ports capacity history)) (offers (services_held ports capacity now))
-      (services_left (λ e. Live (unreachable - k) e.hops) (λ e. Live (unreachable - k) e.hops) FromHere ServiceFromHere number
-      (λ node e is. (is, refl)) (λ node e name named is. (is, refl)) ports history bytes all capacity)
-      (λ s. MayTell (left_on number k j) s.hops) j
-      (λ key offer told other.
-      let left = service_left ServiceFromHere key offer told in
-      now_service_few j offer.port offer left.0.1 other (left.0.0 left.1))
-      (λ c offer told was is. ended_few j)
+  pub service_change : (up : List ℕ) (before after : Option ServiceOffer) → IfSome before (λ s. is_up up s.port ≡ true) → IfSome after (λ s. is_up up s.port ≡ true)
+      → sum_by (λ j. services_told (service_told j (record { before = before; after = after }))) up ≤ (length up - 1) * telling (service_told_weight net) after
+  service_change up before (Some s) was is =
+      but_one up s.port (service_told_weight net s) (λ j. services_told (service_told j (record { before = before; after = Some s })))
+      (λ j.
+      let light = service_now_weighs s in
+      one_unless (λ e. 1 + entry_weight net e.hops) (s.port == j) (service_now s) (service_told_weight net s) (omega (arith, light)))
+      is
+  service_change up (Some s) None was is =
+      but_one up s.port 1 (λ j. services_told (service_told j (record { before = Some s; after = None })))
+      (λ j. one_unless (λ e. 1 + entry_weight net e.hops) (s.port == j) (dead_service s.service) 1 (omega arith))
+      was
+  service_change up None None was is = nothing_told up
+    where
+      nothing_told : (js : List ℕ) → sum_by (λ j. services_told (service_told j (record { before = None; after = None }))) js ≤ (length up - 1) * 1
+      nothing_told [] = omega arith
+      nothing_told (j ∷ js) =
+          let rest = nothing_told js in
+          let sum = sum_by-cons (λ j. services_told (service_told j (record { before = None; after = None }))) j js in
+          omega (arith, rest, sum)
+
+-- ---- all changes
+
+module _ {C X : Type 0} (tell : ℕ → C → List X) (v : X → ℕ) (bound : C → ℕ) (up : List ℕ) (ports : ℕ) where
+  pub all_changes : (cs : List C) → AllByRecursion (λ c. sum_by (λ j. sum_by v (tell j c)) up ≤ ports * bound c) cs
+      → sum_by (λ j. sum_by v (flat_map (tell j) cs)) up ≤ ports * sum_by bound cs
+  all_changes [] all = nothing up
+    where
+      nothing : (js : List ℕ) → sum_by (λ j. sum_by v (flat_map (tell j) [])) js ≤ ports * 0
+      nothing [] = omega arith
+      nothing (j ∷ js) =
+          let rest = nothing js in
+          let sum = sum_by-cons (λ j. sum_by v (flat_map (tell j) [])) j js in
+          omega (arith, rest, sum)
+  all_changes (c ∷ cs) all =
+      let one = all.0 in
+      let rest = all_changes cs all.1 in
+      let apart = sum_by-le-sum_by (λ j. sum_by v (flat_map (tell j) (c ∷ cs))) (λ j. sum_by v (tell j c) + sum_by v (flat_map (tell j) cs)) up
+      (λ j. let joined = sum_by-append v (tell j c) (flat_map (tell j) cs) in omega (arith, joined)) in
+      let both = sum_both (λ j. sum_by v (tell j c)) (λ j. sum_by v (flat_map (tell j) cs)) up in
+      let sum = ap (λ (n : ℕ). ports * n) (sum_by-cons bound c cs) in
+      let split = mul-add ports (bound c) (sum_by bound cs) in
+      omega (arith, one, rest, apart, both, sum, split)
 
 -- ---- what is sent
 
--- each leaves on the port that it is for
-pub on_port : (ports : List Port) (j : ℕ) (entries : List RipEntry) (services : List Service) → AllByRecursion (λ s. s.port ≡ j) (broadcasts ports j entries services)
-on_port ports j entries services =
-    all-append (λ s. s.port ≡ j) (rip_broadcast ports j entries) (sap_broadcast ports j services)
-    (all-map (λ page. Unit {0}) (λ s. s.port ≡ j) _ (λ page any. refl) _ (all_of (λ page. Unit {0}) (λ page. tt) _))
-    (all-map (λ page. Unit {0}) (λ s. s.port ≡ j) _ (λ page any. refl) _ (all_of (λ page. Unit {0}) (λ page. tt) _))
+module _ (net : Internet) (laws : Layouts) (is : IsInternet net) (most_routes most_services router : ℕ) where
+  abbrev ports : List Port
+  ports = ports_of net router
 
-module _ (net : Internet) (is : IsInternet net) (most_routes most_services router : ℕ) where
-  abbrev pub w : Delivery → ℕ
-  w d = delivery_weight net most_routes most_services d
-
-  abbrev pub others : ℕ
+  abbrev others : ℕ
   others = most_on_network net - 1
 
-  -- a page that is told on so often weighs so much at each port that receives it
-  pub page_weighs : (n : ℕ) (s : Sent) → s.port < length (ports_of net router)
-      → IsTold (λ e. MayTell n e.hops) (λ e. MayTell n e.hops) (port_at (ports_of net router) s.port) s.bytes
-      → sum_by w (deliveries_of net router s) ≤ others * response_weight net n
-  page_weighs n s within told =
-      let from : Place = record { router = router; port = s.port } in
-      let to_delivery : Place → Delivery = λ to. record { to = to; bytes = s.bytes } in
-      let same = length-map (delivered net from s.link) to_delivery in
-      let few = delivered_few net from s.link within in
-      let light =
-      sum_few w (response_weight net n) (deliveries_of net router s)
-      (all-map (λ to. IsPlace net to × (receives net from s.link to ≡ true)) (λ d. w d ≤ response_weight net n) to_delivery
-      (λ to there.
-      told_light net most_routes most_services n (to_delivery to)
-      (told_moves (λ e. MayTell n e.hops) (λ e. MayTell n e.hops) (port_of net from) (port_of net to) s.bytes (receives_is net from s.link to there.1).network told))
-      (delivered net from s.link) (delivered_within net from s.link)) in
-      let product = mul-le-mul_right (response_weight net n) few in
-      let whole = ap (λ (count : ℕ). count * response_weight net n) same in
-      omega (arith, light, product, whole)
+  abbrev AnyEntry : RipEntry → Type 0
+  AnyEntry e = Unit {0}
 
-  module _ (number k : ℕ) (on : ℕ → List Sent) where
-    -- what a port's page weighs, by whether the response came there
-    abbrev share : ℕ → ℕ
-    share j = others * response_weight net (left_on number k j)
+  abbrev AnyService : Service → Type 0
+  AnyService s = Unit {0}
 
-    -- a packet that weighs no more than its port's share
-    abbrev pub Fair : Sent → Type 0
-    Fair s = sum_by w (deliveries_of net router s) ≤ share s.port
+  on_port : (j : ℕ) → j < length ports → (entries : List RipEntry) (services : List Service) → AllByRecursion (Writable AnyEntry) entries
+      → AllByRecursion (Tellable AnyService) services
+      → sum_by (w net most_routes most_services) (flat_map (deliveries_of net router) (broadcasts ports j entries services))
+      ≤ others * (routes_told net entries + services_told net services)
+  on_port j within entries services written tellable =
+      let port = port_at ports j in
+      let from : Place = record { router = router; port = j } in
+      let is_port : IsPort port = port-all IsPort ports j (ports_at net is router) within in
+      let of_routes = pages_land net most_routes most_services router laws is j within (everyone port) (everyone_is port is_port) refl others
+      (delivered_few net from (everyone port).node within) AnyEntry (λ page. 1 + routes_weight net page)
+      (λ page is_page says.
+      let heard = rip_heard net most_routes most_services (own_address port) (everyone port) page refl says in
+      omega (arith, heard))
+      (pages entries_a_page entries) (all_pages (Writable AnyEntry) entries_a_page (omega arith) entries written) in
+      let of_services = lists_land net most_routes most_services router laws is j within (every_server port) (every_server_is port is_port) refl others
+      (delivered_few net from (every_server port).node within) AnyService false (λ page. 1 + sum_by (λ s. entry_weight net s.hops) page)
+      (λ page is_page says.
+      let heard = sap_heard net most_routes most_services (own_services port) (every_server port) page refl refl says in
+      let same = sum_mapped (λ (e : SapEntry). entry_weight net e.hops) entry_of page in
+      omega (arith, heard, same))
+      (pages services_a_page services) (all_pages (Tellable AnyService) services_a_page (omega arith) services tellable) in
+      let few = paged_one_more (λ (e : RipEntry). entry_weight net e.hops) entries_a_page (length entries) entries (omega arith) (omega arith) in
+      let few_services = paged_one_more (λ (s : Service). entry_weight net s.hops) services_a_page (length services) services (omega arith) (omega arith) in
+      let each = sum_one_more (λ (e : RipEntry). entry_weight net e.hops) entries in
+      let each_service = sum_one_more (λ (s : Service). entry_weight net s.hops) services in
+      let most : sum_by (λ page. 1 + routes_weight net page) (pages entries_a_page entries) ≤ routes_told net entries = omega (arith, few, each) in
+      let most_too : sum_by (λ page. 1 + sum_by (λ (s : Service). entry_weight net s.hops) page) (pages services_a_page services) ≤ services_told net services =
+      omega (arith, few_services, each_service) in
+      let scaled = mul-le-mul_left others most in
+      let scaled_too = mul-le-mul_left others most_too in
+      let split = mul-add others (routes_told net entries) (services_told net services) in
+      let joined = ap (sum_by (w net most_routes most_services)) (flat_map-append (deliveries_of net router) (rip_broadcast ports j entries) (sap_broadcast ports j services)) in
+      let sum = sum_by-append (w net most_routes most_services) (flat_map (deliveries_of net router) (rip_broadcast ports j entries))
+      (flat_map (deliveries_of net router) (sap_broadcast ports j services)) in
+      omega (arith, of_routes, of_services, scaled, scaled_too, split, joined, sum)
 
-    -- one on each port, at most
-    one_on : (j : ℕ) (ss : List Sent) → length ss ≤ 1 → AllByRecursion (λ s. s.port ≡ j) ss → AllByRecursion Fair ss
-        → sum_by w (flat_map (deliveries_of net router) ss) ≤ share j
-    one_on j [] few at fair = omega arith
-    one_on j (s ∷ []) few at fair =
-        let one = fair.0 in
-        let here = ap share at.0 in
-        let alone = ap (sum_by w) (append-nil (deliveries_of net router s)) in
-        omega (arith, one, here, alone)
-    one_on j (s ∷ t ∷ ss) few at fair = absurd (omega (arith, few))
-
-    all_parts : (xs ys : List Sent) → AllByRecursion Fair (xs ++ ys) → AllByRecursion Fair xs × AllByRecursion Fair ys
-    all_parts [] ys all = (tt, all)
-    all_parts (x ∷ xs) ys all = let rest = all_parts xs ys all.1 in ((all.0, rest.0), rest.1)
-
-    shares : ((j : ℕ) → length (on j) ≤ 1) → ((j : ℕ) → AllByRecursion (λ s. s.port ≡ j) (on j)) → (js : List ℕ) → AllByRecursion Fair (flat_map on js)
-        → sum_by w (flat_map (deliveries_of net router) (flat_map on js)) ≤ sum_by share js
-    shares few at [] fair = omega arith
-    shares few at (j ∷ js) fair =
-        let parts = all_parts (on j) (flat_map on js) fair in
-        let one = one_on j (on j) (few j) (at j) parts.0 in
-        let rest = shares few at js parts.1 in
-        let split = ap (sum_by w) (flat_map-append (deliveries_of net router) (on j) (flat_map on js)) in
-        let sum = sum_by-append w (flat_map (deliveries_of net router) (on j)) (flat_map (deliveries_of net router) (flat_map on js)) in
-        let total = sum_by-cons share j js in
-        omega (arith, one, rest, split, sum, total)
-
-    -- ---- the port on which it came is one of them
-
-    abbrev full : ℕ
-    full = others * response_weight net (k - 1)
-
-    elsewhere_all : (js : List ℕ) → AllByRecursion (λ j. j ≢ number) js → sum_by share js ≤ length js * full
-    elsewhere_all [] apart = omega arith
-    elsewhere_all (j ∷ js) apart =
-        let off : (j == number) ≡ false = ne_eqb j number apart.0 in
-        let one : share j ≡ full = rw off refl in
-        let rest = elsewhere_all js apart.1 in
-        let total = sum_by-cons share j js in
-        omega (arith, one, rest, total)
-
-    but_one : (js : List ℕ) → AreDifferent js → list_any (λ j. j == number) js ≡ true → sum_by share js + full ≤ others + length js * full
-    but_one [] differ there = absurd (both_ways false refl there)
-    but_one (j ∷ js) differ there = elim (cases_eq j number) [
-      | inl here ↦
-          let at : (j == number) ≡ true = eq-eqb j number here in
-          let one : share j ≡ others * 1 = rw at refl in
-          let unit = mul-one others in
-          let rest = elsewhere_all js (apart_from j here js differ.0) in
-          let total = sum_by-cons share j js in
-          omega (arith, one, unit, rest, total)
-      | inr away ↦
-          let off : (j == number) ≡ false = ne_eqb j number away in
-          let one : share j ≡ full = rw off refl in
-          let rest = but_one js differ.1 (behind j off js there) in
-          let total = sum_by-cons share j js in
-          omega (arith, one, rest, total)
-    ]
-      where
-        apart_from : (j : ℕ) → j ≡ number → (js : List ℕ) → AllByRecursion (λ y. y ≢ j) js → AllByRecursion (λ y. y ≢ number) js
-        apart_from j here [] apart = tt
-        apart_from j here (y ∷ js) apart = (λ e. apart.0 (e ∙ sym here), apart_from j here js apart.1)
-
-        behind : (j : ℕ) → (j == number) ≡ false → (js : List ℕ) → list_any (λ i. i == number) (j ∷ js) ≡ true → list_any (λ i. i == number) js ≡ true
-        behind j off js there = elim (or_cases (j == number) (list_any (λ i. i == number) js) there) [
-          | inl e ↦ absurd (both_ways (j == number) off e)
-          | inr later ↦ later
-        ]
-
-    -- so all of it weighs no more than the other ports' pages, and one that nothing comes of
-    pub all_weigh : ((j : ℕ) → length (on j) ≤ 1) → ((j : ℕ) → AllByRecursion (λ s. s.port ≡ j) (on j)) → (js : List ℕ) → AllByRecursion Fair (flat_map on js)
-        → AreDifferent js → list_any (λ j. j == number) js ≡ true → (most : ℕ) → length js ≤ most
-        → sum_by w (flat_map (deliveries_of net router) (flat_map on js)) ≤ others + ((most - 1) * others) * response_weight net (k - 1)
-    all_weigh few at js fair differ there most within =
-        let sum = shares few at js fair in
-        let parts = but_one js differ there in
-        let some = some_there js there in
-        let more = mul-le-mul_right full within in
-        let less = one_less most full (omega (arith, some, within)) in
-        let same = mul_assoc (most - 1) others (response_weight net (k - 1)) in
-        omega (arith, sum, parts, more, less, same)
-      where
-        some_there : (js : List ℕ) → list_any (λ j. j == number) js ≡ true → 1 ≤ length js
-        some_there [] there = absurd (both_ways false refl there)
-        some_there (j ∷ js) there = omega arith
+  module _ (entries : ℕ → List RipEntry) (services : ℕ → List Service) (written : (j : ℕ) → AllByRecursion (Writable AnyEntry) (entries j))
+      (tellable : (j : ℕ) → AllByRecursion (Tellable AnyService) (services j)) where
+    pub on_ports : (js : List ℕ) → AllByRecursion (λ j. j < length ports) js
+        → sum_by (w net most_routes most_services) (flat_map (deliveries_of net router) (flat_map (λ j. broadcasts ports j (entries j) (services j)) js))
+        ≤ others * (sum_by (λ j. routes_told net (entries j)) js + sum_by (λ j. services_told net (services j)) js)
+    on_ports [] all = omega arith
+    on_ports (j ∷ js) all =
+        let sends = λ (j : ℕ). broadcasts ports j (entries j) (services j) in
+        let one = on_port j all.0 (entries j) (services j) (written j) (tellable j) in
+        let rest = on_ports js all.1 in
+        let joined = ap (sum_by (w net most_routes most_services)) (flat_map-append (deliveries_of net router) (sends j) (flat_map sends js)) in
+        let sum = sum_by-append (w net most_routes most_services) (flat_map (deliveries_of net router) (sends j)) (flat_map (deliveries_of net router) (flat_map sends js)) in
+        let routes = sum_by-cons (λ j. routes_told net (entries j)) j js in
+        let of_services = sum_by-cons (λ j. services_told net (services j)) j js in
+        let here = routes_told net (entries j) + services_told net (services j) in
+        let later = sum_by (λ j. routes_told net (entries j)) js + sum_by (λ j. services_told net (services j)) js in
+        let whole : sum_by (λ j. routes_told net (entries j)) (j ∷ js) + sum_by (λ j. services_told net (services j)) (j ∷ js) ≡ here + later = omega (arith, routes, of_services) in
+        let scaled = ap (λ (n : ℕ). others * n) whole in
+        let split = mul-add others here later in
+        omega (arith, one, rest, joined, sum, scaled, split)

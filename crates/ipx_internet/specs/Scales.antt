@@ -1,9 +1,10 @@
 -- How weights are counted: up to the greatest number of a word, from what is the same for all deliveries of an internet.
-use Rattle.std.specs.Prelude.{◌≡◌, ℕ, zero, suc, ◌+◌, ◌-◌, ◌*◌, ◌^◌, min, max}
-use Rattle.ipx_wire.specs.Numbers.{most_entries}
-use Rattle.ipx_router.specs.Bounds.{route_sheets, service_sheets}
+-- Only clauses inside the crate speak of it; what an internet weighs is said by `InternetWeight`.
+use Rattle.std.specs.Prelude.{◌≡◌, ℕ, ◌-◌, ◌/◌, ◌^◌, min, max}
+use Rattle.ipx_router.specs.Numbers.{entries_a_page}
+use Rattle.ipx_router.specs.Pages.{sheets}
 use Rattle.ipx_internet.specs.Internet.{Internet}
-use Rattle.ipx_internet.specs.InternetWeight.{on_all_ports, on_other_ports, request_weight}
+use Rattle.ipx_internet.specs.InternetWeight.{most_hearers, most_answered, entries_a_service}
 use Rattle.ipx_internet.specs.Most.{most_on_network}
 use Rattle.ipx_internet.specs.declared.scale.Scale.{Scale}
 
@@ -11,18 +12,11 @@ use Rattle.ipx_internet.specs.declared.scale.Scale.{Scale}
 abbrev pub saturated : ℕ → ℕ
 saturated n = min n (2 ^ 64 - 1)
 
--- one, and so many times this much and as many times as there are others what it was before
-abbrev pub compounded : ℕ → ℕ → ℕ → ℕ
-compounded once others zero = 1
-compounded once others (suc n) = once + others * compounded once others n
-
--- the most packets that a router sends for one that comes, with so many ports and room for so many routes and services
-abbrev pub sent_at_most : ℕ → ℕ → ℕ → ℕ
-sent_at_most ports routes services = max ports (max (route_sheets ports routes) (service_sheets services))
-
--- a scale is that of an internet whose routers have room for so many routes and services
+-- a scale is that of an internet whose routers have room for that many routes and services
 pub record IsScale (net : Internet) (routes services : ℕ) (s : Scale) : Type 0 where
-  pub on_network : s.on_network ≡ most_on_network net
-  pub once : s.once ≡ saturated (on_all_ports net * (most_entries + 1) + 1)
-  pub others : s.others ≡ saturated (on_other_ports net)
-  pub request : s.request ≡ saturated (request_weight net routes services)
+  pub hearers : s.hearers ≡ saturated (most_hearers net)
+  pub receivers : s.receivers ≡ max 1 (most_on_network net - 1)
+  pub entries : s.entries ≡ saturated (most_answered net routes)
+  pub misread : s.misread ≡ most_answered net routes / entries_a_service
+  pub pages : s.pages ≡ sheets entries_a_page (most_answered net routes)
+  pub services : s.services ≡ services

@@ -31,8 +31,7 @@ impl<const P: usize, const R: usize, const S: usize> Internet<P, R, S> {
         let ports = most_ports(&self.routers);
         let on_network = self.stations.most();
         let scale = scale_of(ports, on_network, R, S);
-        let all_ports = ports.saturating_mul(on_network.saturating_sub(1));
-        let held = all_ports.saturating_mul(records(&self.routers));
+        let held = scale.hearers.saturating_mul(records(&self.routers));
         let front = weigh(&self.routers, scale, &self.front, self.done);
         let back = weigh(&self.routers, scale, &self.back, 0);
         held.saturating_add(front.saturating_add(back))
@@ -91,8 +90,7 @@ fn weigh_one<const P: usize, const R: usize, const S: usize>(
     match Packet::read(coming.bytes) {
         Ok(packet) => {
             let network = network_at(routers, coming.router, coming.port);
-            let receptions = scale.receptions(network, &packet.header());
-            receptions.saturating_mul(scale.said(&packet))
+            scale.weight(network, &packet)
         }
         Err(_) => 1,
     }

@@ -1,15 +1,14 @@
 //! What weights are made of, and what one packet weighs by them.
-ghost use Rattle.std.specs.Prelude.{◌≡◌, ℕ, ◌-◌, ◌==◌, ◌||◌, map};
+ghost use Rattle.std.specs.Prelude.{◌≡◌, ℕ, ◌-◌, ◌==◌, ◌||◌};
 ghost use Rattle.ipx_wire.specs.declared.address.Address.{Address as SomeAddress};
-ghost use Rattle.ipx_router.specs.Heard.{HeardRip};
+ghost use Rattle.ipx_router.specs.Heard.{HeardRip, HeardSap};
 ghost use Rattle.ipx_router.specs.Numbers.{local_network, unreachable};
 ghost use Rattle.ipx_router.specs.Port.{Port as SomePort};
 ghost use Rattle.ipx_router.specs.Why.{is_propagated};
 ghost use Rattle.ipx_internet.specs.Internet.{Internet};
-ghost use Rattle.ipx_internet.specs.InternetWeight.{tellings, response_weight, message_weight, said_weight};
-ghost use Rattle.ipx_internet.specs.Most.{most_ports, most_on_network};
-ghost use Rattle.ipx_internet.specs.Scales.{saturated, compounded, IsScale, sent_at_most};
-ghost use Rattle.ipx_internet.specs.Weight.{goes_on, weight_by};
+ghost use Rattle.ipx_internet.specs.InternetWeight.{most_hearers, weight_in_reach, entry_weight, routes_weight, services_weight, request_weight, query_weight, message_weight, said_weight, packet_weight};
+ghost use Rattle.ipx_internet.specs.Most.{most_of, most_ports, most_on_network};
+ghost use Rattle.ipx_internet.specs.Scales.{saturated, IsScale};
 
 use ipx_wire::{Header, Network, Node, Operation, Packet, Rip, RipEntry, Sap, SapEntries, Socket};
 
@@ -28,116 +27,197 @@ const ENTRIES_A_PAGE: u128 = 50;
 /// The most services that a page of them has.
 const SERVICES_A_PAGE: usize = 7;
 
+/// This many entries of routes are as long as one of services.
+const ENTRIES_A_SERVICE: usize = 8;
+
 /// What the weights of an internet are made of.
 #[derive(Clone, Copy, Debug)]
 pub(crate) struct Scale {
-    /// The most ports that are on one network.
-    pub on_network: usize,
-    /// A response that may be told on once more weighs so much, and as many times what it weighed as there are others.
-    pub once: usize,
-    /// The most that receive what is told on.
-    pub others: usize,
-    /// A request, or a query.
-    pub request: usize,
+    /// The most ports that hear what a router says of a record.
+    pub hearers: usize,
+    /// The most ports that receive a packet on its last network, and at least 1.
+    pub receivers: usize,
+    /// The most entries of an answer to a request.
+    pub entries: usize,
+    /// The most services that they are read as, where that is what the asker reads.
+    pub misread: usize,
+    /// The packets that they take.
+    pub pages: usize,
+    /// The most services of an answer to a query.
+    pub services: usize,
 }
 
-/// The scale of an internet where a router has so many ports at most, and a network so many, and a router has room for so many
-/// routes and services.
+/// The scale of an internet where a router has this many ports at most, and a network this many, and a router has room for so
+/// many routes and services.
 pub(crate) fn scale_of(ports: usize, on_network: usize, routes: usize, services: usize) -> Scale
     ensures { (net : Internet) → ports ≡ most_ports net → on_network ≡ most_on_network net → IsScale net routes services result }
 {
+    let others = ports.saturating_sub(1);
     let neighbours = on_network.saturating_sub(1);
-    let all_ports = ports.saturating_mul(neighbours);
-    let once = all_ports
-        .saturating_mul(RipEntry::MOST + 1)
-        .saturating_add(1);
-    let others = ports.saturating_sub(1).saturating_mul(neighbours);
-    let caused = most_sent(ports, routes, services).saturating_mul(neighbours);
-    let answer = compound(usize::from(RipEntry::UNREACHABLE), once, others);
-    let request = caused.saturating_mul(answer).saturating_add(1);
+    let hearers = others.saturating_mul(neighbours);
+    let entries = routes.saturating_add(others);
+    let all = routes as u128 + others as u128;
+    let misread = (all / ENTRIES_A_SERVICE as u128) as usize;
+    let pages = all.div_ceil(ENTRIES_A_PAGE) as usize;
     Scale {
-        on_network,
-        once,
-        others,
-        request,
+        hearers,
+        receivers: neighbours.max(1),
+        entries,
+        misread,
+        pages,
+        services,
     }
 }
 
-/// The most packets that a router sends for one that comes.
-fn most_sent(ports: usize, routes: usize, services: usize) -> usize
-    ensures { result ≡ sent_at_most ports routes services }
-{
-    let networks = (routes as u128 + ports as u128).saturating_sub(1);
-    let of_routes = networks.div_ceil(ENTRIES_A_PAGE) as usize;
-    let of_services = services.div_ceil(SERVICES_A_PAGE);
-    ports.max(of_routes.max(of_services))
-}
-
-/// One, and so many times this much and as many times as there are others what it was before.
-fn compound(times: usize, once: usize, others: usize) -> usize
-    ensures { (a b : ℕ) → once ≡ saturated a → others ≡ saturated b → result ≡ saturated (compounded a b times) }
+/// The most receptions of a packet that is sent on to at most this many from each, at most this often.
+fn tree(times: usize, degree: usize) -> usize
+    ensures { (d : ℕ) → degree ≡ saturated d → result ≡ saturated (most_of d times) }
 {
     let mut whole: usize = 1;
     for _ in 0..times {
-        whole = once.saturating_add(others.saturating_mul(whole));
+        whole = degree.saturating_mul(whole).saturating_add(1);
+    }
+    whole
+}
+
+/// What an entry weighs that may be taken by this many routers, one behind the other.
+fn reach(times: usize, hearers: usize) -> usize
+    ensures { (net : Internet) → hearers ≡ saturated (most_hearers net) → result ≡ saturated (weight_in_reach net times) }
+{
+    let mut whole: usize = 0;
+    for _ in 0..times {
+        whole = hearers.saturating_mul(whole.saturating_add(2));
     }
     whole
 }
 
 impl Scale {
-    /// How many receptions a packet that comes to a port on a network may lead to.
-    pub fn receptions(self, network: Network, header: &Header) -> usize
+    /// What a packet weighs that comes to a port on a network.
+    pub fn weight(self, network: Network, packet: &Packet<'_>) -> usize
         ensures { (net : Internet) (routes services : ℕ) (port : SomePort) → IsScale net routes services self → port.network ≡ network
-            → result ≡ saturated (weight_by net header.now.control (is_propagated header.now) (goes_on port header.now)) }
-    {
-        if is_propagated(header) {
-            let times = usize::from(MOST_CROSSED.saturating_sub(header.control));
-            return compound(times, 1, self.others);
-        }
-        if is_local(network, header.destination.network) || header.control >= MOST_ROUTERS {
-            return 1;
-        }
-        let routers = usize::from(MOST_ROUTERS - header.control);
-        routers.saturating_add(self.on_network)
-    }
-
-    /// What a packet weighs by what it says.
-    pub fn said(self, packet: &Packet<'_>) -> usize
-        ensures { (net : Internet) (routes services : ℕ) → IsScale net routes services self → result ≡ saturated (said_weight net routes services packet.now) }
+            → result ≡ saturated (packet_weight net routes services port packet.now) }
     {
         let header = packet.header();
         if is_propagated(&header) {
+            let times = usize::from(MOST_CROSSED.saturating_sub(header.control));
+            return tree(times, self.hearers);
+        }
+        let said = self.said(packet);
+        if is_local(network, header.destination.network) {
+            return said;
+        }
+        let routers = usize::from(MOST_ROUTERS.saturating_sub(header.control));
+        self.receivers.saturating_mul(said).saturating_add(routers)
+    }
+
+    /// What a packet weighs by what it says.
+    fn said(self, packet: &Packet<'_>) -> usize
+        ensures { (net : Internet) (routes services : ℕ) → IsScale net routes services self → result ≡ saturated (said_weight net routes services packet.now) }
+    {
+        let header = packet.header();
+        let asker = header.source.socket;
+        if header.kind == PROPAGATED {
             return 1;
         }
         if header.destination.socket == Socket::RIP {
             return match Rip::read(packet.payload()) {
-                Ok(rip) => self.routing(&rip),
+                Ok(rip) => self.routing(&rip, asker),
                 Err(_) => 1,
             };
         }
-        match Sap::read(packet.payload()) {
-            Ok(Sap::Response { entries, .. }) => self.response(service_tellings(&entries)),
-            Ok(Sap::Query { .. }) => self.request,
-            Err(_) => 1,
+        if header.destination.socket == Socket::SAP {
+            return match Sap::read(packet.payload()) {
+                Ok(sap) => self.advertising(&sap, asker),
+                Err(_) => 1,
+            };
         }
+        1
     }
 
     /// What routing information weighs.
-    fn routing(self, rip: &Rip<'_>) -> usize
-        ensures { (net : Internet) (routes services : ℕ) (source : SomeAddress) → IsScale net routes services self
+    fn routing(self, rip: &Rip<'_>, asker: Socket) -> usize
+        ensures { (net : Internet) (routes services : ℕ) (source : SomeAddress) → IsScale net routes services self → source.socket ≡ asker
             → result ≡ saturated (message_weight net routes services (HeardRip source rip.now)) }
     {
         match rip.operation() {
-            Operation::Request => self.request,
-            Operation::Response => self.response(route_tellings(rip)),
+            Operation::Request => self.request(asker),
+            Operation::Response => self.routes(rip).saturating_add(1),
         }
     }
 
-    /// A response that may be told on so often.
-    fn response(self, times: usize) -> usize
-        ensures { (net : Internet) (routes services : ℕ) → IsScale net routes services self → result ≡ saturated (response_weight net times) }
+    /// What service advertising weighs.
+    fn advertising(self, sap: &Sap<'_>, asker: Socket) -> usize
+        ensures { (net : Internet) (routes services : ℕ) (source : SomeAddress) → IsScale net routes services self → source.socket ≡ asker
+            → result ≡ saturated (message_weight net routes services (HeardSap source sap.now)) }
     {
-        compound(times, self.once, self.others)
+        match sap {
+            Sap::Query { nearest, .. } => self.query(*nearest, asker),
+            Sap::Response { nearest: true, .. } => 1,
+            Sap::Response { entries, .. } => self.offered(entries).saturating_add(1),
+        }
+    }
+
+    /// What an entry of so many hops weighs.
+    fn entry(self, hops: u16) -> usize
+        ensures { (net : Internet) (routes services : ℕ) → IsScale net routes services self → result ≡ saturated (entry_weight net hops) }
+    {
+        reach(in_reach(hops), self.hearers)
+    }
+
+    /// What the entries of routes weigh.
+    fn routes(self, rip: &Rip<'_>) -> usize
+        ensures { (net : Internet) (routes services : ℕ) → IsScale net routes services self → result ≡ saturated (routes_weight net rip.now.entries) }
+    {
+        let mut sum: usize = 0;
+        for k in 0..rip.len() {
+            sum = sum.saturating_add(self.entry(rip.entry(k).hops));
+        }
+        sum
+    }
+
+    /// What the entries of services weigh.
+    fn offered(self, entries: &SapEntries<'_>) -> usize
+        ensures { (net : Internet) (routes services : ℕ) → IsScale net routes services self → result ≡ saturated (services_weight net entries.now) }
+    {
+        let mut sum: usize = 0;
+        for k in 0..entries.len() {
+            sum = sum.saturating_add(self.entry(entries.entry(k).hops));
+        }
+        sum
+    }
+
+    /// What a request weighs, by the asker's socket.
+    fn request(self, asker: Socket) -> usize
+        ensures { (net : Internet) (routes services : ℕ) → IsScale net routes services self → result ≡ saturated (request_weight net routes asker.0) }
+    {
+        let read = if asker == Socket::RIP {
+            self.entries
+        } else if asker == Socket::SAP {
+            self.misread
+        } else {
+            0
+        };
+        let packets = self.pages.saturating_add(1);
+        read.saturating_mul(self.entry(1)).saturating_add(packets)
+    }
+
+    /// What a query weighs, by the asker's socket.
+    fn query(self, nearest: bool, asker: Socket) -> usize
+        ensures { (net : Internet) (routes services : ℕ) → IsScale net routes services self → result ≡ saturated (query_weight net services nearest asker.0) }
+    {
+        if nearest {
+            return 2;
+        }
+        let packets = self.services.div_ceil(SERVICES_A_PAGE).saturating_add(1);
+        let read = if asker == Socket::RIP {
+            let short = self.services.min(SERVICES_A_PAGE - 1);
+            (short * ENTRIES_A_SERVICE).saturating_mul(self.entry(0))
+        } else if asker == Socket::SAP {
+            self.services.saturating_mul(self.entry(1))
+        } else {
+            0
+        };
+        read.saturating_add(packets)
     }
 }
 
@@ -155,31 +235,9 @@ fn is_local(own: Network, network: Network) -> bool
     network == Network(0) || network == own
 }
 
-/// How often it may be told on that something is so many hops away.
-fn told_on(hops: u16) -> usize
+/// How many routers may take what is this many hops away, one behind the other.
+fn in_reach(hops: u16) -> usize
     ensures { result ≡ unreachable - hops }
 {
     usize::from(RipEntry::UNREACHABLE.saturating_sub(hops))
-}
-
-/// How often routing information may be told on.
-fn route_tellings(rip: &Rip<'_>) -> usize
-    ensures { result ≡ tellings (map (λ e. e.hops) rip.now.entries) }
-{
-    let mut most: usize = 0;
-    for k in 0..rip.len() {
-        most = most.max(told_on(rip.entry(k).hops));
-    }
-    most
-}
-
-/// How often service advertising may be told on.
-fn service_tellings(entries: &SapEntries<'_>) -> usize
-    ensures { result ≡ tellings (map (λ e. e.hops) entries.now) }
-{
-    let mut most: usize = 0;
-    for k in 0..entries.len() {
-        most = most.max(told_on(entries.entry(k).hops));
-    }
-    most
 }

@@ -51,16 +51,53 @@ fn two_routers_learn_each_other_delivery_by_delivery(rt: HostRuntime) -> Result<
     let mut internet = line(rt.alloc())?;
     same(&rt, internet.len(), 2);
     same(&rt, internet.waiting(), 6);
-    same(&rt, internet.most_deliveries(), 16288);
+    same(&rt, internet.most_deliveries(), 3614);
     same(&rt, internet.settle(0)?, Settled::Left(6));
     same(&rt, internet.settle(1)?, Settled::Left(5));
     same(&rt, first_route(&internet, 0), None);
     same(&rt, first_route(&internet, 1), Some((0x10, 1, 0)));
     same(&rt, internet.settle(6)?, Settled::Left(1));
     same(&rt, internet.settle(100)?, Settled::Quiet);
-    same(&rt, internet.most_deliveries(), 4);
+    same(&rt, internet.most_deliveries(), 2);
     same(&rt, internet.settle(1)?, Settled::Quiet);
     same(&rt, first_route(&internet, 0), Some((0x30, 1, 0)));
+    Ok(())
+}
+
+#[test]
+fn what_an_internet_weighs_is_a_limit_that_leaves_nothing(rt: HostRuntime) -> Result<(), Fail> {
+    let mut internet = line(rt.alloc())?;
+    let most = internet.most_deliveries();
+    same(&rt, internet.settle(most)?, Settled::Quiet);
+    happened(&mut internet, 0, Event::PortDown(0))?;
+    let most = internet.most_deliveries();
+    same(&rt, most, 3);
+    same(&rt, internet.settle(most)?, Settled::Quiet);
+    Ok(())
+}
+
+#[test]
+fn an_internet_that_weighs_more_than_a_word_tells_the_greatest(rt: HostRuntime) -> Result<(), Fail> {
+    let mut internet = Small::new(rt.alloc());
+    for number in 1..=24 {
+        let own = u32::from(number) + 0x100;
+        added(&mut internet, between(port(0x10, number)?, port(own, 1)?)?)?;
+    }
+    same(&rt, internet.most_deliveries(), 0);
+    happened(&mut internet, 0, Event::Start)?;
+    same(&rt, internet.waiting(), 69);
+    same(&rt, internet.most_deliveries(), usize::MAX);
+    settled(&mut internet)?;
+    same(&rt, internet.most_deliveries(), 0);
+    Ok(())
+}
+
+#[test]
+fn an_internet_without_routers_weighs_nothing(rt: HostRuntime) -> Result<(), Fail> {
+    let mut internet = Small::new(rt.alloc());
+    let most = internet.most_deliveries();
+    same(&rt, most, 0);
+    same(&rt, internet.settle(most)?, Settled::Quiet);
     Ok(())
 }
 

@@ -39,8 +39,7 @@ laws c = record {
     layouts = c.packets.ensures.layouts;
     bytes = c.packets.ensures.bytes;
   };
-  keys = record { routes = c.next_facts.ensures.others; services = c.next_facts-2.ensures.others };
-  sending = record { silent = c.down_ports.ensures.silent };
+  ups = record { routes = c.tables.ensures.routes_up; services = c.tables.ensures.services_up };
   rooms = record { routes = c.within_capacity.ensures.routes; services = c.within_capacity.ensures.services };
   right = λ ports most_routes history on_ports. record {
     rising = (c.relays.ensures.ups ports history).0;

@@ -3,7 +3,7 @@ use Rattle.std.specs.List.{sum_by}
 use Rattle.std.proofs.lemmas.List.Sums.{sum_by-append}
 use Rattle.ipx_router.specs.Stands.{State}
 use Rattle.ipx_internet.specs.Internet.{Internet}
-use Rattle.ipx_internet.specs.InternetWeight.{on_all_ports, delivery_weight, records_at, internet_weight}
+use Rattle.ipx_internet.specs.InternetWeight.{most_hearers, delivery_weight, records_at, internet_weight}
 use Rattle.ipx_internet.specs.Moment.{Moment}
 use Rattle.ipx_internet.specs.Most.{most_ports, most_on_network}
 use Rattle.ipx_internet.specs.Queue.{Delivery}
@@ -59,13 +59,11 @@ returns-clause-value g c =
     let ports : c.most_ports-ports.result ≡ most_ports net =
     c.most_ports-ports.ensures ∙ ap (λ (ss : List State). most_ports (net_among ss)) c.deref-2.ensures.value in
     let on_network : c.most-on_network.result ≡ most_on_network net = c.most-on_network.ensures.exact net c.self.invariant.sound.stationed in
-    let all : c.saturating_mul-all_ports.result ≡ saturated (on_all_ports net) =
-    c.saturating_mul-all_ports.ensures
-    ∙ ap₂ (λ (p n : ℕ). saturated (p * n)) ports (c.saturating_sub.ensures ∙ ap (λ (n : ℕ). n - 1) on_network) in
+    let scale : IsScale net g.row.R g.row.S c.scale_of-scale.result = c.scale_of-scale.ensures net ports on_network in
     let records : c.records.result ≡ saturated (records_at states) =
     c.records.ensures ∙ ap (λ (ss : List State). saturated (records_at ss)) c.deref-3.ensures.value in
-    let held : c.saturating_mul-held.result ≡ saturated (on_all_ports net * records_at states) =
-    c.saturating_mul-held.ensures ∙ ap₂ (λ (p n : ℕ). saturated (p * n)) all records ∙ scaled (on_all_ports net) (records_at states) in
+    let held : c.saturating_mul-held.result ≡ saturated (most_hearers net * records_at states) =
+    c.saturating_mul-held.ensures ∙ ap₂ (λ (p n : ℕ). saturated (p * n)) scale.hearers records ∙ scaled (most_hearers net) (records_at states) in
     let first : c.weigh-front.result ≡ saturated (sum_by w front) =
     c.weigh-front.ensures ∙ ap (λ (ss : List State). saturated (sum_by (delivery_weight (net_among ss) g.row.R g.row.S) front)) c.deref-4.ensures.value in
     let later : c.weigh-back.result ≡ saturated (sum_by w back) =
