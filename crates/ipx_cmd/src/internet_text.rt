@@ -1,5 +1,5 @@
 //! What an internet does and tells, and its text.
-ghost use Rattle.std.specs.Prelude.{◌≡◌, ◌<◌, ◌++◌, ℕ, List, false, codes, decimal, length, replicate, OnOk, IfErr, ◌+◌, ◌≤◌, OnErr};
+ghost use Rattle.std.specs.Prelude.{◌≡◌, ◌<◌, ◌++◌, List, false, codes, decimal, length, replicate, OnOk, IfErr, ◌+◌, ◌≤◌, OnErr};
 ghost use Rattle.std.specs.Vec.{vec_capacity};
 ghost use Rattle.std.specs.List.{flat_map};
 ghost use Rattle.ipx_router.specs.Happened.{happened};

@@ -9,7 +9,6 @@ ghost use Rattle.ipx_cmd.specs.declared.ended.RunFault.{RunFault};
 ghost use Rattle.ipx_cmd.specs.Line.{Answers, AnswersInMemory, Stops};
 ghost use Rattle.ipx_cmd.specs.OrderLine.{router_allowed, port_allowed, port_meaning, place_of, place_meaning, limit_meaning, packet_of, in_meaning, traced_of, trace_meaning, router_command, later_command, command_meaning, order_meaning, brings_bytes};
 ghost use Rattle.ipx_cmd.specs.Request.{next_port, request_of};
-ghost use Rattle.ipx_cmd.specs.Script.{number_meaning};
 ghost use Rattle.ipx_cmd.specs.Words.{words};
 
 use crate::command::{MOST_PORTS, NamedPort, one_number, port_of, seconds};

@@ -11,6 +11,7 @@ ghost use Rattle.ipx_cmd.specs.Simulated.{InternetGivenUp, Simulated, SimulatedS
 ghost use Rattle.ipx_cmd.specs.Stretch.{Answered, Completed, Flushed, GaveUp, Passed, Unfinished};
 ghost use Rattle.ipx_cmd.specs.WroteFront.{IsFaultOf, WroteAll, WroteFront};
 ghost use Rattle.ipx_cmd.specs.declared.ended.Ended.TheVariants.{Done, BadInput};
+ghost use Rattle.ipx_wire.specs.Ends.{Gave, LostInput, calls_after};
 
 use crate::ended::{Ended, RunFault};
 use crate::fault::LineFault;
@@ -19,7 +20,7 @@ use crate::internet_machine::InternetMachine;
 use crate::machine::Machine;
 use crate::output::fault_line;
 use crate::player::{Act, Player};
-use ipx_wire::{Intake, Outlet};
+use ipx_wire::{Failed, Intake, Outlet};
 use std::alloc::Global;
 use std::io::{Read, Write};
 
@@ -95,7 +96,7 @@ fn play_script<M: Act + Drop, R: Read, W: Write>(
     let mut text = Vec::new(alloc);
     let mut piece = [0; PIECE];
     loop {
-        let Ok(count) = intake.read(&mut piece) else {
+        let Ok(count) = ask(intake, &mut piece, &text) else {
             return Err(RunFault::Read);
         };
         if count == 0 {
@@ -105,6 +106,20 @@ fn play_script<M: Act + Drop, R: Read, W: Write>(
             return Ok(Ended::BadInput);
         }
     }
+}
+
+/// Asks the reader once for a piece. What was made of the lines before has been written: no text waits.
+fn ask<R: Read>(
+    intake: &mut Intake<R>,
+    piece: &mut [u8],
+    waiting: &Vec<u8>,
+) -> Result<usize, Failed>
+    requires answered { waiting.now.items ≡ [] }
+    ensures ok { IfOk result (Gave intake.old intake.new piece.new) }
+    ensures err { OnErr result (LostInput intake.old intake.new) }
+    ensures calls { intake.new.calls ≡ calls_after intake.old.calls }
+{
+    intake.read(piece)
 }
 
 /// Plays one piece and writes the text of the lines that it ends; bad input ends the run.

@@ -9,7 +9,6 @@ ghost use Rattle.ipx_cmd.specs.Lines.{is_long, line_feed, longest_line, without_
 ghost use Rattle.ipx_cmd.specs.declared.fault.LineFault.TheVariants.{Long};
 ghost use Rattle.ipx_cmd.specs.Stretch.{Finished, FinishedOff, NotKept, Went, WentOff};
 
-use crate::ended::RunFault;
 use crate::fault::LineFault;
 use crate::halt::Halt;
 use ipx_wire::Outlet;

@@ -15,13 +15,13 @@ loop-count-init g c =
 pub returns-in_default-clause-err : goal.returns-in_default-clause-err
 returns-in_default-clause-err g c =
     let l = c.loop-count in
-    given_up_at_read g.M.Act.acts g.M.Act.stands c.args.machine l.player.machine l.player.number l.player.pending.items c.args.intake.now l.intake c.read.new.self c.args.outlet.now l.outlet
+    given_up_at_read g.M.Act.acts g.M.Act.stands c.args.machine l.player.machine l.player.number l.player.pending.items c.args.intake.now l.intake c.ask.new.intake c.args.outlet.now l.outlet
     l.text.items l.invariant c.in_default.ensures.err
 
 pub returns-in_default-clause-read : goal.returns-in_default-clause-read
 returns-in_default-clause-read g c = λ is.
     let l = c.loop-count in
-    so_far g.M.Act.acts g.M.Act.stands c.args.machine l.player.machine l.player.number l.player.pending.items c.args.intake.now l.intake c.read.new.self c.args.outlet.now l.outlet
+    so_far g.M.Act.acts g.M.Act.stands c.args.machine l.player.machine l.player.number l.player.pending.items c.args.intake.now l.intake c.ask.new.intake c.args.outlet.now l.outlet
     l.text.items l.invariant c.in_default.ensures.err
 
 pub play_end-requires-clause-line : goal.play_end-requires-clause-line
@@ -40,31 +40,31 @@ pub returns-then-count-eq0-clause-ok : goal.returns-then-count-eq0-clause-ok
 returns-then-count-eq0-clause-ok g c =
     let l = c.loop-count in
     let zero : c.in-Ok.count ≡ 0 = search rules in
-    let room : length c.read.new.buf ≡ 8192 = search rules in
-    let some : 0 < length c.read.new.buf = omega (arith, room) in
-    played_end_of g.M.Act.acts g.M.Act.stands c.args.machine l.player.machine l.player.number l.player.pending.items c.args.intake.now l.intake c.read.new.self c.args.outlet.now l.outlet
-    c.play_end.new.outlet l.text.items c.read.new.buf c.in-Ok.count c.play_end.result l.invariant c.in-Ok.ensures.ok zero some c.play_end.ensures.completed
+    let room : length c.ask.new.piece ≡ 8192 = search rules in
+    let some : 0 < length c.ask.new.piece = omega (arith, room) in
+    played_end_of g.M.Act.acts g.M.Act.stands c.args.machine l.player.machine l.player.number l.player.pending.items c.args.intake.now l.intake c.ask.new.intake c.args.outlet.now l.outlet
+    c.play_end.new.outlet l.text.items c.ask.new.piece c.in-Ok.count c.play_end.result l.invariant c.in-Ok.ensures.ok zero some c.play_end.ensures.completed
 
 pub returns-then-count-eq0-clause-err : goal.returns-then-count-eq0-clause-err
 returns-then-count-eq0-clause-err g c =
     let l = c.loop-count in
     let zero : c.in-Ok.count ≡ 0 = search rules in
-    let room : length c.read.new.buf ≡ 8192 = search rules in
-    let some : 0 < length c.read.new.buf = omega (arith, room) in
-    given_up_at_end_of g.M.Act.acts g.M.Act.stands c.args.machine l.player.machine l.player.number l.player.pending.items c.args.intake.now l.intake c.read.new.self c.args.outlet.now l.outlet
-    c.play_end.new.outlet l.text.items c.read.new.buf c.in-Ok.count c.play_end.result l.invariant c.in-Ok.ensures.ok zero some c.play_end.ensures.unfinished
+    let room : length c.ask.new.piece ≡ 8192 = search rules in
+    let some : 0 < length c.ask.new.piece = omega (arith, room) in
+    given_up_at_end_of g.M.Act.acts g.M.Act.stands c.args.machine l.player.machine l.player.number l.player.pending.items c.args.intake.now l.intake c.ask.new.intake c.args.outlet.now l.outlet
+    c.play_end.new.outlet l.text.items c.ask.new.piece c.in-Ok.count c.play_end.result l.invariant c.in-Ok.ensures.ok zero some c.play_end.ensures.unfinished
 
 pub returns-then-count-eq0-clause-read : goal.returns-then-count-eq0-clause-read
 returns-then-count-eq0-clause-read g c = λ is state at.
     let l = c.loop-count in
-    no_read_at_end g.M.Act.acts g.M.Act.stands c.args.machine l.player.machine l.player.number l.player.pending.items c.args.intake.now l.intake c.read.new.self c.args.outlet.now l.outlet
-    c.play_end.new.outlet l.text.items c.read.new.buf c.in-Ok.count c.play_end.result l.invariant c.in-Ok.ensures.ok c.play_end.ensures.unfinished is state at
+    no_read_at_end g.M.Act.acts g.M.Act.stands c.args.machine l.player.machine l.player.number l.player.pending.items c.args.intake.now l.intake c.ask.new.intake c.args.outlet.now l.outlet
+    c.play_end.new.outlet l.text.items c.ask.new.piece c.in-Ok.count c.play_end.result l.invariant c.in-Ok.ensures.ok c.play_end.ensures.unfinished is state at
 
 pub returns-then-count-eq0-clause-fault : goal.returns-then-count-eq0-clause-fault
 returns-then-count-eq0-clause-fault g c =
     let l = c.loop-count in
-    fault_at_end_of g.M.Act.acts g.M.Act.stands c.args.machine l.player.machine l.player.number l.player.pending.items c.args.intake.now l.intake c.read.new.self c.args.outlet.now l.outlet
-    c.play_end.new.outlet l.text.items c.read.new.buf c.in-Ok.count c.play_end.result l.invariant c.in-Ok.ensures.ok c.play_end.ensures.unfinished
+    fault_at_end_of g.M.Act.acts g.M.Act.stands c.args.machine l.player.machine l.player.number l.player.pending.items c.args.intake.now l.intake c.ask.new.intake c.args.outlet.now l.outlet
+    c.play_end.new.outlet l.text.items c.ask.new.piece c.in-Ok.count c.play_end.result l.invariant c.in-Ok.ensures.ok c.play_end.ensures.unfinished
 
 pub returns-then-count-eq0-clause-fine_intake : goal.returns-then-count-eq0-clause-fine_intake
 returns-then-count-eq0-clause-fine_intake g c = on_ok_always c.play_end.result (c.in-Ok.ensures.ok.fine ∙ c.loop-count.invariant.fine_in)
@@ -80,8 +80,8 @@ play_piece-requires-clause-known g c =
 
 pub play_piece-requires-clause-number : goal.play_piece-requires-clause-number
 play_piece-requires-clause-number g c =
-    let room : length c.read.new.buf ≡ 8192 = search rules in
-    omega (arith, c.loop-count.invariant.few, room, length-take c.in-Ok.count c.read.new.buf)
+    let room : length c.ask.new.piece ≡ 8192 = search rules in
+    omega (arith, c.loop-count.invariant.few, room, length-take c.in-Ok.count c.ask.new.piece)
 
 pub play_piece-requires-clause-outlet : goal.play_piece-requires-clause-outlet
 play_piece-requires-clause-outlet g c = c.loop-count.invariant.fine_out
@@ -90,31 +90,31 @@ pub returns-in_err-play_piece-clause-err : goal.returns-in_err-play_piece-clause
 returns-in_err-play_piece-clause-err g c =
     let l = c.loop-count in
     on_err_always c.from_residual.result
-    (given_up_in_piece g.M.Act.acts g.M.Act.stands c.args.machine l.player.machine l.player.number l.player.pending.items c.args.intake.now l.intake c.read.new.self c.args.outlet.now l.outlet
-    c.play_piece.new.outlet l.text.items c.read.new.buf c.in-Ok.count c.in_err-play_piece.field-0.0 l.invariant c.in-Ok.ensures.ok c.in_err-play_piece.ensures.gave_up)
+    (given_up_in_piece g.M.Act.acts g.M.Act.stands c.args.machine l.player.machine l.player.number l.player.pending.items c.args.intake.now l.intake c.ask.new.intake c.args.outlet.now l.outlet
+    c.play_piece.new.outlet l.text.items c.ask.new.piece c.in-Ok.count c.in_err-play_piece.field-0.0 l.invariant c.in-Ok.ensures.ok c.in_err-play_piece.ensures.gave_up)
 
 pub returns-in_err-play_piece-clause-read : goal.returns-in_err-play_piece-clause-read
 returns-in_err-play_piece-clause-read g c = λ is state at.
     let l = c.loop-count in
-    no_read c.read.new.self.failed c.play_piece.new.outlet.failed c.in_err-play_piece.field-0.0 c.from_residual.result c.from_residual.ensures.1
-    (fault_in_piece g.M.Act.acts g.M.Act.stands c.args.machine l.player.machine l.player.number l.player.pending.items c.args.intake.now l.intake c.read.new.self c.args.outlet.now l.outlet
-    c.play_piece.new.outlet l.text.items c.read.new.buf c.in-Ok.count c.in_err-play_piece.field-0.0 l.invariant c.in-Ok.ensures.ok c.in_err-play_piece.ensures.gave_up state at)
+    no_read c.ask.new.intake.failed c.play_piece.new.outlet.failed c.in_err-play_piece.field-0.0 c.from_residual.result c.from_residual.ensures.1
+    (fault_in_piece g.M.Act.acts g.M.Act.stands c.args.machine l.player.machine l.player.number l.player.pending.items c.args.intake.now l.intake c.ask.new.intake c.args.outlet.now l.outlet
+    c.play_piece.new.outlet l.text.items c.ask.new.piece c.in-Ok.count c.in_err-play_piece.field-0.0 l.invariant c.in-Ok.ensures.ok c.in_err-play_piece.ensures.gave_up state at)
     (c.in-Ok.ensures.ok.fine ∙ l.invariant.fine_in) is
 
 pub returns-in_err-play_piece-clause-fault : goal.returns-in_err-play_piece-clause-fault
 returns-in_err-play_piece-clause-fault g c =
     let l = c.loop-count in
-    err_by (λ why. (state : g.M.Act.State) → g.M.Act.stands c.args.machine state → IsFaultOf c.read.new.self.failed c.play_piece.new.outlet.failed why)
+    err_by (λ why. (state : g.M.Act.State) → g.M.Act.stands c.args.machine state → IsFaultOf c.ask.new.intake.failed c.play_piece.new.outlet.failed why)
     c.in_err-play_piece.field-0.0 c.from_residual.result c.from_residual.ensures.1
-    (fault_in_piece g.M.Act.acts g.M.Act.stands c.args.machine l.player.machine l.player.number l.player.pending.items c.args.intake.now l.intake c.read.new.self c.args.outlet.now l.outlet
-    c.play_piece.new.outlet l.text.items c.read.new.buf c.in-Ok.count c.in_err-play_piece.field-0.0 l.invariant c.in-Ok.ensures.ok c.in_err-play_piece.ensures.gave_up)
+    (fault_in_piece g.M.Act.acts g.M.Act.stands c.args.machine l.player.machine l.player.number l.player.pending.items c.args.intake.now l.intake c.ask.new.intake c.args.outlet.now l.outlet
+    c.play_piece.new.outlet l.text.items c.ask.new.piece c.in-Ok.count c.in_err-play_piece.field-0.0 l.invariant c.in-Ok.ensures.ok c.in_err-play_piece.ensures.gave_up)
 
 pub returns-in-BadInput-clause-ok : goal.returns-in-BadInput-clause-ok
 returns-in-BadInput-clause-ok g c =
     let l = c.loop-count in
-    played_bad_at g.M.Act.acts g.M.Act.stands c.args.machine l.player.machine c.play_piece.new.player.machine l.player.number l.player.pending.items c.args.intake.now l.intake c.read.new.self
+    played_bad_at g.M.Act.acts g.M.Act.stands c.args.machine l.player.machine c.play_piece.new.player.machine l.player.number l.player.pending.items c.args.intake.now l.intake c.ask.new.intake
     c.args.outlet.now l.outlet c.play_piece.new.outlet l.text.items c.play_piece.new.text.items c.play_piece.new.player.number c.play_piece.new.player.pending.items
-    c.read.new.buf c.in-Ok.count c.in_ok-play_piece.field-0 l.invariant c.in-Ok.ensures.ok c.in-BadInput.is c.in_ok-play_piece.ensures.passed
+    c.ask.new.piece c.in-Ok.count c.in_ok-play_piece.field-0 l.invariant c.in-Ok.ensures.ok c.in-BadInput.is c.in_ok-play_piece.ensures.passed
 
 pub returns-in-BadInput-clause-fine_intake : goal.returns-in-BadInput-clause-fine_intake
 returns-in-BadInput-clause-fine_intake g c = c.in-Ok.ensures.ok.fine ∙ c.loop-count.invariant.fine_in
@@ -122,11 +122,11 @@ returns-in-BadInput-clause-fine_intake g c = c.in-Ok.ensures.ok.fine ∙ c.loop-
 pub loop-count-preserved : goal.loop-count-preserved
 loop-count-preserved g c =
     let l = c.loop-count in
-    let room : length c.read.new.buf ≡ 8192 = search rules in
-    let most : length c.read.new.buf ≤ 8192 = omega (arith, room) in
+    let room : length c.ask.new.piece ≡ 8192 = search rules in
+    let most : length c.ask.new.piece ≤ 8192 = omega (arith, room) in
     let ended : c.in_ok-play_piece.field-0 ≡ Done = search rules in
     let new = c.play_piece.new in
     script_more_at g.M.Act.acts g.M.Act.stands c.args.machine l.player.machine new.player.machine l.player.number new.player.number l.player.pending.items new.player.pending.items
-    c.args.intake.now l.intake c.read.new.self c.args.outlet.now l.outlet new.outlet l.text.items new.text.items c.read.new.buf c.in-Ok.count c.in_ok-play_piece.field-0
-    l.invariant c.in-Ok.ensures.ok most c.read.ensures.calls ended c.in_ok-play_piece.ensures.passed c.in_ok-play_piece.ensures.line c.in_ok-play_piece.ensures.emptied
+    c.args.intake.now l.intake c.ask.new.intake c.args.outlet.now l.outlet new.outlet l.text.items new.text.items c.ask.new.piece c.in-Ok.count c.in_ok-play_piece.field-0
+    l.invariant c.in-Ok.ensures.ok most c.ask.ensures.calls ended c.in_ok-play_piece.ensures.passed c.in_ok-play_piece.ensures.line c.in_ok-play_piece.ensures.emptied
     c.in_ok-play_piece.ensures.fine c.play_piece.ensures.number
