@@ -238,12 +238,14 @@ module _ (net : Internet) (laws : Layouts) (is : IsInternet net) (most_routes mo
       → AllByRecursion (IsStep net) steps → ((router : ℕ) → router < length net → seconds_of router steps ≡ 1)
       → (n : ℕ) × IsBusyTick net most_routes most_services run (steps ++ replicate n Settles)
   can_be_busy run steps are waits all each =
-      let it = ends run steps all (sound_run run are waits) in
-      (it.count, record {
-        happens = all-append (IsStep net) steps (replicate it.count Settles) all (settles_all (IsStep net) tt it.count);
-        each = λ router within. seconds_then router steps it.count (each router within);
-        quiet = it.quiet;
-      })
+      let it = ends run steps all (sound_run run are waits) in (
+        it.count,
+        record {
+          happens = all-append (IsStep net) steps (replicate it.count Settles) all (settles_all (IsStep net) tt it.count);
+          each = λ router within. seconds_then router steps it.count (each router within);
+          quiet = it.quiet;
+        },
+      )
 
   several : (n : ℕ) (run : Run) → Sound (forgotten run) → (ticks : List (List Step)) × (length ticks ≡ n) × AreTicks net most_routes most_services run ticks
   several zero run sound = ([], refl, tt)

@@ -276,12 +276,12 @@ pub fn ticks_pass()
         → AllByRecursion (λ w. IsDelivery net w.delivery) run.waiting → IsOrder net order
         → (deliveries : ℕ) × IsTick net most_routes most_services run (a_tick_by order deliveries) }
     ensures in_between { (net : Internet) (most_routes most_services : ℕ) (run : Run) (steps : List Step) → IsInternet net → AreHistories net run.histories
-        → AllByRecursion (λ w. IsDelivery net w.delivery) run.waiting → AllByRecursion (IsOfTick net) steps
-        → ((router : ℕ) → router < length net → seconds_of router steps ≡ 1)
+        → AllByRecursion (λ w. IsDelivery net w.delivery) run.waiting
+        → AllByRecursion (IsOfTick net) steps → ((router : ℕ) → router < length net → seconds_of router steps ≡ 1)
         → (deliveries : ℕ) × IsTick net most_routes most_services run (steps ++ replicate deliveries Settles) }
     ensures busy { (net : Internet) (most_routes most_services : ℕ) (run : Run) (steps : List Step) → IsInternet net → AreHistories net run.histories
-        → AllByRecursion (λ w. IsDelivery net w.delivery) run.waiting → AllByRecursion (IsStep net) steps
-        → ((router : ℕ) → router < length net → seconds_of router steps ≡ 1)
+        → AllByRecursion (λ w. IsDelivery net w.delivery) run.waiting
+        → AllByRecursion (IsStep net) steps → ((router : ℕ) → router < length net → seconds_of router steps ≡ 1)
         → (deliveries : ℕ) × IsBusyTick net most_routes most_services run (steps ++ replicate deliveries Settles) }
 {
     ipx_wire::laws::readings();
