@@ -1,14 +1,14 @@
 -- Whatever waits when ticks begin: the first of them ends with nothing that waits, and with the ports as they were.
-use Rattle.std.proofs.Common.{◌≡◌, sym, ◌∙◌, subst, refl, ℕ, suc, ◌<◌, ◌≤◌, false, true, List, [], ◌∷◌, length, map, arith, true≢false}
+use Rattle.std.proofs.Common.{◌≡◌, sym, ◌∙◌, subst, refl, ℕ, ◌<◌, ◌≤◌, false, true, List, [], ◌∷◌, length, map, arith, true≢false}
 use Rattle.std.specs.List.{AllByRecursion}
 use Rattle.ipx_router.specs.History.{Event, History, Start, Stop, Second, Packet, PortDown, PortUp, is_second, is_start, is_stop, takes_down, brings_up, ports_up}
 use Rattle.ipx_router.proofs.Histories.{ports_stay}
 use Rattle.ipx_internet.specs.Internet.{Internet, IsInternet, ports_of}
 use Rattle.ipx_internet.specs.Meanwhile.{IsBusyTick}
-use Rattle.ipx_internet.specs.Queue.{Delivery, Queued, history_of, with_event, queued, settled_one}
+use Rattle.ipx_internet.specs.Queue.{Delivery, Queued, history_of, with_event, settled_one}
 use Rattle.ipx_internet.specs.Rounds.{IsDelivery}
 use Rattle.ipx_internet.specs.Run.{Step, Happens, Settles, AreHistories, Run, forgotten, stepped, run_of}
-use Rattle.ipx_internet.specs.Ticks.{IsOfTick, IsTick, AreTicks, ticked, most_ticks_gone, ups}
+use Rattle.ipx_internet.specs.Ticks.{IsOfTick, AreTicks, ticked, most_ticks_gone, ups}
 use Rattle.ipx_internet.proofs.Meantime.{each_so}
 use Rattle.ipx_internet.proofs.Queues.{deliveries}
 use Rattle.ipx_internet.proofs.Replying.{Layouts}

@@ -1,10 +1,9 @@
 -- After 2,880 ticks each route is of a real way, so that none is to a network that is gone, and no service is left.
-use Rattle.std.proofs.Common.{◌≡◌, ◌≢◌, refl, sym, ap, ◌∙◌, subst, ℕ, ◌+◌, ◌≤◌, ◌<◌, ◌==◌, true, false, List, [], ◌∷◌, length, map, inl, inr, arith}
+use Rattle.std.proofs.Common.{◌≡◌, ◌≢◌, refl, sym, ap, ◌∙◌, subst, ℕ, ◌≤◌, ◌<◌, ◌==◌, true, false, List, [], ◌∷◌, length, map, inl, inr}
 use Rattle.std.specs.List.{AllByRecursion}
 use Rattle.std.proofs.lemmas.Bool.{both_ways, eq-eqb, eqb-true, or_cases, or_left, or_right}
 use Rattle.ipx_table.specs.declared.held.Held.{Held}
 use Rattle.ipx_wire.specs.declared.network.Network.{Network}
-use Rattle.ipx_wire.specs.declared.rip.RipEntry.{RipEntry}
 use Rattle.ipx_wire.specs.Crossed.{is_among}
 use Rattle.ipx_router.specs.Facts.{route_facts, service_facts, routes_held, services_held, offers}
 use Rattle.ipx_router.specs.History.{History}

@@ -194,30 +194,40 @@ module _ (net : Internet) (laws : Layouts) (is : IsInternet net) (most_routes mo
   -- ---- ticks
 
   -- a tick, after which all is as it should be
-  record Passes (run : Run) (order : List ℕ) : Type 0 where
+  record Passes (run : Run) (steps : List Step) : Type 0 where
     pub count : ℕ
-    pub tick : IsTick net most_routes most_services run (a_tick_by order count)
-    pub sound : Sound (forgotten (run_of net most_routes most_services run (a_tick_by order count)))
+    pub tick : IsTick net most_routes most_services run (steps ++ replicate count Settles)
+    pub sound : Sound (forgotten (run_of net most_routes most_services run (steps ++ replicate count Settles)))
 
-  passes : (run : Run) (order : List ℕ) → IsOrder net order → Sound (forgotten run) → Passes run order
-  passes run order each sound =
-      let steps = map second order in
-      let these = seconds_of_tick order each.there in
-      let it = ends run steps (tick_steps steps these) sound in
+  passes : (run : Run) (steps : List Step) → AllByRecursion (IsOfTick net) steps → ((router : ℕ) → router < length net → seconds_of router steps ≡ 1)
+      → Sound (forgotten run) → Passes run steps
+  passes run steps all each sound =
+      let it = ends run steps (tick_steps steps all) sound in
       record {
         count = it.count;
         tick = record {
-          passes = all-append (IsOfTick net) steps (replicate it.count Settles) these (settles_all (IsOfTick net) tt it.count);
-          each = λ router within. seconds_then router steps it.count (seconds_by router order ∙ each.once router within);
+          passes = all-append (IsOfTick net) steps (replicate it.count Settles) all (settles_all (IsOfTick net) tt it.count);
+          each = λ router within. seconds_then router steps it.count (each router within);
           quiet = it.quiet;
         };
         sound = it.sound;
       }
 
+  passes_by : (run : Run) (order : List ℕ) → IsOrder net order → Sound (forgotten run) → Passes run (map second order)
+  passes_by run order each sound =
+      passes run (map second order) (seconds_of_tick order each.there) (λ router within. seconds_by router order ∙ each.once router within) sound
+
+  pub in_between : (run : Run) (steps : List Step) → AreHistories net run.histories → AllByRecursion (λ w. IsDelivery net w.delivery) run.waiting
+      → AllByRecursion (IsOfTick net) steps → ((router : ℕ) → router < length net → seconds_of router steps ≡ 1)
+      → (n : ℕ) × IsTick net most_routes most_services run (steps ++ replicate n Settles)
+  in_between run steps are waits all each =
+      let one = passes run steps all each (sound_run run are waits) in
+      (one.count, one.tick)
+
   pub in_order : (run : Run) (order : List ℕ) → AreHistories net run.histories → AllByRecursion (λ w. IsDelivery net w.delivery) run.waiting → IsOrder net order
       → (n : ℕ) × IsTick net most_routes most_services run (a_tick_by order n)
   in_order run order are waits each =
-      let one = passes run order each (sound_run run are waits) in
+      let one = passes_by run order each (sound_run run are waits) in
       (one.count, one.tick)
 
   pub can_pass : (run : Run) → AreHistories net run.histories → AllByRecursion (λ w. IsDelivery net w.delivery) run.waiting
@@ -228,17 +238,19 @@ module _ (net : Internet) (laws : Layouts) (is : IsInternet net) (most_routes mo
       → AllByRecursion (IsStep net) steps → ((router : ℕ) → router < length net → seconds_of router steps ≡ 1)
       → (n : ℕ) × IsBusyTick net most_routes most_services run (steps ++ replicate n Settles)
   can_be_busy run steps are waits all each =
-      let it = ends run steps all (sound_run run are waits) in
-      (it.count, record {
-        happens = all-append (IsStep net) steps (replicate it.count Settles) all (settles_all (IsStep net) tt it.count);
-        each = λ router within. seconds_then router steps it.count (each router within);
-        quiet = it.quiet;
-      })
+      let it = ends run steps all (sound_run run are waits) in (
+        it.count,
+        record {
+          happens = all-append (IsStep net) steps (replicate it.count Settles) all (settles_all (IsStep net) tt it.count);
+          each = λ router within. seconds_then router steps it.count (each router within);
+          quiet = it.quiet;
+        },
+      )
 
   several : (n : ℕ) (run : Run) → Sound (forgotten run) → (ticks : List (List Step)) × (length ticks ≡ n) × AreTicks net most_routes most_services run ticks
   several zero run sound = ([], refl, tt)
   several (suc n) run sound =
-      let one = passes run (numbers (length net)) by_number sound in
+      let one = passes_by run (numbers (length net)) by_number sound in
       let steps = a_tick (length net) one.count in
       let (ticks, as_many, are) = several n (run_of net most_routes most_services run steps) one.sound in
       (steps ∷ ticks, ap suc as_many, (one.tick, are))

@@ -30,7 +30,7 @@ ghost use Rattle.ipx_internet.specs.Real.{IsReal, led_over};
 ghost use Rattle.ipx_internet.specs.Rounds.{IsDelivery, IsOwnStep, rounds, handed_out, most_caused, most_rounds, most_own_rounds};
 ghost use Rattle.ipx_internet.specs.Run.{Step, Settles, IsStep, AreHistories, Run, begun, forgotten, happens, stepped, run_of};
 ghost use Rattle.ipx_internet.specs.Moment.{Moment, StandsFor, net_at};
-ghost use Rattle.ipx_internet.specs.Ticks.{seconds_of, IsTick, AreTicks, ticked, a_tick, a_tick_by, IsOrder, most_ticks_gone, ups, IsGone};
+ghost use Rattle.ipx_internet.specs.Ticks.{seconds_of, IsOfTick, IsTick, AreTicks, ticked, a_tick, a_tick_by, IsOrder, most_ticks_gone, ups, IsGone};
 ghost use Rattle.ipx_internet.specs.Traced.{tree, routers_of, routers_after};
 ghost use Rattle.ipx_internet.specs.Tree.{Router, router_now, IsRouter, Copy, net_of, sent_on, children, tree_to, IsTree};
 ghost use Rattle.ipx_internet.specs.Weight.{weight, weights, CanCome, IsBounded};
@@ -260,7 +260,8 @@ pub fn weighs()
 }
 
 /// Time can always pass: from any run, whatever waits, there is a tick, of which all seconds come first, by the numbers of the
-/// routers (`one`) or in any other order of them (`any_order`); and there are any number of ticks, one after the other.
+/// routers (`one`) or in any other order of them (`any_order`). Nor do they have to come first: any seconds and deliveries in which
+/// each router has one second begin a tick (`in_between`). And there are any number of ticks, one after the other.
 ///
 /// Whatever else happens, it is part of a busy tick (`busy`): any events and deliveries in which each router has one second are one,
 /// with deliveries enough behind them.
@@ -274,9 +275,13 @@ pub fn ticks_pass()
     ensures any_order { (net : Internet) (most_routes most_services : ℕ) (run : Run) (order : List ℕ) → IsInternet net → AreHistories net run.histories
         → AllByRecursion (λ w. IsDelivery net w.delivery) run.waiting → IsOrder net order
         → (deliveries : ℕ) × IsTick net most_routes most_services run (a_tick_by order deliveries) }
+    ensures in_between { (net : Internet) (most_routes most_services : ℕ) (run : Run) (steps : List Step) → IsInternet net → AreHistories net run.histories
+        → AllByRecursion (λ w. IsDelivery net w.delivery) run.waiting
+        → AllByRecursion (IsOfTick net) steps → ((router : ℕ) → router < length net → seconds_of router steps ≡ 1)
+        → (deliveries : ℕ) × IsTick net most_routes most_services run (steps ++ replicate deliveries Settles) }
     ensures busy { (net : Internet) (most_routes most_services : ℕ) (run : Run) (steps : List Step) → IsInternet net → AreHistories net run.histories
-        → AllByRecursion (λ w. IsDelivery net w.delivery) run.waiting → AllByRecursion (IsStep net) steps
-        → ((router : ℕ) → router < length net → seconds_of router steps ≡ 1)
+        → AllByRecursion (λ w. IsDelivery net w.delivery) run.waiting
+        → AllByRecursion (IsStep net) steps → ((router : ℕ) → router < length net → seconds_of router steps ≡ 1)
         → (deliveries : ℕ) × IsBusyTick net most_routes most_services run (steps ++ replicate deliveries Settles) }
 {
     ipx_wire::laws::readings();

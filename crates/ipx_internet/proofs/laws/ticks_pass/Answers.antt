@@ -1,5 +1,5 @@
 use Rattle.ipx_internet.proofs.Replying.{Layouts}
-use Rattle.ipx_internet.proofs.Tolling.{can_pass, as_many, in_order, can_be_busy}
+use Rattle.ipx_internet.proofs.Tolling.{can_pass, as_many, in_order, in_between, can_be_busy}
 use Rattle.ipx_internet.proofs.laws.ticks_pass.Goals as goal
 
 -- the laws of packets and routers
@@ -34,6 +34,10 @@ returns-clause-as_many c net most_routes most_services run count is are waits = 
 pub returns-clause-any_order : goal.returns-clause-any_order
 returns-clause-any_order c net most_routes most_services run order is are waits each =
     in_order net (layouts c) is most_routes most_services run order are waits each
+
+pub returns-clause-in_between : goal.returns-clause-in_between
+returns-clause-in_between c net most_routes most_services run steps is are waits all each =
+    in_between net (layouts c) is most_routes most_services run steps are waits all each
 
 pub returns-clause-busy : goal.returns-clause-busy
 returns-clause-busy c net most_routes most_services run steps is are waits all each =
