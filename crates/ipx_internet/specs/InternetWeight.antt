@@ -51,7 +51,7 @@ services_weight net entries = sum_by (λ e. entry_weight net e.hops) entries
 abbrev pub most_answered : Internet → ℕ → ℕ
 most_answered net most_routes = most_routes + (most_ports net - 1)
 
--- so many entries of routes are as long as one of services
+-- this many entries of routes are as long as one of services
 abbrev pub entries_a_service : ℕ
 entries_a_service = service_size / entry_size
 

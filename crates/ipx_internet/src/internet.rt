@@ -164,7 +164,7 @@ impl<const P: usize, const R: usize, const S: usize> Internet<P, R, S> {
         }
     }
 
-    /// Deliveries happen, each to its router, the first that waits first: so many, or as many as there are. Where memory
+    /// Deliveries happen, each to its router, the first that waits first: as many as the limit says, or as there are. Where memory
     /// runs out it stops, and the next one waits. As many as the internet weighs, or more, leave none.
     pub fn settle(&mut self, limit: usize) -> Result<Settled, InternetFault>
         ensures net { net_at self.new ≡ net_at self.old }

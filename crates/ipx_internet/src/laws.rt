@@ -35,8 +35,6 @@ ghost use Rattle.ipx_internet.specs.Traced.{tree, routers_of, routers_after};
 ghost use Rattle.ipx_internet.specs.Tree.{Router, router_now, IsRouter, Copy, net_of, sent_on, children, tree_to, IsTree};
 ghost use Rattle.ipx_internet.specs.Weight.{weight, weights, CanCome, IsBounded};
 
-use ipx_router::{RouteOffer, ServiceOffer};
-
 /// How far a packet goes, in any internet and any log: with any tables and any ports up, also such as change on the way.
 ///
 /// A packet for one network has at most 16 forwards in its whole course, fewer by its transport control. Every path of a
@@ -234,8 +232,8 @@ pub fn settles()
 /// Each delivery makes an internet lighter, whatever is in the tables and whatever waits, forged packets too. So no more happen than
 /// its weight says, and with that weight as a limit nothing is left.
 ///
-/// What waits weighs by what it says and by how far it may still go, a response by how many times what it says may be told on; each
-/// route and each service that is held weighs what its end makes. Nothing is asked of capacities, nor of what happened before.
+/// What waits weighs by what it says and by how far it may still go, a response by its entries and their hops; each route and each
+/// service that is held weighs as much as its end makes. Nothing is asked of capacities, nor of what happened before.
 pub fn weighs()
     ensures falls { (net : Internet) (most_routes most_services : ℕ) (histories : List History) (d : Delivery) (queue : List Delivery)
         → IsInternet net → NodesDiffer net → AreHistories net histories → IsDelivery net d
@@ -245,8 +243,6 @@ pub fn weighs()
         → AreHistories net q.histories → AllByRecursion (IsDelivery net) q.queue → queued_weight net most_routes most_services q ≤ limit
         → (settled net most_routes most_services limit q).queue ≡ [] }
 {
-    ipx_table::laws::next_facts::<RouteOffer>();
-    ipx_table::laws::next_facts::<ServiceOffer>();
     ipx_wire::laws::readings();
     ipx_wire::laws::service_readings();
     ipx_wire::laws::reread();
@@ -255,7 +251,6 @@ pub fn weighs()
     ipx_router::laws::tables();
     ipx_router::laws::packets();
     ipx_router::laws::relays();
-    ipx_router::laws::down_ports();
     ipx_router::laws::within_capacity();
 }
 

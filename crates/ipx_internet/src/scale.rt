@@ -1,5 +1,5 @@
 //! What weights are made of, and what one packet weighs by them.
-ghost use Rattle.std.specs.Prelude.{◌≡◌, ℕ, ◌-◌, ◌==◌, ◌||◌};
+ghost use Rattle.std.specs.Prelude.{◌≡◌, ℕ, ◌+◌, ◌-◌, ◌==◌, ◌||◌, if◌then◌else◌};
 ghost use Rattle.ipx_wire.specs.declared.address.Address.{Address as SomeAddress};
 ghost use Rattle.ipx_router.specs.Heard.{HeardRip, HeardSap};
 ghost use Rattle.ipx_router.specs.Numbers.{local_network, unreachable};
@@ -47,8 +47,8 @@ pub(crate) struct Scale {
     pub services: usize,
 }
 
-/// The scale of an internet where a router has this many ports at most, and a network this many, and a router has room for so
-/// many routes and services.
+/// The scale of an internet where a router has this many ports at most, and a network this many, and a router has room for
+/// that many routes and services.
 pub(crate) fn scale_of(ports: usize, on_network: usize, routes: usize, services: usize) -> Scale
     ensures { (net : Internet) → ports ≡ most_ports net → on_network ≡ most_on_network net → IsScale net routes services result }
 {
@@ -152,12 +152,22 @@ impl Scale {
     {
         match sap {
             Sap::Query { nearest, .. } => self.query(*nearest, asker),
-            Sap::Response { nearest: true, .. } => 1,
-            Sap::Response { entries, .. } => self.offered(entries).saturating_add(1),
+            Sap::Response { nearest, entries } => self.response(*nearest, entries),
         }
     }
 
-    /// What an entry of so many hops weighs.
+    /// What a response of services weighs.
+    fn response(self, nearest: bool, entries: &SapEntries<'_>) -> usize
+        ensures { (net : Internet) (routes services : ℕ) → IsScale net routes services self
+            → result ≡ saturated (if nearest then 1 else 1 + services_weight net entries.now) }
+    {
+        if nearest {
+            return 1;
+        }
+        self.offered(entries).saturating_add(1)
+    }
+
+    /// What an entry weighs, by its hops.
     fn entry(self, hops: u16) -> usize
         ensures { (net : Internet) (routes services : ℕ) → IsScale net routes services self → result ≡ saturated (entry_weight net hops) }
     {
@@ -170,7 +180,9 @@ impl Scale {
     {
         let mut sum: usize = 0;
         for k in 0..rip.len() {
-            sum = sum.saturating_add(self.entry(rip.entry(k).hops));
+            let told = rip.entry(k);
+            let weight = self.entry(told.hops);
+            sum = sum.saturating_add(weight);
         }
         sum
     }
@@ -181,7 +193,9 @@ impl Scale {
     {
         let mut sum: usize = 0;
         for k in 0..entries.len() {
-            sum = sum.saturating_add(self.entry(entries.entry(k).hops));
+            let told = entries.entry(k);
+            let weight = self.entry(told.hops);
+            sum = sum.saturating_add(weight);
         }
         sum
     }
@@ -190,15 +204,16 @@ impl Scale {
     fn request(self, asker: Socket) -> usize
         ensures { (net : Internet) (routes services : ℕ) → IsScale net routes services self → result ≡ saturated (request_weight net routes asker.0) }
     {
-        let read = if asker == Socket::RIP {
-            self.entries
-        } else if asker == Socket::SAP {
-            self.misread
-        } else {
-            0
-        };
         let packets = self.pages.saturating_add(1);
-        read.saturating_mul(self.entry(1)).saturating_add(packets)
+        if asker == Socket::RIP {
+            let read = self.entries.saturating_mul(self.entry(1));
+            return read.saturating_add(packets);
+        }
+        if asker == Socket::SAP {
+            let read = self.misread.saturating_mul(self.entry(1));
+            return read.saturating_add(packets);
+        }
+        packets
     }
 
     /// What a query weighs, by the asker's socket.
@@ -209,15 +224,16 @@ impl Scale {
             return 2;
         }
         let packets = self.services.div_ceil(SERVICES_A_PAGE).saturating_add(1);
-        let read = if asker == Socket::RIP {
+        if asker == Socket::RIP {
             let short = self.services.min(SERVICES_A_PAGE - 1);
-            (short * ENTRIES_A_SERVICE).saturating_mul(self.entry(0))
-        } else if asker == Socket::SAP {
-            self.services.saturating_mul(self.entry(1))
-        } else {
-            0
-        };
-        read.saturating_add(packets)
+            let read = (short * ENTRIES_A_SERVICE).saturating_mul(self.entry(0));
+            return read.saturating_add(packets);
+        }
+        if asker == Socket::SAP {
+            let read = self.services.saturating_mul(self.entry(1));
+            return read.saturating_add(packets);
+        }
+        packets
     }
 }
 

@@ -70,7 +70,7 @@ fn what_an_internet_weighs_is_a_limit_that_leaves_nothing(rt: HostRuntime) -> Re
     let mut internet = line(rt.alloc())?;
     let most = internet.most_deliveries();
     same(&rt, internet.settle(most)?, Settled::Quiet);
-    happened(&mut internet, 0, Event::PortDown(0))?;
+    happened(&mut internet, 0, Event::PortDown { port: 0 })?;
     let most = internet.most_deliveries();
     same(&rt, most, 3);
     same(&rt, internet.settle(most)?, Settled::Quiet);
