@@ -169,6 +169,17 @@ module _ (net : Internet) (laws : Layouts) (is : IsInternet net) (most_routes mo
   pub sound_run : (run : Run) → AreHistories net run.histories → AllByRecursion (λ w. IsDelivery net w.delivery) run.waiting → Sound (forgotten run)
   sound_run run are waits = record { are = are; waits = all_mapped (IsDelivery net) (λ (w : Waiting). w.delivery) run.waiting waits }
 
+  unmapped : (waiting : List Waiting) → AllByRecursion (IsDelivery net) (map (λ w. w.delivery) waiting) → AllByRecursion (λ w. IsDelivery net w.delivery) waiting
+  unmapped [] all = tt
+  unmapped (w ∷ waiting) all = (all.0, unmapped waiting all.1)
+
+  pub stays : (run : Run) (steps : List Step) → AreHistories net run.histories → AllByRecursion (λ w. IsDelivery net w.delivery) run.waiting
+      → AllByRecursion (IsStep net) steps
+      → let after = run_of net most_routes most_services run steps in AreHistories net after.histories × AllByRecursion (λ w. IsDelivery net w.delivery) after.waiting
+  stays run steps are waits all =
+      let sound = steps_sound run steps all (sound_run run are waits) in
+      (sound.are, unmapped (run_of net most_routes most_services run steps).waiting sound.waits)
+
   -- ---- with deliveries enough behind them nothing waits
 
   record Ends (run : Run) (steps : List Step) : Type 0 where

@@ -260,7 +260,13 @@ pub fn weighs()
 ///
 /// Whatever else happens, it is part of a busy tick (`busy`): any events and deliveries in which each router has one second are one,
 /// with deliveries enough behind them.
+///
+/// A run is one of which all this speaks as long as its steps are of routers and ports that there are (`stays`).
 pub fn ticks_pass()
+    ensures stays { (net : Internet) (most_routes most_services : ℕ) (run : Run) (steps : List Step) → IsInternet net → AreHistories net run.histories
+        → AllByRecursion (λ w. IsDelivery net w.delivery) run.waiting → AllByRecursion (IsStep net) steps
+        → let after = run_of net most_routes most_services run steps in
+        AreHistories net after.histories × AllByRecursion (λ w. IsDelivery net w.delivery) after.waiting }
     ensures one { (net : Internet) (most_routes most_services : ℕ) (run : Run) → IsInternet net → AreHistories net run.histories
         → AllByRecursion (λ w. IsDelivery net w.delivery) run.waiting
         → (deliveries : ℕ) × IsTick net most_routes most_services run (a_tick (length net) deliveries) }
@@ -288,7 +294,7 @@ pub fn ticks_pass()
 /// What is gone is gone everywhere after 2,880 ticks, whatever was in the tables before: where nobody has a port up on a network,
 /// no router has a route to it; and no router has any service, as no router announces one of its own.
 ///
-/// In a tick each router has one second, in any order, deliveries happen in between, and in the end nothing waits. Nothing
+/// Nothing waits when they begin. In a tick each router has one second, in any order, deliveries happen in between, and in the end nothing waits. Nothing
 /// else happens: packets of hosts, starts and stops, and ports that go down or come up aren't in it.
 pub fn gone()
     ensures networks { (net : Internet) (most_routes most_services : ℕ) (histories : List History) (ticks : List (List Step)) (router : ℕ) (network : Network)
@@ -310,7 +316,7 @@ pub fn gone()
 /// What is gone stays gone, whatever else happens meanwhile: starts and stops, ports that go down and come up, packets of hosts.
 ///
 /// After 2,880 ticks no router has a route to a network on which no port was up since they began, if no packet of a host said that it
-/// is reached; and no router has a service that no host announced since then. In a tick each router has one second, everything else
+/// is reached; and no router has a service that no host announced since then. Nothing waits when they begin. In a tick each router has one second, everything else
 /// happens in any order, and in the end nothing waits. A host may ask what it likes, but a request for routes is not sent from the socket
 /// of SAP, nor a query for services from that of RIP: the answer would be read as what it is not.
 pub fn gone_meanwhile()
@@ -334,7 +340,7 @@ pub fn gone_meanwhile()
     ipx_router::laws::packets();
 }
 
-/// Every route is of a real way after 2,880 such ticks, whatever was in the tables before: each came by a port that is up from a
+/// Every route is of a real way after 2,880 such ticks, whatever was in the tables before, where nothing waits at first: each came by a port that is up from a
 /// router that has the network on another port, or has such a route by another one. All those ports are up, neighbour by
 /// neighbour, and hops and ticks are those of that way.
 ///

@@ -1,5 +1,5 @@
 use Rattle.ipx_internet.proofs.Replying.{Layouts}
-use Rattle.ipx_internet.proofs.Tolling.{can_pass, as_many, in_order, in_between, can_be_busy}
+use Rattle.ipx_internet.proofs.Tolling.{stays, can_pass, as_many, in_order, in_between, can_be_busy}
 use Rattle.ipx_internet.proofs.laws.ticks_pass.Goals as goal
 
 -- the laws of packets and routers
@@ -24,6 +24,10 @@ layouts c = record {
   layouts = c.packets.ensures.layouts;
   bytes = c.packets.ensures.bytes;
 }
+
+pub returns-clause-stays : goal.returns-clause-stays
+returns-clause-stays c net most_routes most_services run steps is are waits all =
+    stays net (layouts c) is most_routes most_services run steps are waits all
 
 pub returns-clause-one : goal.returns-clause-one
 returns-clause-one c net most_routes most_services run is are waits = can_pass net (layouts c) is most_routes most_services run are waits
