@@ -1,23 +1,21 @@
 -- What a router answers to a request or a query weighs less than that: it goes to one port, and holds no more than the tables.
-use Rattle.std.proofs.Common.{◌≡◌, refl, sym, ap, ◌∙◌, subst, ◌⊎◌, ℕ, zero, suc, ◌+◌, ◌-◌, ◌*◌, ◌/◌, ◌<◌, ◌≤◌, ◌==◌, ◌&&◌, ◌||◌, min, not, nat_lt, if◌then◌else◌, Bool, true, false, List, [], ◌∷◌, ◌++◌, length, map, filter, flat_map, Option, Some, None, inl, inr, arith, length-append, mul-le-mul_right, add-mul, one-mul}
-use Rattle.std.specs.List.{AllByRecursion, sum_by, list_any}
+use Rattle.std.proofs.Common.{◌≡◌, refl, sym, ap, ℕ, ◌+◌, ◌-◌, ◌*◌, ◌/◌, ◌<◌, ◌≤◌, ◌==◌, min, if◌then◌else◌, Bool, true, false, List, [], ◌∷◌, ◌++◌, length, map, filter, flat_map, inl, inr, arith, length-append, mul-le-mul_right, add-mul, one-mul}
+use Rattle.std.specs.List.{AllByRecursion, sum_by}
 use Rattle.std.proofs.lemmas.Bool.{cases_Bool, cases_lt, lt-ltb, le-ltb}
 use Rattle.std.proofs.lemmas.List.Sums.{sum_by-cons}
-use Rattle.ipx_wire.specs.Rip.{IsEntry}
 use Rattle.ipx_wire.specs.declared.address.Address.{Address}
 use Rattle.ipx_wire.specs.declared.rip.Operation.TheVariants.{Response}
 use Rattle.ipx_wire.specs.declared.rip.RipEntry.{RipEntry}
 use Rattle.ipx_wire.specs.declared.service.Service.{Service}
-use Rattle.ipx_router.specs.Numbers.{rip_socket, sap_socket, all_routes, every_service, most_ticks, entries_a_page, services_a_page}
-use Rattle.ipx_router.specs.Pages.{pages_from, pages, sheets}
-use Rattle.ipx_router.specs.Port.{Port, IsPort, broadcast, port_at, is_up, same_node, reply_to, own_address, own_services}
+use Rattle.ipx_router.specs.Numbers.{rip_socket, sap_socket, most_ticks, entries_a_page, services_a_page}
+use Rattle.ipx_router.specs.Pages.{pages_from, pages}
+use Rattle.ipx_router.specs.Port.{Port, IsPort, broadcast, port_at, same_node, reply_to, own_address, own_services}
 use Rattle.ipx_router.specs.Sends.{rip_sends, sap_sends, is_nearer, nearest_of}
 use Rattle.ipx_router.specs.Told.{network_before, name_before, is_service_told, told_at, direct, learned, told, farther, told_services}
 use Rattle.ipx_router.specs.declared.route_offer.RouteOffer.{RouteOffer}
 use Rattle.ipx_router.specs.declared.service_offer.ServiceOffer.{ServiceOffer}
-use Rattle.ipx_router.proofs.ByteFields.{IsPlace as IsWritten, IsTellable}
-use Rattle.ipx_router.proofs.Every.{all_both, all_sorted}
-use Rattle.ipx_router.proofs.Lengths.{length-filter, length-told, length-told_services}
+use Rattle.ipx_router.proofs.ByteFields.{IsPlace as IsWritten}
+use Rattle.ipx_router.proofs.Every.{all_sorted}
 use Rattle.ipx_router.proofs.Owned.{Writable, reply_is}
 use Rattle.ipx_router.proofs.PageCounts.{length-pages, room_left, page_full}
 use Rattle.ipx_router.proofs.PageItems.{all_pages}
@@ -27,13 +25,13 @@ use Rattle.ipx_internet.specs.Internet.{Internet, Place, IsInternet, IsPlace, No
 use Rattle.ipx_internet.specs.InternetWeight.{entry_weight, routes_weight, entries_a_service, most_answered, request_weight, query_weight}
 use Rattle.ipx_internet.specs.Queue.{deliveries_of}
 use Rattle.ipx_internet.proofs.Landing.{w, farther_lighter, pages_land, lists_land}
-use Rattle.ipx_internet.proofs.Lists.{all_of, all_then, all-map, all-filter, at_most_one}
+use Rattle.ipx_internet.proofs.Lists.{all_of, all_then, all-map, at_most_one}
 use Rattle.ipx_internet.proofs.Misreading.{IsTold, IsToldService, short, rip_page_lands, sap_page_lands, nearest_lands}
 use Rattle.ipx_internet.proofs.Paging.{Tellable}
 use Rattle.ipx_internet.proofs.Places.{delivered_within, delivered_differ}
 use Rattle.ipx_internet.proofs.Receivers.{ports_at, receives_is, one_receiver}
 use Rattle.ipx_internet.proofs.Replying.{Layouts}
-use Rattle.ipx_internet.proofs.Sheets.{sum_one_more, sum_few, paged, paged_one_more}
+use Rattle.ipx_internet.proofs.Sheets.{sum_one_more, sum_few, paged}
 use Rattle.ipx_internet.proofs.Wire.{Wire}
 
 -- ---- what is told
@@ -43,11 +41,13 @@ module _ (ports : List Port) (are : AllByRecursion IsPort ports) (number : ℕ) 
   told_so e =
       let cost = (port_at ports number).cost in
       let some : IsPort (port_at ports number) = port-all IsPort ports number are within in
-      let paid = some.cost in
-      (omega arith, elim (cases_lt (e.ticks + cost) most_ticks) [
-        | inl below ↦ rw (lt-ltb (e.ticks + cost) most_ticks below) (omega (arith, paid))
-        | inr over ↦ rw (le-ltb (e.ticks + cost) most_ticks over) (omega arith)
-      ])
+      let paid = some.cost in (
+        omega arith,
+        elim (cases_lt (e.ticks + cost) most_ticks) [
+          | inl below ↦ rw (lt-ltb (e.ticks + cost) most_ticks below) (omega (arith, paid))
+          | inr over ↦ rw (le-ltb (e.ticks + cost) most_ticks over) (omega arith)
+        ],
+      )
 
   pub all_told : (up : List ℕ) (routes : List RouteOffer) → AllByRecursion IsTold (told ports up routes number)
   all_told up routes =

@@ -1,7 +1,7 @@
 -- A delivery of which something is heard weighs as much as that: a response itself and its entries, which pay for what they bring.
-use Rattle.std.proofs.Common.{◌≡◌, refl, sym, ap, ◌∙◌, subst, ◌⊎◌, ℕ, ◌+◌, ◌*◌, ◌≤◌, ◌==◌, ◌&&◌, ◌||◌, if◌then◌else◌, Bool, true, false, not, List, [], ◌∷◌, Option, None, Some, IfSome, Result, Ok, Err, inl, inr, arith, is_some, true≢false}
+use Rattle.std.proofs.Common.{◌≡◌, refl, ap, ◌∙◌, subst, ℕ, ◌+◌, ◌*◌, ◌≤◌, ◌==◌, ◌&&◌, ◌||◌, Bool, true, false, not, List, [], ◌∷◌, Option, None, Some, Result, Ok, Err, inl, inr, arith, is_some, true≢false}
 use Rattle.std.specs.List.{AllByRecursion, sum_by}
-use Rattle.std.proofs.lemmas.Bool.{cases_Bool, and_from, and_parts, not-true, or_parts, both_ways}
+use Rattle.std.proofs.lemmas.Bool.{cases_Bool, and_from, and_parts, not-true}
 use Rattle.ipx_wire.specs.Packet.{Parts, packet_of}
 use Rattle.ipx_wire.specs.Rip.{RipParts, rip_of}
 use Rattle.ipx_wire.specs.Sap.{sap_of}
@@ -19,8 +19,8 @@ use Rattle.ipx_router.specs.Why.{first_of, when, is_near, is_propagated, is_for_
 use Rattle.ipx_router.specs.declared.why.Why.{Why}
 use Rattle.ipx_router.proofs.Passing.{all_checks, asked}
 use Rattle.ipx_router.proofs.Tables.{source_of, came_in, near_source}
-use Rattle.ipx_internet.specs.Internet.{Internet, port_of, ports_of}
-use Rattle.ipx_internet.specs.InternetWeight.{most_hearers, routes_weight, services_weight, is_for_process, message_weight, delivery_weight}
+use Rattle.ipx_internet.specs.Internet.{Internet, port_of}
+use Rattle.ipx_internet.specs.InternetWeight.{most_hearers, routes_weight, services_weight, is_for_process, message_weight}
 use Rattle.ipx_internet.specs.Queue.{Delivery}
 use Rattle.ipx_internet.proofs.Bringing.{brings, service_brings, routes_bring, services_bring}
 use Rattle.ipx_internet.proofs.Landing.{w, said, plain_weighs}

@@ -1,8 +1,7 @@
 -- What a packet weighs that is for the network on which it comes, and so a router's own pages: by what the process reads that they are for.
-use Rattle.std.proofs.Common.{◌≡◌, refl, sym, ap, ◌∙◌, subst, ℕ, zero, suc, ◌+◌, ◌-◌, ◌*◌, ◌<◌, ◌≤◌, ◌==◌, max, if◌then◌else◌, Bool, true, false, List, [], ◌∷◌, ◌++◌, length, map, flat_map, Option, Some, None, Result, Ok, Err, arith, mul-le-mul_left, mul-le-mul_right, mul-add, one-mul}
+use Rattle.std.proofs.Common.{◌≡◌, refl, sym, ap, ◌∙◌, subst, ℕ, zero, suc, ◌+◌, ◌-◌, ◌*◌, ◌<◌, ◌≤◌, ◌==◌, max, if◌then◌else◌, Bool, true, false, List, [], ◌∷◌, length, map, flat_map, Option, Some, None, Result, Ok, Err, arith, mul-le-mul_left, mul-le-mul_right, mul-add, one-mul}
 use Rattle.std.specs.List.{AllByRecursion, sum_by}
 use Rattle.std.proofs.lemmas.Bool.{eq-eqb, or_right}
-use Rattle.std.proofs.lemmas.Grind.{flat_map-append}
 use Rattle.std.proofs.lemmas.List.{length-map}
 use Rattle.std.proofs.lemmas.List.Sums.{sum_by-cons, sum_by-append}
 use Rattle.ipx_wire.specs.Numbers.{crossed_places}
@@ -25,7 +24,7 @@ use Rattle.ipx_router.specs.Port.{Port, IsPort, port_at, is_local, own_address, 
 use Rattle.ipx_router.specs.Relays.{Sent}
 use Rattle.ipx_router.specs.Sends.{entries_sent, services_sent}
 use Rattle.ipx_router.specs.Why.{is_propagated}
-use Rattle.ipx_router.proofs.ByteFields.{IsPlace as IsWritten, IsTellable}
+use Rattle.ipx_router.proofs.ByteFields.{IsPlace as IsWritten}
 use Rattle.ipx_router.proofs.Owned.{Writable}
 use Rattle.ipx_router.proofs.PageItems.{IsPage}
 use Rattle.ipx_router.proofs.PortPlaces.{port-all}

@@ -1,6 +1,6 @@
 -- A delivery that a router hears leaves less weight than there was: what is sent for it, and what the tables hold then, weigh less than the
 -- delivery and what they held.
-use Rattle.std.proofs.Common.{◌≡◌, refl, sym, ap, ap₂, ◌∙◌, subst, ◌⊎◌, ℕ, zero, suc, ◌+◌, ◌-◌, ◌*◌, ◌<◌, ◌≤◌, ◌==◌, ◌&&◌, ◌||◌, not, if◌then◌else◌, Bool, true, false, List, [], ◌∷◌, ◌++◌, length, flat_map, Option, Some, IfSome, inl, inr, arith, mul-le-mul_left, mul-le-mul_right, mul-add, mul_assoc, mul_comm}
+use Rattle.std.proofs.Common.{◌≡◌, refl, sym, ap, ◌∙◌, subst, ◌⊎◌, ℕ, ◌+◌, ◌-◌, ◌*◌, ◌≤◌, ◌==◌, ◌&&◌, ◌||◌, not, if◌then◌else◌, Bool, true, false, List, [], ◌∷◌, ◌++◌, length, flat_map, Option, Some, inl, inr, arith, mul-le-mul_left, mul-le-mul_right, mul-add, mul_assoc, mul_comm}
 use Rattle.std.specs.List.{AllByRecursion, sum_by, list_any}
 use Rattle.std.proofs.lemmas.List.{length-map}
 use Rattle.ipx_table.specs.declared.held.Held.{Held}
@@ -11,10 +11,10 @@ use Rattle.ipx_wire.specs.declared.rip.Operation.TheVariants.{Request, Response}
 use Rattle.ipx_wire.specs.declared.rip.RipEntry.{RipEntry}
 use Rattle.ipx_wire.specs.declared.sap.Sap.TheVariants.{Query, Response as SapResponse}
 use Rattle.ipx_wire.specs.declared.service.Service.{Service}
-use Rattle.ipx_router.specs.Changes.{Change, changes}
+use Rattle.ipx_router.specs.Changes.{changes}
 use Rattle.ipx_router.specs.Facts.{routes_heard, services_heard, routes_held, services_held, offers}
 use Rattle.ipx_router.specs.Heard.{Heard, HeardRip, HeardSap}
-use Rattle.ipx_router.specs.History.{History, Packet, IsOnPort, IsOfBytes, running, is_down, ports_up}
+use Rattle.ipx_router.specs.History.{History, Packet, IsOfBytes, running, is_down, ports_up}
 use Rattle.ipx_router.specs.News.{route_told, service_told, news, news_services, same_route, same_service}
 use Rattle.ipx_router.specs.Numbers.{all_routes, every_service}
 use Rattle.ipx_router.specs.Port.{Port, broadcast, port_at, is_up, numbers, reply_to, same_node}

@@ -1,14 +1,12 @@
 -- What a router's own pages weigh, whichever process reads them: an answer goes to the asker's socket, and entries of routes may be read
 -- there as services, or services as routes.
-use Rattle.std.proofs.Common.{◌≡◌, refl, sym, ap, ◌∙◌, subst, ℕ, zero, suc, ◌+◌, ◌-◌, ◌*◌, ◌/◌, ◌<◌, ◌≤◌, ◌==◌, nat_lt, if◌then◌else◌, Bool, true, false, List, [], ◌∷◌, ◌++◌, length, map, take, drop, slice_get, Option, Some, None, Result, Ok, Err, inl, inr, arith, length-append, append-nil}
+use Rattle.std.proofs.Common.{◌≡◌, refl, sym, ap, ◌∙◌, subst, ℕ, ◌+◌, ◌-◌, ◌*◌, ◌/◌, ◌<◌, ◌≤◌, ◌==◌, nat_lt, if◌then◌else◌, Bool, true, false, List, [], length, map, take, drop, slice_get, Option, Some, None, Result, Ok, Err, inl, inr, arith, append-nil}
 use Rattle.std.specs.Int.{from_be_bytes, w16}
 use Rattle.std.specs.List.{AllByRecursion, sum_by, flat_map}
 use Rattle.std.proofs.lemmas.Bool.{cases_Bool, cases_lt, lt-ltb, le-ltb}
 use Rattle.std.proofs.lemmas.List.{drop-drop}
 use Rattle.std.proofs.lemmas.Option.{slice_get_within}
 use Rattle.ipx_wire.specs.Items.{items}
-use Rattle.ipx_wire.specs.Packet.{Parts}
-use Rattle.ipx_wire.specs.Piece.{piece}
 use Rattle.ipx_wire.specs.Rip.{RipParts, IsEntry, entry_bytes, entry_at, operation_field, operation_of, operated, rip_of}
 use Rattle.ipx_wire.specs.Sap.{numbered_of, response_of, sap_of}
 use Rattle.ipx_wire.specs.SapEntries.{sap_entry_at, sap_entries_at}
@@ -28,7 +26,6 @@ use Rattle.ipx_wire.proofs.Items.{length-items, items_again, slice_get-items, le
 use Rattle.ipx_wire.proofs.Services.{length-service_bytes}
 use Rattle.ipx_router.specs.Heard.{Heard, HeardRip, HeardSap}
 use Rattle.ipx_router.specs.Numbers.{rip_socket, sap_socket, entries_a_page, services_a_page}
-use Rattle.ipx_router.proofs.ByteFields.{IsTellable}
 use Rattle.ipx_router.proofs.Owned.{Writable}
 use Rattle.ipx_router.proofs.PageItems.{IsPage}
 use Rattle.ipx_internet.specs.Internet.{Internet}
@@ -38,7 +35,7 @@ use Rattle.ipx_internet.proofs.Lists.{all_of, all_then, all_listed}
 use Rattle.ipx_internet.proofs.Paging.{Tellable}
 use Rattle.ipx_internet.proofs.Sheets.{sum_few, sum_mapped}
 use Rattle.ipx_internet.proofs.Ways.{it_is}
-use Rattle.ipx_internet.proofs.Weighed.{all_get, there_at}
+use Rattle.ipx_internet.proofs.Weighed.{all_get}
 
 -- an entry that a router tells: at least one hop away, and one tick
 abbrev pub IsTold : RipEntry → Type 0
@@ -128,7 +125,7 @@ module _ (net : Internet) (most_routes most_services : ℕ) where
   rip_reads source payload is = elim (cases_Bool (nat_lt (length payload) 2)) [
     | inl e ↦ rw e (omega arith)
     | inr e ↦ rw e (subst (λ (k : ℕ). by_rip source (operated k (operation_of k) payload)
-    ≤ 1 + (if nat_lt 409 (length payload) then 0 else (length payload - 2) / 8) * entry_weight net 0) (sym is) response)
+        ≤ 1 + (if nat_lt 409 (length payload) then 0 else (length payload - 2) / 8) * entry_weight net 0) (sym is) response)
   ]
     where
       entries : List RipEntry

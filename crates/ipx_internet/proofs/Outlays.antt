@@ -1,11 +1,9 @@
 -- What a router holds before and after a packet comes, and what its changes cost: no more than what was heard brings.
-use Rattle.std.proofs.Common.{◌≡◌, refl, sym, ap, ◌∙◌, subst, ℕ, ◌+◌, ◌*◌, ◌≤◌, List, [], ◌∷◌, ◌++◌, length, map, Option, Some, None, IfSome, arith, append-nil}
-use Rattle.std.specs.List.{AllByRecursion, sum_by}
-use Rattle.std.proofs.lemmas.List.{length-map}
+use Rattle.std.proofs.Common.{◌≡◌, sym, ap, ◌∙◌, subst, ℕ, ◌+◌, ◌≤◌, List, [], ◌∷◌, ◌++◌, length, map, Option, Some, None, IfSome, arith, append-nil}
+use Rattle.std.specs.List.{sum_by}
 use Rattle.ipx_table.specs.Facts.{Fact}
 use Rattle.ipx_table.specs.Stands.{held}
 use Rattle.ipx_table.specs.declared.held.Held.{Held}
-use Rattle.ipx_wire.specs.declared.rip.Operation.TheVariants.{Request, Response}
 use Rattle.ipx_wire.specs.declared.sap.Sap.TheVariants.{Query, Response as SapResponse}
 use Rattle.ipx_router.specs.Changes.{changes}
 use Rattle.ipx_router.specs.Facts.{routes_heard, services_heard, heard_after, route_facts, service_facts, route_facts_of, service_facts_of, routes_held, services_held, offers}
@@ -24,7 +22,6 @@ use Rattle.ipx_router.proofs.Telling.{route-same, service-same}
 use Rattle.ipx_internet.specs.Internet.{Internet}
 use Rattle.ipx_internet.proofs.Bringing.{route_told_weight, service_told_weight, brings, service_brings}
 use Rattle.ipx_internet.proofs.Costs.{telling, changes_cost}
-use Rattle.ipx_internet.proofs.Leaving.{OffersOf}
 use Rattle.ipx_internet.proofs.Lists.{all_of}
 use Rattle.ipx_internet.proofs.Offered.{EachHeard, heard_routes, heard_services}
 

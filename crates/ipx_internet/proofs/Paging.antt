@@ -92,8 +92,7 @@ module _ (readings : Readings) (again : Rereadings) (ports : List Port) (number 
       let bytes : IsBytes (packet_bytes parts) = rip_are_bytes from to Response page from_is.node to_is.node entries in
       let said : RipParts = record { operation = Response; entries = page } in
       let says : IsRip parts.payload said =
-      subst (λ payload. IsRip payload said) (append-nil (rip_payload Response page)) (again.rip_again Response page [] entries is.some is.most (omega arith)) in
-      (
+      subst (λ payload. IsRip payload said) (append-nil (rip_payload Response page)) (again.rip_again Response page [] entries is.some is.most (omega arith)) in (
         (readings.packet_read (packet_bytes parts) parts bytes).1 read,
         (readings.rip_read parts.payload said (parts_bytes (packet_bytes parts) parts bytes read).payload).1 says,
       )
@@ -124,8 +123,7 @@ module _ (readings : Readings) (again : Rereadings) (ports : List Port) (number 
       let bytes : IsBytes (packet_bytes parts) = sap_are_bytes from to nearest page from_is.node to_is.node tellable in
       let said : Sap = SapResponse nearest (map entry_of page) in
       let says : IsSap parts.payload said =
-      subst (λ payload. IsSap payload said) (append-nil (sap_payload nearest page)) (again.sap_again nearest page [] is.some is.most ranges (omega arith)) in
-      (
+      subst (λ payload. IsSap payload said) (append-nil (sap_payload nearest page)) (again.sap_again nearest page [] is.some is.most ranges (omega arith)) in (
         (readings.packet_read (packet_bytes parts) parts bytes).1 read,
         (readings.sap_read parts.payload said (parts_bytes (packet_bytes parts) parts bytes read).payload).1 says,
       )

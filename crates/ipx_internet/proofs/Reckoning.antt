@@ -1,10 +1,9 @@
 -- The weight of an internet is that of the histories that its routers stand for, and falls with each delivery.
-use Rattle.std.proofs.Common.{◌≡◌, refl, sym, ap, ap₂, ◌∙◌, subst, ℕ, zero, suc, ◌+◌, ◌<◌, List, [], ◌∷◌, length, slice_get, Some, arith, mul-le-mul_right, one-mul}
+use Rattle.std.proofs.Common.{◌≡◌, refl, sym, ap, ap₂, ◌∙◌, subst, ℕ, zero, suc, ◌+◌, ◌<◌, List, [], ◌∷◌, length, slice_get, Some, arith}
 use Rattle.std.specs.List.{AllByRecursion, sum_by}
 use Rattle.std.proofs.lemmas.List.{length-map, get_or-map}
 use Rattle.std.proofs.lemmas.List.Sums.{sum_by-cons, sum_by_push}
 use Rattle.std.proofs.lemmas.Option.{get_or_from_slice_get, slice_get_within}
-use Rattle.ipx_wire.specs.Packet.{packet_of}
 use Rattle.ipx_router.specs.Facts.{routes_held, services_held}
 use Rattle.ipx_router.specs.History.{History, IsOnPort, IsOfBytes}
 use Rattle.ipx_router.specs.Port.{Port, numbers}
@@ -18,7 +17,6 @@ use Rattle.ipx_internet.specs.Rounds.{IsDelivery}
 use Rattle.ipx_internet.specs.Run.{AreHistories}
 use Rattle.ipx_internet.specs.Settled.{HasSettled, IsToldOf}
 use Rattle.ipx_internet.specs.Simulated.{moment, net_among}
-use Rattle.ipx_internet.specs.Tree.{root}
 use Rattle.ipx_internet.specs.declared.internet.Settled.{Settled}
 use Rattle.ipx_internet.specs.declared.internet.Settled.TheVariants.{Quiet, Left}
 use Rattle.ipx_internet.proofs.Landing.{at_least_one}

@@ -1,5 +1,5 @@
 -- Numbers that are counted up to the greatest of a word: sums, products, and what grows by levels.
-use Rattle.std.proofs.Common.{◌≡◌, refl, ap, ap₂, ◌∙◌, ℕ, zero, suc, ◌+◌, ◌-◌, ◌*◌, ◌^◌, ◌≤◌, inl, inr, arith, mul-le-mul_right, one-mul, mul_comm, mul-add}
+use Rattle.std.proofs.Common.{◌≡◌, ap, ap₂, ◌∙◌, ℕ, zero, suc, ◌+◌, ◌-◌, ◌*◌, ◌^◌, ◌≤◌, inl, inr, arith, mul-le-mul_right, one-mul, mul_comm, mul-add}
 use Rattle.std.proofs.lemmas.Bool.{cases_lt}
 use Rattle.ipx_internet.specs.Internet.{Internet}
 use Rattle.ipx_internet.specs.InternetWeight.{most_hearers, weight_in_reach}

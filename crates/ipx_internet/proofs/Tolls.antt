@@ -1,6 +1,6 @@
 -- What is told of changes weighs, on all ports together: of each change as much as is told of it, once for each that hears it.
-use Rattle.std.proofs.Common.{◌≡◌, ◌≢◌, refl, sym, ap, ◌∙◌, ℕ, zero, suc, ◌+◌, ◌-◌, ◌*◌, ◌<◌, ◌≤◌, ◌==◌, if◌then◌else◌, Bool, true, false, List, [], ◌∷◌, ◌++◌, length, map, flat_map, Option, Some, None, IfSome, inl, inr, arith, Ordering, mul-le-mul_left, mul-le-mul_right, mul-add, suc-mul, is_eq, ◌⊎◌}
-use Rattle.std.specs.List.{AllByRecursion, sum_by, list_any}
+use Rattle.std.proofs.Common.{◌≡◌, ◌≢◌, refl, sym, ap, ℕ, zero, suc, ◌+◌, ◌-◌, ◌*◌, ◌<◌, ◌≤◌, ◌==◌, if◌then◌else◌, Bool, true, false, List, [], ◌∷◌, length, flat_map, Option, Some, None, IfSome, inl, inr, arith, mul-le-mul_left, mul-add, suc-mul, ◌⊎◌}
+use Rattle.std.specs.List.{AllByRecursion, sum_by}
 use Rattle.std.proofs.lemmas.Bool.{cases_Bool, cases_eq, both_ways, eq-eqb, ne_eqb, eqb-true, or_cases}
 use Rattle.std.proofs.lemmas.Grind.{flat_map-append}
 use Rattle.std.proofs.lemmas.List.Sums.{sum_by-cons, sum_by-append, sum_by-le-sum_by}
@@ -8,36 +8,29 @@ use Rattle.ipx_wire.specs.WriteServices.{entry_of}
 use Rattle.ipx_wire.specs.declared.rip.RipEntry.{RipEntry}
 use Rattle.ipx_wire.specs.declared.sap_entries.SapEntry.{SapEntry}
 use Rattle.ipx_wire.specs.declared.service.Service.{Service}
-use Rattle.ipx_router.specs.Changes.{Change, put_keys, change_at, differs, changes}
-use Rattle.ipx_router.specs.News.{route_now, route_told, news, service_now, service_told, news_services, same_route, same_service}
-use Rattle.ipx_router.specs.Numbers.{unreachable, rip_socket, sap_socket, entries_a_page, services_a_page}
+use Rattle.ipx_router.specs.News.{route_now, route_told, service_now, service_told}
+use Rattle.ipx_router.specs.Numbers.{entries_a_page, services_a_page}
 use Rattle.ipx_router.specs.Pages.{pages}
 use Rattle.ipx_router.specs.Port.{Port, IsPort, port_at, is_up, own_address, own_services, everyone, every_server}
-use Rattle.ipx_router.specs.Relays.{Sent}
-use Rattle.ipx_router.specs.Routes.{route_reading, network_order}
 use Rattle.ipx_router.specs.Sends.{broadcasts, rip_broadcast, sap_broadcast}
-use Rattle.ipx_router.specs.Services.{service_reading, service_order}
 use Rattle.ipx_router.specs.Told.{is_reached_on, entry_of as route_entry, dead, dead_service}
 use Rattle.ipx_router.specs.declared.route_offer.RouteOffer.{RouteOffer}
 use Rattle.ipx_router.specs.declared.service_offer.ServiceOffer.{ServiceOffer}
 use Rattle.ipx_router.proofs.Owned.{Writable}
-use Rattle.ipx_router.proofs.PageCounts.{length-pages}
-use Rattle.ipx_router.proofs.PageItems.{IsPage, all_pages}
+use Rattle.ipx_router.proofs.PageItems.{all_pages}
 use Rattle.ipx_router.proofs.PortPlaces.{port-all}
-use Rattle.ipx_internet.specs.Delivery.{delivered}
 use Rattle.ipx_internet.specs.Internet.{Internet, Place, IsInternet, ports_of}
-use Rattle.ipx_internet.specs.InternetWeight.{entry_weight, routes_weight, services_weight}
+use Rattle.ipx_internet.specs.InternetWeight.{entry_weight, routes_weight}
 use Rattle.ipx_internet.specs.Most.{most_on_network}
 use Rattle.ipx_internet.specs.Queue.{deliveries_of}
-use Rattle.ipx_internet.proofs.Bringing.{told_weight, route_told_weight, service_told_weight}
+use Rattle.ipx_internet.proofs.Bringing.{route_told_weight, service_told_weight}
 use Rattle.ipx_internet.proofs.Costs.{telling}
 use Rattle.ipx_internet.proofs.Counts.{delivered_few}
-use Rattle.ipx_internet.proofs.Landing.{w, pages_land, lists_land, rip_heard, sap_heard, farther_lighter}
-use Rattle.ipx_internet.proofs.Lists.{all-map}
+use Rattle.ipx_internet.proofs.Landing.{w, pages_land, lists_land, rip_heard, sap_heard}
 use Rattle.ipx_internet.proofs.Paging.{Tellable, everyone_is, every_server_is}
 use Rattle.ipx_internet.proofs.Receivers.{ports_at}
 use Rattle.ipx_internet.proofs.Replying.{Layouts}
-use Rattle.ipx_internet.proofs.Sheets.{sum_one_more, sum_both, sum_mapped, sum_flat, sum_each, paged_one_more}
+use Rattle.ipx_internet.proofs.Sheets.{sum_one_more, sum_both, sum_mapped, paged_one_more}
 
 -- ---- on ports but one
 

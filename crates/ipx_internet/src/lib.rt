@@ -6,7 +6,7 @@
 //! - Its `specs/` say which ports receive what a router sends (`Delivery`), what a list of receptions is (`Log`), which
 //!   course and which paths a packet takes through it (`Course`), what waits in an internet and what a run of it lists
 //!   (`Queue`, `Run`), what its routers send in it (`Departure`), the tree of a packet while nothing else happens (`Tree`,
-//!   `Most`, `Weight`), rounds of deliveries and what an internet weighs (`Rounds`, `InternetWeight`, `Scales`), time that passes, and routes
+//!   `Most`, `Weight`), rounds of deliveries and what an internet weighs (`Rounds`, `InternetWeight`), time that passes, and routes
 //!   of real ways (`Ticks`, `Real`); and what an `Internet` is to its contracts (`Moment`, `Settled`, `Refused`, `Traced`).
 //! - The laws hold of every internet, with any tables and any ports up at each reception: a packet for one network is
 //!   forwarded at most 16 times in all; a path of a propagated packet has at most eight forwards, and visits no network

@@ -1,5 +1,5 @@
 -- What two routers on one segment weigh, from their start until they are quiet.
-use Rattle.std.proofs.Common.{◌≡◌, refl, [], ◌∷◌, map, true, false}
+use Rattle.std.proofs.Common.{◌≡◌, refl, List, [], ◌∷◌, map, true, false}
 use Rattle.ipx_wire.specs.Address.{address_bytes, address_at}
 use Rattle.ipx_wire.specs.Crossed.{network_bytes, network_at}
 use Rattle.ipx_wire.specs.Items.{items}
@@ -8,7 +8,9 @@ use Rattle.ipx_wire.specs.Packet.{packet_of}
 use Rattle.ipx_wire.specs.Rip.{entry_bytes, entry_at, rip_of}
 use Rattle.ipx_wire.specs.Sap.{sap_of}
 use Rattle.ipx_router.specs.Numbers.{rip_socket, sap_socket}
-use Rattle.ipx_internet.specs.InternetWeight.{most_hearers, entry_weight, request_weight, query_weight, delivery_weight, queued_weight}
+use Rattle.ipx_router.specs.Port.{Port}
+use Rattle.ipx_router.specs.Stands.{State}
+use Rattle.ipx_internet.specs.InternetWeight.{most_hearers, entry_weight, request_weight, query_weight, delivery_weight, queued_weight, internet_weight}
 use Rattle.ipx_internet.proofs.examples.Directed.{star}
 use Rattle.ipx_internet.proofs.examples.Waiting.{segment, after}
 use Rattle.ipx_internet.proofs.examples.Words.{node, plain, at}
@@ -38,6 +40,20 @@ pub falls : map (λ n. queued_weight segment 8 8 (after n)) (0 ∷ 1 ∷ 2 ∷ 3
     ≡ 1092 ∷ 1062 ∷ 821 ∷ 578 ∷ 548 ∷ 307 ∷ 64 ∷ 33 ∷ 2 ∷ []
 unfolding header_bytes address_bytes network_bytes packet_of header_at address_at items network_at entry_bytes entry_at rip_of sap_of
 falls = refl
+
+-- so it does where they are as they are now: each holds one route, whichever that is, and nothing waits
+abbrev one_route : List Port → State
+one_route ports = record {
+  ports = ports;
+  running = true;
+  up = 0 ∷ 1 ∷ [];
+  seconds = 0;
+  routes = record { offer = record { network = record { 0 = 0x40 }; hops = 1; ticks = 2; port = 1; node = node 1 }; age = 0 } ∷ [];
+  services = [];
+}
+
+pub at_last : internet_weight 8 8 (record { routers = map one_route segment; queue = [] }) ≡ 2
+at_last = refl
 
 -- a packet of no process weighs what it may lead to: one that comes on its own network; one that goes on, sixteen routers and the two
 -- others of its last network; and bytes that are no packet

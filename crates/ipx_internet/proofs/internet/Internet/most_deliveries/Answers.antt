@@ -1,4 +1,4 @@
-use Rattle.std.proofs.Common.{◌≡◌, refl, sym, ap, ap₂, ◌∙◌, subst, ◌-◌, ◌*◌, ◌++◌, ◌∷◌, ℕ, List, [], drop, length, arith, rules}
+use Rattle.std.proofs.Common.{◌≡◌, refl, sym, ap, ap₂, ◌∙◌, subst, ◌*◌, ◌++◌, ◌∷◌, ℕ, List, [], drop, length, arith, rules}
 use Rattle.std.specs.List.{sum_by}
 use Rattle.std.proofs.lemmas.List.Sums.{sum_by-append}
 use Rattle.ipx_router.specs.Stands.{State}

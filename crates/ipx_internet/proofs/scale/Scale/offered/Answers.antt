@@ -7,8 +7,7 @@ use Rattle.ipx_internet.proofs.scale.Scale.offered.Goals as goal
 pub loop-k-preserved : goal.loop-k-preserved
 loop-k-preserved c =
     let entries = c.args.entries.now in
-    let sum = c.saturating_add-sum.ensures in
-    (
+    let sum = c.saturating_add-sum.ensures in (
       λ net routes services is.
           let next = sum_next (λ (e : SapEntry). entry_weight net e.hops) entries c.loop-k.k c.loop-k.sum (services_weight net entries) (c.loop-k.invariant.0 net routes services is)
           c.entry-told.result c.entry-told.ensures c.entry-weight.result (c.entry-weight.ensures net routes services is) in

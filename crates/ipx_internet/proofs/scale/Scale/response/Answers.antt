@@ -1,4 +1,4 @@
-use Rattle.std.proofs.Common.{◌≡◌, refl, ◌+◌, if◌then◌else◌, false, arith}
+use Rattle.std.proofs.Common.{◌≡◌, refl, ◌+◌, if◌then◌else◌, arith}
 use Rattle.ipx_internet.specs.InternetWeight.{services_weight}
 use Rattle.ipx_internet.proofs.scale.Scale.response.Goals as goal
 

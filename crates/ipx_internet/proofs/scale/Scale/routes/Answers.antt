@@ -7,8 +7,7 @@ use Rattle.ipx_internet.proofs.scale.Scale.routes.Goals as goal
 pub loop-k-preserved : goal.loop-k-preserved
 loop-k-preserved c =
     let entries = c.args.rip.now.entries in
-    let sum = c.saturating_add-sum.ensures in
-    (
+    let sum = c.saturating_add-sum.ensures in (
       λ net routes services is.
           let next = sum_next (λ (e : RipEntry). entry_weight net e.hops) entries c.loop-k.k c.loop-k.sum (routes_weight net entries) (c.loop-k.invariant.0 net routes services is)
           c.entry-told.result c.entry-told.ensures c.entry-weight.result (c.entry-weight.ensures net routes services is) in
