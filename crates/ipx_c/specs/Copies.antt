@@ -1,6 +1,6 @@
 -- What copying a packet out does to what C lent for it.
 use Rattle.std.specs.Prelude.{◌≡◌, ℕ, ◌+◌, ℤ, nat_le, if◌then◌else◌, List, [], ◌++◌, length, drop, slice_get, Option, None, Some, Result, Ok, Err}
-use Rattle.ipx_router.specs.Outbox.{HasRoom, total}
+use Rattle.ipx_router.specs.Outbox.{HasRoom, KeepsMemory, total}
 use Rattle.ipx_router.specs.Relays.{Sent}
 use Rattle.ipx_c.specs.Codes.{fault_code, done}
 use Rattle.ipx_c.specs.Values.{told_of}
@@ -36,13 +36,14 @@ copy_code (Ok sent) room = if nat_le (length sent.bytes) room then done else fau
 copy_code (Err fault) room = fault_code fault
 
 -- a machine after a clearing: the same router, and nothing to be sent. The room of what was to be sent is there again, and the
--- room that was left stays
+-- room that was left stays, in the same memory
 pub record Cleared (m n : Machine) : Type 0 where
   pub router : n.router ≡ m.router
   pub sent : n.outbox.sent ≡ []
   pub room : (packets bytes : ℕ) → HasRoom m.outbox packets bytes
       → HasRoom n.outbox (packets + length m.outbox.sent) (bytes + total m.outbox.sent)
   pub kept : (packets bytes : ℕ) → HasRoom m.outbox packets bytes → HasRoom n.outbox packets bytes
+  pub memory : KeepsMemory m.outbox n.outbox
 
 -- what a handle has after a clearing
 abbrev pub IsCleared : Option Machine → Option Machine → Type 0

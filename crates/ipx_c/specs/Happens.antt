@@ -2,8 +2,8 @@
 use Rattle.std.specs.Prelude.{◌≡◌, ℤ, [], ◌∷◌, ◌++◌, Option, None, Some, Result, Ok, Err}
 use Rattle.ipx_router.specs.Bounds.{most_length}
 use Rattle.ipx_router.specs.History.{Event, History, IsOnPort}
-use Rattle.ipx_router.specs.Needs.{HasRoomFor, packets_needed}
-use Rattle.ipx_router.specs.Outbox.{AppendsAtMost}
+use Rattle.ipx_router.specs.Needs.{HasRoomFor, TakesRoomFor, packets_needed}
+use Rattle.ipx_router.specs.Outbox.{AppendsAtMost, KeepsMemory}
 use Rattle.ipx_router.specs.Outcomes.{outcome}
 use Rattle.ipx_router.specs.Sends.{sends}
 use Rattle.ipx_router.specs.Shares.{IsWithinCapacity, WithinRouteShares, WithinServiceShares}
@@ -46,10 +46,15 @@ IsRefused machine event NoPort = IsOnPort machine.router.ports event → ⊥
 IsRefused machine event OutOfMemory = HasRoomFor machine.router event machine.outbox → ⊥
 IsRefused machine event fault = ⊥
 
--- the event was taken, or refused and nothing happened
+-- what is to be sent took memory only for the room that the event needs, where that was missing, and none where it was there
+pub record TakesMemory (m n : Machine) (event : Event) : Type 0 where
+  pub still : HasRoomFor m.router event m.outbox → KeepsMemory m.outbox n.outbox
+  pub takes : TakesRoomFor m.router event m.outbox n.outbox
+
+-- the event was taken, or refused and nothing happened but that there may be more room
 abbrev pub Meets : Machine → Machine → Event → Result Outcome Fault → Type 0
-Meets m n event (Ok became) = Took m n event became
-Meets m n event (Err fault) = IsSame m n × IsRefused m event fault
+Meets m n event (Ok became) = Took m n event became × TakesMemory m n event
+Meets m n event (Err fault) = IsSame m n × IsRefused m event fault × TakesMemory m n event
 
 -- what a handle has before an event and after it, and the number that C hears: with no router there is none afterwards; with one
 -- the event is taken, or refused and nothing happened

@@ -29,13 +29,14 @@ pub record ArePorts (values : List PortValues) : Type 0 where
   pub few : length values ≤ most_ports
   pub each : AllByRecursion IsPort (map port_of values)
 
--- a router as it is made, of those ports: it stands for the empty history, and nothing is to be sent
+-- a router as it is made, of those ports: it stands for the empty history, nothing is to be sent, and no memory was taken for it
 pub record IsMade (values : List PortValues) (machine : Machine) : Type 0 where
   pub ports : ArePorts values
   pub apart : AreApart (map port_of values)
   pub router : machine.router ≡ made_of (map port_of values)
   pub stands : Stands machine []
   pub sent : machine.outbox.sent ≡ []
+  pub memory : machine.outbox.memory ≡ record { packets = 0; bytes = 0 }
 
 -- why no router is made, the first that holds: there is no port, there are too many; the first that is none; two are on one
 -- network; and where nothing is wrong with them, memory was refused
