@@ -12,6 +12,9 @@ type Row = Internet<2, 50, 8>;
 /// As many routers as a route has numbers of hops, 0 to 15.
 const ROUTERS: usize = 16;
 
+/// The last of them.
+const LAST: usize = 15;
+
 /// The seconds that a record lasts.
 const LIFETIME: usize = 180;
 
@@ -34,7 +37,7 @@ fn settled(internet: &mut Row) -> Result<(), Fail> {
     }
 }
 
-/// Sixteen routers in a row, on networks 100 to 110, that were started; but for the last one's, the port to the next is down.
+/// Sixteen routers in a row, on networks 100 to 110, that were started.
 fn row(heap: Global) -> Result<Row, Fail> {
     let mut internet = Row::new(heap);
     let mut network = 0x100u32;
@@ -47,9 +50,21 @@ fn row(heap: Global) -> Result<Row, Fail> {
         }
         internet.event(number, Event::Start)?;
     }
-    for number in 0..ROUTERS - 1 {
+    Ok(internet)
+}
+
+/// The row, where the first router has just heard of network 99, and each port to the next router is down.
+fn told(heap: Global) -> Result<Row, Fail> {
+    let mut internet = row(heap)?;
+    for number in 0..ROUTERS {
         internet.event(number, Event::PortDown { port: 1 })?;
     }
+    settled(&mut internet)?;
+    let way = Event::Packet {
+        port: 0,
+        bytes: &WAY,
+    };
+    internet.event(0, way)?;
     settled(&mut internet)?;
     Ok(internet)
 }
@@ -73,20 +88,34 @@ fn told_at_last(internet: &mut Row, number: usize) -> Result<(), Fail> {
     settled(internet)
 }
 
-/// Which routers have a route to network 99, and the hops and age of the last one's.
+/// As many ticks as a record stands once it was heard.
+fn lifetime(internet: &mut Row) -> Result<(), Fail> {
+    for _ in 1..LIFETIME {
+        seconds(internet, ROUTERS)?;
+    }
+    Ok(())
+}
+
+/// The hops and age of a router's route to network 99.
+fn route(router: &Router<2, 50, 8>) -> Option<(u16, u8)> {
+    for place in 0..router.routes() {
+        if let Some(held) = router.route_at(place) {
+            if held.offer.network == Network(0x99) {
+                return Some((held.offer.hops, held.age));
+            }
+        }
+    }
+    None
+}
+
+/// How many routers have such a route, and the last of them, with its hops and age.
 fn holders(internet: &Row) -> (usize, Option<(usize, u16, u8)>) {
     let mut count = 0usize;
     let mut last = None;
     for number in 0..ROUTERS {
-        if let Some(router) = internet.router(number) {
-            for place in 0..router.routes() {
-                if let Some(held) = router.route_at(place) {
-                    if held.offer.network == Network(0x99) {
-                        count = count.wrapping_add(1);
-                        last = Some((number, held.offer.hops, held.age));
-                    }
-                }
-            }
+        if let Some((hops, age)) = internet.router(number).and_then(route) {
+            count = count.wrapping_add(1);
+            last = Some((number, hops, age));
         }
     }
     (count, last)
@@ -95,25 +124,18 @@ fn holders(internet: &Row) -> (usize, Option<(usize, u16, u8)>) {
 /// The bound of `laws::gone_meanwhile` is met: each router tells the next one of its route in the last moment.
 #[test]
 fn a_route_to_what_is_gone_lasts_2879_busy_ticks(rt: HostRuntime) -> Result<(), Fail> {
-    let mut internet = row(rt.alloc())?;
-    let way = Event::Packet {
-        port: 0,
-        bytes: &WAY,
-    };
-    internet.event(0, way)?;
-    settled(&mut internet)?;
+    let mut internet = told(rt.alloc())?;
     same(&rt, holders(&internet), (1, Some((0, 0, 0))));
-    for number in 0..ROUTERS {
-        for _ in 1..LIFETIME {
-            seconds(&mut internet, ROUTERS)?;
-        }
-        let hops = u16::try_from(number).unwrap_or(u16::MAX);
+    let mut hops = 0u16;
+    for number in 0..LAST {
+        lifetime(&mut internet)?;
         same(&rt, holders(&internet), (1, Some((number, hops, 179))));
-        if number + 1 < ROUTERS {
-            seconds(&mut internet, number)?;
-            told_at_last(&mut internet, number)?;
-        }
+        seconds(&mut internet, number)?;
+        told_at_last(&mut internet, number)?;
+        hops = hops.wrapping_add(1);
     }
+    lifetime(&mut internet)?;
+    same(&rt, holders(&internet), (1, Some((LAST, 15, 179))));
     seconds(&mut internet, ROUTERS)?;
     same(&rt, holders(&internet), (0, None));
     Ok(())
