@@ -78,7 +78,9 @@ fn what_an_internet_weighs_is_a_limit_that_leaves_nothing(rt: HostRuntime) -> Re
 }
 
 #[test]
-fn an_internet_that_weighs_more_than_a_word_tells_the_greatest(rt: HostRuntime) -> Result<(), Fail> {
+fn an_internet_that_weighs_more_than_a_word_tells_the_greatest(
+    rt: HostRuntime,
+) -> Result<(), Fail> {
     let mut internet = Small::new(rt.alloc());
     for number in 1..=24 {
         let own = u32::from(number) + 0x100;

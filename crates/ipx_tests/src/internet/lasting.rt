@@ -20,8 +20,8 @@ const LIFETIME: usize = 180;
 
 /// A response on network 100 from node AA that says that network 99 is no hop away.
 const WAY: [u8; 40] = [
-    0xFF, 0xFF, 0, 40, 0, 1, 0, 0, 1, 0, 0xFF, 0xFF, 0xFF, 0xFF, 0xFF, 0xFF, 4, 0x53, 0, 0, 1, 0, 0,
-    0, 0, 0, 0, 0xAA, 4, 0x53, 0, 2, 0, 0, 0, 0x99, 0, 0, 0, 2,
+    0xFF, 0xFF, 0, 40, 0, 1, 0, 0, 1, 0, 0xFF, 0xFF, 0xFF, 0xFF, 0xFF, 0xFF, 4, 0x53, 0, 0, 1, 0,
+    0, 0, 0, 0, 0, 0xAA, 4, 0x53, 0, 2, 0, 0, 0, 0x99, 0, 0, 0, 2,
 ];
 
 /// A port of a network with this number, whose node ends so.
