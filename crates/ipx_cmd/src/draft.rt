@@ -13,8 +13,14 @@ pub(crate) const ROOM: usize = 2048;
 /// How many bytes the words of a record and the line of its packet take at most.
 pub(crate) const HEAD: usize = 128;
 
-/// How many digits a number has at most.
-const LONGEST_COUNT: usize = 20;
+/// How many digits a field of a packet has at most.
+pub(crate) const LONGEST_NUMBER: usize = 5;
+
+/// How many digits the number of a record has at most.
+pub(crate) const LONGEST_COUNT: usize = 20;
+
+/// How many bytes the word of a name has at most.
+pub(crate) const LONGEST_NAME: usize = 141;
 
 /// Text that is put together.
 #[derive(Drop)]
@@ -72,9 +78,9 @@ impl Draft {
 
     /// Puts a number in decimal digits.
     pub(crate) fn put_number(&mut self, number: u16)
-        requires { length self.old + 5 ≤ ROOM }
+        requires { length self.old + LONGEST_NUMBER ≤ ROOM }
         ensures text { self.new ≡ self.old ++ decimal number }
-        ensures most { length self.new ≤ length self.old + 5 }
+        ensures most { length self.new ≤ length self.old + LONGEST_NUMBER }
     {
         if number < 10_000 {
             return self.put_four(number);
@@ -138,9 +144,9 @@ impl Draft {
 
     /// Puts the number of a record in decimal digits.
     pub(crate) fn put_count(&mut self, count: u64)
-        requires { length self.old + 20 ≤ ROOM }
+        requires { length self.old + LONGEST_COUNT ≤ ROOM }
         ensures text { self.new ≡ self.old ++ decimal count }
-        ensures most { length self.new ≤ length self.old + 20 }
+        ensures most { length self.new ≤ length self.old + LONGEST_COUNT }
     {
         let mut digits = [0; LONGEST_COUNT];
         let first = write_digits(count, &mut digits, LONGEST_COUNT);
@@ -149,9 +155,9 @@ impl Draft {
 
     /// Puts the name of a service as one word.
     pub(crate) fn put_name(&mut self, name: &ServiceName)
-        requires { length self.old + 141 ≤ ROOM }
+        requires { length self.old + LONGEST_NAME ≤ ROOM }
         ensures text { self.new ≡ self.old ++ name_word name.now }
-        ensures most { length self.new ≤ length self.old + 141 }
+        ensures most { length self.new ≤ length self.old + LONGEST_NAME }
     {
         let mut word = [0; ServiceName::LONGEST_WORD];
         let count = name.put_word(&mut word);

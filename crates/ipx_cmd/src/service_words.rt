@@ -7,6 +7,12 @@ use crate::draft::{Draft, ROOM};
 use ipx_wire::{Address, Service, Socket};
 use std::alloc::AllocError;
 
+/// How many bytes the words of a service have at most.
+pub(crate) const LONGEST_SERVICE: usize = 187;
+
+/// How many bytes its address and its hops have at most, each behind a space.
+const LONGEST_OFFERED: usize = 33;
+
 /// Appends the words of a service: its type, its name, where it is offered and how far away.
 ///
 /// An error is out of memory.
@@ -23,9 +29,9 @@ pub(crate) fn add_service(text: &mut Vec<u8>, service: &Service) -> Result<(), A
 /// Puts the words of a service.
 #[tactic(auto, unfolding(crate::specs::ServiceWords::service_words))]
 pub(crate) fn put_service(draft: &mut Draft, service: &Service)
-    requires { length draft.old + 190 ≤ ROOM }
+    requires { length draft.old + LONGEST_SERVICE ≤ ROOM }
     ensures text { draft.new ≡ draft.old ++ service_words service.now }
-    ensures most { length draft.new ≤ length draft.old + 190 }
+    ensures most { length draft.new ≤ length draft.old + LONGEST_SERVICE }
 {
     let Service {
         kind,
@@ -43,9 +49,9 @@ pub(crate) fn put_service(draft: &mut Draft, service: &Service)
 /// Puts where a service is offered, and how far away.
 #[tactic(auto, unfolding(crate::specs::ServiceWords::offered_words))]
 fn put_offered(draft: &mut Draft, address: Address, hops: u16)
-    requires { length draft.old + 33 ≤ ROOM }
+    requires { length draft.old + LONGEST_OFFERED ≤ ROOM }
     ensures text { draft.new ≡ draft.old ++ offered_words address hops }
-    ensures most { length draft.new ≤ length draft.old + 33 }
+    ensures most { length draft.new ≤ length draft.old + LONGEST_OFFERED }
 {
     let Address {
         network,

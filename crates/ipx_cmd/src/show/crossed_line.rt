@@ -7,6 +7,15 @@ ghost use Rattle.ipx_cmd.specs.CrossedWord.{crossed_word};
 use crate::draft::{Draft, HEAD, ROOM};
 use ipx_wire::{Crossed, CrossedFault, Network};
 
+/// How many bytes the first word of the line has.
+const WORD: usize = 7;
+
+/// How many bytes a network takes with the space before it.
+const NETWORK: usize = 9;
+
+/// How many bytes the line has at most, but for its end.
+const LONGEST: usize = 70;
+
 /// Puts the line of the networks that a packet has crossed, or of why it names none.
 #[tactic(auto, unfolding(crate::specs::CrossedText::crossed_text))]
 pub(crate) fn put_crossed(draft: &mut Draft, control: u8, payload: &[u8])
@@ -34,9 +43,9 @@ fn put_line(draft: &mut Draft, crossed: &Crossed<'_>)
 }
 
 fn put_networks(draft: &mut Draft, crossed: &Crossed<'_>)
-    requires { length draft.old ≤ HEAD + 7 }
+    requires { length draft.old ≤ HEAD + WORD }
     ensures text { draft.new ≡ draft.old ++ flat_map network_after crossed.now }
-    ensures most { length draft.new ≤ HEAD + 79 }
+    ensures most { length draft.new ≤ HEAD + LONGEST }
 {
     for place in 0..crossed.len() {
         put_network(draft, crossed.get(place));
@@ -45,9 +54,9 @@ fn put_networks(draft: &mut Draft, crossed: &Crossed<'_>)
 
 #[tactic(auto, unfolding(crate::specs::CrossedText::network_after))]
 fn put_network(draft: &mut Draft, network: Network)
-    requires { length draft.old + 9 ≤ ROOM }
+    requires { length draft.old + NETWORK ≤ ROOM }
     ensures text { draft.new ≡ draft.old ++ network_after network }
-    ensures size { length draft.new ≡ length draft.old + 9 }
+    ensures size { length draft.new ≡ length draft.old + NETWORK }
 {
     draft.put(b" ");
     draft.put(&network.digits());

@@ -9,10 +9,19 @@ use crate::show::rip_lines::put_rip;
 use crate::show::sap_lines::put_sap;
 use ipx_wire::{Header, Packet, PacketFault, Socket};
 
+/// How many bytes source and destination have.
+const ENDS: usize = 53;
+
+/// How many bytes the numbers of a header have at most, with their words.
+const LONGEST_COUNTS: usize = 34;
+
+/// How many bytes the line of a header has at most.
+pub(crate) const LONGEST_HEADER: usize = 87;
+
 /// Puts the lines of the packet that the bytes are, behind the words of its record; or why they are none.
 #[tactic(auto, unfolding(crate::specs::PacketText::packet_text))]
 pub(crate) fn put_packet(draft: &mut Draft, bytes: &[u8])
-    requires { length draft.old + 88 ≤ HEAD }
+    requires { length draft.old + LONGEST_HEADER ≤ HEAD }
     ensures { draft.new ≡ draft.old ++ packet_text (packet_of bytes.now) }
 {
     match Packet::read(bytes) {
@@ -31,9 +40,9 @@ pub(crate) fn put_packet(draft: &mut Draft, bytes: &[u8])
 
 #[tactic(auto, unfolding(crate::specs::PacketText::header_text))]
 fn put_header(draft: &mut Draft, header: &Header)
-    requires { length draft.old + 88 ≤ ROOM }
+    requires { length draft.old + LONGEST_HEADER ≤ ROOM }
     ensures text { draft.new ≡ draft.old ++ header_text header.now }
-    ensures most { length draft.new ≤ length draft.old + 88 }
+    ensures most { length draft.new ≤ length draft.old + LONGEST_HEADER }
 {
     put_ends(draft, header);
     put_counts(draft, header);
@@ -42,9 +51,9 @@ fn put_header(draft: &mut Draft, header: &Header)
 /// Puts source and destination.
 #[tactic(auto, unfolding(crate::specs::PacketText::ends_text))]
 fn put_ends(draft: &mut Draft, header: &Header)
-    requires { length draft.old + 53 ≤ ROOM }
+    requires { length draft.old + ENDS ≤ ROOM }
     ensures text { draft.new ≡ draft.old ++ ends_text header.now }
-    ensures size { length draft.new ≡ length draft.old + 53 }
+    ensures size { length draft.new ≡ length draft.old + ENDS }
 {
     let Header {
         source,
@@ -59,9 +68,9 @@ fn put_ends(draft: &mut Draft, header: &Header)
 /// Puts the numbers of the header, and ends the line.
 #[tactic(auto, unfolding(crate::specs::PacketText::counts_text))]
 fn put_counts(draft: &mut Draft, header: &Header)
-    requires { length draft.old + 34 ≤ ROOM }
+    requires { length draft.old + LONGEST_COUNTS ≤ ROOM }
     ensures text { draft.new ≡ draft.old ++ counts_text header.now }
-    ensures most { length draft.new ≤ length draft.old + 34 }
+    ensures most { length draft.new ≤ length draft.old + LONGEST_COUNTS }
 {
     let Header {
         control,

@@ -11,6 +11,12 @@ use crate::show::packet_lines::put_packet;
 use ipx_capture::{Captured, Frame, frame};
 use std::alloc::AllocError;
 
+/// How many bytes the number of a record has at most, with its word.
+const LONGEST_RECORD: usize = 28;
+
+/// How many bytes the word of a frame's kind has at most.
+const LONGEST_KIND: usize = 10;
+
 /// Appends the lines of a record, put together in a draft whose text is given up.
 ///
 /// An error is out of memory.
@@ -42,7 +48,7 @@ fn put_record(draft: &mut Draft, captured: Captured<'_>)
 
 #[tactic(auto, unfolding(crate::specs::RecordText::frame_text))]
 fn put_frame(draft: &mut Draft, frame: Frame<'_>)
-    requires { length draft.old ≤ 28 }
+    requires { length draft.old ≤ LONGEST_RECORD }
     ensures { draft.new ≡ draft.old ++ frame_text (framed frame.entry) }
 {
     match frame {
@@ -57,8 +63,8 @@ fn put_frame(draft: &mut Draft, frame: Frame<'_>)
 /// Puts the word of the frame's kind, and the lines of what it carries.
 #[inline(always)]
 fn put_carried(draft: &mut Draft, kind: &str, packet: &[u8])
-    requires before { length draft.old ≤ 28 }
-    requires word { length kind.now ≤ 10 }
+    requires before { length draft.old ≤ LONGEST_RECORD }
+    requires word { length kind.now ≤ LONGEST_KIND }
     ensures { draft.new ≡ draft.old ++ kind.now ++ codes " " ++ packet_text (packet_of packet.now) }
 {
     draft.put(kind.as_bytes());

@@ -7,6 +7,12 @@ ghost use Rattle.ipx_router.specs.WhyWord.{rip_word};
 use crate::draft::{Draft, HEAD, ROOM};
 use ipx_wire::{Rip, RipEntry, RipFault};
 
+/// How many bytes the line of the operation has at most.
+const LONGEST_OPERATION: usize = 13;
+
+/// How many bytes the line of an entry has at most.
+const LONGEST_ENTRY: usize = 36;
+
 /// Puts the lines of routing information, or the one that says why the data are none.
 #[tactic(auto, unfolding(crate::specs::RipText::rip_text))]
 pub(crate) fn put_rip(draft: &mut Draft, payload: &[u8])
@@ -35,7 +41,7 @@ fn put_routes(draft: &mut Draft, rip: &Rip<'_>)
 }
 
 fn put_entries(draft: &mut Draft, rip: &Rip<'_>)
-    requires { length draft.old ≤ HEAD + 16 }
+    requires { length draft.old ≤ HEAD + LONGEST_OPERATION }
     ensures { draft.new ≡ draft.old ++ flat_map route_entry_text rip.now.entries }
 {
     for place in 0..rip.len() {
@@ -45,9 +51,9 @@ fn put_entries(draft: &mut Draft, rip: &Rip<'_>)
 
 #[tactic(auto, unfolding(crate::specs::RipText::route_entry_text))]
 fn put_entry(draft: &mut Draft, entry: RipEntry)
-    requires { length draft.old + 36 ≤ ROOM }
+    requires { length draft.old + LONGEST_ENTRY ≤ ROOM }
     ensures text { draft.new ≡ draft.old ++ route_entry_text entry }
-    ensures most { length draft.new ≤ length draft.old + 36 }
+    ensures most { length draft.new ≤ length draft.old + LONGEST_ENTRY }
 {
     let RipEntry {
         network,

@@ -9,6 +9,15 @@ use crate::draft::{Draft, HEAD, ROOM};
 use crate::service_words::put_service;
 use ipx_wire::{Sap, SapEntries, SapEntry, SapFault, Service, Socket};
 
+/// How many bytes the line of a response has.
+const RESPONSE: usize = 21;
+
+/// How many bytes the word of a scope has.
+const SCOPE: usize = 7;
+
+/// How many bytes the line of an entry has at most.
+const LONGEST_ENTRY: usize = 188;
+
 /// Puts the lines of service advertising, or the one that says why the data are none.
 #[tactic(auto, unfolding(crate::specs::SapText::sap_text))]
 pub(crate) fn put_sap(draft: &mut Draft, payload: &[u8])
@@ -50,7 +59,7 @@ fn put_services(draft: &mut Draft, nearest: bool, entries: &SapEntries<'_>)
 }
 
 fn put_entries(draft: &mut Draft, entries: &SapEntries<'_>)
-    requires { length draft.old ≤ HEAD + 32 }
+    requires { length draft.old ≤ HEAD + RESPONSE }
     ensures { draft.new ≡ draft.old ++ flat_map service_entry_text entries.now }
 {
     for place in 0..entries.len() {
@@ -60,9 +69,9 @@ fn put_entries(draft: &mut Draft, entries: &SapEntries<'_>)
 
 #[tactic(auto, unfolding(crate::specs::SapText::service_entry_text))]
 fn put_entry(draft: &mut Draft, entry: &SapEntry)
-    requires { length draft.old + 200 ≤ ROOM }
+    requires { length draft.old + LONGEST_ENTRY ≤ ROOM }
     ensures text { draft.new ≡ draft.old ++ service_entry_text entry.now }
-    ensures most { length draft.new ≤ length draft.old + 200 }
+    ensures most { length draft.new ≤ length draft.old + LONGEST_ENTRY }
 {
     match entry.name {
         Some(name) => {
@@ -81,7 +90,7 @@ fn put_entry(draft: &mut Draft, entry: &SapEntry)
 
 fn scope(nearest: bool) -> &'static str
     ensures word { result.now ≡ scope_word nearest }
-    ensures size { length result.now ≡ 7 }
+    ensures size { length result.now ≡ SCOPE }
 {
     if nearest { "nearest" } else { "general" }
 }

@@ -5,4 +5,4 @@ use Rattle.ipx_cmd.proofs.show.sap_lines.put_entries.Given as goal
 
 abbrev pub invariant-loop-place : goal.invariant-loop-place
 invariant-loop-place l =
-    (l.draft ≡ l.initial.draft ++ flat_map service_entry_text (take l.place l.entries)) × (length l.draft ≤ length l.initial.draft + 200 * l.place)
+    (l.draft ≡ l.initial.draft ++ flat_map service_entry_text (take l.place l.entries)) × (length l.draft ≤ length l.initial.draft + 188 * l.place)
