@@ -1,4 +1,4 @@
-use Rattle.std.proofs.Common.{List, ℕ, ◌++◌, sym, ap, ◌∙◌, arith, append_assoc}
+use Rattle.std.proofs.Common.{arith}
 use Rattle.ipx_cmd.proofs.Drafted.{decimal_pair, after}
 use Rattle.ipx_cmd.proofs.draft.Draft.put_four.Goals as goal
 
