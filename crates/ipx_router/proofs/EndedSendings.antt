@@ -122,11 +122,8 @@ module _ (ports : List Port) (up : List ℕ) (routes : List (Held RouteOffer)) (
     pub second_as : {routes_now : List (Held RouteOffer)} {services_now : List (Held ServiceOffer)} (periodic : Bool)
         → routes_now ≡ second_later routes → services_now ≡ second_later services
         → second_sends ports up routes services periodic ≡ all_sends ports ended_now lost_now up (offers routes_now) (offers services_now) periodic
-    second_as periodic routes_are services_are =
-        elim (cases_Bool periodic) [
-          | inl yes ↦ rw yes (periodic_as true refl routes_are services_are)
-          | inr no ↦ rw no (quiet_as false refl)
-        ]
+    second_as true routes_are services_are = periodic_as true refl routes_are services_are
+    second_as false routes_are services_are = quiet_as false refl
 
   pub port_down_as : (port : ℕ) {ended_now : List RouteOffer} {lost_now : List ServiceOffer}
       → ended_now ≡ ended_with_port (λ r. r.port) port routes → lost_now ≡ ended_with_port (λ s. s.port) port services

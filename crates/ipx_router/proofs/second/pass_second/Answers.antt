@@ -1,16 +1,17 @@
-use Rattle.std.proofs.Common.{sym, ◌∙◌, subst}
+use Rattle.std.proofs.Common.{sym, subst, rules}
 use Rattle.ipx_router.specs.Outbox.{Fits, Appends}
 use Rattle.ipx_router.proofs.EndedSendings.{nothing_sent, second_as}
 use Rattle.ipx_router.proofs.Paying.{appends_none}
 use Rattle.ipx_router.proofs.second.pass_second.Goals as goal
 
-pub broadcast_second-requires-clause-room : goal.broadcast_second-requires-clause-room
-broadcast_second-requires-clause-room g c =
+pub broadcast_second-requires : goal.broadcast_second-requires
+broadcast_second-requires g c =
     let a = c.args in
-    subst (Fits a.outbox.now)
+    let room = subst (Fits a.outbox.now)
     (second_as a.ports.now a.up.now a.routes.now.records a.services.now.records c.are_by_key.ensures.routes c.are_by_key.ensures.services
     c.second_in_place.ensures.ended c.second_in_place-2.ensures.ended a.periodic c.second_in_place.ensures.records c.second_in_place-2.ensures.records)
-    c.requires.room
+    c.requires.room in
+    (search rules, (search rules, (c.requires.ports, (c.requires.few, (c.second_in_place.ensures.by_key, (c.second_in_place-2.ensures.by_key, room))))))
 
 pub returns-clause-sends : goal.returns-clause-sends
 returns-clause-sends g c =
