@@ -74,12 +74,15 @@ fn made(alloc: Global, values: &[PortValues]) -> Result<Box<Machine>, Fault>
         return Err(Fault::Ports(PortsFault::TooMany));
     }
     let ports = ports_of(values).map_err(Fault::Port)?;
-    let router = SizedRouter::new(&ports).map_err(Fault::Ports)?;
-    let machine = Machine {
-        router,
-        outbox: Outbox::new(alloc),
-    };
-    match Box::new(alloc, machine) {
+    SizedRouter::check(&ports).map_err(Fault::Ports)?;
+    // (neither the router nor the machine has a name here: what has one would lie on the stack)
+    match Box::new(
+        alloc,
+        Machine {
+            router: SizedRouter::of(&ports),
+            outbox: Outbox::new(alloc),
+        },
+    ) {
         Ok(boxed) => Ok(boxed),
         Err(_) => Err(Fault::OutOfMemory),
     }

@@ -4,6 +4,7 @@ pub mod CommandLine
 pub mod Continued
 pub mod Cuts
 pub mod DigitPairs
+pub mod Drafted
 pub mod EventTexts
 pub mod Exits
 pub mod Finishes

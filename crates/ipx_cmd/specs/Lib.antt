@@ -5,6 +5,7 @@ pub mod Continues
 pub mod CrossedText
 pub mod CrossedWord
 pub mod Decoded
+pub mod Drafted
 pub mod Ended
 pub mod EventText
 pub mod Fault

@@ -4,6 +4,7 @@
 mod chosen;
 mod command;
 mod digits;
+mod draft;
 mod ended;
 mod event_text;
 mod fault;

@@ -6,9 +6,8 @@ ghost use Rattle.std.specs.Prelude.{◌≡◌, ◌+◌, ◌<◌, ◌≤◌, ◌+
 ghost use Rattle.std.specs.Vec.{vec_capacity};
 ghost use Rattle.hex.specs.Hex.{encode_upper};
 ghost use Rattle.ipx_cmd.specs.Output.{hex_word};
-ghost use Rattle.ipx_wire.specs.NameWord.{name_word};
 
-use ipx_wire::{ServiceName, put_digits};
+use ipx_wire::put_digits;
 use itoa::write_digits;
 use std::alloc::AllocError;
 
@@ -68,15 +67,4 @@ pub(crate) fn put_word(text: &mut Vec<u8>, bytes: &[u8]) -> Result<(), AllocErro
     } else {
         put_hex(text, bytes)
     }
-}
-
-/// Appends the name of a service as one word.
-pub(crate) fn put_name(text: &mut Vec<u8>, name: &ServiceName) -> Result<(), AllocError>
-    ensures text { OnOk result (text.new.items ≡ text.old.items ++ name_word name.now) }
-    ensures room { OnErr result (vec_capacity text.old < length text.old.items + length (name_word name.now)) }
-    ensures kept { vec_capacity text.old ≤ vec_capacity text.new }
-{
-    let mut room = [0; ServiceName::LONGEST_WORD];
-    let count = name.put_word(&mut room);
-    text.extend_from_slice(&room[..count])
 }

@@ -6,7 +6,7 @@ use Rattle.ipx_table.specs.Stands.{second_later, ended, is_last, without_port, e
 use Rattle.ipx_table.specs.declared.held.Held.{Held}
 use Rattle.ipx_wire.specs.declared.rip.RipEntry.{RipEntry}
 use Rattle.ipx_wire.specs.declared.service.Service.{Service}
-use Rattle.ipx_router.specs.EndedSends.{ended_sends, periodic_sends, down_sends, second_sends, port_down_sends}
+use Rattle.ipx_router.specs.EndedSends.{ended_sends, periodic_sends, all_sends, down_sends, second_sends, port_down_sends}
 use Rattle.ipx_router.specs.Facts.{offers}
 use Rattle.ipx_router.specs.History.{Second, PortDown}
 use Rattle.ipx_router.specs.Port.{Port, is_up}
@@ -119,6 +119,12 @@ module _ (ports : List Port) (up : List ℕ) (routes : List (Held RouteOffer)) (
         ∙ ap (λ (rs : List (Held RouteOffer)). flat_map (periodic_sends ports ended_now lost_now up (offers rs) later.services) up) (sym routes_are)
         ∙ ap (λ (ss : List (Held ServiceOffer)). flat_map (periodic_sends ports ended_now lost_now up (offers routes_now) (offers ss)) up) (sym services_are)
 
+    pub second_as : {routes_now : List (Held RouteOffer)} {services_now : List (Held ServiceOffer)} (periodic : Bool)
+        → routes_now ≡ second_later routes → services_now ≡ second_later services
+        → second_sends ports up routes services periodic ≡ all_sends ports ended_now lost_now up (offers routes_now) (offers services_now) periodic
+    second_as true routes_are services_are = periodic_as true refl routes_are services_are
+    second_as false routes_are services_are = quiet_as false refl
+
   pub port_down_as : (port : ℕ) {ended_now : List RouteOffer} {lost_now : List ServiceOffer}
       → ended_now ≡ ended_with_port (λ r. r.port) port routes → lost_now ≡ ended_with_port (λ s. s.port) port services
       → port_down_sends ports up routes services port ≡ flat_map (down_sends ports ended_now lost_now port) up
@@ -126,6 +132,15 @@ module _ (ports : List Port) (up : List ℕ) (routes : List (Held RouteOffer)) (
       port_down_sent port
       ∙ ap (λ (es : List RouteOffer). flat_map (down_sends ports es (ended_with_port (λ s. s.port) port services) port) up) (sym ended_is)
       ∙ ap (λ (ls : List ServiceOffer). flat_map (down_sends ports ended_now ls port) up) (sym lost_is)
+
+-- what a second sends, by other names of what ended and of whether it is periodic
+pub all_as : (ports : List Port) (up : List ℕ) (routes : List RouteOffer) (services : List ServiceOffer) {ended_was ended_now : List RouteOffer}
+    {lost_was lost_now : List ServiceOffer} {periodic is : Bool} → ended_was ≡ ended_now → lost_was ≡ lost_now → periodic ≡ is
+    → all_sends ports ended_was lost_was up routes services periodic ≡ all_sends ports ended_now lost_now up routes services is
+all_as ports up routes services {ended_was} {ended_now} {lost_was} {lost_now} {periodic} {is} ended_is lost_is periodic_is =
+    ap (λ (es : List RouteOffer). all_sends ports es lost_was up routes services periodic) ended_is
+    ∙ ap (λ (ls : List ServiceOffer). all_sends ports ended_now ls up routes services periodic) lost_is
+    ∙ ap (λ (p : Bool). all_sends ports ended_now lost_now up routes services p) periodic_is
 
 -- a port of a router that runs goes down, and was up
 pub port_down_event : (ports : List Port) (up stays : List ℕ) (routes routes_then : List (Held RouteOffer)) (services services_then : List (Held ServiceOffer))

@@ -1,5 +1,5 @@
 -- What is sent where a second passes, or where a port goes down, by what ended with it.
-use Rattle.std.specs.Prelude.{ℕ, Bool, List, ◌∷◌, ◌++◌}
+use Rattle.std.specs.Prelude.{ℕ, Bool, if◌then◌else◌, List, ◌∷◌, ◌++◌}
 use Rattle.std.specs.List.{flat_map}
 use Rattle.ipx_table.specs.Stands.{second_later, without_port}
 use Rattle.ipx_table.specs.declared.held.Held.{Held}
@@ -29,6 +29,10 @@ module _ (ports : List Port) (ended : List RouteOffer) (lost : List ServiceOffer
   abbrev pub down_sends : ℕ → ℕ → List Sent
   down_sends port number =
       broadcasts ports number (by_network (dead (direct_entry ports port) ∷ flat_map (ended_on number) ended)) (flat_map (lost_on number) lost)
+
+  -- on those ports: what ended, alone or, at a periodic second, among all that is told
+  abbrev pub all_sends : List ℕ → List RouteOffer → List ServiceOffer → Bool → List Sent
+  all_sends up routes services periodic = flat_map (if periodic then periodic_sends up routes services else ended_sends) up
 
 -- ---- on all ports that are up
 

@@ -79,6 +79,8 @@ fn is_same<O: Offer>(before: &Option<O>, after: &Option<O>) -> bool
 }
 
 /// What a response changed of the routes, by network.
+// (out of line, as `learn_routes` is, and so is the next one)
+#[inline(never)]
 pub(crate) fn changed_routes(touched: &TouchedRoutes) -> ChangedRoutes
     ensures { (before now : List RouteOffer) → Touches (λ r. r.network) network_order before now touched.now.items
         → map change_of result.items ≡ changes (λ r. r.network) network_order same_route before now }
@@ -87,6 +89,7 @@ pub(crate) fn changed_routes(touched: &TouchedRoutes) -> ChangedRoutes
 }
 
 /// What a response changed of the services, by type and name.
+#[inline(never)]
 pub(crate) fn changed_services(touched: &TouchedServices) -> ChangedServices
     ensures { (before now : List ServiceOffer) → Touches (λ s. (s.service.kind, s.service.name)) service_order before now touched.now.items
         → map change_of result.items ≡ changes (λ s. (s.service.kind, s.service.name)) service_order same_service before now }

@@ -63,7 +63,7 @@ impl<const P: usize, const R: usize, const S: usize> Router<P, R, S> {
         Outcome::Stopped
     }
 
-    // (out of line, since its room on the stack is as large as the tables: no packet shall pay for that)
+    // (out of line: no packet shall pay for its room on the stack)
     #[inline(never)]
     fn halt(&mut self, outbox: &mut Outbox)
         requires runs { self.old.running ≡ true }
@@ -95,7 +95,7 @@ impl<const P: usize, const R: usize, const S: usize> Router<P, R, S> {
         Outcome::Ticked
     }
 
-    // (out of line, since its room on the stack is as large as the tables: no packet shall pay for that)
+    // (out of line: no packet shall pay for its room on the stack)
     #[inline(never)]
     fn tick(&mut self, outbox: &mut Outbox)
         requires runs { self.old.running ≡ true }
@@ -136,7 +136,7 @@ impl<const P: usize, const R: usize, const S: usize> Router<P, R, S> {
         Outcome::WentDown
     }
 
-    // (out of line, since its room on the stack is as large as the tables: no packet shall pay for that)
+    // (out of line: no packet shall pay for its room on the stack)
     #[inline(never)]
     fn take_down(&mut self, port: u8, outbox: &mut Outbox)
         requires port { port < length self.old.ports }

@@ -26,6 +26,8 @@ pub(crate) type TouchedRoutes = ArrayVec<Touched<RouteOffer>, { RipEntry::MOST }
 pub(crate) type TouchedServices = ArrayVec<Touched<ServiceOffer>, { SapEntry::MOST }>;
 
 /// Offers the entries of a response from that port and neighbour to the table. Returns what they touch.
+// (this and the next one stand out of line: what they fill isn't on the stack any more when the changes are advertised)
+#[inline(never)]
 pub(crate) fn learn_routes<const R: usize>(
     table: &mut Table<RouteOffer, R>,
     ports: &[Port],
@@ -72,6 +74,7 @@ fn learn_route<const R: usize>(
 
 /// Offers the entries of a response from that port and neighbour to the table, but for those without a name. Returns what
 /// they touch.
+#[inline(never)]
 pub(crate) fn learn_services<const S: usize>(
     table: &mut Table<ServiceOffer, S>,
     number: u8,

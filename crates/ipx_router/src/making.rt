@@ -71,3 +71,13 @@ pub(crate) fn service_shares(ports: &[Port]) -> ArrayVec<u16, MOST_PORTS>
     }
     shares
 }
+
+/// The ports, in an array of their own.
+pub(crate) fn copy_of<const P: usize>(ports: &[Port]) -> ArrayVec<Port, P>
+    requires { length ports.now ≤ P }
+    ensures { result.items ≡ ports.now }
+{
+    let mut kept = ArrayVec::new();
+    let _ = kept.try_extend_from_slice(ports);
+    kept
+}

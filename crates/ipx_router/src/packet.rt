@@ -83,6 +83,8 @@ impl<const P: usize, const R: usize, const S: usize> Router<P, R, S> {
     }
 
     /// A response of routing information: what it offers, and what that changes.
+    // (this and the next three stand out of line: no other packet shall pay for their room on the stack)
+    #[inline(never)]
     fn learn_routes(
         &mut self,
         port: u8,
@@ -112,6 +114,7 @@ impl<const P: usize, const R: usize, const S: usize> Router<P, R, S> {
     }
 
     /// A response of service advertising: what it offers, and what that changes.
+    #[inline(never)]
     fn learn_services(
         &mut self,
         port: u8,
@@ -140,6 +143,7 @@ impl<const P: usize, const R: usize, const S: usize> Router<P, R, S> {
     }
 
     /// A request: the routes that it asks for.
+    #[inline(never)]
     fn advertise(&self, port: u8, bytes: &[u8], source: Address, rip: &Rip<'_>, outbox: &mut Outbox)
         requires port { port < length self.now.ports }
         requires passes { IsPassed self.now port bytes.now }
@@ -163,6 +167,7 @@ impl<const P: usize, const R: usize, const S: usize> Router<P, R, S> {
     }
 
     /// A query: the services that it asks for.
+    #[inline(never)]
     fn answer(
         &self,
         port: u8,

@@ -1,5 +1,5 @@
 //! The router.
-ghost use Rattle.std.specs.Prelude.{◌≡◌, ◌≤◌, ◌<◌, false, [], length, slice_get, nat_lt, IfOk, IfErr, IfSome};
+ghost use Rattle.std.specs.Prelude.{◌≡◌, ◌≤◌, ◌<◌, false, [], length, slice_get, nat_lt, IfOk, IfErr, OnOk, IfSome};
 ghost use Rattle.std.specs.List.{AllByRecursion};
 ghost use Rattle.ipx_table.specs.Alive.{lifetime};
 ghost use Rattle.ipx_table.specs.Stands.{record_of};
@@ -9,7 +9,7 @@ ghost use Rattle.ipx_router.specs.Port.{IsPort, AreApart, is_up};
 ghost use Rattle.ipx_router.specs.Routes.{network_order};
 ghost use Rattle.ipx_router.specs.Stands.{StandsFor};
 
-use crate::making::{are_apart, are_ports, route_shares, service_shares};
+use crate::making::{are_apart, are_ports, copy_of, route_shares, service_shares};
 use crate::port::Port;
 use crate::ports_fault::PortsFault;
 use crate::route_offer::RouteOffer;
@@ -59,6 +59,19 @@ impl<const P: usize, const R: usize, const S: usize> Router<P, R, S> {
         ensures apart { IfOk result (λ r. AreApart ports.now) }
         ensures refused { IfErr result (IsNoRouter P ports.now) }
     {
+        match Router::<P, R, S>::check(ports) {
+            Ok(()) => Ok(Router::of(ports)),
+            Err(fault) => Err(fault),
+        }
+    }
+
+    /// Whether a router can have these ports, and why not.
+    pub fn check(ports: &[Port]) -> Result<(), PortsFault>
+        ensures some { OnOk result (1 ≤ length ports.now) }
+        ensures within { OnOk result (length ports.now ≤ P) }
+        ensures apart { OnOk result (AreApart ports.now) }
+        ensures refused { IfErr result (IsNoRouter P ports.now) }
+    {
         if ports.is_empty() {
             return Err(PortsFault::NoPort);
         }
@@ -68,17 +81,33 @@ impl<const P: usize, const R: usize, const S: usize> Router<P, R, S> {
         if !are_apart(ports) {
             return Err(PortsFault::SameNetwork);
         }
+        Ok(())
+    }
+
+    /// The router that `new` makes of these ports, which a router can have. It is made where it is put, if that is a box.
+    // (inlined, since every call that returns a router has room for one on the stack)
+    #[inline(always)]
+    pub fn of(ports: &[Port]) -> Router<P, R, S>
+        requires few { P ≤ most_ports }
+        requires some_routes { 1 ≤ R }
+        requires few_routes { R ≤ 65535 }
+        requires some_services { 1 ≤ S }
+        requires few_services { S ≤ 65535 }
+        requires some { 1 ≤ length ports.now }
+        requires within { length ports.now ≤ P }
+        requires apart { AreApart ports.now }
+        ensures made { result ≡ made_of ports.now }
+        ensures stands { StandsFor R S result [] }
+    {
         are_ports(ports);
-        let mut kept = ArrayVec::new();
-        kept.try_extend_from_slice(ports).unwrap();
-        Ok(Router {
-            ports: kept,
+        Router {
+            ports: copy_of(ports),
             running: false,
             up: ArrayVec::new(),
             seconds: 0,
             routes: Table::with_shares(&route_shares(ports)),
             services: Table::with_shares(&service_shares(ports)),
-        })
+        }
     }
 
     /// Whether it runs.

@@ -5,7 +5,7 @@ ghost use Rattle.ipx_table.specs.Facts.{Fact, Second, PortEnd};
 ghost use Rattle.ipx_table.specs.Reading.{rules_of};
 ghost use Rattle.ipx_table.specs.Stands.{Stands, IsAscending, second_later, is_last, without_port};
 ghost use Rattle.ipx_router.specs.Ended.{RoutesAscend, ServicesAscend};
-ghost use Rattle.ipx_router.specs.EndedSends.{ended_sends, periodic_sends, down_sends, second_sends, port_down_sends};
+ghost use Rattle.ipx_router.specs.EndedSends.{ended_sends, periodic_sends, all_sends, down_sends, second_sends, port_down_sends};
 ghost use Rattle.ipx_router.specs.Facts.{offers};
 ghost use Rattle.ipx_router.specs.Numbers.{most_ports};
 ghost use Rattle.ipx_router.specs.Outbox.{Fits, Appends};
@@ -51,13 +51,11 @@ pub(crate) fn pass_second<const R: usize, const S: usize>(
         services.pass();
         return;
     }
-    let ended = routes.second();
-    let lost = services.second();
-    if periodic {
-        broadcast_all(outbox, ports, up, routes, services, &ended, &lost);
-    } else {
-        broadcast_ended(outbox, ports, up, &ended, &lost);
-    }
+    routes.second_in_place();
+    services.second_in_place();
+    broadcast_second(outbox, ports, up, routes, services, periodic);
+    routes.clear_ended();
+    services.clear_ended();
 }
 
 /// Whether nothing is advertised in the next second: it isn't a periodic one, and nothing expires in it.
@@ -97,9 +95,40 @@ pub(crate) fn end_port<const R: usize, const S: usize>(
     ensures sends { Appends outbox.old outbox.new (port_down_sends ports.now up.now routes.old.records services.old.records port) }
 {
     are_by_key(routes, services);
-    let ended = routes.end_port(port);
-    let lost = services.end_port(port);
-    broadcast_down(outbox, ports, up, port, &ended, &lost);
+    routes.end_port_in_place(port);
+    services.end_port_in_place(port);
+    broadcast_down(outbox, ports, up, port, routes.ended(), services.ended());
+    routes.clear_ended();
+    services.clear_ended();
+}
+
+/// Advertises on the ports that are up what the tables' second ended: alone, or, at a periodic second, among all that they
+/// advertise.
+// (out of line, so that its room on the stack isn't there yet while the tables part what ends from what stays)
+#[inline(never)]
+fn broadcast_second<const R: usize, const S: usize>(
+    outbox: &mut Outbox,
+    ports: &[Port],
+    up: &[u8],
+    routes: &Table<RouteOffer, R>,
+    services: &Table<ServiceOffer, S>,
+    periodic: bool,
+)
+    requires ports { AllByRecursion (λ j. j < length ports.now) up.now }
+    requires few { length up.now ≤ most_ports }
+    requires routes_ascend { RoutesAscend routes.now.ended }
+    requires services_ascend { ServicesAscend services.now.ended }
+    requires room { Fits outbox.old (all_sends ports.now routes.now.ended services.now.ended up.now (offers routes.now.records) (offers services.now.records) periodic) }
+    ensures { Appends outbox.old outbox.new
+        (all_sends ports.now routes.now.ended services.now.ended up.now (offers routes.now.records) (offers services.now.records) periodic) }
+{
+    let ended = routes.ended();
+    let lost = services.ended();
+    if periodic {
+        broadcast_all(outbox, ports, up, routes, services, ended, lost);
+    } else {
+        broadcast_ended(outbox, ports, up, ended, lost);
+    }
 }
 
 /// Advertises on the ports that are up what ended.
@@ -146,6 +175,8 @@ fn broadcast_all<const R: usize, const S: usize>(
 }
 
 /// Advertises on the ports that are up what ended, and the network of the port that went down as unreachable.
+// (out of line, as `broadcast_second` is)
+#[inline(never)]
 fn broadcast_down(
     outbox: &mut Outbox,
     ports: &[Port],

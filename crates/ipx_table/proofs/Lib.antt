@@ -1,6 +1,7 @@
 pub mod Clocks
 pub mod Exchanging
 pub mod Following
+pub mod Halving
 pub mod History
 pub mod Living
 pub mod Members
@@ -17,7 +18,6 @@ pub mod Room
 pub mod Searching
 pub mod Seconds
 pub mod Shares
-pub mod Sifting
 pub mod Singles
 pub mod Standing
 pub mod examples

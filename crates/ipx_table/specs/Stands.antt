@@ -74,10 +74,11 @@ without_port port_by port held = filter (λ h. not (port_by h.offer == port)) he
 abbrev pub ended_with_port : {O : Type 0} → (O → ℕ) → ℕ → List (Held O) → List O
 ended_with_port port_by port held = map (λ h. h.offer) (filter (λ h. port_by h.offer == port) held)
 
--- what a table has: its records by key, and the shares of its ports
+-- what a table has: its records by key, the shares of its ports, and the offers that ended in place and that it still lends
 pub record Contents (O : Type 0) : Type 0 where
   pub records : List (Held O)
   pub shares : List ℕ
+  pub ended : List O
 
 -- offers ascend by their keys
 abbrev pub Ascends : {O : Type 0} → (O → O → Ordering) → List O → Type 0

@@ -1,8 +1,10 @@
 //! Which records end at once.
-ghost use Rattle.std.specs.Prelude.{◌≡◌};
+ghost use Rattle.std.specs.Prelude.{◌≡◌, ◌==◌, not, length};
+ghost use Rattle.std.specs.List.{list_any, zip};
 ghost use Rattle.ipx_table.specs.Reading.{port_of};
 ghost use Rattle.ipx_table.specs.Slots.{ends};
 
+use crate::clock::has_slot;
 use crate::offer::Offer;
 
 /// The records that end.
@@ -14,12 +16,42 @@ pub(crate) enum Ending {
     Port(u8),
 }
 
-/// Whether an offer of that slot ends.
-pub(crate) fn does_end<O: Offer>(ending: Ending, offer: &O, slot: u8) -> bool
-    ensures { result ≡ ends (port_of O.reading) ending (offer.now, slot) }
+/// Whether one of these records ends.
+pub(crate) fn any_ends<O: Offer>(ending: Ending, offers: &[O], slots: &[u8]) -> bool
+    requires { length slots.now ≡ length offers.now }
+    ensures { result ≡ list_any (ends (port_of O.reading) ending) (zip offers.now slots.now) }
 {
     match ending {
-        Ending::Slot(ended) => slot == ended,
-        Ending::Port(port) => offer.source().0 == port,
+        Ending::Slot(ended) => has_slot(slots, ended),
+        Ending::Port(port) => came_by(offers, port),
     }
+}
+
+/// Whether one of these records stays.
+pub(crate) fn any_stays<O: Offer>(ending: Ending, offers: &[O], slots: &[u8]) -> bool
+    requires { length slots.now ≡ length offers.now }
+    ensures { result ≡ list_any (λ p. not (ends (port_of O.reading) ending p)) (zip offers.now slots.now) }
+{
+    match ending {
+        Ending::Slot(ended) => has_another_slot(slots, ended),
+        Ending::Port(port) => came_by_another(offers, port),
+    }
+}
+
+fn has_another_slot(slots: &[u8], slot: u8) -> bool
+    ensures { result ≡ list_any (λ s. not (s == slot)) slots.now }
+{
+    slots.iter().any(|other| *other != slot)
+}
+
+fn came_by<O: Offer>(offers: &[O], port: u8) -> bool
+    ensures { result ≡ list_any (λ o. port_of O.reading o == port) offers.now }
+{
+    offers.iter().any(|offer| offer.source().0 == port)
+}
+
+fn came_by_another<O: Offer>(offers: &[O], port: u8) -> bool
+    ensures { result ≡ list_any (λ o. not (port_of O.reading o == port)) offers.now }
+{
+    offers.iter().any(|offer| offer.source().0 != port)
 }

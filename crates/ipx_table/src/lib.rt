@@ -21,6 +21,7 @@ mod exchanged;
 mod held;
 pub mod laws;
 mod offer;
+mod parting;
 mod ranking;
 mod sharing;
 mod slotted;

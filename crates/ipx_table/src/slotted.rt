@@ -1,14 +1,15 @@
 //! Offers with the slots at which they were accepted, each in an array of its own: so what reads slots alone reads one
 //! byte a record.
-ghost use Rattle.std.specs.Prelude.{◌≡◌, ◌==◌, ◌<◌, ◌≤◌, not, List, [], length, map, insert, remove, set, slice_get, Some};
+ghost use Rattle.std.specs.Prelude.{◌≡◌, ◌==◌, ◌<◌, ◌≤◌, not, List, [], length, map, insert, remove, set, slice_get, take, drop};
 ghost use Rattle.std.specs.List.{AllByRecursion, filter, list_any, zip};
 ghost use Rattle.ipx_table.specs.Reading.{port_of};
-ghost use Rattle.ipx_table.specs.Slots.{ends, seen};
+ghost use Rattle.ipx_table.specs.Slots.{ends, parted, seen};
 ghost use Rattle.ipx_table.specs.Alive.{lifetime};
 
 use crate::clock::has_slot;
-use crate::ending::{Ending, does_end};
+use crate::ending::Ending;
 use crate::offer::Offer;
+use crate::parting::part;
 use crate::table_entries::TableEntries;
 use arrayvec::ArrayVec;
 use std::marker::Model;
@@ -62,20 +63,47 @@ impl<O: Offer, const CAP: usize> Slotted<O, CAP> {
         self.offers.as_slice()
     }
 
-    /// The records at that time of the clock, in order.
-    pub(crate) fn entries(&self, clock: u8) -> TableEntries<'_, O>
-        requires slots { AllByRecursion (λ p. p.1 < lifetime) self.now }
-        requires going { clock < lifetime }
-        ensures { result ≡ seen clock self.now }
+    /// The first offers.
+    pub(crate) fn offers_before(&self, live: usize) -> &[O]
+        requires { live ≤ length self.now }
+        ensures value { result.now ≡ map (λ p. p.0) (take live self.now) }
+        ensures fits { length result.now ≤ CAP }
     {
-        TableEntries::of(self.offers.as_slice(), self.slots.as_slice(), clock)
+        front_of(&self.offers, live)
     }
 
-    /// The offer and the slot at that place, if there is such a place.
-    pub(crate) fn get(&self, place: usize) -> Option<(O, u8)>
-        ensures { result ≡ slice_get self.now place }
+    /// The offers behind the first ones.
+    pub(crate) fn offers_behind(&self, live: usize) -> &[O]
+        requires { live ≤ length self.now }
+        ensures value { result.now ≡ map (λ p. p.0) (drop live self.now) }
+        ensures fits { length result.now ≤ CAP }
     {
-        item_at(&self.offers, place).zip(item_at(&self.slots, place))
+        rest_of(&self.offers, live)
+    }
+
+    /// The first records at that time of the clock, in order.
+    pub(crate) fn entries(&self, live: usize, clock: u8) -> TableEntries<'_, O>
+        requires within { live ≤ length self.now }
+        requires slots { AllByRecursion (λ p. p.1 < lifetime) (take live self.now) }
+        requires going { clock < lifetime }
+        ensures { result ≡ seen clock (take live self.now) }
+    {
+        TableEntries::of(
+            front_of(&self.offers, live),
+            front_of(&self.slots, live),
+            clock,
+        )
+    }
+
+    /// The offer and the slot at that place of the first records, if there is such a place.
+    pub(crate) fn get(&self, live: usize, place: usize) -> Option<(O, u8)>
+        requires { live ≤ length self.now }
+        ensures { result ≡ slice_get (take live self.now) place }
+    {
+        item_at(front_of(&self.offers, live), place).zip(item_at(
+            front_of(&self.slots, live),
+            place,
+        ))
     }
 
     /// Puts an offer in at that place, before what stands there.
@@ -113,62 +141,61 @@ impl<O: Offer, const CAP: usize> Slotted<O, CAP> {
         self.slots.clear();
     }
 
-    /// Whether a record has that slot.
-    pub(crate) fn has_slot(&self, slot: u8) -> bool
-        ensures { result ≡ list_any (λ p. p.1 == slot) self.now }
+    /// Cuts off what stands behind the first records.
+    pub(crate) fn truncate(&mut self, live: usize)
+        ensures { self.new ≡ take live self.old }
     {
-        has_slot(&self.slots, slot)
+        self.offers.truncate(live);
+        self.slots.truncate(live);
     }
 
-    /// Takes out the records of that slot. Returns their offers, in order. Where there is none, nothing is written and
-    /// slots alone are read.
-    pub(crate) fn end_slot(&mut self, slot: u8) -> ArrayVec<O, CAP>
-        ensures stay { self.new ≡ filter (λ p. not (p.1 == slot)) self.old }
-        ensures ended { result.items ≡ map (λ p. p.0) (filter (λ p. p.1 == slot) self.old) }
+    /// Whether one of the first records has that slot.
+    pub(crate) fn has_slot(&self, live: usize, slot: u8) -> bool
+        requires { live ≤ length self.now }
+        ensures { result ≡ list_any (λ p. p.1 == slot) (take live self.now) }
     {
-        if has_slot(&self.slots, slot) {
-            self.end(Ending::Slot(slot))
-        } else {
-            ArrayVec::new()
-        }
+        has_slot(front_of(&self.slots, live), slot)
     }
 
-    /// Takes out the records that end. Returns their offers, in order. No record before the first of these is written.
-    pub(crate) fn end(&mut self, ending: Ending) -> ArrayVec<O, CAP>
-        ensures stay { self.new ≡ filter (λ p. not (ends (port_of O.reading) ending p)) self.old }
-        ensures ended { result.items ≡ map (λ p. p.0) (filter (ends (port_of O.reading) ending) self.old) }
+    /// Puts the records that end behind those that stay; either keep their order. Returns how many stay.
+    pub(crate) fn part(&mut self, ending: Ending) -> usize
+        ensures parted { self.new ≡ parted (port_of O.reading) ending self.old }
+        ensures stay { result ≡ length (filter (λ p. not (ends (port_of O.reading) ending p)) self.old) }
     {
-        sift(&mut self.offers, &mut self.slots, ending)
+        part_arrays(&mut self.offers, &mut self.slots, ending)
     }
 }
 
-/// Moves the records that stay to the front, in order. Returns the offers of the others.
-fn sift<O: Offer, const CAP: usize>(
+/// Parts the records of two arrays.
+fn part_arrays<O: Offer, const CAP: usize>(
     offers: &mut ArrayVec<O, CAP>,
     slots: &mut ArrayVec<u8, CAP>,
     ending: Ending,
-) -> ArrayVec<O, CAP>
+) -> usize
     requires lengths { length slots.old.items ≡ length offers.old.items }
     ensures lengths { length slots.new.items ≡ length offers.new.items }
-    ensures stay { zip offers.new.items slots.new.items ≡ filter (λ p. not (ends (port_of O.reading) ending p)) (zip offers.old.items slots.old.items) }
-    ensures ended { result.items ≡ map (λ p. p.0) (filter (ends (port_of O.reading) ending) (zip offers.old.items slots.old.items)) }
+    ensures parted { zip offers.new.items slots.new.items ≡ parted (port_of O.reading) ending (zip offers.old.items slots.old.items) }
+    ensures stay { result ≡ length (filter (λ p. not (ends (port_of O.reading) ending p)) (zip offers.old.items slots.old.items)) }
 {
-    let mut ended = ArrayVec::new();
-    let mut kept = 0;
-    for place in 0..offers.len() {
-        let offer = offers[place];
-        let slot = slots[place];
-        if does_end(ending, &offer, slot) {
-            ended.push(offer);
-        } else {
-            move_up(offers, place, kept, offer);
-            move_up(slots, place, kept, slot);
-            kept += 1;
-        }
-    }
-    offers.truncate(kept);
-    slots.truncate(kept);
-    ended
+    part(offers.as_mut_slice(), slots.as_mut_slice(), ending)
+}
+
+/// The first items.
+fn front_of<T, const CAP: usize>(list: &ArrayVec<T, CAP>, count: usize) -> &[T]
+    requires { count ≤ length list.now.items }
+    ensures value { result.now ≡ take count list.now.items }
+    ensures fits { length result.now ≤ CAP }
+{
+    &list.as_slice()[..count]
+}
+
+/// The items behind the first ones.
+fn rest_of<T, const CAP: usize>(list: &ArrayVec<T, CAP>, count: usize) -> &[T]
+    requires { count ≤ length list.now.items }
+    ensures value { result.now ≡ drop count list.now.items }
+    ensures fits { length result.now ≤ CAP }
+{
+    &list.as_slice()[count..]
 }
 
 /// The item at that place, if there is such a place.
@@ -176,17 +203,6 @@ fn item_at<T: Copy>(list: &[T], place: usize) -> Option<T>
     ensures { result ≡ slice_get list.now place }
 {
     Some(*list.get(place)?)
-}
-
-/// Writes an item at a place in front of its own; nothing, where it stands there already.
-fn move_up<T: Copy, const CAP: usize>(list: &mut ArrayVec<T, CAP>, from: usize, to: usize, item: T)
-    requires there { slice_get list.old.items from ≡ Some item }
-    requires forward { to ≤ from }
-    ensures { list.new.items ≡ set list.old.items to item }
-{
-    if to < from {
-        write_at(list, to, item);
-    }
 }
 
 /// Writes an item over the one at that place.

@@ -31,7 +31,10 @@ const MOST_SHARES: usize = 32;
 /// all this, is no promise.
 #[derive(Debug, Drop)]
 pub struct Table<O: Offer, const CAP: usize> {
+    /// The records of the table, and behind them what ended in place and isn't forgotten yet.
     records: Slotted<O, CAP>,
+    /// How many of these are the table's.
+    live: usize,
     clock: u8,
     shares: ArrayVec<u16, MOST_SHARES>,
     /// The place behind the key that was offered last. Who offers many offers them by key as a rule, so the next one is sought
@@ -40,25 +43,28 @@ pub struct Table<O: Offer, const CAP: usize> {
 }
 
 impl<O: Offer, const CAP: usize> Model for Table<O, CAP> {
-    ghost use Rattle.ipx_table.specs.Slots.{seen, IsSorted};
+    ghost use Rattle.std.specs.Prelude.{map, take, drop};
+    ghost use Rattle.ipx_table.specs.Slots.{seen, IsParted};
     ghost use Rattle.ipx_table.specs.Stands.{Contents};
 
     ghost Value = { Contents O };
 
-    ghost view = { λ t. record { records = seen t.clock t.records; shares = t.shares.items } };
+    ghost view = { λ t. record { records = seen t.clock (take t.live t.records); shares = t.shares.items; ended = map (λ p. p.0) (drop t.live t.records) } };
 
-    ghost invariant = { λ t. IsSorted (λ a b. O.Key.cmp (O.reading.key a) (O.reading.key b)) t.records t.clock };
+    ghost invariant = { λ t. IsParted (λ a b. O.Key.cmp (O.reading.key a) (O.reading.key b)) t.records t.live t.clock };
 }
 
 impl<O: Offer, const CAP: usize> Table<O, CAP> {
     /// An empty table. Any port may fill it.
     pub fn new() -> Table<O, CAP>
         ensures empty { result.records ≡ [] }
+        ensures forgotten { result.ended ≡ [] }
         ensures shares { result.shares ≡ [] }
         ensures stands { Stands (rules_of O.reading O.Key.cmp CAP []) result.records [] }
     {
         Table {
             records: Slotted::new(),
+            live: 0,
             clock: 0,
             shares: ArrayVec::new(),
             next: 0,
@@ -69,15 +75,15 @@ impl<O: Offer, const CAP: usize> Table<O, CAP> {
     pub fn with_shares(shares: &[u16]) -> Table<O, CAP>
         requires few { length shares.now ≤ most_shares }
         ensures empty { result.records ≡ [] }
+        ensures forgotten { result.ended ≡ [] }
         ensures shares { result.shares ≡ shares.now }
         ensures stands { Stands (rules_of O.reading O.Key.cmp CAP shares.now) result.records [] }
     {
-        let mut kept = ArrayVec::new();
-        let _ = kept.try_extend_from_slice(shares);
         Table {
             records: Slotted::new(),
+            live: 0,
             clock: 0,
-            shares: kept,
+            shares: copy_of(shares),
             next: 0,
         }
     }
@@ -112,9 +118,12 @@ impl<O: Offer, const CAP: usize> Table<O, CAP> {
         // Where the answer tells no change, the type takes the offers before and after for the same.
         ensures unchanged { is_change result.taken ≡ false → same_left O.eq result.before result.after ≡ true }
     {
+        self.records.truncate(self.live);
         let found = place_near(self.records.offers(), self.next, offer.key());
         self.next = found.below.wrapping_add(1);
-        take_offer(&mut self.records, &self.shares, self.clock, found, offer)
+        let exchanged = take_offer(&mut self.records, &self.shares, self.clock, found, offer);
+        self.live = self.records.len();
+        exchanged
     }
 
     /// Lets a second pass: each record is a second older, and those that are 180 seconds old expire.
@@ -128,15 +137,30 @@ impl<O: Offer, const CAP: usize> Table<O, CAP> {
         ensures records { self.new.records ≡ second_later self.old.records }
         ensures shares { self.new.shares ≡ self.old.shares }
     {
+        self.second_in_place();
+        self.take_ended()
+    }
+
+    /// Lets a second pass, as `second` does. `ended` lends the offers that expired.
+    pub fn second_in_place(&mut self)
+        ensures stands { (facts : List (Fact O)) → Stands (rules_of O.reading O.Key.cmp CAP self.old.shares) self.old.records facts
+            → Stands (rules_of O.reading O.Key.cmp CAP self.old.shares) self.new.records (facts ++ Second ∷ []) }
+        ensures ended { self.new.ended ≡ ended_of self.old.records }
+        ensures by_key { Ascends (rules_of O.reading O.Key.cmp CAP self.old.shares).by_key self.new.ended }
+        // What did not expire is a second older, and nothing else changed.
+        ensures records { self.new.records ≡ second_later self.old.records }
+        ensures shares { self.new.shares ≡ self.old.shares }
+    {
+        self.records.truncate(self.live);
         self.clock = next_slot(self.clock);
-        self.records.end_slot(self.clock)
+        self.live = self.records.part(Ending::Slot(self.clock));
     }
 
     /// Whether the next second ends a record.
     pub fn expires(&self) -> bool
         ensures { result ≡ list_any is_last self.now.records }
     {
-        self.records.has_slot(next_slot(self.clock))
+        self.records.has_slot(self.live, next_slot(self.clock))
     }
 
     /// Lets a second pass that ends no record: each is a second older.
@@ -160,7 +184,51 @@ impl<O: Offer, const CAP: usize> Table<O, CAP> {
         ensures records { self.new.records ≡ without_port (port_of O.reading) port self.old.records }
         ensures shares { self.new.shares ≡ self.old.shares }
     {
-        self.records.end(Ending::Port(port))
+        self.end_port_in_place(port);
+        self.take_ended()
+    }
+
+    /// Ends the offers that came by that port, as `end_port` does. `ended` lends them.
+    pub fn end_port_in_place(&mut self, port: u8)
+        ensures stands { (facts : List (Fact O)) → Stands (rules_of O.reading O.Key.cmp CAP self.old.shares) self.old.records facts
+            → Stands (rules_of O.reading O.Key.cmp CAP self.old.shares) self.new.records (facts ++ PortEnd port ∷ []) }
+        ensures ended { self.new.ended ≡ ended_with_port (port_of O.reading) port self.old.records }
+        ensures by_key { Ascends (rules_of O.reading O.Key.cmp CAP self.old.shares).by_key self.new.ended }
+        // The other records stay as they are, with their ages.
+        ensures records { self.new.records ≡ without_port (port_of O.reading) port self.old.records }
+        ensures shares { self.new.shares ≡ self.old.shares }
+    {
+        self.records.truncate(self.live);
+        self.live = self.records.part(Ending::Port(port));
+    }
+
+    /// The offers that the last call in place ended, by key, until they are forgotten.
+    pub fn ended(&self) -> &[O]
+        ensures value { result.now ≡ self.now.ended }
+        ensures fits { length result.now ≤ CAP }
+    {
+        self.records.offers_behind(self.live)
+    }
+
+    /// Forgets the offers that ended in place.
+    pub fn clear_ended(&mut self)
+        ensures forgotten { self.new.ended ≡ [] }
+        ensures records { self.new.records ≡ self.old.records }
+        ensures shares { self.new.shares ≡ self.old.shares }
+    {
+        self.records.truncate(self.live);
+    }
+
+    /// A copy of the offers that ended in place, which are then forgotten.
+    fn take_ended(&mut self) -> ArrayVec<O, CAP>
+        ensures ended { result.items ≡ self.old.ended }
+        ensures records { self.new.records ≡ self.old.records }
+        ensures shares { self.new.shares ≡ self.old.shares }
+    {
+        let mut ended = ArrayVec::new();
+        let _ = ended.try_extend_from_slice(self.ended());
+        self.clear_ended();
+        ended
     }
 
     /// Ends all offers.
@@ -170,6 +238,7 @@ impl<O: Offer, const CAP: usize> Table<O, CAP> {
         ensures shares { self.new.shares ≡ self.old.shares }
     {
         self.records.clear();
+        self.live = 0;
     }
 
     /// The record of that key; `None` where there is none.
@@ -177,8 +246,8 @@ impl<O: Offer, const CAP: usize> Table<O, CAP> {
         ensures value { result ≡ record_of O.reading.key O.Key.cmp key.now self.now.records }
         ensures young { IfSome result (λ h. h.age < lifetime) }
     {
-        let found = place_in(self.records.offers(), *key);
-        with_age(self.clock, record_found(&self.records, found))
+        let found = place_in(self.records.offers_before(self.live), *key);
+        with_age(self.clock, record_found(&self.records, self.live, found))
     }
 
     /// The record with exactly `k` smaller keys; `None` where `k` is `len()` or more.
@@ -187,14 +256,14 @@ impl<O: Offer, const CAP: usize> Table<O, CAP> {
         ensures smaller { IfSome result (λ h. smaller_than O.reading.key O.Key.cmp (O.reading.key h.offer) self.now.records ≡ k) }
         ensures young { IfSome result (λ h. h.age < lifetime) }
     {
-        with_age(self.clock, self.records.get(k))
+        with_age(self.clock, self.records.get(self.live, k))
     }
 
     /// The records, by key.
     pub fn entries(&self) -> TableEntries<'_, O>
         ensures { result ≡ self.now.records }
     {
-        self.records.entries(self.clock)
+        self.records.entries(self.live, self.clock)
     }
 
     /// The offers, by key.
@@ -202,7 +271,7 @@ impl<O: Offer, const CAP: usize> Table<O, CAP> {
         ensures value { result.now ≡ map (λ h. h.offer) self.now.records }
         ensures ascending { Ascends (rules_of O.reading O.Key.cmp CAP self.now.shares).by_key result.now }
     {
-        self.records.offers()
+        self.records.offers_before(self.live)
     }
 
     /// How many records there are, at most `CAP`.
@@ -213,34 +282,44 @@ impl<O: Offer, const CAP: usize> Table<O, CAP> {
         ensures ascending { IsAscending (rules_of O.reading O.Key.cmp CAP self.now.shares).by_key self.now.records }
         ensures distinct { IsDistinct (rules_of O.reading O.Key.cmp CAP self.now.shares).by_key self.now.records }
     {
-        self.records.len()
+        self.records.offers_before(self.live).len()
     }
 
     /// How many records came by that port.
     pub fn count(&self, port: u8) -> usize
         ensures { result ≡ count_by (port_of O.reading) port self.now.records }
     {
-        counted_by(self.records.offers(), port)
+        counted_by(self.records.offers_before(self.live), port)
     }
 
     /// Whether there is no record.
     pub fn is_empty(&self) -> bool
         ensures { result ≡ (length self.now.records == 0) }
     {
-        self.records.len() == 0
+        self.len() == 0
     }
 
     /// Whether there are as many records as there may be.
     pub fn is_full(&self) -> bool
         ensures { result ≡ (length self.now.records == CAP) }
     {
-        self.records.is_full()
+        self.len() == CAP
     }
+}
+
+/// The shares, in an array of their own.
+fn copy_of(shares: &[u16]) -> ArrayVec<u16, MOST_SHARES>
+    requires { length shares.now ≤ most_shares }
+    ensures { result.items ≡ shares.now }
+{
+    let mut kept = ArrayVec::new();
+    let _ = kept.try_extend_from_slice(shares);
+    kept
 }
 
 /// An empty table.
 impl<O: Offer, const CAP: usize> Default for Table<O, CAP> {
-    ghost is_default = { λ table. table ≡ record { records = []; shares = [] } };
+    ghost is_default = { λ table. table ≡ record { records = []; shares = []; ended = [] } };
 
     fn default() -> Table<O, CAP> {
         Table::new()

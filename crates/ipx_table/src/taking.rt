@@ -1,5 +1,5 @@
 //! What one offer does to the records.
-ghost use Rattle.std.specs.Prelude.{◌≡◌, ℕ, ◌<◌, if◌then◌else◌, length, false, true, None, Some, slice_get, option_map, map};
+ghost use Rattle.std.specs.Prelude.{◌≡◌, ℕ, ◌<◌, ◌≤◌, if◌then◌else◌, length, take, false, true, None, Some, slice_get, option_map, map};
 ghost use Rattle.std.specs.List.{AllByRecursion, list_any, filter};
 ghost use Rattle.std.specs.Ordering.{is_lt};
 ghost use Rattle.ipx_table.specs.Accepted.{may_replace as allows_replacement};
@@ -38,7 +38,7 @@ pub(crate) fn take_offer<O: Offer, const CAP: usize>(
     ensures before { result.before ≡ option_map (λ h. h.offer) (known_of (rules_of O.reading O.Key.cmp CAP shares.now) (seen clock records.old) offer) }
     ensures after { result.after ≡ offer_left result.taken result.before offer }
 {
-    match record_found(records, found) {
+    match record_found(records, records.len(), found) {
         Some(known) => {
             let taken = take_known(records, shares, clock, found.below, known, offer);
             exchange_of(taken, Some(known.0), offer)
@@ -50,15 +50,17 @@ pub(crate) fn take_offer<O: Offer, const CAP: usize>(
     }
 }
 
-/// The record that was found, if there is one.
+/// The record that was found among the first ones, if there is one.
 pub(crate) fn record_found<O: Offer, const CAP: usize>(
     records: &Slotted<O, CAP>,
+    live: usize,
     found: Found,
 ) -> Option<(O, u8)>
-    ensures { result ≡ (if found.held then slice_get records.now found.below else None) }
+    requires { live ≤ length records.now }
+    ensures { result ≡ (if found.held then slice_get (take live records.now) found.below else None) }
 {
     if found.held {
-        records.get(found.below)
+        records.get(live, found.below)
     } else {
         None
     }

@@ -336,6 +336,51 @@ fn the_end_of_a_port_leaves_the_others(rt: HostRuntime) {
 }
 
 #[test]
+fn what_ends_in_place_is_lent_by_key(rt: HostRuntime) {
+    let mut table: Table<Way, 8> = Table::new();
+    for number in [1, 2, 4, 5, 7, 8] {
+        let way = way_by(0, number, 0xAA, 1, 1);
+        same(&rt, table.offer(way), Taken::Admitted);
+    }
+    for number in [6, 3] {
+        let way = way_by(1, number, 0xAA, 1, 1);
+        same(&rt, table.offer(way), Taken::Admitted);
+    }
+    table.end_port_in_place(1);
+    let ended = [way_by(1, 3, 0xAA, 1, 1), way_by(1, 6, 0xAA, 1, 1)];
+    same(&rt, table.ended(), ended.as_slice());
+    same(&rt, table.len(), 6);
+    same(&rt, table.get(&Network(3)), None);
+    table.clear_ended();
+    assert!(rt; table.ended().is_empty());
+    for _ in 0..179 {
+        table.second_in_place();
+    }
+    same(
+        &rt,
+        table.offer(way_by(0, 4, 0xAA, 1, 1)),
+        Taken::Refreshed { changed: false },
+    );
+    table.second_in_place();
+    let expired = [
+        way_by(0, 1, 0xAA, 1, 1),
+        way_by(0, 2, 0xAA, 1, 1),
+        way_by(0, 5, 0xAA, 1, 1),
+        way_by(0, 7, 0xAA, 1, 1),
+        way_by(0, 8, 0xAA, 1, 1),
+    ];
+    same(&rt, table.ended(), expired.as_slice());
+    let held = Held {
+        offer: way_by(0, 4, 0xAA, 1, 1),
+        age: 1,
+    };
+    same(&rt, table.get_at(0), Some(held));
+    same(&rt, table.get_at(1), None);
+    same(&rt, table.offer(way_by(0, 2, 0xAA, 1, 1)), Taken::Admitted);
+    same(&rt, table.len(), 2);
+}
+
+#[test]
 fn a_search_asks_seldom(rt: HostRuntime) {
     same(&rt, asks_in_vain(0, 0), 0);
     same(&rt, asks_in_vain(0, 1), 1);

@@ -1,70 +1,70 @@
-ghost use Rattle.std.specs.Prelude.{◌≡◌, ◌++◌, OnOk, Ok, ◌+◌, ◌<◌, ◌≤◌, length, OnErr};
-ghost use Rattle.std.specs.Vec.{vec_capacity};
+ghost use Rattle.std.specs.Prelude.{◌≡◌, ◌++◌, Ok, ◌+◌, ◌≤◌, length};
 ghost use Rattle.std.specs.List.{flat_map};
 ghost use Rattle.ipx_wire.specs.Crossed.{crossed_of};
 ghost use Rattle.ipx_cmd.specs.CrossedText.{crossed_text, network_after};
 ghost use Rattle.ipx_cmd.specs.CrossedWord.{crossed_word};
 
+use crate::draft::{Draft, HEAD, ROOM};
 use ipx_wire::{Crossed, CrossedFault, Network};
-use std::alloc::AllocError;
 
-/// Appends the line of the networks that a packet has crossed, or of why it names none.
-///
-/// An error is out of memory.
+/// How many bytes the first word of the line has.
+const WORD: usize = 7;
+
+/// How many bytes a network takes with the space before it.
+const NETWORK: usize = 9;
+
+/// How many bytes the line has at most, but for its end.
+const LONGEST: usize = 70;
+
+/// Puts the line of the networks that a packet has crossed, or of why it names none.
 #[tactic(auto, unfolding(crate::specs::CrossedText::crossed_text))]
-pub(crate) fn crossed_line(
-    text: &mut Vec<u8>,
-    control: u8,
-    payload: &[u8],
-) -> Result<(), AllocError>
-    ensures text { OnOk result (text.new.items ≡ text.old.items ++ crossed_text (crossed_of control payload.now)) }
-    ensures room { OnErr result (vec_capacity text.old < length text.old.items + length (crossed_text (crossed_of control payload.now))) }
-    ensures kept { vec_capacity text.old ≤ vec_capacity text.new }
+pub(crate) fn put_crossed(draft: &mut Draft, control: u8, payload: &[u8])
+    requires { length draft.old ≤ HEAD }
+    ensures { draft.new ≡ draft.old ++ crossed_text (crossed_of control payload.now) }
 {
     match Crossed::read(control, payload) {
-        Ok(crossed) => network_line(text, &crossed),
+        Ok(crossed) => put_line(draft, &crossed),
         Err(fault) => {
-            text.extend_from_slice(b"crossed bad ")?;
-            text.extend_from_slice(word(fault).as_bytes())?;
-            text.extend_from_slice(b"\n")
+            draft.put(b"crossed bad ");
+            draft.put(word(fault).as_bytes());
+            draft.put(b"\n");
         }
     }
 }
 
 #[tactic(auto, unfolding(crate::specs::CrossedText::crossed_text))]
-fn network_line(text: &mut Vec<u8>, crossed: &Crossed<'_>) -> Result<(), AllocError>
-    ensures text { OnOk result (text.new.items ≡ text.old.items ++ crossed_text (Ok crossed.now)) }
-    ensures room { OnErr result (vec_capacity text.old < length text.old.items + length (crossed_text (Ok crossed.now))) }
-    ensures kept { vec_capacity text.old ≤ vec_capacity text.new }
+fn put_line(draft: &mut Draft, crossed: &Crossed<'_>)
+    requires { length draft.old ≤ HEAD }
+    ensures { draft.new ≡ draft.old ++ crossed_text (Ok crossed.now) }
 {
-    text.extend_from_slice(b"crossed")?;
-    add_networks(text, crossed)?;
-    text.extend_from_slice(b"\n")
+    draft.put(b"crossed");
+    put_networks(draft, crossed);
+    draft.put(b"\n");
 }
 
-fn add_networks(text: &mut Vec<u8>, crossed: &Crossed<'_>) -> Result<(), AllocError>
-    ensures text { OnOk result (text.new.items ≡ text.old.items ++ flat_map network_after crossed.now) }
-    ensures room { OnErr result (vec_capacity text.old < length text.old.items + length (flat_map network_after crossed.now)) }
-    ensures kept { vec_capacity text.old ≤ vec_capacity text.new }
+fn put_networks(draft: &mut Draft, crossed: &Crossed<'_>)
+    requires { length draft.old ≤ HEAD + WORD }
+    ensures text { draft.new ≡ draft.old ++ flat_map network_after crossed.now }
+    ensures most { length draft.new ≤ HEAD + LONGEST }
 {
     for place in 0..crossed.len() {
-        add_network(text, crossed.get(place))?;
+        put_network(draft, crossed.get(place));
     }
-    Ok(())
 }
 
 #[tactic(auto, unfolding(crate::specs::CrossedText::network_after))]
-fn add_network(text: &mut Vec<u8>, network: Network) -> Result<(), AllocError>
-    ensures text { OnOk result (text.new.items ≡ text.old.items ++ network_after network) }
-    ensures room { OnErr result (vec_capacity text.old < length text.old.items + length (network_after network)) }
-    ensures kept { vec_capacity text.old ≤ vec_capacity text.new }
+fn put_network(draft: &mut Draft, network: Network)
+    requires { length draft.old + NETWORK ≤ ROOM }
+    ensures text { draft.new ≡ draft.old ++ network_after network }
+    ensures size { length draft.new ≡ length draft.old + NETWORK }
 {
-    text.extend_from_slice(b" ")?;
-    text.extend_from_slice(&network.digits())
+    draft.put(b" ");
+    draft.put(&network.digits());
 }
 
 fn word(fault: CrossedFault) -> &'static str
-    ensures { result.now ≡ crossed_word fault }
+    ensures word { result.now ≡ crossed_word fault }
+    ensures most { length result.now ≤ 5 }
 {
     match fault {
         CrossedFault::Short => "Short",

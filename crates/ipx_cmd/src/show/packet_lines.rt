@@ -1,72 +1,76 @@
-ghost use Rattle.std.specs.Prelude.{◌≡◌, ◌++◌, OnOk, ◌+◌, ◌<◌, ◌≤◌, length, OnErr};
-ghost use Rattle.std.specs.Vec.{vec_capacity};
+ghost use Rattle.std.specs.Prelude.{◌≡◌, ◌++◌, ◌+◌, ◌≤◌, length};
 ghost use Rattle.ipx_wire.specs.Packet.{packet_of};
 ghost use Rattle.ipx_cmd.specs.PacketText.{counts_text, data_text, ends_text, header_text, packet_text};
 ghost use Rattle.ipx_router.specs.WhyWord.{packet_word};
 
-use crate::show::crossed_line::crossed_line;
-use crate::show::rip_lines::rip_lines;
-use crate::show::sap_lines::sap_lines;
-use crate::text::put_decimal;
+use crate::draft::{Draft, HEAD, ROOM};
+use crate::show::crossed_line::put_crossed;
+use crate::show::rip_lines::put_rip;
+use crate::show::sap_lines::put_sap;
 use ipx_wire::{Header, Packet, PacketFault, Socket};
-use std::alloc::AllocError;
 
-/// Appends the lines of the packet that the bytes are, behind the words of its record; or why they are none.
-///
-/// An error is out of memory.
+/// How many bytes source and destination have.
+const ENDS: usize = 53;
+
+/// How many bytes the numbers of a header have at most, with their words.
+const LONGEST_COUNTS: usize = 34;
+
+/// How many bytes the line of a header has at most.
+pub(crate) const LONGEST_HEADER: usize = 87;
+
+/// Puts the lines of the packet that the bytes are, behind the words of its record; or why they are none.
 #[tactic(auto, unfolding(crate::specs::PacketText::packet_text))]
-pub(crate) fn packet_lines(text: &mut Vec<u8>, bytes: &[u8]) -> Result<(), AllocError>
-    ensures text { OnOk result (text.new.items ≡ text.old.items ++ packet_text (packet_of bytes.now)) }
-    ensures room { OnErr result (vec_capacity text.old < length text.old.items + length (packet_text (packet_of bytes.now))) }
-    ensures kept { vec_capacity text.old ≤ vec_capacity text.new }
+pub(crate) fn put_packet(draft: &mut Draft, bytes: &[u8])
+    requires { length draft.old + LONGEST_HEADER ≤ HEAD }
+    ensures { draft.new ≡ draft.old ++ packet_text (packet_of bytes.now) }
 {
     match Packet::read(bytes) {
         Ok(packet) => {
             let header = packet.header();
-            header_line(text, &header)?;
-            data_lines(text, &header, packet.payload())
+            put_header(draft, &header);
+            put_data(draft, &header, packet.payload());
         }
         Err(fault) => {
-            text.extend_from_slice(b"bad ")?;
-            text.extend_from_slice(word(fault).as_bytes())?;
-            text.extend_from_slice(b"\n")
+            draft.put(b"bad ");
+            draft.put(word(fault).as_bytes());
+            draft.put(b"\n");
         }
     }
 }
 
 #[tactic(auto, unfolding(crate::specs::PacketText::header_text))]
-fn header_line(text: &mut Vec<u8>, header: &Header) -> Result<(), AllocError>
-    ensures text { OnOk result (text.new.items ≡ text.old.items ++ header_text header.now) }
-    ensures room { OnErr result (vec_capacity text.old < length text.old.items + length (header_text header.now)) }
-    ensures kept { vec_capacity text.old ≤ vec_capacity text.new }
+fn put_header(draft: &mut Draft, header: &Header)
+    requires { length draft.old + LONGEST_HEADER ≤ ROOM }
+    ensures text { draft.new ≡ draft.old ++ header_text header.now }
+    ensures most { length draft.new ≤ length draft.old + LONGEST_HEADER }
 {
-    add_ends(text, header)?;
-    add_counts(text, header)
+    put_ends(draft, header);
+    put_counts(draft, header);
 }
 
-/// Appends source and destination.
+/// Puts source and destination.
 #[tactic(auto, unfolding(crate::specs::PacketText::ends_text))]
-fn add_ends(text: &mut Vec<u8>, header: &Header) -> Result<(), AllocError>
-    ensures text { OnOk result (text.new.items ≡ text.old.items ++ ends_text header.now) }
-    ensures room { OnErr result (vec_capacity text.old < length text.old.items + length (ends_text header.now)) }
-    ensures kept { vec_capacity text.old ≤ vec_capacity text.new }
+fn put_ends(draft: &mut Draft, header: &Header)
+    requires { length draft.old + ENDS ≤ ROOM }
+    ensures text { draft.new ≡ draft.old ++ ends_text header.now }
+    ensures size { length draft.new ≡ length draft.old + ENDS }
 {
     let Header {
         source,
         destination,
         ..
     } = *header;
-    text.extend_from_slice(&source.word())?;
-    text.extend_from_slice(b" ")?;
-    text.extend_from_slice(&destination.word())
+    draft.put(&source.word());
+    draft.put(b" ");
+    draft.put(&destination.word());
 }
 
-/// Appends the numbers of the header, and ends the line.
+/// Puts the numbers of the header, and ends the line.
 #[tactic(auto, unfolding(crate::specs::PacketText::counts_text))]
-fn add_counts(text: &mut Vec<u8>, header: &Header) -> Result<(), AllocError>
-    ensures text { OnOk result (text.new.items ≡ text.old.items ++ counts_text header.now) }
-    ensures room { OnErr result (vec_capacity text.old < length text.old.items + length (counts_text header.now)) }
-    ensures kept { vec_capacity text.old ≤ vec_capacity text.new }
+fn put_counts(draft: &mut Draft, header: &Header)
+    requires { length draft.old + LONGEST_COUNTS ≤ ROOM }
+    ensures text { draft.new ≡ draft.old ++ counts_text header.now }
+    ensures most { length draft.new ≤ length draft.old + LONGEST_COUNTS }
 {
     let Header {
         control,
@@ -74,42 +78,41 @@ fn add_counts(text: &mut Vec<u8>, header: &Header) -> Result<(), AllocError>
         length,
         ..
     } = *header;
-    text.extend_from_slice(b" tc ")?;
-    put_decimal(text, u64::from(control))?;
-    text.extend_from_slice(b" type ")?;
-    put_decimal(text, u64::from(kind))?;
-    text.extend_from_slice(b" length ")?;
-    put_decimal(text, u64::from(length))?;
-    text.extend_from_slice(b"\n")
+    draft.put(b" tc ");
+    draft.put_number(u16::from(control));
+    draft.put(b" type ");
+    draft.put_number(u16::from(kind));
+    draft.put(b" length ");
+    draft.put_number(length);
+    draft.put(b"\n");
 }
 
-/// Appends the lines of a packet's data: what they are is told by the type, then by the sockets.
+/// Puts the lines of a packet's data: what they are is told by the type, then by the sockets.
 #[tactic(auto, unfolding(crate::specs::PacketText::data_text))]
-fn data_lines(text: &mut Vec<u8>, header: &Header, payload: &[u8]) -> Result<(), AllocError>
-    ensures text { OnOk result (text.new.items ≡ text.old.items ++ data_text header.now payload.now) }
-    ensures room { OnErr result (vec_capacity text.old < length text.old.items + length (data_text header.now payload.now)) }
-    ensures kept { vec_capacity text.old ≤ vec_capacity text.new }
+fn put_data(draft: &mut Draft, header: &Header, payload: &[u8])
+    requires { length draft.old ≤ HEAD }
+    ensures { draft.new ≡ draft.old ++ data_text header.now payload.now }
 {
     if header.kind == Header::PROPAGATED {
-        return crossed_line(text, header.control, payload);
+        return put_crossed(draft, header.control, payload);
     }
     if header.destination.socket == Socket::RIP {
-        return rip_lines(text, payload);
+        return put_rip(draft, payload);
     }
     if header.destination.socket == Socket::SAP {
-        return sap_lines(text, payload);
+        return put_sap(draft, payload);
     }
     if header.source.socket == Socket::RIP {
-        return rip_lines(text, payload);
+        return put_rip(draft, payload);
     }
     if header.source.socket == Socket::SAP {
-        return sap_lines(text, payload);
+        put_sap(draft, payload);
     }
-    Ok(())
 }
 
 fn word(fault: PacketFault) -> &'static str
-    ensures { result.now ≡ packet_word fault }
+    ensures word { result.now ≡ packet_word fault }
+    ensures most { length result.now ≤ 12 }
 {
     match fault {
         PacketFault::Short => "Short",

@@ -1,78 +1,77 @@
-ghost use Rattle.std.specs.Prelude.{◌≡◌, ◌++◌, OnOk, Ok, ◌+◌, ◌<◌, ◌≤◌, length, OnErr};
-ghost use Rattle.std.specs.Vec.{vec_capacity};
+ghost use Rattle.std.specs.Prelude.{◌≡◌, ◌++◌, Ok, ◌+◌, ◌≤◌, length};
 ghost use Rattle.std.specs.List.{flat_map};
 ghost use Rattle.ipx_wire.specs.Rip.{rip_of};
 ghost use Rattle.ipx_cmd.specs.RipText.{rip_text, route_entry_text};
 ghost use Rattle.ipx_router.specs.WhyWord.{rip_word};
 
-use crate::text::put_decimal;
+use crate::draft::{Draft, HEAD, ROOM};
 use ipx_wire::{Rip, RipEntry, RipFault};
-use std::alloc::AllocError;
 
-/// Appends the lines of routing information, or the one that says why the data are none.
-///
-/// An error is out of memory.
+/// How many bytes the line of the operation has at most.
+const LONGEST_OPERATION: usize = 13;
+
+/// How many bytes the line of an entry has at most.
+const LONGEST_ENTRY: usize = 36;
+
+/// Puts the lines of routing information, or the one that says why the data are none.
 #[tactic(auto, unfolding(crate::specs::RipText::rip_text))]
-pub(crate) fn rip_lines(text: &mut Vec<u8>, payload: &[u8]) -> Result<(), AllocError>
-    ensures text { OnOk result (text.new.items ≡ text.old.items ++ rip_text (rip_of payload.now)) }
-    ensures room { OnErr result (vec_capacity text.old < length text.old.items + length (rip_text (rip_of payload.now))) }
-    ensures kept { vec_capacity text.old ≤ vec_capacity text.new }
+pub(crate) fn put_rip(draft: &mut Draft, payload: &[u8])
+    requires { length draft.old ≤ HEAD }
+    ensures { draft.new ≡ draft.old ++ rip_text (rip_of payload.now) }
 {
     match Rip::read(payload) {
-        Ok(rip) => routes(text, &rip),
+        Ok(rip) => put_routes(draft, &rip),
         Err(fault) => {
-            text.extend_from_slice(b"rip bad ")?;
-            text.extend_from_slice(fault_word(fault).as_bytes())?;
-            text.extend_from_slice(b"\n")
+            draft.put(b"rip bad ");
+            draft.put(fault_word(fault).as_bytes());
+            draft.put(b"\n");
         }
     }
 }
 
-#[tactic(auto, unfolding(crate::specs::RipText::rip_text))]
-fn routes(text: &mut Vec<u8>, rip: &Rip<'_>) -> Result<(), AllocError>
-    ensures text { OnOk result (text.new.items ≡ text.old.items ++ rip_text (Ok rip.now)) }
-    ensures room { OnErr result (vec_capacity text.old < length text.old.items + length (rip_text (Ok rip.now))) }
-    ensures kept { vec_capacity text.old ≤ vec_capacity text.new }
+#[tactic(auto, using(crate::proofs::Drafted::operation_short), unfolding(crate::specs::RipText::rip_text))]
+fn put_routes(draft: &mut Draft, rip: &Rip<'_>)
+    requires { length draft.old ≤ HEAD }
+    ensures { draft.new ≡ draft.old ++ rip_text (Ok rip.now) }
 {
-    text.extend_from_slice(b"rip ")?;
-    text.extend_from_slice(rip.operation().word().as_bytes())?;
-    text.extend_from_slice(b"\n")?;
-    add_entries(text, rip)
+    draft.put(b"rip ");
+    draft.put(rip.operation().word().as_bytes());
+    draft.put(b"\n");
+    put_entries(draft, rip);
 }
 
-fn add_entries(text: &mut Vec<u8>, rip: &Rip<'_>) -> Result<(), AllocError>
-    ensures text { OnOk result (text.new.items ≡ text.old.items ++ flat_map route_entry_text rip.now.entries) }
-    ensures room { OnErr result (vec_capacity text.old < length text.old.items + length (flat_map route_entry_text rip.now.entries)) }
-    ensures kept { vec_capacity text.old ≤ vec_capacity text.new }
+fn put_entries(draft: &mut Draft, rip: &Rip<'_>)
+    requires { length draft.old ≤ HEAD + LONGEST_OPERATION }
+    ensures { draft.new ≡ draft.old ++ flat_map route_entry_text rip.now.entries }
 {
     for place in 0..rip.len() {
-        add_entry(text, rip.entry(place))?;
+        put_entry(draft, rip.entry(place));
     }
-    Ok(())
 }
 
 #[tactic(auto, unfolding(crate::specs::RipText::route_entry_text))]
-fn add_entry(text: &mut Vec<u8>, entry: RipEntry) -> Result<(), AllocError>
-    ensures text { OnOk result (text.new.items ≡ text.old.items ++ route_entry_text entry) }
-    ensures room { OnErr result (vec_capacity text.old < length text.old.items + length (route_entry_text entry)) }
-    ensures kept { vec_capacity text.old ≤ vec_capacity text.new }
+fn put_entry(draft: &mut Draft, entry: RipEntry)
+    requires { length draft.old + LONGEST_ENTRY ≤ ROOM }
+    ensures text { draft.new ≡ draft.old ++ route_entry_text entry }
+    ensures most { length draft.new ≤ length draft.old + LONGEST_ENTRY }
 {
     let RipEntry {
         network,
         hops,
         ticks,
     } = entry;
-    text.extend_from_slice(b"net ")?;
-    text.extend_from_slice(&network.digits())?;
-    text.extend_from_slice(b" hops ")?;
-    put_decimal(text, u64::from(hops))?;
-    text.extend_from_slice(b" ticks ")?;
-    put_decimal(text, u64::from(ticks))?;
-    text.extend_from_slice(b"\n")
+    draft.put(b"net ");
+    draft.put(&network.digits());
+    draft.put(b" hops ");
+    draft.put_number(hops);
+    draft.put(b" ticks ");
+    draft.put_number(ticks);
+    draft.put(b"\n");
 }
 
 fn fault_word(fault: RipFault) -> &'static str
-    ensures { result.now ≡ rip_word fault }
+    ensures word { result.now ≡ rip_word fault }
+    ensures most { length result.now ≤ 9 }
 {
     match fault {
         RipFault::Short => "Short",

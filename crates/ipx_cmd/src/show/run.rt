@@ -7,6 +7,7 @@ ghost use Rattle.ipx_cmd.specs.Decoded.{CutOff, Decoded};
 ghost use Rattle.ipx_cmd.specs.Moved.{Moved, Refuses, Tells};
 ghost use Rattle.ipx_cmd.specs.WroteFront.{IsFaultOf, WroteFront};
 
+use crate::draft::Draft;
 use crate::ended::{Ended, RunFault};
 use crate::play::{LARGE, flush};
 use crate::show::capture_word::fault_line;
@@ -57,11 +58,12 @@ fn show_records<R: Read, W: Write>(
     ensures fault { IfErr result (IsFaultOf (place capture.new).input.failed outlet.new.failed) }
 {
     let mut shown = 0;
+    let mut draft = Draft::new();
     loop {
         write_some(capture.is_ready(), text, outlet)?;
         match capture.next() {
             Ok(Some(captured)) => {
-                record_lines(text, captured)?;
+                record_lines(text, &mut draft, captured)?;
                 shown = captured.number;
             }
             Ok(None) => {

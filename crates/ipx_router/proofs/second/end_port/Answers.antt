@@ -5,17 +5,17 @@ use Rattle.ipx_router.proofs.EndedSendings.{port_down_as}
 use Rattle.ipx_router.proofs.second.end_port.Goals as goal
 
 pub broadcast_down-requires-clause-routes_ascend : goal.broadcast_down-requires-clause-routes_ascend
-broadcast_down-requires-clause-routes_ascend g c = subst RoutesAscend (sym c.deref.ensures.0) c.end_port-ended.ensures.by_key
+broadcast_down-requires-clause-routes_ascend g c = subst RoutesAscend (sym c.ended.ensures.value) c.end_port_in_place.ensures.by_key
 
 pub broadcast_down-requires-clause-services_ascend : goal.broadcast_down-requires-clause-services_ascend
-broadcast_down-requires-clause-services_ascend g c = subst ServicesAscend (sym c.deref-2.ensures.0) c.end_port-lost.ensures.by_key
+broadcast_down-requires-clause-services_ascend g c = subst ServicesAscend (sym c.ended-2.ensures.value) c.end_port_in_place-2.ensures.by_key
 
 pub broadcast_down-requires-clause-room : goal.broadcast_down-requires-clause-room
 broadcast_down-requires-clause-room g c =
     let a = c.args in
     subst (Fits a.outbox.now)
     (port_down_as a.ports.now a.up.now a.routes.now.records a.services.now.records c.are_by_key.ensures.routes c.are_by_key.ensures.services a.port
-    (c.deref.ensures.0 ∙ c.end_port-ended.ensures.ended) (c.deref-2.ensures.0 ∙ c.end_port-lost.ensures.ended))
+    (c.ended.ensures.value ∙ c.end_port_in_place.ensures.ended) (c.ended-2.ensures.value ∙ c.end_port_in_place-2.ensures.ended))
     c.requires.room
 
 pub returns-clause-sends : goal.returns-clause-sends
@@ -23,5 +23,5 @@ returns-clause-sends g c =
     let a = c.args in
     subst (Appends a.outbox.now c.broadcast_down.new.outbox)
     (sym (port_down_as a.ports.now a.up.now a.routes.now.records a.services.now.records c.are_by_key.ensures.routes c.are_by_key.ensures.services a.port
-    (c.deref.ensures.0 ∙ c.end_port-ended.ensures.ended) (c.deref-2.ensures.0 ∙ c.end_port-lost.ensures.ended)))
+    (c.ended.ensures.value ∙ c.end_port_in_place.ensures.ended) (c.ended-2.ensures.value ∙ c.end_port_in_place-2.ensures.ended)))
     c.broadcast_down.ensures

@@ -1,9 +1,0 @@
-use Rattle.std.proofs.Common.{◌≡◌, ◌≤◌, ◌++◌, take}
-use Rattle.std.specs.List.{flat_map}
-use Rattle.std.specs.Vec.{vec_capacity}
-use Rattle.ipx_cmd.specs.RipText.{route_entry_text}
-use Rattle.ipx_cmd.proofs.show.rip_lines.add_entries.Given as goal
-
-abbrev pub invariant-loop-place : goal.invariant-loop-place
-invariant-loop-place l =
-    (l.text.items ≡ l.initial.text.items ++ flat_map route_entry_text (take l.place l.rip.entries)) × (vec_capacity l.initial.text ≤ vec_capacity l.text)

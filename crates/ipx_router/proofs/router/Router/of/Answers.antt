@@ -1,0 +1,15 @@
+use Rattle.std.proofs.Common.{arith, rules}
+use Rattle.ipx_router.proofs.RouterOf.{made_router, made_then}
+use Rattle.ipx_router.proofs.router.Router.of.Goals as goal
+
+pub invariant_of-result : goal.invariant_of-result
+invariant_of-result g c =
+    made_router g.row.R g.row.S c.args.ports.now c.copy_of.result.items c.new.result.items c.with_shares.result.records c.with_shares-2.result.records
+    c.with_shares.result.shares c.with_shares-2.result.shares
+    (search rules) (search rules) (search rules) (search rules) (search rules) (search rules)
+    (omega (arith, c.requires.few_routes)) (omega (arith, c.requires.few_services)) (search rules) (search rules) (search rules) (search rules)
+
+pub returns-clause-stands : goal.returns-clause-stands
+returns-clause-stands g c =
+    made_then g.row.R g.row.S c.args.ports.now c.copy_of.result.items c.new.result.items c.with_shares.result.records c.with_shares-2.result.records
+    (search rules) (search rules) (search rules) (search rules)

@@ -1,0 +1,262 @@
+/* Measures how much stack each call takes: it is made on a thread whose stack is painted, and then is looked how far down the paint
+ * is gone. The tables are full, and the calls are those that have the most to do.
+ *
+ * With no word it says of each call whether it stays within what docs/EMBED.md promises; with the word `figures` it prints bytes. */
+#define _POSIX_C_SOURCE 200112L
+#include <pthread.h>
+#include <stdio.h>
+#include <stdlib.h>
+#include <string.h>
+
+#include "ipxr.h"
+#include "packets.h"
+
+enum { STACK = 1 << 21, PAINT = 0xA5, LONGEST = 65535, PORTS = 3 };
+
+/* What a call may take, in bytes: an event or a reading; one in which records may end; and the making of a router. */
+enum { MOST = 20 << 10, MOST_ENDING = 440 << 10, MOST_MAKING = 600 << 10 };
+
+static const uint8_t NEIGHBOUR[6] = {0, 0, 0, 0, 0, 0xBB};
+static const uint32_t FAR = 0x10000;
+
+static ipxr router;
+static unsigned char *stack;
+static uint8_t packet[LONGEST];
+static size_t length;
+static int32_t answer;
+static int faults;
+static int in_figures;
+
+/* ---- Packets ---- */
+
+/* Fifty routes, so many hops away. */
+static void put_routes(uint32_t port, uint32_t first, uint16_t hops)
+{
+    length = HEADER + 2 + ENTRIES * ENTRY;
+    uint8_t *at = put_response(packet, RIP, ENTRIES, port + 1, NEIGHBOUR);
+    for (uint32_t k = 0; k < ENTRIES; k++)
+        at = put_entry(at, FAR + first + k, hops, 2);
+}
+
+/* Seven services, so many hops away. */
+static void put_services(uint32_t port, unsigned first, uint16_t hops)
+{
+    length = HEADER + 2 + SERVICES * SERVICE;
+    uint8_t *at = put_response(packet, SAP, SERVICES, port + 1, NEIGHBOUR);
+    for (unsigned k = 0; k < SERVICES; k++) {
+        const struct address offered = {FAR, NEIGHBOUR, 0x451};
+        char name[16];
+        snprintf(name, sizeof name, "S%05u", first + k);
+        at = put_service(at, 4, name, offered, hops);
+    }
+}
+
+/* A request for all routes, or for all services, on port 1. */
+static void put_request(uint8_t type)
+{
+    uint16_t socket = type == RIP ? RIP_SOCKET : SAP_SOCKET;
+    const struct address to = {2, EVERYONE, socket}, from = {2, NEIGHBOUR, 0x4001};
+    length = HEADER + 2 + (type == RIP ? ENTRY : 2);
+    uint8_t *at = put_number(put_header(packet, length, type, to, from), 2, 1);
+    if (type == RIP)
+        put_entry(at, 0xFFFFFFFF, 0xFFFF, 0xFFFF);
+    else
+        put_number(at, 2, 0xFFFF);
+}
+
+/* A packet to a node of port 1, or, of type 20, to all networks. */
+static void put_data(uint8_t type)
+{
+    const struct address to = {type == 20 ? 1 : 2, type == 20 ? EVERYONE : NEIGHBOUR, 0x4003}, from = {1, NEIGHBOUR, 0x4003};
+    length = type == 20 ? HEADER + 32 + 100 : LONGEST;
+    memset(packet, 0, length);
+    put_header(packet, length, type, to, from);
+}
+
+/* ---- Calls ---- */
+
+static void nothing(void) {}
+
+static void make(void)
+{
+    ipxr_port ports[PORTS];
+    for (size_t k = 0; k < PORTS; k++) {
+        const ipxr_port port = {(uint32_t)k + 1, {0, 0, 0, 0, 0, (uint8_t)(k + 1)}, 1, LONGEST, IPXR_NO_LIMIT, IPXR_NO_LIMIT};
+        ports[k] = port;
+    }
+    answer = ipxr_make(&router, ports, PORTS);
+}
+
+static void start(void) { answer = ipxr_start(&router); }
+static void stop(void) { answer = ipxr_stop(&router); }
+static void second(void) { answer = ipxr_second(&router); }
+static void down(void) { answer = ipxr_port_down(&router, 0); }
+static void up(void) { answer = ipxr_port_up(&router, 0); }
+static void take(void) { answer = ipxr_packet(&router, 0, packet, length); }
+static void take_on_1(void) { answer = ipxr_packet(&router, 1, packet, length); }
+static void empty(void) { ipxr_free(&router); }
+
+/* Whatever reads the router, and the packets that it sends. */
+static void read(void)
+{
+    ipxr_packet_sent sent;
+    ipxr_route_record route;
+    ipxr_service_record service;
+    uint8_t word[IPXR_MOST_WORD];
+    ipxr_get(&router, 0, &sent, packet, sizeof packet);
+    ipxr_route(&router, 0, &route);
+    ipxr_service(&router, 0, &service);
+    ipxr_word(0, word, sizeof word);
+    ipxr_is_up(&router, 0);
+    ipxr_clear(&router);
+}
+
+/* ---- Measuring ---- */
+
+static void *on_thread(void *call)
+{
+    (*(void (**)(void))call)();
+    return NULL;
+}
+
+/* How much of the stack a thread took that only makes this call. */
+static size_t taken(void (*call)(void))
+{
+    pthread_attr_t how;
+    pthread_t thread;
+    memset(stack, PAINT, STACK);
+    answer = 0;
+    if (pthread_attr_init(&how) != 0 || pthread_attr_setstack(&how, stack, STACK) != 0 ||
+        pthread_create(&thread, &how, on_thread, &call) != 0 || pthread_join(thread, NULL) != 0) {
+        puts("no thread can be made on a stack of its own");
+        exit(1);
+    }
+    pthread_attr_destroy(&how);
+    size_t untouched = 0;
+    while (untouched < STACK && stack[untouched] == PAINT)
+        untouched++;
+    if (answer < 0)
+        faults++;
+    return STACK - untouched;
+}
+
+/* A call, and how much stack it took beyond an empty one. */
+static void measure(const char *what, void (*call)(void), size_t most)
+{
+    size_t before = taken(nothing);
+    size_t bytes = taken(call) - before;
+    if (in_figures)
+        printf("%s: %zu bytes\n", what, bytes);
+    else
+        printf("%s: within %zu KB: %s\n", what, most >> 10, bytes <= most ? "yes" : "no");
+}
+
+/* The same call without a measurement, so often. */
+static void play(void (*call)(void), int turns)
+{
+    for (int turn = 0; turn < turns; turn++) {
+        call();
+        if (answer < 0)
+            faults++;
+        ipxr_clear(&router);
+    }
+}
+
+/* The tables are filled by port 0, or refreshed. */
+static void fill(void)
+{
+    for (uint32_t first = 0; first < IPXR_MOST_ROUTES; first += ENTRIES) {
+        put_routes(0, first, 1);
+        play(take, 1);
+    }
+    for (unsigned first = 0; first < IPXR_MOST_SERVICES; first += SERVICES) {
+        put_services(0, first, 1);
+        play(take, 1);
+    }
+}
+
+/* Every second record came by port 0, the others by port 1: so what ends lies between what stays. */
+static void fill_by_turns(void)
+{
+    for (uint32_t k = 0; k < IPXR_MOST_ROUTES / ENTRIES; k++) {
+        put_routes(k % 2, k * ENTRIES, 1);
+        play(k % 2 == 0 ? take : take_on_1, 1);
+    }
+    for (unsigned k = 0; k < IPXR_MOST_SERVICES / SERVICES; k++) {
+        put_services(k % 2, k * SERVICES, 1);
+        play(k % 2 == 0 ? take : take_on_1, 1);
+    }
+}
+
+/* ---- What is measured ---- */
+
+static void learn(void)
+{
+    put_routes(0, 0, 1);
+    measure("fifty new routes", take, MOST);
+    put_services(0, 0, 1);
+    measure("seven new services", take, MOST);
+    fill();
+    put_routes(0, 0, 1);
+    measure("fifty routes are refreshed", take, MOST);
+    put_routes(0, 0, 16);
+    measure("fifty routes are withdrawn", take, MOST);
+    put_services(0, 0, 16);
+    measure("seven services are withdrawn", take, MOST);
+    fill();
+}
+
+static void hand_on(void)
+{
+    put_request(RIP);
+    measure("a request for all routes", take_on_1, MOST);
+    put_request(SAP);
+    measure("a query for all services", take_on_1, MOST);
+    put_data(0);
+    measure("the longest packet is forwarded", take, MOST);
+    put_data(20);
+    measure("a packet goes to all networks", take, MOST);
+    measure("all is read", read, MOST);
+}
+
+static void pass_seconds(void)
+{
+    play(stop, 1);
+    play(start, 1);
+    fill();
+    measure("a second", second, MOST_ENDING);
+    play(second, 58);
+    measure("a second that advertises all", second, MOST_ENDING);
+    play(second, 119);
+    measure("a second in which all ends", second, MOST_ENDING);
+}
+
+static void lose_ports(void)
+{
+    fill();
+    measure("a port goes down, and all ends", down, MOST_ENDING);
+    measure("a port comes up", up, MOST);
+    play(stop, 1);
+    play(start, 1);
+    fill_by_turns();
+    measure("a port goes down, and half ends", down, MOST_ENDING);
+}
+
+int main(int count, char **words)
+{
+    in_figures = count > 1 && strcmp(words[1], "figures") == 0;
+    if (posix_memalign((void **)&stack, 4096, STACK) != 0)
+        return 1;
+    measure("a router is made", make, MOST_MAKING);
+    measure("a router is made in its place", make, MOST_MAKING);
+    measure("a start", start, MOST);
+    learn();
+    hand_on();
+    pass_seconds();
+    lose_ports();
+    measure("a stop", stop, MOST);
+    measure("a router is freed", empty, MOST);
+    free(stack);
+    printf("faults: %d\n", faults);
+    return 0;
+}
