@@ -59,7 +59,7 @@ impl Kind {
     }
 }
 
-/// Copies the bytes of the kind's packet so many times. The answer depends on each copy.
+/// Copies the bytes of the kind's packet that many times. The answer depends on each copy.
 pub fn copied(kind: Kind, packets: &Packets, turns: u32) -> u64 {
     match kind {
         Kind::ReadHeader | Kind::WriteQuery => copy(packets.query, turns),
@@ -69,7 +69,7 @@ pub fn copied(kind: Kind, packets: &Packets, turns: u32) -> u64 {
     }
 }
 
-/// Does the work so many times. The answer depends on each turn.
+/// Does the work that many times. The answer depends on each turn.
 pub fn done(kind: Kind, packets: &Packets, turns: u32) -> u64 {
     match kind {
         Kind::ReadHeader => each(&packets.query, turns, control_of),

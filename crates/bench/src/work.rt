@@ -95,7 +95,7 @@ fn any_of(out: &[u8; 62]) -> u64 {
     u64::from(out[usize::from(out[21]) % 62])
 }
 
-/// Writes so many responses of routes.
+/// Writes that many responses of routes.
 pub fn write_routes(packets: &Packets, turns: u32) -> u64 {
     let mut routes = packets.routes;
     let mut out = [0u8; 432];
@@ -108,7 +108,7 @@ pub fn write_routes(packets: &Packets, turns: u32) -> u64 {
     seen
 }
 
-/// Writes so many responses of services.
+/// Writes that many responses of services.
 pub fn write_services(packets: &Packets, turns: u32) -> u64 {
     let mut out = [0u8; 480];
     let mut seen = 0u64;
@@ -119,7 +119,7 @@ pub fn write_services(packets: &Packets, turns: u32) -> u64 {
     seen
 }
 
-/// Writes so many queries.
+/// Writes that many queries.
 pub fn write_queries(turns: u32) -> u64 {
     let mut out = [0u8; 34];
     let mut seen = 0u64;

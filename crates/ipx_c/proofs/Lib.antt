@@ -1,3 +1,4 @@
 mod FirstBad
 mod MachineBox
 mod Unmade
+pub mod examples

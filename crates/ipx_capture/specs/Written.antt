@@ -65,7 +65,7 @@ written_size kind packet = used kind packet + (shortest_frame - used kind packet
 abbrev pub is_carried : Kind → List ℕ → Bool
 is_carried kind packet = may_carry kind packet && nat_le (carried kind packet) most_carried
 
--- whether a buffer of so many bytes takes the frame
+-- whether a buffer of that many bytes takes the frame
 abbrev pub is_written : Kind → List ℕ → ℕ → Bool
 is_written kind packet room = is_carried kind packet && nat_le (written_size kind packet) room
 

@@ -107,7 +107,7 @@ impl<'a, S: Source> Capture<'a, S> {
         }))
     }
 
-    /// Whether the next call of [`next`](Capture::next) has its answer in the buffer, and doesn't ask the reader.
+    /// Whether the bytes that were read tell what comes next: a record, an end or a fault.
     pub fn is_ready(&self) -> bool
         ensures { result ≡ spec.is_ready (place self.now).order (place self.now).ahead }
     {

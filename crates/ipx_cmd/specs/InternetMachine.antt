@@ -99,7 +99,7 @@ past_of standing = elim standing.past [ Some past ↦ Ok past | None ↦ interne
 abbrev pub every_second : ℕ → List (ℕ × Event)
 every_second count = map (λ router. (router, Second)) (numbers count)
 
--- the events that happen to the routers, in order, where there are so many routers
+-- the events that happen to the routers, in order, where there are this many routers
 abbrev pub events_of : ℕ → Request → List (ℕ × Event)
 events_of count (Starts router) = (router, Start) ∷ []
 events_of count (Stops router) = (router, Stop) ∷ []
@@ -141,7 +141,7 @@ module _ (net : Internet) where
   abbrev pub event_said : Queued → ℕ → Event → List ℕ
   event_said q router event = dropped_text (reason (outcome (ports_of net router) most_routes (history_of q.histories router) event))
 
-  -- so many deliveries are handed out
+  -- that many deliveries are handed out
   abbrev pub settles : Queued → ℕ → Queued
   settles q limit = settled net most_routes most_services limit q
 

@@ -6,7 +6,7 @@ use Rattle.ipx_cmd.specs.declared.order.Order.{Order}
 use Rattle.ipx_cmd.specs.declared.order.Order.TheVariants.{Router, Port, Start, Stop, Second, In, Down, Up, Settle, Trace, Routes, Services}
 use Rattle.ipx_cmd.specs.Instruction.{values_of}
 
--- what a line asks for: the next router, the next port of the latest one, an event of a router, so many seconds of all of them,
+-- what a line asks for: the next router, the next port of the latest one, an event of a router, a number of seconds of all of them,
 -- that what waits is delivered, what becomes of a packet, or what is in one of a router's tables
 pub data Request : Type 0 where
   NextRouter : Request

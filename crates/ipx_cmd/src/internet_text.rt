@@ -90,7 +90,7 @@ fn pass_one(internet: &mut ScriptInternet) -> Result<(), RunFault>
     Ok(())
 }
 
-/// Hands out deliveries, at most so many, and tells how many are left.
+/// Hands out deliveries, at most that many, and tells how many are left.
 pub(crate) fn settle<W: Write>(
     internet: &mut ScriptInternet,
     limit: u32,
@@ -124,7 +124,7 @@ fn write_settled(settled: Settled, text: &mut Vec<u8>) -> Result<(), AllocError>
     }
 }
 
-/// Appends the line of so many deliveries that wait.
+/// Appends the line of that many deliveries that wait.
 fn left_line(text: &mut Vec<u8>, count: usize) -> Result<(), AllocError>
     ensures text { OnOk result (text.new.items ≡ text.old.items ++ (codes "left " ++ decimal count ++ codes "\n")) }
     ensures room { OnErr result (vec_capacity text.old < length text.old.items + length (codes "left " ++ decimal count ++ codes "\n")) }

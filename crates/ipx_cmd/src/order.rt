@@ -55,9 +55,9 @@ pub(crate) enum Order {
     Down { router: u8, port: u8 },
     /// A port of a router comes up.
     Up { router: u8, port: u8 },
-    /// What waits is delivered, so many deliveries at most.
+    /// What waits is delivered, that many deliveries at most.
     Settle { limit: u32 },
-    /// What becomes of the packet in the buffer, in so many receptions at most.
+    /// What becomes of the packet in the buffer, in that many receptions at most.
     Trace { router: u8, port: u8, limit: u32 },
     /// The route table of a router is shown.
     Routes { router: u8 },

@@ -92,7 +92,7 @@ module _ (r : Router) (stations : List Station) where
     pub copies : new.copies ≡ old.copies ++ children_by (length old.outcomes) (waits_next old)
     pub outcomes : new.outcomes ≡ old.outcomes ++ outcome_of r (waits_next old).to.port (waits_next old).bytes ∷ []
 
--- why not all of so many receptions are listed: they are more than the limit, or memory ran out for one within it
+-- why not all of a number of receptions are listed: they are more than the limit, or memory ran out for one within it
 abbrev pub IsCut : ℕ → ℕ → TraceFault → Type 0
 IsCut limit count NoSuchPort = ⊥
 IsCut limit count Limit = limit < count

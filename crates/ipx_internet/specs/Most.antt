@@ -21,7 +21,7 @@ on_network net network = filter (λ place. (network_of net place).0 == network.0
 abbrev pub most_on_network : Internet → ℕ
 most_on_network net = greatest (map (λ place. length (on_network net (network_of net place))) (places net))
 
--- the most receptions that one leads to, itself counted, if it and each further one is sent on to so many at most, and
+-- the most receptions that one leads to, itself counted, if it and each further one is sent on to that many at most, and
 -- so often at most
 abbrev pub most_of : ℕ → ℕ → ℕ
 most_of degree zero = 1

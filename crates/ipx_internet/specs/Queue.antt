@@ -49,7 +49,7 @@ module _ (net : Internet) (most_routes most_services : ℕ) where
     | ◌∷◌ d queue ↦ queued (record q { queue = queue }) d.to.router (Packet d.to.port d.bytes)
   ]
 
-  -- so many deliveries happen, one after the other, as long as any waits
+  -- that many deliveries happen, one after the other, as long as any waits
   abbrev pub settled : ℕ → Queued → Queued
   settled zero q = q
   settled (suc n) q = settled n (settled_one q)

@@ -19,12 +19,12 @@ module _ (net : Internet) (most_routes most_services : ℕ) where
   abbrev pub round : Queued → Queued
   round q = settled net most_routes most_services (length q.queue) q
 
-  -- so many rounds, one after the other
+  -- that many rounds, one after the other
   abbrev pub rounds : ℕ → Queued → Queued
   rounds zero q = q
   rounds (suc n) q = round (rounds n q)
 
-  -- how many deliveries are handed out in so many rounds
+  -- how many deliveries are handed out in that many rounds
   abbrev pub handed_out : ℕ → Queued → ℕ
   handed_out zero q = 0
   handed_out (suc n) q = handed_out n q + length (rounds n q).queue

@@ -5,7 +5,7 @@ use Rattle.ipx_internet.specs.Queue.{Delivery, Queued, settled}
 use Rattle.ipx_internet.specs.declared.internet.Settled.{Settled}
 use Rattle.ipx_internet.specs.declared.internet.Settled.TheVariants.{Quiet, Left}
 
--- so many deliveries were handed out, first in first out, or as many as there were
+-- that many deliveries were handed out, first in first out, or as many as there were
 abbrev pub HasSettled : (most_routes most_services count : ℕ) → Moment → Moment → Type 0
 HasSettled most_routes most_services count old new =
     (q : Queued) → StandsFor most_routes most_services old q

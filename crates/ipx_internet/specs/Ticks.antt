@@ -41,7 +41,7 @@ module _ (net : Internet) (most_routes most_services : ℕ) where
   AreTicks run [] = Unit
   AreTicks run (steps ∷ ticks) = IsTick run steps × AreTicks (run_of net most_routes most_services run steps) ticks
 
--- a tick as a computer may play it: all seconds, in an order of the routers, then so many deliveries
+-- a tick as a computer may play it: all seconds, in an order of the routers, then a number of deliveries
 abbrev pub a_tick_by : List ℕ → ℕ → List Step
 a_tick_by order deliveries = map (λ router. Happens router Second) order ++ replicate deliveries Settles
 

@@ -19,7 +19,7 @@ pub record Router : Type 0 where
   pub up : List ℕ
   pub routes : List RouteOffer
 
--- a router as it is after a history, where it holds so many routes
+-- a router as it is after a history, where it holds that many routes
 abbrev pub router_now : List Port → ℕ → History → Router
 router_now ports most_routes history = record {
   ports = ports;
@@ -85,7 +85,7 @@ module _ (routers : List Router) where
   next_level first [] = []
   next_level first (c ∷ level) = children first c ++ next_level (first + 1) level
 
-  -- so many levels, one after the other, from one whose first reception has a number
+  -- that many levels, one after the other, from one whose first reception has a number
   abbrev pub levels : ℕ → ℕ → List Copy → List (List Copy)
   levels zero first level = []
   levels (suc n) first level = level ∷ levels n (first + length level) (next_level first level)

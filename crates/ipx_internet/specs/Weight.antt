@@ -44,7 +44,7 @@ module _ (net : Internet) where
     pub bytes : IsBytes c.bytes
     pub there : IsPlace net c.to
 
-  -- a list of receptions of which the first so many were sent on: these, and the weights of those that wait, are no more than the
+  -- a list of receptions of which that many, from the first on, were sent on: these, and the weights of those that wait, are no more than the
   -- weight of the root
   pub record IsBounded (root : Copy) (sent : ℕ) (copies : List Copy) : Type 0 where
     pub each : AllByRecursion CanCome copies

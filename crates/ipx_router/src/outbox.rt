@@ -68,7 +68,7 @@ impl Model for Outbox {
 }
 
 impl Outbox {
-    /// An outbox without packets and without room, which takes no memory.
+    /// An outbox without packets and without room, which holds no memory.
     pub fn new(alloc: Global) -> Outbox
         ensures sent { result.sent ≡ [] }
         ensures memory { result.memory ≡ record { packets = 0; bytes = 0 } }
@@ -81,8 +81,8 @@ impl Outbox {
     }
 
     /// Makes room for that many packets more, and that many bytes. The packets stay, whether it could or not, and so does
-    /// the room that was there; it is refused only where that room was missing, and takes memory only then: at least as much
-    /// again as there was, so that packets that come one by one rarely ask for more.
+    /// the room that was there; it is refused only where that room was missing, and takes memory only then. What it holds then
+    /// is at most twice what it held, or just what is needed.
     pub fn reserve(&mut self, need: Need) -> Result<(), OutOfMemory>
         ensures room { OnOk result (HasRoom self.new need.packets need.bytes) }
         ensures there { HasRoom self.old need.packets need.bytes → IsOk result }

@@ -39,8 +39,7 @@ pub enum Outcome {
 }
 
 impl Outcome {
-    /// A few words, as `already running`, in two parts that follow one another; the second is empty but for an event that was
-    /// dropped, whose words are those of a `drop` line, as `drop ` and `NoRoute`.
+    /// A few words, as `already running` or `drop NoRoute`, in two parts: the second follows the first.
     pub fn words(self) -> (&'static str, &'static str)
         ensures { result.0.now ++ result.1.now ≡ outcome_word self }
     {

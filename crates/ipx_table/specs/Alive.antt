@@ -4,7 +4,7 @@ use Rattle.ipx_table.specs.Reading.{Rules, same_key}
 use Rattle.ipx_table.specs.Facts.{Offered, Second, PortEnd, End, Marked, seconds}
 use Rattle.ipx_table.specs.declared.held.Held.{Held}
 
--- an offer that nobody refreshes lives for so many seconds (own)
+-- an offer that nobody refreshes lives for this many seconds (own)
 abbrev pub lifetime : ℕ
 lifetime = 180
 

@@ -47,7 +47,7 @@ pub fn find<A: Asked>(asked: &mut A) -> Found
     ensures below { result.below ≡ (A.answers asked.old).below }
     ensures held { result.held ≡ (A.answers asked.old).held }
     ensures same { A.answers asked.new ≡ A.answers asked.old }
-    // Where the number of places can be written with so many binary digits, it asks at most that often.
+    // Where the number of places has n binary digits, it asks at most n times.
     ensures few { (digits : ℕ) → places (A.answers asked.old) < 2 ^ digits → A.asks asked.new ≤ digits }
 {
     let len = asked.len();

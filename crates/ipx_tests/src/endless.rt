@@ -90,7 +90,7 @@ const LINES: &[u8] =
     b"record 1 EthernetII 00000010.0000000000AA.0453 00000010.FFFFFFFFFFFF.0453 tc 0 type 1 length 40\n\
 rip request\nnet FFFFFFFF hops 65535 ticks 65535\n";
 
-/// How a capture ends, and its text, that is cut after so many bytes.
+/// How a capture ends, and its text, that is cut after a number of bytes.
 fn wanted(size: usize) -> (Ended, &'static [u8]) {
     if size < 24 {
         (Ended::BadInput, b"record 0: CutHeader\n")

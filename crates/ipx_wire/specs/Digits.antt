@@ -4,7 +4,7 @@ use Rattle.std.specs.Int.{from_be_bytes, w32}
 use Rattle.std.specs.Result.{result_ok}
 use Rattle.hex.specs.Hex.{decode_sized}
 
--- so many bytes, of exactly two hexadecimal digits each, in either case
+-- that many bytes, of exactly two hexadecimal digits each, in either case
 abbrev pub bytes_of_digits : ℕ → List ℕ → Option (List ℕ)
 bytes_of_digits count text = result_ok (decode_sized text count)
 

@@ -9,7 +9,7 @@ use Rattle.ipx_wire.specs.declared.network.Network.{Network}
 abbrev pub forwarded : Parts → Parts
 forwarded p = record p { header = record p.header { control = p.header.control + 1 } }
 
--- data with a network in the place that comes after so many, all else as it came
+-- data with a network in the place behind that many others, all else as it came
 abbrev pub crossing : ℕ → Network → List ℕ → List ℕ
 crossing control network payload =
     take (4 * control) payload ++ network_bytes network ++ drop (4 * control + 4) payload

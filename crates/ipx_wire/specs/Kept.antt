@@ -10,7 +10,7 @@ pub record IsKept (h : Header) (whole : List ℕ) : Type 0 where
   pub counted : h.length ≡ length whole
   pub enough : 30 ≤ length whole
 
--- so many items, not fewer and not more than there may be, and the bytes of as many of that size
+-- that many items, not fewer and not more than there may be, and the bytes of as many of that size
 pub record IsCounted (least greatest size : ℕ) (count : ℕ) (body : List ℕ) : Type 0 where
   pub some : least ≤ count
   pub most : count ≤ greatest

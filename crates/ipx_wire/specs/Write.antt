@@ -11,7 +11,7 @@ use Rattle.ipx_wire.specs.declared.header.Header.{Header}
 use Rattle.ipx_wire.specs.declared.rip.Operation.{Operation}
 use Rattle.ipx_wire.specs.declared.rip.RipEntry.{RipEntry}
 
--- the header of a router's own packet: no checksum (own), transport control 0, and so many bytes of data
+-- the header of a router's own packet: no checksum (own), transport control 0, and that many bytes of data
 abbrev pub own_header : ℕ → Address → Address → ℕ → Header
 own_header kind from to size = record {
   checksum = no_checksum;

@@ -22,7 +22,7 @@ const LONGEST: usize = 576;
 /// The bytes of a header.
 const HEADER: usize = 30;
 
-/// The number that so many bytes from a position on stand for, the highest one first.
+/// The number that a number of bytes from a position on stand for, the highest one first.
 fn number(bytes: &[u8], from: usize, count: usize) -> u64 {
     let mut number = 0u64;
     for byte in bytes.iter().skip(from).take(count) {

@@ -1,0 +1,12 @@
+-- How much one router has in the library as it is delivered. For a library of other sizes tools/sized writes the numbers anew.
+use Rattle.std.proofs.Common.{◌≡◌, refl}
+use Rattle.ipx_c.specs.Sizes.{most_ports, most_routes, most_services}
+
+ports : most_ports ≡ 32
+ports = refl
+
+routes : most_routes ≡ 2048
+routes = refl
+
+services : most_services ≡ 1024
+services = refl
