@@ -51,7 +51,7 @@ fuzz: build embed
 bench:
 	@tools/bench
 
-# Puts what the gate proved and built into dist/: the archive of a release and Debian's packages, with their sums; docs/RELEASES.md.
+# Puts what the gate proved and built into dist/: the archive of a release and Debian's packages, with their sums; docs/authors/RELEASING.md.
 # DRAFT=1 makes a draft where the gate wasn't run on this commit.
 dist:
 	@tools/dist $(if $(DRAFT),--draft)
