@@ -73,10 +73,10 @@ extern "C" {
 /* Room for the words of any answer, with the 0 behind them. */
 #define IPXR_MOST_WORD 32
 
-/* Bytes of stack for a thread that makes these calls, ipxr_make among them, which holds a router's tables before they are in their block:
- * 17 bytes a route and 77 a service. That and half as much again: 192 KB as delivered, 64 KB for small tables. All other calls take
+/* Bytes of stack for a thread that makes these calls, ipxr_make among them, which holds a router's tables before they are in their block,
+ * 17 bytes a route and 77 a service, up to three times. So it is 384 KB as delivered, and 64 KB for small tables. All other calls take
  * less than 16 KB, whatever the tables. */
-#define IPXR_STACK (((17 * IPXR_MOST_ROUTES + 77 * IPXR_MOST_SERVICES) / 43690 + 1) * 65536)
+#define IPXR_STACK (((17 * IPXR_MOST_ROUTES + 77 * IPXR_MOST_SERVICES) * 3 + 16384 + 65535) / 65536 * 65536)
 
 /* ---- What became of an event: 0 and above. ipxr_word tells the word of each. ---- */
 
@@ -84,7 +84,7 @@ extern "C" {
 #define IPXR_ALREADY_RUNNING 1  /* it was running; nothing was done */
 #define IPXR_STOPPED 2          /* it is stopped, and forgot what it learned */
 #define IPXR_TICKED 3           /* a second passed */
-#define IPXR_LEARNED 4          /* a response was taken */
+#define IPXR_LEARNED 4          /* a response was taken; what a full table has no room for is left out */
 #define IPXR_ANSWERED 5         /* a request or a query was heard; also where nothing is sent */
 #define IPXR_FORWARDED 6        /* the packet goes on towards its network */
 #define IPXR_PROPAGATED 7       /* the packet goes on to the other networks; also where there is none */

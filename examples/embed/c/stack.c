@@ -11,7 +11,7 @@
 #include "ipxr.h"
 #include "packets.h"
 
-enum { STACK = 1 << 21, PAINT = 0xA5, LONGEST = 65535, PORTS = 3 };
+enum { STACK = IPXR_STACK + (1 << 20), PAINT = 0xA5, LONGEST = 65535, PORTS = 3 };
 
 /* What a call may take, in bytes: any call, and the making of a router, which holds the tables' records once before they are in their
  * block, 17 bytes a route and 77 a service. */
