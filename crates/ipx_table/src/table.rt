@@ -98,6 +98,7 @@ impl<O: Offer, const CAP: usize> Table<O, CAP> {
         ensures others { (key : O.Key) → is_eq (O.Key.cmp (O.reading.key offer) key) ≡ false
             → record_of O.reading.key O.Key.cmp key self.new.records ≡ record_of O.reading.key O.Key.cmp key self.old.records }
         ensures shares { self.new.shares ≡ self.old.shares }
+        ensures forgotten { self.new.ended ≡ [] }
     {
         self.exchange(offer).taken
     }
@@ -113,6 +114,7 @@ impl<O: Offer, const CAP: usize> Table<O, CAP> {
         ensures others { (key : O.Key) → is_eq (O.Key.cmp (O.reading.key offer) key) ≡ false
             → record_of O.reading.key O.Key.cmp key self.new.records ≡ record_of O.reading.key O.Key.cmp key self.old.records }
         ensures shares { self.new.shares ≡ self.old.shares }
+        ensures forgotten { self.new.ended ≡ [] }
         ensures before { result.before ≡ option_map (λ h. h.offer) (record_of O.reading.key O.Key.cmp (O.reading.key offer) self.old.records) }
         ensures after { result.after ≡ option_map (λ h. h.offer) (record_of O.reading.key O.Key.cmp (O.reading.key offer) self.new.records) }
         // Where the answer tells no change, the type takes the offers before and after for the same.
@@ -136,6 +138,7 @@ impl<O: Offer, const CAP: usize> Table<O, CAP> {
         // What did not expire is a second older, and nothing else changed.
         ensures records { self.new.records ≡ second_later self.old.records }
         ensures shares { self.new.shares ≡ self.old.shares }
+        ensures forgotten { self.new.ended ≡ [] }
     {
         self.second_in_place();
         self.take_ended()
@@ -183,6 +186,7 @@ impl<O: Offer, const CAP: usize> Table<O, CAP> {
         // The other records stay as they are, with their ages.
         ensures records { self.new.records ≡ without_port (port_of O.reading) port self.old.records }
         ensures shares { self.new.shares ≡ self.old.shares }
+        ensures forgotten { self.new.ended ≡ [] }
     {
         self.end_port_in_place(port);
         self.take_ended()
@@ -202,7 +206,8 @@ impl<O: Offer, const CAP: usize> Table<O, CAP> {
         self.live = self.records.part(Ending::Port(port));
     }
 
-    /// The offers that the last call in place ended, by key, until they are forgotten.
+    /// The offers that ended in place last, by key, until they are forgotten: by `clear_ended`, or by any other call that takes
+    /// an offer or ends some.
     pub fn ended(&self) -> &[O]
         ensures value { result.now ≡ self.now.ended }
         ensures fits { length result.now ≤ CAP }
@@ -224,6 +229,7 @@ impl<O: Offer, const CAP: usize> Table<O, CAP> {
         ensures ended { result.items ≡ self.old.ended }
         ensures records { self.new.records ≡ self.old.records }
         ensures shares { self.new.shares ≡ self.old.shares }
+        ensures forgotten { self.new.ended ≡ [] }
     {
         let mut ended = ArrayVec::new();
         let _ = ended.try_extend_from_slice(self.ended());
@@ -236,6 +242,7 @@ impl<O: Offer, const CAP: usize> Table<O, CAP> {
         ensures empty { self.new.records ≡ [] }
         ensures stands { (facts : List (Fact O)) → Stands (rules_of O.reading O.Key.cmp CAP self.old.shares) self.new.records (facts ++ End ∷ []) }
         ensures shares { self.new.shares ≡ self.old.shares }
+        ensures forgotten { self.new.ended ≡ [] }
     {
         self.records.clear();
         self.live = 0;
