@@ -1,5 +1,5 @@
 -- The table of digits.
-use Rattle.std.proofs.Common.{◌≡◌, ℕ, zero, suc, ◌+◌, ◌-◌, ◌*◌, ◌/◌, ◌%◌, ◌<◌, inl, inr, Bool, true, ◌&&◌, eqb, T, get_or, slice_index, List, [], ◌∷◌, arith, eq-zero-or-pos, eqb→eq}
+use Rattle.std.proofs.Common.{◌≡◌, ℕ, zero, suc, ◌+◌, ◌-◌, ◌*◌, ◌/◌, ◌%◌, ◌<◌, inl, inr, Bool, true, ◌&&◌, eqb, T, get_or, slice_index, [], ◌∷◌, arith, eq-zero-or-pos, eqb→eq}
 use lib.Ieee.Fits.{and_l, and_r}
 use Rattle.hex.specs.Hex.{encode_upper, upper_digits}
 use Rattle.ipx_wire.proofs.HexText.{encode_upper-digits}

@@ -1,15 +1,14 @@
 -- The line of a service, by the bytes of its entry.
-use Rattle.std.proofs.Common.{◌≡◌, ◌≢◌, ℕ, ◌+◌, ◌-◌, ◌/◌, ◌<◌, ◌≤◌, ◌⊎◌, inl, inr, List, [], ◌∷◌, ◌++◌, length, take, drop, codes, decimal, refl, sym, ap, ◌∙◌, arith, Some, None, Option, append_assoc}
+use Rattle.std.proofs.Common.{◌≡◌, ◌≢◌, ℕ, ◌≤◌, ◌⊎◌, inl, inr, List, ◌++◌, length, take, drop, codes, refl, sym, ap, ◌∙◌, arith, Option}
 use Rattle.std.proofs.lemmas.List.{drop-drop}
-use Rattle.std.specs.Int.{from_be_bytes, to_be_bytes, w16, w32}
+use Rattle.std.specs.Int.{from_be_bytes, to_be_bytes, w16}
 use Rattle.hex.specs.Hex.{encode_upper}
 use Rattle.ipx_wire.specs.Address.{address_at}
-use Rattle.ipx_wire.specs.Name.{before_zero, name_of}
 use Rattle.ipx_wire.specs.NameWord.{name_word}
-use Rattle.ipx_wire.specs.Piece.{piece, IsBytes}
+use Rattle.ipx_wire.specs.Piece.{piece}
 use Rattle.ipx_wire.specs.SapEntries.{sap_entry_at}
 use Rattle.ipx_wire.proofs.Names.{zero_at, inside, name_of-inside, name_of-empty, name_of-whole}
-use Rattle.ipx_wire.proofs.Pieces.{bytes_16, bytes_32, length-piece}
+use Rattle.ipx_wire.proofs.Pieces.{length-piece}
 use Rattle.ipx_cmd.specs.SapText.{service_entry_text, named_text}
 use Rattle.ipx_cmd.specs.ServiceWords.{offered_words, service_words}
 

@@ -1,4 +1,5 @@
-//! Texts that are put into a room behind others. Each function returns where its text ends, so that the place stays in a register.
+//! Texts that are put into a room behind others, wherever their bytes come from. Each function returns where its text ends, so that
+//! the place stays in a register while a line is put together; what stands in the room behind that place says nothing.
 ghost use Rattle.std.specs.Prelude.{◌≡◌, ◌+◌, ◌*◌, ◌<◌, ◌≤◌, ◌++◌, ◌∷◌, [], length, take, decimal};
 ghost use Rattle.std.specs.Int.{from_be_bytes, to_be_bytes, w16, w32};
 ghost use Rattle.hex.specs.Hex.{encode_upper};

@@ -1,5 +1,5 @@
-//! The line of a service, put together from the bytes of its entry.
-ghost use Rattle.std.specs.Prelude.{◌≡◌, ◌+◌, ◌==◌, ◌<◌, ◌≤◌, ◌++◌, length, take, codes};
+//! The line of a service, put together from the bytes of its entry: to read the entry first would copy its name and its node.
+ghost use Rattle.std.specs.Prelude.{◌≡◌, ◌+◌, ◌==◌, ◌<◌, ◌≤◌, ◌++◌, length, take};
 ghost use Rattle.std.specs.Int.{from_be_bytes, w16};
 ghost use Rattle.std.specs.List.{position_or_len};
 ghost use Rattle.ipx_wire.specs.Address.{address_at};
@@ -17,9 +17,10 @@ pub(crate) const LONGEST_ENTRY: usize = 188;
 /// How many bytes an address and hops have at most, each behind a space.
 const LONGEST_OFFERED: usize = 33;
 
-/// Where the name of an entry stands, and where its address does.
+/// Where the name of an entry stands.
 const NAME: usize = 2;
 
+/// Where its address stands, and behind that its hops.
 const ADDRESS: usize = 50;
 
 /// Puts the line of a service by the bytes of its entry.

@@ -11,15 +11,19 @@ use crate::show::rip_lines::put_rip;
 use crate::show::sap_lines::put_sap;
 use ipx_wire::{Header, Packet, PacketFault, Socket};
 
-/// Where the fields of a header stand.
+/// Where the length of a packet stands.
 const LENGTH: usize = 2;
 
+/// Where its transport control stands.
 const CONTROL: usize = 4;
 
+/// Where its type stands.
 const KIND: usize = 5;
 
+/// Where its destination stands.
 const DESTINATION: usize = 6;
 
+/// Where its source stands.
 const SOURCE: usize = 18;
 
 /// How many bytes source and destination have.

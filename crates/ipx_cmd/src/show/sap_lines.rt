@@ -1,5 +1,6 @@
 ghost use Rattle.std.specs.Prelude.{◌≡◌, ◌++◌, Ok, ◌+◌, ◌*◌, ◌≤◌, drop, length};
 ghost use Rattle.std.specs.List.{flat_map};
+ghost use Rattle.ipx_wire.specs.Numbers.{most_services};
 ghost use Rattle.ipx_wire.specs.Sap.{sap_of};
 ghost use Rattle.ipx_wire.specs.SapEntries.{sap_entries_at, sap_entry_at};
 ghost use Rattle.ipx_wire.specs.declared.sap.Sap.TheVariants.{Query, Response};
@@ -54,7 +55,7 @@ fn put_query(draft: &mut Draft, nearest: bool, kind: u16)
 #[tactic(auto, unfolding(crate::specs::SapText::sap_text))]
 fn put_services(draft: &mut Draft, nearest: bool, count: usize, payload: &[u8])
     requires room { length draft.old ≤ HEAD }
-    requires few { count ≤ 7 }
+    requires few { count ≤ most_services }
     requires whole { 2 + 64 * count ≤ length payload.now }
     ensures { draft.new ≡ draft.old ++ sap_text (Ok (Response nearest (sap_entries_at count (drop 2 payload.now)))) }
 {
@@ -67,7 +68,7 @@ fn put_services(draft: &mut Draft, nearest: bool, count: usize, payload: &[u8])
 
 fn put_entries(draft: &mut Draft, count: usize, entries: &[u8])
     requires room { length draft.old ≤ HEAD + RESPONSE }
-    requires few { count ≤ 7 }
+    requires few { count ≤ most_services }
     requires whole { 64 * count ≤ length entries.now }
     ensures { draft.new ≡ draft.old ++ flat_map service_entry_text (sap_entries_at count entries.now) }
 {

@@ -1,4 +1,4 @@
-use Rattle.std.proofs.Common.{◌≡◌, arith, sym, ap, ◌∙◌, ◌++◌, ◌∷◌, [], ◌*◌, ◌+◌, get_or, List, ℕ, take}
+use Rattle.std.proofs.Common.{◌≡◌, arith, ap, ◌∙◌, ◌++◌, ◌∷◌, [], ◌*◌, ◌+◌, get_or, List, ℕ, take}
 use Rattle.ipx_cmd.specs.declared.put.TheConstants.{PAIRS}
 use Rattle.ipx_cmd.proofs.HexPairs.{pair_of}
 use Rattle.ipx_cmd.proofs.put.put_hex_byte.Goals as goal

@@ -1,4 +1,4 @@
-use Rattle.std.proofs.Common.{arith, ℕ, List, ap, sym, ◌++◌, ◌∙◌, inl, inr, take, drop, codes}
+use Rattle.std.proofs.Common.{ℕ, List, ap, sym, ◌++◌, ◌∙◌, inl, inr, take, drop, codes}
 use Rattle.std.specs.Int.{from_be_bytes, to_be_bytes, w16}
 use Rattle.hex.specs.Hex.{encode_upper}
 use Rattle.ipx_wire.specs.Address.{address_at}

@@ -1,4 +1,4 @@
-use Rattle.std.proofs.Common.{◌≡◌, ap, sym, ◌∙◌, ◌++◌, List, ℕ, take, codes}
+use Rattle.std.proofs.Common.{ap, ◌∙◌, ◌++◌, List, ℕ, take, codes}
 use Rattle.ipx_wire.specs.Address.{address_at}
 use Rattle.ipx_wire.specs.AddressWord.{address_word}
 use Rattle.ipx_wire.specs.Header.{header_at}
