@@ -41,3 +41,7 @@ operation_short Response = omega arith
 pub after : (start front back whole first last : List ℕ) → first ≡ start ++ front → last ≡ first ++ back → whole ≡ front ++ back → last ≡ start ++ whole
 after start front back whole first last one two is =
     two ∙ ap (λ (t : List ℕ). t ++ back) one ∙ append_assoc start front back ∙ ap (λ (t : List ℕ). start ++ t) (sym is)
+
+-- a text that was put behind another
+pub then : (a x y : List ℕ) {b c : List ℕ} → b ≡ a ++ x → c ≡ b ++ y → c ≡ a ++ (x ++ y)
+then a x y {b} {c} one two = two ∙ ap (λ (t : List ℕ). t ++ y) one ∙ append_assoc a x y

@@ -11,6 +11,7 @@ pub mod Finishes
 pub mod Further
 pub mod FurtherLines
 pub mod HappenedTo
+pub mod HexPairs
 pub mod HexWordLemmas
 pub mod InternetActing
 pub mod InternetTexts
@@ -24,16 +25,19 @@ pub mod NodesMeet
 pub mod NumberLemmas
 pub mod Offs
 pub mod OrdersAllowed
+pub mod PacketTexts
 pub mod Pieces
 pub mod Reached
 pub mod Rooms
 pub mod RoutersMade
 pub mod RoutersNow
 pub mod Rows
+pub mod SapTexts
 pub mod Saying
 pub mod ScriptExits
 pub mod Searches
 pub mod Seconds
+pub mod ServiceLines
 pub mod Stretches
 pub mod TableTexts
 pub mod WordsLemmas

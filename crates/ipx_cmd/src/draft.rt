@@ -1,8 +1,8 @@
 //! Lines that are put together in place, and appended at once: to append each of their small parts costs more than the parts.
-ghost use Rattle.std.specs.Prelude.{◌≡◌, ◌+◌, ◌<◌, ◌≤◌, [], ◌++◌, length, decimal};
-ghost use Rattle.ipx_cmd.specs.Drafted.{two_digits};
+ghost use Rattle.std.specs.Prelude.{◌≡◌, ◌+◌, ◌≤◌, [], ◌++◌, length, decimal};
 ghost use Rattle.ipx_wire.specs.NameWord.{name_word};
 
+use crate::put::{LONGEST_NUMBER, put_number, put_text};
 use ipx_wire::ServiceName;
 use itoa::write_digits;
 use std::marker::Model;
@@ -13,9 +13,6 @@ pub(crate) const ROOM: usize = 2048;
 /// How many bytes the words of a record and the line of its packet take at most.
 pub(crate) const HEAD: usize = 128;
 
-/// How many digits a field of a packet has at most.
-pub(crate) const LONGEST_NUMBER: usize = 5;
-
 /// How many digits the number of a record has at most.
 pub(crate) const LONGEST_COUNT: usize = 20;
 
@@ -25,8 +22,8 @@ pub(crate) const LONGEST_NAME: usize = 141;
 /// Text that is put together.
 #[derive(Drop)]
 pub(crate) struct Draft {
-    bytes: [u8; ROOM],
-    count: usize,
+    pub(crate) bytes: [u8; ROOM],
+    pub(crate) count: usize,
 }
 
 impl Model for Draft {
@@ -71,9 +68,7 @@ impl Draft {
         ensures text { self.new ≡ self.old ++ bytes.now }
         ensures size { length self.new ≡ length self.old + length bytes.now }
     {
-        let end = self.count + bytes.len();
-        self.bytes[self.count..end].copy_from_slice(bytes);
-        self.count = end;
+        self.count = put_text(&mut self.bytes, self.count, bytes);
     }
 
     /// Puts a number in decimal digits.
@@ -82,64 +77,7 @@ impl Draft {
         ensures text { self.new ≡ self.old ++ decimal number }
         ensures most { length self.new ≤ length self.old + LONGEST_NUMBER }
     {
-        if number < 10_000 {
-            return self.put_four(number);
-        }
-        self.put_digit(number / 10_000);
-        self.put_pair(number / 100 % 100);
-        self.put_pair(number % 100);
-    }
-
-    /// Puts a number of up to four digits.
-    #[inline]
-    fn put_four(&mut self, number: u16)
-        requires small { number < 10000 }
-        requires room { length self.old + 4 ≤ ROOM }
-        ensures text { self.new ≡ self.old ++ decimal number }
-        ensures most { length self.new ≤ length self.old + 4 }
-    {
-        if number < 100 {
-            return self.put_two(number);
-        }
-        self.put_two(number / 100);
-        self.put_pair(number % 100);
-    }
-
-    /// Puts a number of one digit or two.
-    #[inline]
-    fn put_two(&mut self, number: u16)
-        requires small { number < 100 }
-        requires room { length self.old + 2 ≤ ROOM }
-        ensures text { self.new ≡ self.old ++ decimal number }
-        ensures most { length self.new ≤ length self.old + 2 }
-    {
-        if number < 10 {
-            return self.put_digit(number);
-        }
-        self.put_pair(number);
-    }
-
-    /// Puts a number of one digit.
-    #[inline]
-    #[tactic(auto, using(std::proofs::lemmas::Fmt::decimal_digit))]
-    fn put_digit(&mut self, number: u16)
-        requires small { number < 10 }
-        requires room { length self.old + 1 ≤ ROOM }
-        ensures text { self.new ≡ self.old ++ decimal number }
-        ensures size { length self.new ≡ length self.old + 1 }
-    {
-        self.put(&[b'0' + number as u8]);
-    }
-
-    /// Puts two digits, also where the first is a zero.
-    #[inline]
-    fn put_pair(&mut self, number: u16)
-        requires small { number < 100 }
-        requires room { length self.old + 2 ≤ ROOM }
-        ensures text { self.new ≡ self.old ++ two_digits number }
-        ensures size { length self.new ≡ length self.old + 2 }
-    {
-        self.put(&[b'0' + (number / 10) as u8, b'0' + (number % 10) as u8]);
+        self.count = put_number(&mut self.bytes, self.count, number);
     }
 
     /// Puts the number of a record in decimal digits.

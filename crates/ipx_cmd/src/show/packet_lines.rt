@@ -1,13 +1,30 @@
-ghost use Rattle.std.specs.Prelude.{◌≡◌, ◌++◌, ◌+◌, ◌≤◌, length};
+ghost use Rattle.std.specs.Prelude.{◌≡◌, ◌++◌, ◌+◌, ◌≤◌, length, take};
+ghost use Rattle.ipx_wire.specs.Header.{header_at};
 ghost use Rattle.ipx_wire.specs.Packet.{packet_of};
 ghost use Rattle.ipx_cmd.specs.PacketText.{counts_text, data_text, ends_text, header_text, packet_text};
 ghost use Rattle.ipx_router.specs.WhyWord.{packet_word};
 
-use crate::draft::{Draft, HEAD, ROOM};
+use crate::draft::{Draft, HEAD};
+use crate::put::{number_at, put_address, put_number, put_text};
 use crate::show::crossed_line::put_crossed;
 use crate::show::rip_lines::put_rip;
 use crate::show::sap_lines::put_sap;
 use ipx_wire::{Header, Packet, PacketFault, Socket};
+
+/// Where the length of a packet stands.
+const LENGTH: usize = 2;
+
+/// Where its transport control stands.
+const CONTROL: usize = 4;
+
+/// Where its type stands.
+const KIND: usize = 5;
+
+/// Where its destination stands.
+const DESTINATION: usize = 6;
+
+/// Where its source stands.
+const SOURCE: usize = 18;
 
 /// How many bytes source and destination have.
 const ENDS: usize = 53;
@@ -27,7 +44,7 @@ pub(crate) fn put_packet(draft: &mut Draft, bytes: &[u8])
     match Packet::read(bytes) {
         Ok(packet) => {
             let header = packet.header();
-            put_header(draft, &header);
+            draft.count = put_header(&mut draft.bytes, draft.count, bytes);
             put_data(draft, &header, packet.payload());
         }
         Err(fault) => {
@@ -38,53 +55,53 @@ pub(crate) fn put_packet(draft: &mut Draft, bytes: &[u8])
     }
 }
 
+/// Puts the line of the header that stands at the front of bytes.
+#[inline(always)]
 #[tactic(auto, unfolding(crate::specs::PacketText::header_text))]
-fn put_header(draft: &mut Draft, header: &Header)
-    requires { length draft.old + LONGEST_HEADER ≤ ROOM }
-    ensures text { draft.new ≡ draft.old ++ header_text header.now }
-    ensures most { length draft.new ≤ length draft.old + LONGEST_HEADER }
+fn put_header(room: &mut [u8], at: usize, bytes: &[u8]) -> usize
+    requires room { at + LONGEST_HEADER ≤ length room.old }
+    requires whole { 30 ≤ length bytes.now }
+    ensures room { take result room.new ≡ take at room.old ++ header_text (header_at bytes.now) }
+    ensures most { result ≤ at + LONGEST_HEADER }
+    ensures size { length room.new ≡ length room.old }
 {
-    put_ends(draft, header);
-    put_counts(draft, header);
+    let at = put_ends(room, at, bytes);
+    put_counts(room, at, bytes)
 }
 
 /// Puts source and destination.
-#[tactic(auto, unfolding(crate::specs::PacketText::ends_text))]
-fn put_ends(draft: &mut Draft, header: &Header)
-    requires { length draft.old + ENDS ≤ ROOM }
-    ensures text { draft.new ≡ draft.old ++ ends_text header.now }
-    ensures size { length draft.new ≡ length draft.old + ENDS }
+#[inline(always)]
+fn put_ends(room: &mut [u8], at: usize, bytes: &[u8]) -> usize
+    requires room { at + ENDS ≤ length room.old }
+    requires whole { 30 ≤ length bytes.now }
+    ensures room { take result room.new ≡ take at room.old ++ ends_text (header_at bytes.now) }
+    ensures end { result ≡ at + ENDS }
+    ensures size { length room.new ≡ length room.old }
 {
-    let Header {
-        source,
-        destination,
-        ..
-    } = *header;
-    draft.put(&source.word());
-    draft.put(b" ");
-    draft.put(&destination.word());
+    let (_, source) = bytes.split_at(SOURCE);
+    let (_, destination) = bytes.split_at(DESTINATION);
+    let at = put_address(room, at, source);
+    let at = put_text(room, at, b" ");
+    put_address(room, at, destination)
 }
 
 /// Puts the numbers of the header, and ends the line.
-#[tactic(auto, unfolding(crate::specs::PacketText::counts_text))]
-fn put_counts(draft: &mut Draft, header: &Header)
-    requires { length draft.old + LONGEST_COUNTS ≤ ROOM }
-    ensures text { draft.new ≡ draft.old ++ counts_text header.now }
-    ensures most { length draft.new ≤ length draft.old + LONGEST_COUNTS }
+#[inline(always)]
+#[tactic(auto, unfolding(crate::specs::PacketText::counts_text, ipx_wire::specs::Header::header_at))]
+fn put_counts(room: &mut [u8], at: usize, bytes: &[u8]) -> usize
+    requires room { at + LONGEST_COUNTS ≤ length room.old }
+    requires whole { 30 ≤ length bytes.now }
+    ensures room { take result room.new ≡ take at room.old ++ counts_text (header_at bytes.now) }
+    ensures most { result ≤ at + LONGEST_COUNTS }
+    ensures size { length room.new ≡ length room.old }
 {
-    let Header {
-        control,
-        kind,
-        length,
-        ..
-    } = *header;
-    draft.put(b" tc ");
-    draft.put_number(u16::from(control));
-    draft.put(b" type ");
-    draft.put_number(u16::from(kind));
-    draft.put(b" length ");
-    draft.put_number(length);
-    draft.put(b"\n");
+    let at = put_text(room, at, b" tc ");
+    let at = put_number(room, at, u16::from(bytes[CONTROL]));
+    let at = put_text(room, at, b" type ");
+    let at = put_number(room, at, u16::from(bytes[KIND]));
+    let at = put_text(room, at, b" length ");
+    let at = put_number(room, at, number_at(bytes, LENGTH));
+    put_text(room, at, b"\n")
 }
 
 /// Puts the lines of a packet's data: what they are is told by the type, then by the sockets.

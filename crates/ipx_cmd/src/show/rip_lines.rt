@@ -5,6 +5,7 @@ ghost use Rattle.ipx_cmd.specs.RipText.{rip_text, route_entry_text};
 ghost use Rattle.ipx_router.specs.WhyWord.{rip_word};
 
 use crate::draft::{Draft, HEAD, ROOM};
+use crate::put::{put_hex, put_number, put_text};
 use ipx_wire::{Rip, RipEntry, RipFault};
 
 /// How many bytes the line of the operation has at most.
@@ -60,13 +61,13 @@ fn put_entry(draft: &mut Draft, entry: RipEntry)
         hops,
         ticks,
     } = entry;
-    draft.put(b"net ");
-    draft.put(&network.digits());
-    draft.put(b" hops ");
-    draft.put_number(hops);
-    draft.put(b" ticks ");
-    draft.put_number(ticks);
-    draft.put(b"\n");
+    let at = put_text(&mut draft.bytes, draft.count, b"net ");
+    let at = put_hex(&mut draft.bytes, at, &network.0.to_be_bytes());
+    let at = put_text(&mut draft.bytes, at, b" hops ");
+    let at = put_number(&mut draft.bytes, at, hops);
+    let at = put_text(&mut draft.bytes, at, b" ticks ");
+    let at = put_number(&mut draft.bytes, at, ticks);
+    draft.count = put_text(&mut draft.bytes, at, b"\n");
 }
 
 fn fault_word(fault: RipFault) -> &'static str

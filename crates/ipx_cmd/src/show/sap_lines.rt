@@ -1,22 +1,21 @@
-ghost use Rattle.std.specs.Prelude.{◌≡◌, ◌++◌, Ok, ◌+◌, ◌≤◌, length};
+ghost use Rattle.std.specs.Prelude.{◌≡◌, ◌++◌, Ok, ◌+◌, ◌*◌, ◌≤◌, drop, length};
 ghost use Rattle.std.specs.List.{flat_map};
+ghost use Rattle.ipx_wire.specs.Numbers.{most_services};
 ghost use Rattle.ipx_wire.specs.Sap.{sap_of};
+ghost use Rattle.ipx_wire.specs.SapEntries.{sap_entries_at, sap_entry_at};
 ghost use Rattle.ipx_wire.specs.declared.sap.Sap.TheVariants.{Query, Response};
 ghost use Rattle.ipx_cmd.specs.SapText.{sap_text, scope_word, service_entry_text};
 ghost use Rattle.ipx_router.specs.WhyWord.{sap_word};
 
 use crate::draft::{Draft, HEAD, ROOM};
-use crate::service_words::put_service;
-use ipx_wire::{Sap, SapEntries, SapEntry, SapFault, Service, Socket};
+use crate::service_line::{LONGEST_ENTRY, put_service_line};
+use ipx_wire::{Sap, SapEntry, SapFault, Socket};
 
 /// How many bytes the line of a response has.
 const RESPONSE: usize = 21;
 
 /// How many bytes the word of a scope has.
 const SCOPE: usize = 7;
-
-/// How many bytes the line of an entry has at most.
-const LONGEST_ENTRY: usize = 188;
 
 /// Puts the lines of service advertising, or the one that says why the data are none.
 #[tactic(auto, unfolding(crate::specs::SapText::sap_text))]
@@ -26,7 +25,12 @@ pub(crate) fn put_sap(draft: &mut Draft, payload: &[u8])
 {
     match Sap::read(payload) {
         Ok(Sap::Query { nearest, kind }) => put_query(draft, nearest, kind),
-        Ok(Sap::Response { nearest, entries }) => put_services(draft, nearest, &entries),
+        Ok(Sap::Response { nearest, entries }) => put_services(
+            draft,
+            nearest,
+            entries.len(),
+            payload,
+        ),
         Err(fault) => {
             draft.put(b"sap bad ");
             draft.put(fault_word(fault).as_bytes());
@@ -47,45 +51,41 @@ fn put_query(draft: &mut Draft, nearest: bool, kind: u16)
     draft.put(b"\n");
 }
 
+/// Puts the lines of a response, whose entries stand behind its operation.
 #[tactic(auto, unfolding(crate::specs::SapText::sap_text))]
-fn put_services(draft: &mut Draft, nearest: bool, entries: &SapEntries<'_>)
-    requires { length draft.old ≤ HEAD }
-    ensures { draft.new ≡ draft.old ++ sap_text (Ok (Response nearest entries.now)) }
+fn put_services(draft: &mut Draft, nearest: bool, count: usize, payload: &[u8])
+    requires room { length draft.old ≤ HEAD }
+    requires few { count ≤ most_services }
+    requires whole { 2 + 64 * count ≤ length payload.now }
+    ensures { draft.new ≡ draft.old ++ sap_text (Ok (Response nearest (sap_entries_at count (drop 2 payload.now)))) }
 {
     draft.put(b"sap ");
     draft.put(scope(nearest).as_bytes());
     draft.put(b"-response\n");
-    put_entries(draft, entries);
+    let (_, entries) = payload.split_at(2);
+    put_entries(draft, count, entries);
 }
 
-fn put_entries(draft: &mut Draft, entries: &SapEntries<'_>)
-    requires { length draft.old ≤ HEAD + RESPONSE }
-    ensures { draft.new ≡ draft.old ++ flat_map service_entry_text entries.now }
+fn put_entries(draft: &mut Draft, count: usize, entries: &[u8])
+    requires room { length draft.old ≤ HEAD + RESPONSE }
+    requires few { count ≤ most_services }
+    requires whole { 64 * count ≤ length entries.now }
+    ensures { draft.new ≡ draft.old ++ flat_map service_entry_text (sap_entries_at count entries.now) }
 {
-    for place in 0..entries.len() {
-        put_entry(draft, &entries.entry(place));
+    for place in 0..count {
+        let (_, entry) = entries.split_at(SapEntry::SIZE * place);
+        put_entry(draft, entry);
     }
 }
 
-#[tactic(auto, unfolding(crate::specs::SapText::service_entry_text))]
-fn put_entry(draft: &mut Draft, entry: &SapEntry)
-    requires { length draft.old + LONGEST_ENTRY ≤ ROOM }
-    ensures text { draft.new ≡ draft.old ++ service_entry_text entry.now }
+/// Puts the line of a service, or of an entry without a name.
+fn put_entry(draft: &mut Draft, entry: &[u8])
+    requires room { length draft.old + LONGEST_ENTRY ≤ ROOM }
+    requires whole { 64 ≤ length entry.now }
+    ensures text { draft.new ≡ draft.old ++ service_entry_text (sap_entry_at entry.now) }
     ensures most { length draft.new ≤ length draft.old + LONGEST_ENTRY }
 {
-    match entry.name {
-        Some(name) => {
-            let service = Service {
-                kind: entry.kind,
-                name,
-                address: entry.address,
-                hops: entry.hops,
-            };
-            put_service(draft, &service);
-            draft.put(b"\n");
-        }
-        None => draft.put(b"service bad\n"),
-    }
+    draft.count = put_service_line(&mut draft.bytes, draft.count, entry);
 }
 
 fn scope(nearest: bool) -> &'static str
