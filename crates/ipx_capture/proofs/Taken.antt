@@ -6,11 +6,11 @@ use Rattle.ipx_wire.specs.declared.failed.Failed.{Failed}
 use Rattle.ipx_capture.specs.Asks.{Lacks, TellsNothing}
 use Rattle.ipx_capture.specs.Given.{TakesBy}
 use Rattle.ipx_wire.specs.Piece.{piece}
-use Rattle.ipx_capture.specs.Numbered.{numbered}
+use Rattle.ipx_capture.specs.inside.Numbered.{numbered}
 use Rattle.ipx_capture.specs.Place.{Place, Gives, Takes, Continues, Nexts, taken_after, standing_after}
 use Rattle.ipx_capture.specs.Reads.{Gained, Gathered, Lost, GaveUp}
 use Rattle.ipx_capture.specs.Records.{Record, first_record, kept_count, wire_count, is_ready, size_of_first}
-use Rattle.ipx_capture.specs.Taking.{Took}
+use Rattle.ipx_capture.specs.inside.Taking.{Took}
 use Rattle.ipx_capture.specs.Window.{Held, Grows}
 use Rattle.ipx_capture.specs.declared.capture_fault.CaptureFault.{CaptureFault}
 use Rattle.ipx_capture.specs.declared.capture_fault.CaptureFault.TheVariants.{CutHeader, Magic, Version, Link, RecordLong, CutRecord, Read, Memory}

@@ -4,11 +4,10 @@ pub mod Frame
 pub mod Framed
 pub mod Given
 pub mod Header
-pub mod Numbered
 pub mod Order
 pub mod Records
 pub mod Place
 pub mod Reads
-pub mod Taking
 pub mod Window
 pub mod Written
+pub mod inside

@@ -47,7 +47,7 @@ impl<'a, S: Source> Capture<'a, S> {
     ghost use Rattle.ipx_capture.specs.contracts.capture.Capture.{the_row};
     ghost use Rattle.ipx_capture.specs.Given.{BegunBy, UnopenedBy, TakesBy};
     ghost use Rattle.ipx_capture.specs.Place.{place, keeps, told, Nexts, Opened};
-    ghost use Rattle.ipx_capture.specs.Numbered.{numbered};
+    ghost use Rattle.ipx_capture.specs.inside.Numbered.{numbered};
     ghost use Rattle.ipx_capture.specs.Records as spec;
 
     /// Reads the header of a capture file.

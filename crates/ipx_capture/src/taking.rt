@@ -2,7 +2,7 @@
 ghost use Rattle.std.specs.Prelude.{◌≡◌, ◌≤◌, [], true, false, IfOk, IfErr, OnErr, length};
 ghost use Rattle.ipx_capture.specs.Given.{BegunBy, UnopenedBy};
 ghost use Rattle.ipx_capture.specs.Reads.{FilledFront, LostFront};
-ghost use Rattle.ipx_capture.specs.Taking.{Took};
+ghost use Rattle.ipx_capture.specs.inside.Taking.{Took};
 ghost use Rattle.ipx_capture.specs.Window.{least_room};
 ghost use Rattle.ipx_capture.specs.Records as spec;
 

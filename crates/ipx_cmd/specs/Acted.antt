@@ -4,9 +4,9 @@ use Rattle.std.specs.Io.KnownBytes.{Appends}
 use Rattle.ipx_wire.specs.Ends.{Output}
 use Rattle.ipx_cmd.specs.Playing.{Step}
 use Rattle.ipx_cmd.specs.WroteFront.{IsFaultOf, WroteFront}
-use Rattle.ipx_cmd.specs.declared.fault.LineFault.{LineFault}
-use Rattle.ipx_cmd.specs.declared.halt.Halt.{Halt}
-use Rattle.ipx_cmd.specs.declared.halt.Halt.TheVariants.{Line, Run}
+use Rattle.ipx_cmd.specs.declared.lines.fault.LineFault.{LineFault}
+use Rattle.ipx_cmd.specs.declared.lines.halt.Halt.{Halt}
+use Rattle.ipx_cmd.specs.declared.lines.halt.Halt.TheVariants.{Line, Run}
 
 -- a text was added to what waits to be written; a prefix of both was written, none or all of it, and the rest waits
 pub record Added (from to : Output) (old new said : List ℕ) : Type 0 where

@@ -1,7 +1,7 @@
 -- The words of what is wrong with a line.
 use Rattle.std.specs.Prelude.{ℕ, List, codes}
-use Rattle.ipx_cmd.specs.declared.fault.LineFault.{LineFault}
-use Rattle.ipx_cmd.specs.declared.fault.LineFault.TheVariants.{Long, Text, Command, Words, Late, Many, Network, Node, Number, Hex, Longest, Cost, None, Same, Port, Router, Routers, SameNode}
+use Rattle.ipx_cmd.specs.declared.lines.fault.LineFault.{LineFault}
+use Rattle.ipx_cmd.specs.declared.lines.fault.LineFault.TheVariants.{Long, Text, Command, Words, Late, Many, Network, Node, Number, Hex, Longest, Cost, None, Same, Port, Router, Routers, SameNode}
 
 -- the word that stands for a fault of a line
 abbrev pub fault_word : LineFault → List ℕ

@@ -1,9 +1,9 @@
 -- What a line asks for, without memory.
 use Rattle.std.specs.Prelude.{ℕ, List}
 use Rattle.ipx_router.specs.Port.{Port as PortValues}
-use Rattle.ipx_cmd.specs.declared.command.Command.{Command}
-use Rattle.ipx_cmd.specs.declared.command.NamedPort.{NamedPort}
-use Rattle.ipx_cmd.specs.declared.command.Command.TheVariants.{Port, Start, Stop, Second, In, Down, Up, Routes, Services}
+use Rattle.ipx_cmd.specs.declared.lines.command.Command.{Command}
+use Rattle.ipx_cmd.specs.declared.lines.command.NamedPort.{NamedPort}
+use Rattle.ipx_cmd.specs.declared.lines.command.Command.TheVariants.{Port, Start, Stop, Second, In, Down, Up, Routes, Services}
 
 -- what a line asks for: the router's next port, an event of it, or what is in one of its tables
 pub data Instruction : Type 0 where

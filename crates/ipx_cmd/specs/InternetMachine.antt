@@ -16,9 +16,9 @@ use Rattle.ipx_cmd.specs.Making.{named_port, named_router}
 use Rattle.ipx_cmd.specs.Request.{Request, NextRouter, NextPort, Starts, Stops, Passes, Arrives, GoesDown, ComesUp, Settles, Traces, ShowsRoutes, ShowsServices}
 use Rattle.ipx_cmd.specs.OrderLine.{order_meaning}
 use Rattle.ipx_cmd.specs.TableText.{routes_text, services_text}
-use Rattle.ipx_cmd.specs.declared.fault.LineFault.{LineFault}
-use Rattle.ipx_cmd.specs.declared.fault.LineFault.TheVariants.{SameNode, Router as RouterWord, Port as PortWord}
-use Rattle.ipx_cmd.specs.declared.order.OrderStage.{OrderStage}
+use Rattle.ipx_cmd.specs.declared.lines.fault.LineFault.{LineFault}
+use Rattle.ipx_cmd.specs.declared.lines.fault.LineFault.TheVariants.{SameNode, Router as RouterWord, Port as PortWord}
+use Rattle.ipx_cmd.specs.declared.lines.order.OrderStage.{OrderStage}
 
 -- what stands between two lines: the routers by the ports that were named, and what happened to them and waits since they were
 -- made, if they were

@@ -12,10 +12,10 @@ use Rattle.ipx_cmd.specs.EventText.{most_routes, most_services}
 use Rattle.ipx_cmd.specs.InternetMachine.{Led, Standing, latest, nodes_meet, past_of}
 use Rattle.ipx_cmd.specs.Making.{named_router}
 use Rattle.ipx_cmd.specs.declared.ended.RunFault.TheVariants.{Memory as MemoryFault}
-use Rattle.ipx_cmd.specs.declared.fault.LineFault.TheVariants.{SameNode as SameNodeWord, Port as PortWord}
-use Rattle.ipx_cmd.specs.declared.halt.Halt.{Halt}
-use Rattle.ipx_cmd.specs.declared.halt.Halt.TheVariants.{Line, Run}
-use Rattle.ipx_cmd.specs.declared.order.OrderStage.{OrderStage}
+use Rattle.ipx_cmd.specs.declared.lines.fault.LineFault.TheVariants.{SameNode as SameNodeWord, Port as PortWord}
+use Rattle.ipx_cmd.specs.declared.lines.halt.Halt.{Halt}
+use Rattle.ipx_cmd.specs.declared.lines.halt.Halt.TheVariants.{Line, Run}
+use Rattle.ipx_cmd.specs.declared.lines.order.OrderStage.{OrderStage}
 
 -- what a machine is: the ports that were named of each router, the internet, once it is made, and a buffer for the bytes of a packet
 pub record InternetMachine : Type 0 where

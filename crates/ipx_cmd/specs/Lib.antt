@@ -5,7 +5,6 @@ pub mod Continues
 pub mod CrossedText
 pub mod CrossedWord
 pub mod Decoded
-pub mod Drafted
 pub mod Ended
 pub mod EventText
 pub mod Fault
@@ -20,7 +19,6 @@ pub mod Lines
 pub mod Machine
 pub mod MachineStands
 pub mod Making
-pub mod Moved
 pub mod OrderLine
 pub mod Output
 pub mod PacketText
@@ -31,7 +29,6 @@ pub mod RecordText
 pub mod Replayed
 pub mod Request
 pub mod RipText
-pub mod Said
 pub mod SapText
 pub mod Script
 pub mod ServiceWords
@@ -41,3 +38,4 @@ pub mod Stretch
 pub mod TableText
 pub mod Words
 pub mod WroteFront
+pub mod inside

@@ -2,10 +2,10 @@
 use Rattle.std.specs.Prelude.{◌≡◌, ℕ, nat_eq, if◌then◌else◌, List, [], ◌∷◌, codes, Option, Some, None, Result, Ok, Err}
 use Rattle.std.specs.List.{list_all, starts_with}
 use Rattle.ipx_cmd.specs.declared.ended.RunFault.TheVariants.{Memory}
-use Rattle.ipx_cmd.specs.declared.halt.Halt.{Halt}
-use Rattle.ipx_cmd.specs.declared.halt.Halt.TheVariants.{Line, Run}
-use Rattle.ipx_cmd.specs.declared.fault.LineFault.{LineFault}
-use Rattle.ipx_cmd.specs.declared.fault.LineFault.TheVariants.{Text, Words}
+use Rattle.ipx_cmd.specs.declared.lines.halt.Halt.{Halt}
+use Rattle.ipx_cmd.specs.declared.lines.halt.Halt.TheVariants.{Line, Run}
+use Rattle.ipx_cmd.specs.declared.lines.fault.LineFault.{LineFault}
+use Rattle.ipx_cmd.specs.declared.lines.fault.LineFault.TheVariants.{Text, Words}
 use Rattle.ipx_cmd.specs.Words.{is_text_byte, words}
 
 -- what follows, where nothing was wrong so far

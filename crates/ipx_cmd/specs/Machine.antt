@@ -9,9 +9,9 @@ use Rattle.ipx_cmd.specs.Line.{◌>>=◌}
 use Rattle.ipx_cmd.specs.Making.{named_port, named_router}
 use Rattle.ipx_cmd.specs.Script.{line_meaning}
 use Rattle.ipx_cmd.specs.TableText.{routes_text, services_text}
-use Rattle.ipx_cmd.specs.declared.command.Stage.{Stage}
-use Rattle.ipx_cmd.specs.declared.fault.LineFault.{LineFault}
-use Rattle.ipx_cmd.specs.declared.fault.LineFault.TheVariants.{Port as PortWord}
+use Rattle.ipx_cmd.specs.declared.lines.command.Stage.{Stage}
+use Rattle.ipx_cmd.specs.declared.lines.fault.LineFault.{LineFault}
+use Rattle.ipx_cmd.specs.declared.lines.fault.LineFault.TheVariants.{Port as PortWord}
 
 -- what stands between two lines: the ports that were named, and all that happened to their router since it was made, if it was
 pub record Standing : Type 0 where

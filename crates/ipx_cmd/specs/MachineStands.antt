@@ -7,7 +7,7 @@ use Rattle.ipx_router.specs.Stands.{State, StandsFor}
 use Rattle.ipx_cmd.specs.EventText.{most_routes, most_services}
 use Rattle.ipx_cmd.specs.Acted.{Added}
 use Rattle.ipx_cmd.specs.Machine.{Led, Standing, past_of}
-use Rattle.ipx_cmd.specs.declared.command.Stage.{Stage}
+use Rattle.ipx_cmd.specs.declared.lines.command.Stage.{Stage}
 
 -- what a machine is: the ports that were named, the router, once it is made, and a buffer for the bytes of a packet
 pub record Machine : Type 0 where

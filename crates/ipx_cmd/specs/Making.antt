@@ -9,7 +9,7 @@ use Rattle.ipx_router.specs.declared.ports_fault.PortsFault.{PortsFault}
 use Rattle.ipx_router.specs.declared.ports_fault.PortsFault.TheVariants.{NoPort, TooMany, SameNetwork}
 use Rattle.ipx_cmd.specs.PortWord.{port_fault, ports_fault}
 use Rattle.ipx_cmd.specs.Script.{most_ports}
-use Rattle.ipx_cmd.specs.declared.fault.LineFault.{LineFault}
+use Rattle.ipx_cmd.specs.declared.lines.fault.LineFault.{LineFault}
 
 -- a number that no port's network may have: that of the local network, of the default route or of all routes
 abbrev pub is_reserved : ℕ → Bool

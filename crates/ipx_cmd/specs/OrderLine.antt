@@ -1,9 +1,9 @@
 -- What the lines of a script for an internet mean.
 use Rattle.std.specs.Prelude.{ℕ, ◌==◌, ◌||◌, Bool, false, nat_le, if◌then◌else◌, List, [], ◌∷◌, codes, Option, Some, None, Result, Ok, Err}
 use Rattle.std.specs.Str.{bytes_eq}
-use Rattle.ipx_cmd.specs.declared.order.OrderStage.{OrderStage}
-use Rattle.ipx_cmd.specs.declared.fault.LineFault.{LineFault}
-use Rattle.ipx_cmd.specs.declared.fault.LineFault.TheVariants.{Command, Words, Late, Many, Number, Hex, Router, Routers}
+use Rattle.ipx_cmd.specs.declared.lines.order.OrderStage.{OrderStage}
+use Rattle.ipx_cmd.specs.declared.lines.fault.LineFault.{LineFault}
+use Rattle.ipx_cmd.specs.declared.lines.fault.LineFault.TheVariants.{Command, Words, Late, Many, Number, Hex, Router, Routers}
 use Rattle.ipx_cmd.specs.Line.{◌>>=◌, or_fault, line_words, no_more}
 use Rattle.ipx_cmd.specs.Request.{Request, NextRouter, NextPort, Starts, Stops, Passes, Arrives, GoesDown, ComesUp, Settles, Traces, ShowsRoutes, ShowsServices}
 use Rattle.ipx_cmd.specs.Script.{most_ports, most_number, count_meaning, number_meaning, port_of}

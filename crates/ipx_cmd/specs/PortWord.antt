@@ -1,6 +1,6 @@
 -- The words of a script for what is wrong with a port, or with the ports of a router.
-use Rattle.ipx_cmd.specs.declared.fault.LineFault.{LineFault}
-use Rattle.ipx_cmd.specs.declared.fault.LineFault.TheVariants.{Network as NetworkWord, Node as NodeWord, Longest as LongestWord, Cost as CostWord, None as NoneWord, Many as ManyWord, Same as SameWord}
+use Rattle.ipx_cmd.specs.declared.lines.fault.LineFault.{LineFault}
+use Rattle.ipx_cmd.specs.declared.lines.fault.LineFault.TheVariants.{Network as NetworkWord, Node as NodeWord, Longest as LongestWord, Cost as CostWord, None as NoneWord, Many as ManyWord, Same as SameWord}
 use Rattle.ipx_router.specs.declared.port.PortFault.{PortFault}
 use Rattle.ipx_router.specs.declared.port.PortFault.TheVariants.{Longest, Cost, Network, Node}
 use Rattle.ipx_router.specs.declared.ports_fault.PortsFault.{PortsFault}

@@ -1,9 +1,9 @@
 -- What a line of an internet's script asks for, without memory.
 use Rattle.std.specs.Prelude.{ℕ, List}
 use Rattle.ipx_router.specs.Port.{Port as PortValues}
-use Rattle.ipx_cmd.specs.declared.command.NamedPort.{NamedPort}
-use Rattle.ipx_cmd.specs.declared.order.Order.{Order}
-use Rattle.ipx_cmd.specs.declared.order.Order.TheVariants.{Router, Port, Start, Stop, Second, In, Down, Up, Settle, Trace, Routes, Services}
+use Rattle.ipx_cmd.specs.declared.lines.command.NamedPort.{NamedPort}
+use Rattle.ipx_cmd.specs.declared.lines.order.Order.{Order}
+use Rattle.ipx_cmd.specs.declared.lines.order.Order.TheVariants.{Router, Port, Start, Stop, Second, In, Down, Up, Settle, Trace, Routes, Services}
 use Rattle.ipx_cmd.specs.Instruction.{values_of}
 
 -- what a line asks for: the next router, the next port of the latest one, an event of a router, a number of seconds of all of them,

@@ -1,9 +1,9 @@
 -- What the lines of a script for one router mean.
 use Rattle.std.specs.Prelude.{ℕ, Bool, false, nat_le, if◌then◌else◌, List, [], ◌∷◌, codes, Option, Some, None, Result, Ok, Err}
 use Rattle.std.specs.Str.{bytes_eq}
-use Rattle.ipx_cmd.specs.declared.command.Stage.{Stage}
-use Rattle.ipx_cmd.specs.declared.fault.LineFault.{LineFault}
-use Rattle.ipx_cmd.specs.declared.fault.LineFault.TheVariants.{Command, Words, Late, Many, Network, Node, Number, Hex}
+use Rattle.ipx_cmd.specs.declared.lines.command.Stage.{Stage}
+use Rattle.ipx_cmd.specs.declared.lines.fault.LineFault.{LineFault}
+use Rattle.ipx_cmd.specs.declared.lines.fault.LineFault.TheVariants.{Command, Words, Late, Many, Network, Node, Number, Hex}
 use Rattle.ipx_cmd.specs.Instruction.{Instruction, NextPort, Starts, Stops, Passes, Arrives, GoesDown, ComesUp, ShowsRoutes, ShowsServices}
 use Rattle.ipx_cmd.specs.Line.{◌>>=◌, or_fault, line_words, no_more}
 use Rattle.ipx_wire.specs.Digits.{network_of, node_of}

@@ -10,11 +10,11 @@ use Rattle.ipx_cmd.specs.WroteFront.{IsFaultOf, WroteAll, WroteFront}
 use Rattle.ipx_cmd.specs.declared.ended.Ended.{Ended}
 use Rattle.ipx_cmd.specs.declared.ended.Ended.TheVariants.{Done, BadInput}
 use Rattle.ipx_cmd.specs.declared.ended.RunFault.{RunFault}
-use Rattle.ipx_cmd.specs.declared.fault.LineFault.TheVariants.{Long}
+use Rattle.ipx_cmd.specs.declared.lines.fault.LineFault.TheVariants.{Long}
 use Rattle.ipx_cmd.specs.Lines.{is_any, is_long}
 use Rattle.ipx_cmd.specs.declared.ended.RunFault.TheVariants.{Memory}
-use Rattle.ipx_cmd.specs.declared.halt.Halt.{Halt}
-use Rattle.ipx_cmd.specs.declared.halt.Halt.TheVariants.{Line, Run}
+use Rattle.ipx_cmd.specs.declared.lines.halt.Halt.{Halt}
+use Rattle.ipx_cmd.specs.declared.lines.halt.Halt.TheVariants.{Line, Run}
 
 -- its lines acted, and their text was added
 pub record Went {S : Type 0} (acts : Step S) (stands : S → Type 0) (state : S) (number : ℕ) (bytes : List ℕ) (from to : Output) (old new : List ℕ) (later : ℕ)

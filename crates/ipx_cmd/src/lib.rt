@@ -2,32 +2,15 @@
 #![tactic(auto)]
 
 mod chosen;
-mod command;
-mod digits;
-mod draft;
 mod ended;
-mod event_text;
-mod fault;
-mod halt;
-mod internet_machine;
-mod internet_making;
-mod internet_text;
 pub mod laws;
-mod line;
-mod machine;
+mod lines;
+mod machines;
 mod making;
-mod order;
-mod output;
 mod play;
 mod player;
-mod put;
-mod said;
-mod service_line;
-mod service_words;
 mod show;
-mod table_text;
-mod text;
-mod words;
+mod texts;
 
 pub use crate::chosen::{ChooseFault, Chosen, Run, choose};
 pub use crate::ended::{Ended, RunFault, status};

@@ -9,26 +9,24 @@ ghost use Rattle.ipx_cmd.specs.Played.{GivenUp, Played, PlayedSoFar};
 ghost use Rattle.ipx_cmd.specs.Replayed.{ReplayGivenUp, Replayed, ReplayedSoFar};
 ghost use Rattle.ipx_cmd.specs.Simulated.{InternetGivenUp, Simulated, SimulatedSoFar};
 ghost use Rattle.ipx_cmd.specs.Stretch.{Answered, Completed, Flushed, GaveUp, Passed, Unfinished};
-ghost use Rattle.ipx_cmd.specs.WroteFront.{IsFaultOf, WroteAll, WroteFront};
+ghost use Rattle.ipx_cmd.specs.WroteFront.{IsFaultOf};
 ghost use Rattle.ipx_cmd.specs.declared.ended.Ended.TheVariants.{Done, BadInput};
 ghost use Rattle.ipx_wire.specs.Ends.{Gave, LostInput, calls_after};
 
 use crate::ended::{Ended, RunFault};
-use crate::fault::LineFault;
-use crate::halt::Halt;
-use crate::internet_machine::InternetMachine;
-use crate::machine::Machine;
-use crate::output::fault_line;
+use crate::lines::fault::LineFault;
+use crate::lines::halt::Halt;
+use crate::machines::internet_machine::InternetMachine;
+use crate::machines::machine::Machine;
 use crate::player::{Act, Player};
+use crate::texts::flushing::flush;
+use crate::texts::output::fault_line;
 use ipx_wire::{Failed, Intake, Outlet};
 use std::alloc::Global;
 use std::io::{Read, Write};
 
 /// How many bytes are asked for at a time.
 const PIECE: usize = 8192;
-
-/// From how many bytes on text is written in the middle of a piece.
-pub(crate) const LARGE: usize = 65_536;
 
 /// Plays a script on one router: reads it from the intake, and writes its text to the outlet.
 ///
@@ -200,34 +198,4 @@ fn tell<W: Write>(
     fault_line(text, number, fault)?;
     flush(text, outlet)?;
     Ok(Ended::BadInput)
-}
-/// Writes the text and empties it.
-pub(crate) fn flush<W: Write>(text: &mut Vec<u8>, outlet: &mut Outlet<W>) -> Result<(), RunFault>
-    requires { outlet.old.failed ≡ false }
-    ensures ok { OnOk result (WroteAll outlet.old outlet.new text.old.items) }
-    ensures emptied { OnOk result (text.new.items ≡ []) }
-    ensures fine { OnOk result (outlet.new.failed ≡ false) }
-    ensures err { OnErr result (WroteFront outlet.old outlet.new text.old.items) }
-    ensures fault { IfErr result (IsFaultOf false outlet.new.failed) }
-{
-    write_whole(outlet, text)?;
-    text.clear();
-    Ok(())
-}
-
-/// Writes all bytes, in as many calls as the writer needs.
-fn write_whole<W: Write>(outlet: &mut Outlet<W>, bytes: &[u8]) -> Result<(), RunFault>
-    requires { outlet.old.failed ≡ false }
-    ensures ok { OnOk result (WroteAll outlet.old outlet.new bytes.now) }
-    ensures err { OnErr result (WroteFront outlet.old outlet.new bytes.now) }
-    ensures fault { IfErr result (IsFaultOf false outlet.new.failed) }
-{
-    let mut at = 0;
-    while at < bytes.len() {
-        let Ok(count) = outlet.write(&bytes[at..]) else {
-            return Err(RunFault::Write);
-        };
-        at += count;
-    }
-    Ok(())
 }

@@ -6,11 +6,11 @@ ghost use Rattle.std.specs.Prelude.{◌≡◌, ℕ, true, ◌+◌, ◌^◌, ◌<
 ghost use Rattle.ipx_cmd.specs.Acted.{Acted, Halted};
 ghost use Rattle.ipx_cmd.specs.Leads.{IsOneLine, IsPending};
 ghost use Rattle.ipx_cmd.specs.Lines.{is_long, line_feed, longest_line, without_return};
-ghost use Rattle.ipx_cmd.specs.declared.fault.LineFault.TheVariants.{Long};
+ghost use Rattle.ipx_cmd.specs.declared.lines.fault.LineFault.TheVariants.{Long};
 ghost use Rattle.ipx_cmd.specs.Stretch.{Finished, FinishedOff, NotKept, Went, WentOff};
 
-use crate::fault::LineFault;
-use crate::halt::Halt;
+use crate::lines::fault::LineFault;
+use crate::lines::halt::Halt;
 use ipx_wire::Outlet;
 use memchr::memchr;
 use std::alloc::Global;

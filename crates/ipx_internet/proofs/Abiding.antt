@@ -20,10 +20,10 @@ use Rattle.ipx_router.specs.Routes.{route_reading, network_order}
 use Rattle.ipx_router.specs.Services.{service_reading, service_order}
 use Rattle.ipx_router.specs.declared.route_offer.RouteOffer.{RouteOffer}
 use Rattle.ipx_router.specs.declared.service_offer.ServiceOffer.{ServiceOffer}
-use Rattle.ipx_router.proofs.Counting.{network_total, service_total}
-use Rattle.ipx_router.proofs.Histories.{none_up}
-use Rattle.ipx_router.proofs.Offering.{facts_from-more}
-use Rattle.ipx_router.proofs.Upheld.{held_routes_up, held_services_up}
+use Rattle.ipx_router.proofs.bounds.PacketsOfEachEvent.{network_total, service_total}
+use Rattle.ipx_router.proofs.histories.OneEventMore.{none_up}
+use Rattle.ipx_router.proofs.tables.OffersOfAMessage.{facts_from-more}
+use Rattle.ipx_router.proofs.tables.HeldCameByPortsUp.{held_routes_up, held_services_up}
 use Rattle.ipx_internet.specs.Meanwhile.{message_of}
 use Rattle.ipx_internet.proofs.Aging.{Aged, IsOldOffer, passed, at_first, after_event}
 use Rattle.ipx_internet.proofs.Leaving.{OffersOf}

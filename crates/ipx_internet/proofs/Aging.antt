@@ -4,7 +4,7 @@ use Rattle.std.specs.List.{AllByRecursion}
 use Rattle.std.specs.Cmp.{IsTotalOrder}
 use Rattle.std.proofs.lemmas.Bool.{cases_Bool, and_parts, not-true, leb-false}
 use Rattle.ipx_table.specs.Accepted.{marked, is_accepted, refreshes, replaces, is_new_with_room}
-use Rattle.ipx_table.specs.AfterOffer.{fresh, uncut, after_offer}
+use Rattle.ipx_table.specs.inside.AfterOffer.{fresh, uncut, after_offer}
 use Rattle.ipx_table.specs.Alive.{alive, cuts, lifetime}
 use Rattle.ipx_table.specs.Facts.{Fact, Offered, Second, PortEnd, End}
 use Rattle.ipx_table.specs.Reading.{Reading, Rules, rules_of}
@@ -17,8 +17,8 @@ use Rattle.ipx_router.specs.Facts.{facts_of, offers}
 use Rattle.ipx_router.specs.History.{Event, Start, Stop, Second as PassedSecond, Packet, PortDown, PortUp}
 use Rattle.ipx_router.specs.Numbers.{unreachable}
 use Rattle.ipx_router.specs.Port.{is_up}
-use Rattle.ipx_router.proofs.Every.{all_both}
-use Rattle.ipx_router.proofs.Tables.{all_in_order, all_offers}
+use Rattle.ipx_router.proofs.lists.EachElement.{all_both}
+use Rattle.ipx_router.proofs.tables.HeldWasOffered.{all_in_order, all_offers}
 use Rattle.ipx_internet.specs.Ticks.{most_ticks_gone}
 use Rattle.ipx_internet.proofs.Leaving.{OffersOf}
 use Rattle.ipx_internet.proofs.Lists.{all_of, all_then, all-append, all-map, all-filter}

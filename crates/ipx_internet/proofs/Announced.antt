@@ -14,8 +14,8 @@ use Rattle.ipx_router.specs.Services.{service_order}
 use Rattle.ipx_router.specs.Told.{network_before, name_before, is_reached_on, told_at, dead, farther, dead_service, direct_entry, direct, entry_of, is_route_told, learned, told, is_service_told, told_services}
 use Rattle.ipx_router.specs.declared.route_offer.RouteOffer.{RouteOffer}
 use Rattle.ipx_router.specs.declared.service_offer.ServiceOffer.{ServiceOffer}
-use Rattle.ipx_router.proofs.Every.{all-find, all_sorted}
-use Rattle.ipx_router.proofs.PortPlaces.{members}
+use Rattle.ipx_router.proofs.lists.EachElement.{all-find, all_sorted}
+use Rattle.ipx_router.proofs.port_values.PortOfEachNumber.{members}
 use Rattle.ipx_internet.proofs.Lists.{all_of, all_passed, all-append, all-filter, all-map, all-flat_map}
 
 -- of each change, what is there afterwards is one of those afterwards

@@ -14,12 +14,12 @@ use Rattle.ipx_router.specs.Sends.{rip_sends, sap_sends, is_nearer, nearest_of}
 use Rattle.ipx_router.specs.Told.{network_before, name_before, is_service_told, told_at, direct, learned, told, farther, told_services}
 use Rattle.ipx_router.specs.declared.route_offer.RouteOffer.{RouteOffer}
 use Rattle.ipx_router.specs.declared.service_offer.ServiceOffer.{ServiceOffer}
-use Rattle.ipx_router.proofs.ByteFields.{IsPlace as IsWritten}
-use Rattle.ipx_router.proofs.Every.{all_sorted}
-use Rattle.ipx_router.proofs.Owned.{Writable, reply_is}
-use Rattle.ipx_router.proofs.PageCounts.{length-pages, room_left, page_full}
-use Rattle.ipx_router.proofs.PageItems.{all_pages}
-use Rattle.ipx_router.proofs.PortPlaces.{port-all}
+use Rattle.ipx_router.proofs.bytes.FieldsAreBytes.{IsPlace as IsWritten}
+use Rattle.ipx_router.proofs.lists.EachElement.{all_sorted}
+use Rattle.ipx_router.proofs.sending.OwnPacketsAreValid.{Writable, reply_is}
+use Rattle.ipx_router.proofs.lists.CountOfPages.{length-pages, room_left, page_full}
+use Rattle.ipx_router.proofs.lists.ItemsOfPages.{all_pages}
+use Rattle.ipx_router.proofs.port_values.PortOfEachNumber.{port-all}
 use Rattle.ipx_internet.specs.Delivery.{receives, delivered}
 use Rattle.ipx_internet.specs.Internet.{Internet, Place, IsInternet, IsPlace, NodesDiffer, ports_of}
 use Rattle.ipx_internet.specs.InternetWeight.{entry_weight, routes_weight, entries_a_service, most_answered, request_weight, query_weight}

@@ -30,15 +30,15 @@ use Rattle.ipx_router.specs.Sends.{holding, ports_sending, rip_sends, sap_sends,
 use Rattle.ipx_router.specs.Told.{told, told_services}
 use Rattle.ipx_router.specs.declared.route_offer.RouteOffer.{RouteOffer}
 use Rattle.ipx_router.specs.Why.{is_near, is_propagated, is_for_rip}
-use Rattle.ipx_router.proofs.ByteFields.{IsPlace as IsPlaced, IsTellable}
-use Rattle.ipx_router.proofs.Every.{all_both}
-use Rattle.ipx_router.proofs.Fitting.{held_routes_fit, held_services_fit}
-use Rattle.ipx_router.proofs.Hearing.{heard_is}
-use Rattle.ipx_router.proofs.Owned.{Writable, reply_is}
-use Rattle.ipx_router.proofs.PortPlaces.{port-all, ports_up-within}
-use Rattle.ipx_router.proofs.SaidOnce.{one_read}
-use Rattle.ipx_router.proofs.Tables.{source_of, came_in}
-use Rattle.ipx_router.proofs.ToldFits.{told_fits, told_services_fit}
+use Rattle.ipx_router.proofs.bytes.FieldsAreBytes.{IsPlace as IsPlaced, IsTellable}
+use Rattle.ipx_router.proofs.lists.EachElement.{all_both}
+use Rattle.ipx_router.proofs.tables.HeldFitsFields.{held_routes_fit, held_services_fit}
+use Rattle.ipx_router.proofs.verdicts.HeardIsAsLayoutsAllow.{heard_is}
+use Rattle.ipx_router.proofs.sending.OwnPacketsAreValid.{Writable, reply_is}
+use Rattle.ipx_router.proofs.port_values.PortOfEachNumber.{port-all, ports_up-within}
+use Rattle.ipx_router.proofs.bytes.ReadInOneWay.{one_read}
+use Rattle.ipx_router.proofs.tables.HeldWasOffered.{source_of, came_in}
+use Rattle.ipx_router.proofs.telling.ToldFitsFields.{told_fits, told_services_fit}
 use Rattle.ipx_internet.specs.Internet.{Internet, IsInternet, ports_of, port_of}
 use Rattle.ipx_internet.specs.Queue.{Delivery, Queued, deliveries_of, history_of, sends_at, queued, settled_one}
 use Rattle.ipx_internet.specs.Rounds.{IsDelivery, IsOwnEvent, IsOwnStep, rounds}

@@ -17,8 +17,8 @@ use Rattle.ipx_router.specs.Numbers.{propagated_type}
 use Rattle.ipx_router.specs.Port.{Port, broadcast, port_at, is_local, same_node}
 use Rattle.ipx_router.specs.Why.{first_of, when, is_near, is_propagated, is_for_rip, is_for_sap, is_nearest_response, is_nearest_reply}
 use Rattle.ipx_router.specs.declared.why.Why.{Why}
-use Rattle.ipx_router.proofs.Passing.{all_checks, asked}
-use Rattle.ipx_router.proofs.Tables.{source_of, came_in, near_source}
+use Rattle.ipx_router.proofs.verdicts.SentOnPassesChecks.{all_checks, asked}
+use Rattle.ipx_router.proofs.tables.HeldWasOffered.{source_of, came_in, near_source}
 use Rattle.ipx_internet.specs.Internet.{Internet, port_of}
 use Rattle.ipx_internet.specs.InternetWeight.{most_hearers, routes_weight, services_weight, is_for_process, message_weight}
 use Rattle.ipx_internet.specs.Queue.{Delivery}

@@ -10,13 +10,13 @@ use Rattle.ipx_router.specs.News.{news, news_services}
 use Rattle.ipx_router.specs.Port.{Port, IsPort, is_up}
 use Rattle.ipx_router.specs.Sends.{Holding, holding, is_periodic, second_on, sends}
 use Rattle.ipx_router.specs.Told.{network_before, name_before, by_network, by_name, told, told_services}
-use Rattle.ipx_router.proofs.ByteFields.{IsTellable}
-use Rattle.ipx_router.proofs.Every.{all_both, all_sorted}
-use Rattle.ipx_router.proofs.Fitting.{held_routes_fit, held_services_fit}
-use Rattle.ipx_router.proofs.NewsFits.{news_fit, news_services_fit}
-use Rattle.ipx_router.proofs.Owned.{Writable}
-use Rattle.ipx_router.proofs.PortPlaces.{ports_up-within}
-use Rattle.ipx_router.proofs.ToldFits.{told_fits, told_services_fit}
+use Rattle.ipx_router.proofs.bytes.FieldsAreBytes.{IsTellable}
+use Rattle.ipx_router.proofs.lists.EachElement.{all_both, all_sorted}
+use Rattle.ipx_router.proofs.tables.HeldFitsFields.{held_routes_fit, held_services_fit}
+use Rattle.ipx_router.proofs.changes.ChangesFitFields.{news_fit, news_services_fit}
+use Rattle.ipx_router.proofs.sending.OwnPacketsAreValid.{Writable}
+use Rattle.ipx_router.proofs.port_values.PortOfEachNumber.{ports_up-within}
+use Rattle.ipx_router.proofs.telling.ToldFitsFields.{told_fits, told_services_fit}
 use Rattle.ipx_internet.proofs.Lists.{all-append}
 use Rattle.ipx_internet.proofs.Paging.{Tellable}
 use Rattle.ipx_internet.proofs.Replying.{Layouts, IsCast, broadcast_cast, each_cast}

@@ -3,7 +3,7 @@ use Rattle.std.proofs.Common.{◌≡◌, refl, sym, ap, ◌∙◌, Bool, true, n
 use Rattle.std.specs.List.{AllByRecursion}
 use Rattle.ipx_table.specs.Reading.{Reading}
 use Rattle.ipx_router.specs.Changes.{Change, same_or_none, put_keys, change_at, differs, changes}
-use Rattle.ipx_router.specs.Touched.{offer_at}
+use Rattle.ipx_router.specs.inside.Touched.{offer_at}
 use Rattle.ipx_internet.proofs.Leaving.{Told, Left}
 use Rattle.ipx_internet.proofs.Lists.{all_of, all_then, all-map, all_passed}
 

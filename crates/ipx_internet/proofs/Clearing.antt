@@ -2,7 +2,7 @@
 use Rattle.std.proofs.Common.{◌≡◌, sym, ◌∙◌, subst, refl, ℕ, ◌<◌, ◌≤◌, false, true, List, [], ◌∷◌, length, map, arith, true≢false}
 use Rattle.std.specs.List.{AllByRecursion}
 use Rattle.ipx_router.specs.History.{Event, History, Start, Stop, Second, Packet, PortDown, PortUp, is_second, is_start, is_stop, takes_down, brings_up, ports_up}
-use Rattle.ipx_router.proofs.Histories.{ports_stay}
+use Rattle.ipx_router.proofs.histories.OneEventMore.{ports_stay}
 use Rattle.ipx_internet.specs.Internet.{Internet, IsInternet, ports_of}
 use Rattle.ipx_internet.specs.Meanwhile.{IsBusyTick}
 use Rattle.ipx_internet.specs.Queue.{Delivery, Queued, history_of, with_event, settled_one}

@@ -11,8 +11,8 @@ use Rattle.ipx_table.specs.Stands.{held}
 use Rattle.ipx_table.specs.declared.held.Held.{Held}
 use Rattle.ipx_router.specs.Changes.{Change, same_or_none, put_keys, change_at, differs, changes}
 use Rattle.ipx_router.specs.Facts.{offers}
-use Rattle.ipx_router.specs.Touched.{offer_at}
-use Rattle.ipx_router.proofs.Keys.{Rises, rises-puts, is_less, is_equal, alike}
+use Rattle.ipx_router.specs.inside.Touched.{offer_at}
+use Rattle.ipx_router.proofs.changes.KeysThatDiffer.{Rises, rises-puts, is_less, is_equal, alike}
 use Rattle.ipx_internet.proofs.Gaining.{few_more, same_or_fewer}
 use Rattle.ipx_internet.proofs.Leaving.{OffersOf, Left, several}
 use Rattle.ipx_internet.proofs.Lists.{all_then}

@@ -4,7 +4,7 @@ use Rattle.std.specs.List.{AllByRecursion}
 use Rattle.ipx_wire.specs.Piece.{IsBytes}
 use Rattle.ipx_router.specs.History.{History, Packet, IsOnPort, IsOfBytes}
 use Rattle.ipx_router.specs.Port.{Port, port_at}
-use Rattle.ipx_router.proofs.Every.{all_both}
+use Rattle.ipx_router.proofs.lists.EachElement.{all_both}
 use Rattle.ipx_internet.specs.Internet.{Internet, Place, IsInternet, ports_of, port_of}
 use Rattle.ipx_internet.specs.Queue.{Delivery, history_of}
 use Rattle.ipx_internet.specs.Rounds.{IsDelivery}

@@ -15,10 +15,10 @@ use Rattle.ipx_router.specs.Numbers.{unreachable}
 use Rattle.ipx_router.specs.Routes.{route_reading, network_order}
 use Rattle.ipx_router.specs.Services.{service_reading, service_order}
 use Rattle.ipx_router.specs.Told.{entry_of, dead, dead_service}
-use Rattle.ipx_router.specs.Touched.{offer_at}
+use Rattle.ipx_router.specs.inside.Touched.{offer_at}
 use Rattle.ipx_router.specs.declared.route_offer.RouteOffer.{RouteOffer}
 use Rattle.ipx_router.specs.declared.service_offer.ServiceOffer.{ServiceOffer}
-use Rattle.ipx_router.proofs.Counting.{network_total, service_total}
+use Rattle.ipx_router.proofs.bounds.PacketsOfEachEvent.{network_total, service_total}
 use Rattle.ipx_internet.specs.Internet.{Internet, IsInternet, ports_of, port_of}
 use Rattle.ipx_internet.specs.Queue.{Delivery, Queued, history_of}
 use Rattle.ipx_internet.specs.Rounds.{IsDelivery, round, rounds}

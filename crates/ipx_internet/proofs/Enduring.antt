@@ -21,12 +21,12 @@ use Rattle.ipx_router.specs.Told.{told, told_services, told_at, direct_entry, en
 use Rattle.ipx_router.specs.Why.{is_near}
 use Rattle.ipx_router.specs.declared.route_offer.RouteOffer.{RouteOffer}
 use Rattle.ipx_router.specs.declared.service_offer.ServiceOffer.{ServiceOffer}
-use Rattle.ipx_router.proofs.Counting.{network_total, service_total}
-use Rattle.ipx_router.proofs.Every.{all_both}
-use Rattle.ipx_router.proofs.Histories.{ports_stay, none_up}
-use Rattle.ipx_router.proofs.Offering.{facts_from-more}
-use Rattle.ipx_router.proofs.Tables.{came_in, heard_up}
-use Rattle.ipx_router.proofs.Upheld.{held_routes_up, held_services_up}
+use Rattle.ipx_router.proofs.bounds.PacketsOfEachEvent.{network_total, service_total}
+use Rattle.ipx_router.proofs.lists.EachElement.{all_both}
+use Rattle.ipx_router.proofs.histories.OneEventMore.{ports_stay, none_up}
+use Rattle.ipx_router.proofs.tables.OffersOfAMessage.{facts_from-more}
+use Rattle.ipx_router.proofs.tables.HeldWasOffered.{came_in, heard_up}
+use Rattle.ipx_router.proofs.tables.HeldCameByPortsUp.{held_routes_up, held_services_up}
 use Rattle.ipx_internet.specs.Internet.{Internet, Place, ports_of, port_of, network_of}
 use Rattle.ipx_internet.specs.Queue.{Delivery}
 use Rattle.ipx_internet.specs.Real.{IsReal, next, farther}

@@ -6,7 +6,7 @@ use Rattle.ipx_router.specs.Stands.{State}
 use Rattle.ipx_internet.specs.Internet.{Internet}
 use Rattle.ipx_internet.specs.Moment.{Moment, StandsFor, net_at}
 use Rattle.ipx_internet.specs.Queue.{Delivery, Queued, queued}
-use Rattle.ipx_internet.specs.Simulated.{IsComing, moment, net_among}
+use Rattle.ipx_internet.specs.inside.Simulated.{IsComing, moment, net_among}
 use Rattle.ipx_internet.proofs.Lists.{all-append}
 
 module _ {X : Type 0} (P : X → Type 0) where

@@ -4,7 +4,7 @@ use Rattle.std.specs.List.{AllByRecursion}
 use Rattle.std.specs.Cmp.{IsTotalOrder}
 use Rattle.std.proofs.lemmas.Bool.{cases_Bool}
 use Rattle.ipx_table.specs.Accepted.{marked, is_accepted}
-use Rattle.ipx_table.specs.AfterOffer.{fresh, uncut, after_offer}
+use Rattle.ipx_table.specs.inside.AfterOffer.{fresh, uncut, after_offer}
 use Rattle.ipx_table.specs.Alive.{alive, cuts}
 use Rattle.ipx_table.specs.Facts.{Fact, Offered, Second, PortEnd, End}
 use Rattle.ipx_table.specs.Reading.{Reading, Rules, rules_of}
@@ -13,7 +13,7 @@ use Rattle.ipx_table.specs.declared.held.Held.{Held}
 use Rattle.ipx_table.proofs.History.{alive_after-offered}
 use Rattle.ipx_table.proofs.Order.{length-in_order}
 use Rattle.ipx_table.proofs.Standing.{rules_total}
-use Rattle.ipx_router.proofs.Lengths.{length-filter}
+use Rattle.ipx_router.proofs.bounds.ItemsOfEachList.{length-filter}
 use Rattle.ipx_internet.proofs.Leaving.{OffersOf}
 
 -- what passes a test is all, or fewer

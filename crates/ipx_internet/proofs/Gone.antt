@@ -11,8 +11,8 @@ use Rattle.ipx_router.specs.Port.{Port, port_at, is_up}
 use Rattle.ipx_router.specs.Routes.{route_reading, network_order}
 use Rattle.ipx_router.specs.Services.{service_reading, service_order}
 use Rattle.ipx_router.specs.declared.route_offer.RouteOffer.{RouteOffer}
-use Rattle.ipx_router.proofs.Counting.{network_total, service_total}
-use Rattle.ipx_router.proofs.Upheld.{held_routes_up}
+use Rattle.ipx_router.proofs.bounds.PacketsOfEachEvent.{network_total, service_total}
+use Rattle.ipx_router.proofs.tables.HeldCameByPortsUp.{held_routes_up}
 use Rattle.ipx_internet.specs.Internet.{Internet, Place, IsInternet, ports_of}
 use Rattle.ipx_internet.specs.Queue.{history_of}
 use Rattle.ipx_internet.specs.Real.{IsReal, next, farther, led_over}

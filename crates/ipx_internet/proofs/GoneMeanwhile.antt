@@ -15,7 +15,7 @@ use Rattle.ipx_router.specs.History.{History}
 use Rattle.ipx_router.specs.Port.{Port}
 use Rattle.ipx_router.specs.Routes.{route_reading, network_order}
 use Rattle.ipx_router.specs.Services.{service_reading, service_order}
-use Rattle.ipx_router.proofs.Counting.{network_total, service_total}
+use Rattle.ipx_router.proofs.bounds.PacketsOfEachEvent.{network_total, service_total}
 use Rattle.ipx_internet.specs.Internet.{Internet, IsInternet, ports_of}
 use Rattle.ipx_internet.specs.Meanwhile.{AreWithout, IsWithoutRoute, AsksElsewhere, IsWithoutService, SaysOnly, IsBusyTick, StaysGone, EachTick}
 use Rattle.ipx_internet.specs.Queue.{history_of}

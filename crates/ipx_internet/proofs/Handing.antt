@@ -8,7 +8,7 @@ use Rattle.ipx_router.specs.Stands.{State}
 use Rattle.ipx_internet.specs.Internet.{Internet, IsPlace, ports_of}
 use Rattle.ipx_internet.specs.Moment.{Moment, StandsFor, IsThere, net_at}
 use Rattle.ipx_internet.specs.Queue.{Delivery, Queued, queued, settled_one}
-use Rattle.ipx_internet.specs.Simulated.{moment, net_among, IsComing, AreRouters, IsSimulated}
+use Rattle.ipx_internet.specs.inside.Simulated.{moment, net_among, IsComing, AreRouters, IsSimulated}
 use Rattle.ipx_internet.specs.declared.stations.Station.{Station}
 use Rattle.ipx_internet.proofs.Eventing.{all_front, all_behind}
 use Rattle.ipx_internet.proofs.Lists.{all-append}

@@ -6,10 +6,10 @@ use Rattle.std.proofs.lemmas.Bool.{cases_Bool, cases_eq, both_ways, eqb-true, or
 use Rattle.ipx_table.specs.Reading.{Reading}
 use Rattle.ipx_router.specs.History.{Event, History}
 use Rattle.ipx_router.specs.Port.{numbers}
-use Rattle.ipx_router.specs.Touched.{offer_at}
-use Rattle.ipx_router.proofs.Histories.{among}
-use Rattle.ipx_router.proofs.Lengths.{length-filter, length-numbers}
-use Rattle.ipx_router.proofs.Noting.{offer_alike}
+use Rattle.ipx_router.specs.inside.Touched.{offer_at}
+use Rattle.ipx_router.proofs.histories.OneEventMore.{among}
+use Rattle.ipx_router.proofs.bounds.ItemsOfEachList.{length-filter, length-numbers}
+use Rattle.ipx_router.proofs.changes.NotedInPlace.{offer_alike}
 use Rattle.ipx_internet.specs.Queue.{history_of, with_event}
 use Rattle.ipx_internet.proofs.Leaving.{Left}
 

@@ -24,10 +24,10 @@ use Rattle.ipx_router.specs.Port.{Port, IsPort, port_at, is_local, own_address, 
 use Rattle.ipx_router.specs.Relays.{Sent}
 use Rattle.ipx_router.specs.Sends.{entries_sent, services_sent}
 use Rattle.ipx_router.specs.Why.{is_propagated}
-use Rattle.ipx_router.proofs.ByteFields.{IsPlace as IsWritten}
-use Rattle.ipx_router.proofs.Owned.{Writable}
-use Rattle.ipx_router.proofs.PageItems.{IsPage}
-use Rattle.ipx_router.proofs.PortPlaces.{port-all}
+use Rattle.ipx_router.proofs.bytes.FieldsAreBytes.{IsPlace as IsWritten}
+use Rattle.ipx_router.proofs.sending.OwnPacketsAreValid.{Writable}
+use Rattle.ipx_router.proofs.lists.ItemsOfPages.{IsPage}
+use Rattle.ipx_router.proofs.port_values.PortOfEachNumber.{port-all}
 use Rattle.ipx_internet.specs.Delivery.{receives, delivered}
 use Rattle.ipx_internet.specs.Internet.{Internet, Place, IsInternet, IsPlace, network_of, ports_of, port_of}
 use Rattle.ipx_internet.specs.InternetWeight.{most_hearers, weight_in_reach, entry_weight, routes_weight, services_weight, request_weight, query_weight, is_for_process, message_weight, said_weight, packet_weight, delivery_weight}

@@ -17,9 +17,9 @@ use Rattle.ipx_table.proofs.History.{alive_after-offered}
 use Rattle.ipx_table.proofs.Living.{kept}
 use Rattle.ipx_table.proofs.Standing.{rules_total, record-in_order, others-stay}
 use Rattle.ipx_router.specs.Facts.{offers}
-use Rattle.ipx_router.specs.Touched.{offer_at}
-use Rattle.ipx_router.proofs.Differences.{found}
-use Rattle.ipx_router.proofs.Noting.{offer_alike}
+use Rattle.ipx_router.specs.inside.Touched.{offer_at}
+use Rattle.ipx_router.proofs.changes.DiffersByOneFact.{found}
+use Rattle.ipx_router.proofs.changes.NotedInPlace.{offer_alike}
 
 -- a fact is an offer, and such a one
 abbrev pub OffersOf : {O : Type 0} → (O → Type 0) → Fact O → Type 0

@@ -25,17 +25,17 @@ use Rattle.ipx_router.specs.Services.{service_reading, service_order}
 use Rattle.ipx_router.specs.Told.{told, told_services}
 use Rattle.ipx_router.specs.declared.route_offer.RouteOffer.{RouteOffer}
 use Rattle.ipx_router.specs.declared.service_offer.ServiceOffer.{ServiceOffer}
-use Rattle.ipx_router.proofs.ByteFields.{IsPlace as IsWritten, IsTellable}
-use Rattle.ipx_router.proofs.Every.{all_both}
-use Rattle.ipx_router.proofs.Fitting.{held_routes_fit, held_services_fit}
-use Rattle.ipx_router.proofs.Hearing.{heard_is}
-use Rattle.ipx_router.proofs.Histories.{ports_stay}
-use Rattle.ipx_router.proofs.Lengths.{length-filter, length-numbers, length-told, length-told_services}
-use Rattle.ipx_router.proofs.NewsFits.{ChangeOf, changes_fit, anything, news_fit, news_services_fit}
-use Rattle.ipx_router.proofs.Owned.{Writable}
-use Rattle.ipx_router.proofs.PortPlaces.{ports_up-within}
-use Rattle.ipx_router.proofs.Tables.{source_of, heard_up}
-use Rattle.ipx_router.proofs.ToldFits.{told_fits, told_services_fit}
+use Rattle.ipx_router.proofs.bytes.FieldsAreBytes.{IsPlace as IsWritten, IsTellable}
+use Rattle.ipx_router.proofs.lists.EachElement.{all_both}
+use Rattle.ipx_router.proofs.tables.HeldFitsFields.{held_routes_fit, held_services_fit}
+use Rattle.ipx_router.proofs.verdicts.HeardIsAsLayoutsAllow.{heard_is}
+use Rattle.ipx_router.proofs.histories.OneEventMore.{ports_stay}
+use Rattle.ipx_router.proofs.bounds.ItemsOfEachList.{length-filter, length-numbers, length-told, length-told_services}
+use Rattle.ipx_router.proofs.changes.ChangesFitFields.{ChangeOf, changes_fit, anything, news_fit, news_services_fit}
+use Rattle.ipx_router.proofs.sending.OwnPacketsAreValid.{Writable}
+use Rattle.ipx_router.proofs.port_values.PortOfEachNumber.{ports_up-within}
+use Rattle.ipx_router.proofs.tables.HeldWasOffered.{source_of, heard_up}
+use Rattle.ipx_router.proofs.telling.ToldFitsFields.{told_fits, told_services_fit}
 use Rattle.ipx_internet.specs.Internet.{Internet, IsInternet, NodesDiffer, ports_of}
 use Rattle.ipx_internet.specs.InternetWeight.{most_hearers, entry_weight, routes_weight, most_answered, request_weight, query_weight, message_weight}
 use Rattle.ipx_internet.specs.Most.{most_ports, most_on_network}

@@ -13,8 +13,8 @@ use Rattle.ipx_router.specs.Numbers.{rip_socket, sap_socket, propagated_type}
 use Rattle.ipx_router.specs.Port.{Port, port_at}
 use Rattle.ipx_router.specs.Why.{first_of, when, is_propagated, is_near, is_for_rip, is_for_sap}
 use Rattle.ipx_router.specs.declared.why.Why.{Why}
-use Rattle.ipx_router.proofs.Passing.{all_checks}
-use Rattle.ipx_router.proofs.Tables.{came_in}
+use Rattle.ipx_router.proofs.verdicts.SentOnPassesChecks.{all_checks}
+use Rattle.ipx_router.proofs.tables.HeldWasOffered.{came_in}
 use Rattle.ipx_internet.specs.Meanwhile.{message_in, message_of}
 use Rattle.ipx_internet.proofs.Replying.{IsOnward}
 use Rattle.ipx_internet.proofs.Ways.{nothing}

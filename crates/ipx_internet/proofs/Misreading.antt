@@ -26,8 +26,8 @@ use Rattle.ipx_wire.proofs.Items.{length-items, items_again, slice_get-items, le
 use Rattle.ipx_wire.proofs.Services.{length-service_bytes}
 use Rattle.ipx_router.specs.Heard.{Heard, HeardRip, HeardSap}
 use Rattle.ipx_router.specs.Numbers.{rip_socket, sap_socket, entries_a_page, services_a_page}
-use Rattle.ipx_router.proofs.Owned.{Writable}
-use Rattle.ipx_router.proofs.PageItems.{IsPage}
+use Rattle.ipx_router.proofs.sending.OwnPacketsAreValid.{Writable}
+use Rattle.ipx_router.proofs.lists.ItemsOfPages.{IsPage}
 use Rattle.ipx_internet.specs.Internet.{Internet}
 use Rattle.ipx_internet.specs.InternetWeight.{entry_weight, routes_weight, services_weight, entries_a_service, message_weight}
 use Rattle.ipx_internet.proofs.Landing.{said, farther_lighter, rip_heard, sap_heard}

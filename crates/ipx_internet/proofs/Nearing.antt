@@ -15,10 +15,10 @@ use Rattle.ipx_router.specs.Port.{Port, port_at}
 use Rattle.ipx_router.specs.Routes.{route_reading, network_order}
 use Rattle.ipx_router.specs.Services.{service_reading, service_order}
 use Rattle.ipx_router.specs.Told.{is_reached_on, entry_of, dead, dead_service}
-use Rattle.ipx_router.specs.Touched.{offer_at}
+use Rattle.ipx_router.specs.inside.Touched.{offer_at}
 use Rattle.ipx_router.specs.declared.route_offer.RouteOffer.{RouteOffer}
 use Rattle.ipx_router.specs.declared.service_offer.ServiceOffer.{ServiceOffer}
-use Rattle.ipx_router.proofs.Telling.{route-same, service-same}
+use Rattle.ipx_router.proofs.telling.LawsOfTold.{route-same, service-same}
 use Rattle.ipx_internet.proofs.Announced.{unless}
 use Rattle.ipx_internet.proofs.Changing.{ToldOf, changed}
 use Rattle.ipx_internet.proofs.Leaving.{Told, Left}

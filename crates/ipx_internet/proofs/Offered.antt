@@ -17,11 +17,11 @@ use Rattle.ipx_router.specs.History.{History, Packet}
 use Rattle.ipx_router.specs.Port.{Port, takes_no_route}
 use Rattle.ipx_router.specs.Routes.{route_reading, network_order, route_rules}
 use Rattle.ipx_router.specs.Services.{service_reading, service_order, service_rules}
-use Rattle.ipx_router.specs.Touched.{offer_at}
+use Rattle.ipx_router.specs.inside.Touched.{offer_at}
 use Rattle.ipx_router.specs.declared.route_offer.RouteOffer.{RouteOffer}
 use Rattle.ipx_router.specs.declared.service_offer.ServiceOffer.{ServiceOffer}
-use Rattle.ipx_router.proofs.Counting.{network_total, service_total}
-use Rattle.ipx_router.proofs.Offering.{facts_from-more}
+use Rattle.ipx_router.proofs.bounds.PacketsOfEachEvent.{network_total, service_total}
+use Rattle.ipx_router.proofs.tables.OffersOfAMessage.{facts_from-more}
 use Rattle.ipx_internet.proofs.Leaving.{OffersOf, Left, several}
 use Rattle.ipx_internet.proofs.Lists.{all-append}
 

@@ -16,9 +16,9 @@ use Rattle.ipx_router.specs.Sends.{Holding, holding}
 use Rattle.ipx_router.specs.Services.{service_reading, service_order, service_rules}
 use Rattle.ipx_router.specs.declared.route_offer.RouteOffer.{RouteOffer}
 use Rattle.ipx_router.specs.declared.service_offer.ServiceOffer.{ServiceOffer}
-use Rattle.ipx_router.proofs.Counting.{network_total, service_total}
-use Rattle.ipx_router.proofs.Offering.{facts_from-more}
-use Rattle.ipx_router.proofs.Telling.{route-same, service-same}
+use Rattle.ipx_router.proofs.bounds.PacketsOfEachEvent.{network_total, service_total}
+use Rattle.ipx_router.proofs.tables.OffersOfAMessage.{facts_from-more}
+use Rattle.ipx_router.proofs.telling.LawsOfTold.{route-same, service-same}
 use Rattle.ipx_internet.specs.Internet.{Internet}
 use Rattle.ipx_internet.proofs.Bringing.{route_told_weight, service_told_weight, brings, service_brings}
 use Rattle.ipx_internet.proofs.Costs.{telling, changes_cost}

@@ -22,11 +22,11 @@ use Rattle.ipx_router.specs.Pages.{pages}
 use Rattle.ipx_router.specs.Port.{Port, IsPort, port_at, own_address, everyone, own_services, every_server}
 use Rattle.ipx_router.specs.Sends.{entries_sent, rip_sends, services_sent, sap_sends}
 use Rattle.ipx_router.specs.Why.{is_for_rip}
-use Rattle.ipx_router.proofs.ByteFields.{IsPlace, IsTellable, rip_are_bytes, sap_are_bytes, parts_bytes}
-use Rattle.ipx_router.proofs.ByteLists.{bytes_same}
-use Rattle.ipx_router.proofs.Owned.{Writable}
-use Rattle.ipx_router.proofs.PageItems.{IsPage, all_pages}
-use Rattle.ipx_router.proofs.Wire.{Readings, Rereadings, alone}
+use Rattle.ipx_router.proofs.bytes.FieldsAreBytes.{IsPlace, IsTellable, rip_are_bytes, sap_are_bytes, parts_bytes}
+use Rattle.ipx_router.proofs.bytes.ListsOfBytes.{bytes_same}
+use Rattle.ipx_router.proofs.sending.OwnPacketsAreValid.{Writable}
+use Rattle.ipx_router.proofs.lists.ItemsOfPages.{IsPage, all_pages}
+use Rattle.ipx_router.proofs.bytes.LawsOfLayouts.{Readings, Rereadings, alone}
 use Rattle.ipx_internet.proofs.Lists.{all_then, all-map}
 use Rattle.ipx_internet.proofs.Ways.{nothing, it_is}
 

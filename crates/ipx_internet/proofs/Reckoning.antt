@@ -16,7 +16,7 @@ use Rattle.ipx_internet.specs.Queue.{Delivery, Queued, history_of, settled_one}
 use Rattle.ipx_internet.specs.Rounds.{IsDelivery}
 use Rattle.ipx_internet.specs.Run.{AreHistories}
 use Rattle.ipx_internet.specs.Settled.{HasSettled, IsToldOf}
-use Rattle.ipx_internet.specs.Simulated.{moment, net_among}
+use Rattle.ipx_internet.specs.inside.Simulated.{moment, net_among}
 use Rattle.ipx_internet.specs.declared.internet.Settled.{Settled}
 use Rattle.ipx_internet.specs.declared.internet.Settled.TheVariants.{Quiet, Left}
 use Rattle.ipx_internet.proofs.Landing.{at_least_one}

@@ -28,20 +28,20 @@ use Rattle.ipx_router.specs.Told.{told, told_services}
 use Rattle.ipx_router.specs.Why.{why, is_propagated, is_far}
 use Rattle.ipx_router.specs.declared.route_offer.RouteOffer.{RouteOffer}
 use Rattle.ipx_router.specs.declared.why.Why.{Why}
-use Rattle.ipx_router.proofs.ByteFields.{IsPlace as IsPlaced, IsTellable}
-use Rattle.ipx_router.proofs.Every.{all_both}
-use Rattle.ipx_router.proofs.Fitting.{held_routes_fit, held_services_fit}
-use Rattle.ipx_router.proofs.Hearing.{heard_is}
-use Rattle.ipx_router.proofs.Histories.{ports_stay}
-use Rattle.ipx_router.proofs.NewsFits.{news_fit, news_services_fit}
-use Rattle.ipx_router.proofs.Owned.{Writable, reply_is}
-use Rattle.ipx_router.proofs.PortPlaces.{port-all, ports_up-within, members, one_up}
-use Rattle.ipx_router.proofs.SaidOnce.{one_read}
-use Rattle.ipx_router.proofs.SentBytes.{relayed_bytes}
-use Rattle.ipx_router.proofs.SentLengths.{network_fits}
-use Rattle.ipx_router.proofs.Tables.{source_of}
-use Rattle.ipx_router.proofs.ToldFits.{told_fits, told_services_fit}
-use Rattle.ipx_router.proofs.Wire.{Readings, Rereadings}
+use Rattle.ipx_router.proofs.bytes.FieldsAreBytes.{IsPlace as IsPlaced, IsTellable}
+use Rattle.ipx_router.proofs.lists.EachElement.{all_both}
+use Rattle.ipx_router.proofs.tables.HeldFitsFields.{held_routes_fit, held_services_fit}
+use Rattle.ipx_router.proofs.verdicts.HeardIsAsLayoutsAllow.{heard_is}
+use Rattle.ipx_router.proofs.histories.OneEventMore.{ports_stay}
+use Rattle.ipx_router.proofs.changes.ChangesFitFields.{news_fit, news_services_fit}
+use Rattle.ipx_router.proofs.sending.OwnPacketsAreValid.{Writable, reply_is}
+use Rattle.ipx_router.proofs.port_values.PortOfEachNumber.{port-all, ports_up-within, members, one_up}
+use Rattle.ipx_router.proofs.bytes.ReadInOneWay.{one_read}
+use Rattle.ipx_router.proofs.bytes.SentIsBytes.{relayed_bytes}
+use Rattle.ipx_router.proofs.bounds.LengthsOfWhatIsSent.{network_fits}
+use Rattle.ipx_router.proofs.tables.HeldWasOffered.{source_of}
+use Rattle.ipx_router.proofs.telling.ToldFitsFields.{told_fits, told_services_fit}
+use Rattle.ipx_router.proofs.bytes.LawsOfLayouts.{Readings, Rereadings}
 use Rattle.ipx_internet.proofs.Lists.{all_of, all_then, all-append, all-filter, all-flat_map}
 use Rattle.ipx_internet.proofs.Paging.{IsRipPage, IsSapPage, Tellable, everyone_is, every_server_is, rip_pages, sap_pages, Answers, rip_answers, sap_answers, IsAnswering}
 

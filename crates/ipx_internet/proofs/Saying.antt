@@ -24,8 +24,8 @@ use Rattle.ipx_router.specs.Numbers.{rip_socket}
 use Rattle.ipx_router.specs.Port.{Port, port_at, own_address, everyone, own_services, every_server}
 use Rattle.ipx_router.specs.Relays.{Sent}
 use Rattle.ipx_router.specs.Why.{is_near}
-use Rattle.ipx_router.proofs.SaidOnce.{one_read}
-use Rattle.ipx_router.proofs.Tables.{came_in}
+use Rattle.ipx_router.proofs.bytes.ReadInOneWay.{one_read}
+use Rattle.ipx_router.proofs.tables.HeldWasOffered.{came_in}
 use Rattle.ipx_internet.specs.Internet.{Internet, IsInternet, ports_of, port_of}
 use Rattle.ipx_internet.specs.Queue.{Delivery, history_of}
 use Rattle.ipx_internet.specs.Rounds.{IsDelivery}

@@ -4,7 +4,7 @@ use Rattle.std.specs.List.{AllByRecursion, sum_by}
 use Rattle.std.proofs.lemmas.Bool.{cases_lt}
 use Rattle.std.proofs.lemmas.List.Sums.{sum_by-cons, sum_by-append, sum_by_push}
 use Rattle.ipx_router.specs.Pages.{pages_from, pages, sheets}
-use Rattle.ipx_router.proofs.PageCounts.{room_left, page_full, length-pages}
+use Rattle.ipx_router.proofs.lists.CountOfPages.{room_left, page_full, length-pages}
 
 -- ---- sums
 

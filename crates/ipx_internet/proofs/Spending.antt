@@ -11,7 +11,7 @@ use Rattle.ipx_internet.specs.Internet.{Internet, IsInternet, ports_of, port_of}
 use Rattle.ipx_internet.specs.Queue.{Delivery, Queued, history_of}
 use Rattle.ipx_internet.specs.Rounds.{IsDelivery, rounds}
 use Rattle.ipx_internet.specs.Run.{AreHistories}
-use Rattle.ipx_router.proofs.SaidOnce.{one_read}
+use Rattle.ipx_router.proofs.bytes.ReadInOneWay.{one_read}
 use Rattle.ipx_internet.proofs.Delivering.{keeps_histories, all_wait}
 use Rattle.ipx_internet.proofs.Lists.{all_then}
 use Rattle.ipx_internet.proofs.Receivers.{ports_at}

@@ -18,7 +18,7 @@ use Rattle.ipx_internet.specs.Delivery.{receives, delivered}
 use Rattle.ipx_internet.specs.Internet.{Internet, Place, IsInternet, NodesDiffer, IsPlace, ports_of}
 use Rattle.ipx_internet.specs.Moment.{StandsFor}
 use Rattle.ipx_internet.specs.Queue.{Delivery, Queued, deliveries_of, history_of, queued}
-use Rattle.ipx_internet.specs.Simulated.{moment, net_among, IsComing, AreRouters}
+use Rattle.ipx_internet.specs.inside.Simulated.{moment, net_among, IsComing, AreRouters}
 use Rattle.ipx_internet.specs.Stations.{AreOf, place_of, hearers}
 use Rattle.ipx_internet.specs.declared.stations.Station.{Station}
 use Rattle.ipx_internet.proofs.Hearing.{heard_at}

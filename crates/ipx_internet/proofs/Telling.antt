@@ -24,9 +24,9 @@ use Rattle.ipx_router.specs.Port.{Port, IsPort, port_at, own_address, everyone, 
 use Rattle.ipx_router.specs.Relays.{Sent}
 use Rattle.ipx_router.specs.Sends.{every_route, rip_sends, sap_sends, rip_broadcast, sap_broadcast, broadcasts, routes_request, services_query}
 use Rattle.ipx_router.specs.Why.{is_for_rip}
-use Rattle.ipx_router.proofs.ByteFields.{IsPlace as IsPlaced, rip_are_bytes, query_are_bytes, parts_bytes}
-use Rattle.ipx_router.proofs.Owned.{Writable}
-use Rattle.ipx_router.proofs.Wire.{alone}
+use Rattle.ipx_router.proofs.bytes.FieldsAreBytes.{IsPlace as IsPlaced, rip_are_bytes, query_are_bytes, parts_bytes}
+use Rattle.ipx_router.proofs.sending.OwnPacketsAreValid.{Writable}
+use Rattle.ipx_router.proofs.bytes.LawsOfLayouts.{alone}
 use Rattle.ipx_internet.specs.Meanwhile.{message_in}
 use Rattle.ipx_internet.proofs.Abiding.{RouteSaid, ServiceSaid, EntrySaid, RipSaid, Said, Tells, AllFine, AllServed}
 use Rattle.ipx_internet.proofs.Lists.{all_of, all_then, all-append, all_mapped}

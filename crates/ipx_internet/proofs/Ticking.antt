@@ -11,7 +11,7 @@ use Rattle.ipx_router.specs.History.{Event, History, Start, Stop, Second, Packet
 use Rattle.ipx_router.specs.Port.{Port, port_at}
 use Rattle.ipx_router.specs.Relays.{Sent}
 use Rattle.ipx_router.specs.Told.{told}
-use Rattle.ipx_router.proofs.Every.{all_both}
+use Rattle.ipx_router.proofs.lists.EachElement.{all_both}
 use Rattle.ipx_internet.specs.Internet.{Internet, Place, IsInternet, ports_of, port_of}
 use Rattle.ipx_internet.specs.Queue.{Delivery, Queued, deliveries_of, history_of, with_event, sends_at, queued, settled_one}
 use Rattle.ipx_internet.specs.Run.{Step, Happens, Settles, AreHistories, Run, Waiting, forgotten, stepped, run_of}

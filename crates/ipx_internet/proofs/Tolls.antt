@@ -16,9 +16,9 @@ use Rattle.ipx_router.specs.Sends.{broadcasts, rip_broadcast, sap_broadcast}
 use Rattle.ipx_router.specs.Told.{is_reached_on, entry_of as route_entry, dead, dead_service}
 use Rattle.ipx_router.specs.declared.route_offer.RouteOffer.{RouteOffer}
 use Rattle.ipx_router.specs.declared.service_offer.ServiceOffer.{ServiceOffer}
-use Rattle.ipx_router.proofs.Owned.{Writable}
-use Rattle.ipx_router.proofs.PageItems.{all_pages}
-use Rattle.ipx_router.proofs.PortPlaces.{port-all}
+use Rattle.ipx_router.proofs.sending.OwnPacketsAreValid.{Writable}
+use Rattle.ipx_router.proofs.lists.ItemsOfPages.{all_pages}
+use Rattle.ipx_router.proofs.port_values.PortOfEachNumber.{port-all}
 use Rattle.ipx_internet.specs.Internet.{Internet, Place, IsInternet, ports_of}
 use Rattle.ipx_internet.specs.InternetWeight.{entry_weight, routes_weight}
 use Rattle.ipx_internet.specs.Most.{most_on_network}

@@ -22,17 +22,17 @@ use Rattle.ipx_router.specs.Services.{service_reading, service_order}
 use Rattle.ipx_router.specs.Told.{told, told_services, told_at, direct_entry, entry_of, by_network, by_name, network_before, name_before, dead, farther, dead_service}
 use Rattle.ipx_router.specs.declared.route_offer.RouteOffer.{RouteOffer}
 use Rattle.ipx_router.specs.declared.service_offer.ServiceOffer.{ServiceOffer}
-use Rattle.ipx_router.proofs.ByteFields.{IsPlace as IsPlaced, IsTellable}
-use Rattle.ipx_router.proofs.Counting.{network_total, service_total}
-use Rattle.ipx_router.proofs.Every.{all_both, all_sorted}
-use Rattle.ipx_router.proofs.Fitting.{RouteFits, ServiceFits, held_routes_fit, held_services_fit}
-use Rattle.ipx_router.proofs.Hearing.{heard_is}
-use Rattle.ipx_router.proofs.Histories.{port_comes_up}
-use Rattle.ipx_router.proofs.NewsFits.{news_fit, news_services_fit}
-use Rattle.ipx_router.proofs.Owned.{Writable, reply_is}
-use Rattle.ipx_router.proofs.PortPlaces.{port-all, ports_up-within, members, one_up}
-use Rattle.ipx_router.proofs.Tables.{source_of}
-use Rattle.ipx_router.proofs.ToldFits.{told_at_fits, direct_fits, dead_fits, down_fits, told_fits, told_services_fit}
+use Rattle.ipx_router.proofs.bytes.FieldsAreBytes.{IsPlace as IsPlaced, IsTellable}
+use Rattle.ipx_router.proofs.bounds.PacketsOfEachEvent.{network_total, service_total}
+use Rattle.ipx_router.proofs.lists.EachElement.{all_both, all_sorted}
+use Rattle.ipx_router.proofs.tables.HeldFitsFields.{RouteFits, ServiceFits, held_routes_fit, held_services_fit}
+use Rattle.ipx_router.proofs.verdicts.HeardIsAsLayoutsAllow.{heard_is}
+use Rattle.ipx_router.proofs.histories.OneEventMore.{port_comes_up}
+use Rattle.ipx_router.proofs.changes.ChangesFitFields.{news_fit, news_services_fit}
+use Rattle.ipx_router.proofs.sending.OwnPacketsAreValid.{Writable, reply_is}
+use Rattle.ipx_router.proofs.port_values.PortOfEachNumber.{port-all, ports_up-within, members, one_up}
+use Rattle.ipx_router.proofs.tables.HeldWasOffered.{source_of}
+use Rattle.ipx_router.proofs.telling.ToldFitsFields.{told_at_fits, direct_fits, dead_fits, down_fits, told_fits, told_services_fit}
 use Rattle.ipx_internet.proofs.Abiding.{RipSaid, Said, EventTells, FineRoute, FineService, Abides}
 use Rattle.ipx_internet.proofs.Aging.{IsOldHeld, passed, old_held}
 use Rattle.ipx_internet.proofs.Announced.{told_all, news_told, told_services_all, news_services_told}

@@ -9,7 +9,7 @@ use Rattle.ipx_router.specs.Stands.{State}
 use Rattle.ipx_internet.specs.Internet.{Internet, Place, IsInternet, NodesDiffer, IsPlace, ports_of, port_of, network_of}
 use Rattle.ipx_internet.specs.Moment.{SharesNode}
 use Rattle.ipx_internet.specs.Queue.{Delivery}
-use Rattle.ipx_internet.specs.Simulated.{net_among, IsComing, IsSimulated}
+use Rattle.ipx_internet.specs.inside.Simulated.{net_among, IsComing, IsSimulated}
 use Rattle.ipx_internet.specs.Stations.{AreOf}
 use Rattle.ipx_internet.specs.declared.stations.Station.{Station}
 use Rattle.ipx_internet.proofs.Handing.{within_net}

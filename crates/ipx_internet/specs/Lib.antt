@@ -17,9 +17,9 @@ pub mod Rounds
 pub mod Run
 pub mod Scales
 pub mod Settled
-pub mod Simulated
 pub mod Stations
 pub mod Ticks
 pub mod Traced
 pub mod Tree
 pub mod Weight
+pub mod inside

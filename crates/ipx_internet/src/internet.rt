@@ -11,7 +11,7 @@ ghost use Rattle.ipx_internet.specs.InternetWeight.{internet_weight};
 ghost use Rattle.ipx_internet.specs.Moment.{StandsFor, IsThere, SharesNode, net_at};
 ghost use Rattle.ipx_internet.specs.Queue.{Delivery, Queued, queued, history_of};
 ghost use Rattle.ipx_internet.specs.Refused.{IsNotAdded, IsNoEvent};
-ghost use Rattle.ipx_internet.specs.Simulated.{AreRouters, IsComing, moment, net_among};
+ghost use Rattle.ipx_internet.specs.inside.Simulated.{AreRouters, IsComing, moment, net_among};
 ghost use Rattle.ipx_internet.specs.Settled.{HasSettled, StopsShort, IsToldOf};
 ghost use Rattle.ipx_internet.specs.Stations.{AreOf};
 ghost use Rattle.ipx_internet.specs.Traced.{routers_of};
@@ -56,7 +56,7 @@ pub struct Internet<const P: usize, const R: usize, const S: usize> {
 impl<const P: usize, const R: usize, const S: usize> Model for Internet<P, R, S> {
     ghost use Rattle.std.specs.Prelude.{◌++◌, drop};
     ghost use Rattle.ipx_internet.specs.Moment.{Moment};
-    ghost use Rattle.ipx_internet.specs.Simulated.{IsSimulated, moment};
+    ghost use Rattle.ipx_internet.specs.inside.Simulated.{IsSimulated, moment};
 
     ghost Value = { Moment };
 

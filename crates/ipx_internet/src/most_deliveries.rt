@@ -8,7 +8,7 @@ ghost use Rattle.ipx_internet.specs.Internet.{network_of as network_at_place};
 ghost use Rattle.ipx_internet.specs.InternetWeight.{delivery_weight, records_at, internet_weight};
 ghost use Rattle.ipx_internet.specs.Most.{most_ports as ports_at_most};
 ghost use Rattle.ipx_internet.specs.Scales.{saturated, IsScale};
-ghost use Rattle.ipx_internet.specs.Simulated.{net_among};
+ghost use Rattle.ipx_internet.specs.inside.Simulated.{net_among};
 
 use crate::batch::{Batch, Coming, are_sized};
 use crate::internet::Internet;

@@ -1,42 +1,51 @@
-pub mod Bounds
-pub mod Changes
-pub mod Checks
-pub mod Ended
-pub mod EndedSends
-pub mod Facts
-pub mod Following
-pub mod Happened
-pub mod Heard
-pub mod History
-pub mod Horizon
-pub mod Judged
-pub mod Needs
-pub mod News
+-- Numbers
 pub mod Numbers
-pub mod Outbox
+-- Port
+pub mod Port
+-- History
+pub mod History
+pub mod Happened
+-- Outgoing
+pub mod Outgoing
+-- Why
+pub mod Why
+pub mod Checks
+pub mod WhyWord
+-- Heard
+pub mod Heard
+-- Routes, Services
+pub mod Routes
+pub mod Services
+-- Facts
+pub mod Facts
+-- Sorted
+pub mod Sorted
+-- Told
+pub mod Told
+-- Changes, News
+pub mod Changes
+pub mod News
+-- Pages
+pub mod Pages
+-- Relays
+pub mod Relays
+pub mod Relay
+-- Sends
+pub mod Sends
+-- Packets, Horizon
+pub mod Packets
+pub mod Horizon
+-- Outcomes
 pub mod Outcomes
 pub mod OutcomeWord
-pub mod Outgoing
-pub mod Owed
-pub mod Packets
-pub mod Pages
-pub mod Port
-pub mod Received
-pub mod Relay
-pub mod Relays
-pub mod RouterOf
-pub mod Routes
-pub mod Sends
-pub mod Services
-pub mod Shares
-pub mod Shown
+-- Bounds, Needs, Outbox
+pub mod Bounds
+pub mod Needs
+pub mod Outbox
 pub mod Slots
-pub mod Sorted
-pub mod Sources
+-- Stands, RouterOf, Shares
 pub mod Stands
-pub mod Told
-pub mod ToldRoutes
-pub mod Touched
-pub mod Why
-pub mod WhyWord
-pub mod Within
+pub mod RouterOf
+pub mod Shares
+-- nothing that a public contract says
+pub mod inside

@@ -123,10 +123,10 @@ pub record Holding : Type 0 where
 abbrev pub second_on : List Port → Holding → Holding → Bool → ℕ → List Sent
 second_on ports before after periodic number =
     let ended = news ports before.routes after.routes number in
-    let lost = news_services before.services after.services number in
+    let ended_services = news_services before.services after.services number in
     if periodic then
-    broadcasts ports number (by_network (told ports after.up after.routes number ++ ended)) (by_name (told_services after.services number ++ lost))
-    else broadcasts ports number ended lost
+    broadcasts ports number (by_network (told ports after.up after.routes number ++ ended)) (by_name (told_services after.services number ++ ended_services))
+    else broadcasts ports number ended ended_services
 
 -- what is broadcast at a stop: all that was advertised, as unreachable
 abbrev pub stop_on : List Port → Holding → ℕ → List Sent

@@ -1,200 +1,134 @@
-//! What a router does with each event.
-ghost use Rattle.std.specs.Prelude.{◌≡◌, ◌<◌, true, false, length};
-ghost use Rattle.ipx_router.specs.Following.{Follows, sends_between, outcome_at};
-ghost use Rattle.ipx_router.specs.History.{Start as Started, Stop as Halted, Second as Passed, PortDown as Down, PortUp as Up};
-ghost use Rattle.ipx_router.specs.Needs.{HasRoomFor};
-ghost use Rattle.ipx_router.specs.Outbox.{Appends};
-ghost use Rattle.ipx_router.specs.Port.{is_up};
+//! The calls by which an event is handed to a router, and the room that it needs.
+ghost use Rattle.std.specs.Prelude.{◌≡◌, ℕ, List, [], ◌∷◌, ◌++◌, IsOk, IfOk, OnOk, OnErr};
+ghost use Rattle.ipx_table.specs.Shares.{IsSharedBy};
+ghost use Rattle.ipx_router.specs.Bounds.{most_length};
+ghost use Rattle.ipx_router.specs.Facts.{route_facts, route_facts_of, service_facts, service_facts_of};
+ghost use Rattle.ipx_router.specs.Happened.{happened};
+ghost use Rattle.ipx_router.specs.History.{History, IsOnPort, IsOfBytes};
+ghost use Rattle.ipx_router.specs.inside.Following.{Follows, sends_between, outcome_at};
+ghost use Rattle.ipx_router.specs.Needs.{HasRoomFor, TakesRoomFor, packets_needed, bytes_needed};
+ghost use Rattle.ipx_router.specs.Outbox.{Appends, AppendsAtMost, KeepsMemory};
+ghost use Rattle.ipx_router.specs.Outcomes.{outcome};
+ghost use Rattle.ipx_router.specs.Routes.{route_rules};
+ghost use Rattle.ipx_router.specs.Sends.{sends};
+ghost use Rattle.ipx_router.specs.Services.{service_rules};
+ghost use Rattle.ipx_router.specs.Shares.{IsWithinCapacity, WithinRouteShares, WithinServiceShares, KeepsNew};
+ghost use Rattle.ipx_router.specs.Stands.{State, StandsFor};
+ghost use Rattle.ipx_router.specs.inside.Within.{StaysWithin};
 
-use crate::introducing::{introduce_all, send_port_up};
-use crate::outbox::Outbox;
+use crate::event::Event;
+use crate::events::need::need_of;
+use crate::outbox::{Need, Outbox};
 use crate::outcome::Outcome;
-use crate::route_offer::RouteOffer;
+use crate::port::proves_bytes;
 use crate::router::Router;
-use crate::second::{end_port, pass_second};
-use crate::service_offer::ServiceOffer;
-use crate::stopping::send_stop;
-use crate::up_ports::{is_up, numbers_below, with_number, without_number};
-use crate::why::Why;
-
-/// The seconds from one broadcast of all that is advertised to the next.
-const PERIOD: u8 = 60;
+use ipx_wire::OutOfMemory;
 
 impl<const P: usize, const R: usize, const S: usize> Router<P, R, S> {
-    /// A start: of a router that runs already it does nothing.
-    pub(crate) fn start(&mut self, outbox: &mut Outbox) -> Outcome
-        requires room { HasRoomFor self.old Started outbox.old }
-        ensures follows { Follows R S self.old self.new Started }
-        ensures sends { Appends outbox.old outbox.new (sends_between self.old self.new Started) }
-        ensures outcome { result ≡ outcome_at self.old Started }
+    /// The room that an event needs in an outbox: the most packets that it sends, and as many times the bytes of the
+    /// longest.
+    pub fn need(&self, event: &Event<'_>) -> Need
+        ensures packets { result.packets ≡ packets_needed self.now (happened event.now) }
+        ensures bytes { result.bytes ≡ bytes_needed self.now (happened event.now) }
     {
-        if self.running {
-            return Outcome::AlreadyRunning;
-        }
-        self.run(outbox);
-        Outcome::Started
+        need_of(
+            self.ports.len(),
+            self.routes.len(),
+            self.services.len(),
+            *event,
+        )
     }
 
-    fn run(&mut self, outbox: &mut Outbox)
-        requires stopped { self.old.running ≡ false }
-        requires room { HasRoomFor self.old Started outbox.old }
-        ensures follows { Follows R S self.old self.new Started }
-        ensures sends { Appends outbox.old outbox.new (sends_between self.old self.new Started) }
+    /// Takes an event of a port that there is: changes the router, and appends what is sent to the outbox, which has the
+    /// room that it needs, and as much memory afterwards as before.
+    pub fn handle(&mut self, event: Event<'_>, outbox: &mut Outbox) -> Outcome
+        requires port { IsOnPort self.old.ports (happened event) }
+        requires room { HasRoomFor self.old (happened event) outbox.old }
+        ensures ports { self.new.ports ≡ self.old.ports }
+        ensures stands { (h : History) → StandsFor R S self.old h → StandsFor R S self.new (h ++ happened event.entry ∷ []) }
+        ensures sends { (h : History) → StandsFor R S self.old h → Appends outbox.old outbox.new (sends self.old.ports R S h (happened event.entry)) }
+        ensures memory { KeepsMemory outbox.old outbox.new }
+        ensures outcome { (h : History) → StandsFor R S self.old h → result ≡ outcome self.old.ports R h (happened event.entry) }
+        ensures bounds { AppendsAtMost (packets_needed self.old (happened event.entry)) (most_length (happened event.entry)) outbox.old.sent outbox.new.sent }
+        ensures capacity { IsWithinCapacity R S self.new }
+        ensures route_shares { WithinRouteShares self.new.ports self.new.routes }
+        ensures service_shares { WithinServiceShares self.new.ports self.new.services }
+        ensures route_room { (h : History) (sharers : List ℕ) → StandsFor R S self.old h
+            → IsSharedBy (route_rules self.old.ports R) sharers (route_facts self.old.ports (h ++ happened event.entry ∷ []))
+            → KeepsNew (route_rules self.old.ports R) (route_facts self.old.ports h) (route_facts_of self.old.ports h (happened event.entry)) self.new.routes }
+        ensures service_room { (h : History) (sharers : List ℕ) → StandsFor R S self.old h
+            → IsSharedBy (service_rules self.old.ports S) sharers (service_facts self.old.ports (h ++ happened event.entry ∷ []))
+            → KeepsNew (service_rules self.old.ports S) (service_facts self.old.ports h) (service_facts_of self.old.ports h (happened event.entry)) self.new.services }
+    {
+        self.proves_within(&event);
+        self.dispatch(event, outbox)
+    }
+
+    /// Whatever the event makes of the router, it stays within its bounds.
+    fn proves_within(&self, event: &Event<'_>)
+        requires port { IsOnPort self.now.ports (happened event.now) }
+        ensures { (after : State) → Follows R S self.now after (happened event.now) → StaysWithin R S self.now after (happened event.now) }
     {
         crate::laws::bounds();
-        let up = numbers_below(self.ports.len());
-        introduce_all(outbox, &self.ports, &up, &self.routes, &self.services);
-        self.running = true;
-        self.up = up;
-        self.seconds = 0;
+        crate::laws::within_capacity();
+        crate::laws::shares_hold();
+        crate::laws::room_within_a_share();
+        proves_of_bytes(event);
+        let _ = &self.running;
     }
 
-    /// A stop: a router that is stopped already drops it.
-    pub(crate) fn stop(&mut self, outbox: &mut Outbox) -> Outcome
-        requires room { HasRoomFor self.old Halted outbox.old }
-        ensures follows { Follows R S self.old self.new Halted }
-        ensures sends { Appends outbox.old outbox.new (sends_between self.old self.new Halted) }
-        ensures outcome { result ≡ outcome_at self.old Halted }
+    fn dispatch(&mut self, event: Event<'_>, outbox: &mut Outbox) -> Outcome
+        requires port { IsOnPort self.old.ports (happened event) }
+        requires room { HasRoomFor self.old (happened event) outbox.old }
+        ensures follows { Follows R S self.old self.new (happened event.entry) }
+        ensures sends { Appends outbox.old outbox.new (sends_between self.old self.new (happened event.entry)) }
+        ensures outcome { result ≡ outcome_at self.old (happened event.entry) }
     {
-        if !self.running {
-            return Outcome::Dropped(Why::NotRunning);
+        match event {
+            Event::Start => self.start(outbox),
+            Event::Stop => self.stop(outbox),
+            Event::Second => self.second(outbox),
+            Event::Packet { port, bytes } => self.packet(port, bytes, outbox),
+            Event::PortDown { port } => self.port_down(port, outbox),
+            Event::PortUp { port } => self.port_up(port, outbox),
         }
-        self.halt(outbox);
-        Outcome::Stopped
     }
 
-    // (out of line: no packet shall pay for its room on the stack)
-    #[inline(never)]
-    fn halt(&mut self, outbox: &mut Outbox)
-        requires runs { self.old.running ≡ true }
-        requires room { HasRoomFor self.old Halted outbox.old }
-        ensures follows { Follows R S self.old self.new Halted }
-        ensures sends { Appends outbox.old outbox.new (sends_between self.old self.new Halted) }
+    /// Makes the room that the event needs, where it is missing, then handles it. Where that room can't be made, the router and what the outbox
+    /// has stay as they were.
+    pub fn step(&mut self, event: Event<'_>, outbox: &mut Outbox) -> Result<Outcome, OutOfMemory>
+        requires port { IsOnPort self.old.ports (happened event) }
+        ensures ports { self.new.ports ≡ self.old.ports }
+        ensures there { HasRoomFor self.old (happened event.entry) outbox.old → IsOk result }
+        ensures stands { OnOk result ((h : History) → StandsFor R S self.old h → StandsFor R S self.new (h ++ happened event.entry ∷ [])) }
+        ensures sends { OnOk result ((h : History) → StandsFor R S self.old h → outbox.new.sent ≡ outbox.old.sent ++ sends self.old.ports R S h (happened event.entry)) }
+        ensures outcome { IfOk result (λ o. (h : History) → StandsFor R S self.old h → o ≡ outcome self.old.ports R h (happened event.entry)) }
+        ensures bounds { OnOk result (AppendsAtMost (packets_needed self.old (happened event.entry)) (most_length (happened event.entry)) outbox.old.sent outbox.new.sent) }
+        ensures capacity { OnOk result (IsWithinCapacity R S self.new) }
+        ensures route_shares { OnOk result (WithinRouteShares self.new.ports self.new.routes) }
+        ensures service_shares { OnOk result (WithinServiceShares self.new.ports self.new.services) }
+        ensures route_room { OnOk result ((h : History) (sharers : List ℕ) → StandsFor R S self.old h
+            → IsSharedBy (route_rules self.old.ports R) sharers (route_facts self.old.ports (h ++ happened event.entry ∷ []))
+            → KeepsNew (route_rules self.old.ports R) (route_facts self.old.ports h) (route_facts_of self.old.ports h (happened event.entry)) self.new.routes) }
+        ensures service_room { OnOk result ((h : History) (sharers : List ℕ) → StandsFor R S self.old h
+            → IsSharedBy (service_rules self.old.ports S) sharers (service_facts self.old.ports (h ++ happened event.entry ∷ []))
+            → KeepsNew (service_rules self.old.ports S) (service_facts self.old.ports h) (service_facts_of self.old.ports h (happened event.entry)) self.new.services) }
+        ensures router { OnErr result (self.new ≡ self.old) }
+        ensures outbox { OnErr result (outbox.new.sent ≡ outbox.old.sent) }
+        ensures still { HasRoomFor self.old (happened event.entry) outbox.old → KeepsMemory outbox.old outbox.new }
+        ensures takes { TakesRoomFor self.old (happened event.entry) outbox.old outbox.new }
     {
-        crate::laws::bounds();
-        ipx_table::laws::next_facts::<RouteOffer>();
-        ipx_table::laws::next_facts::<ServiceOffer>();
-        send_stop(outbox, &self.ports, &self.up, &self.routes, &self.services);
-        self.running = false;
-        self.up.clear();
-        self.routes.clear();
-        self.services.clear();
+        let need = self.need(&event);
+        outbox.reserve(need)?;
+        Ok(self.handle(event, outbox))
     }
+}
 
-    /// A second passes: a stopped router drops it.
-    pub(crate) fn second(&mut self, outbox: &mut Outbox) -> Outcome
-        requires room { HasRoomFor self.old Passed outbox.old }
-        ensures follows { Follows R S self.old self.new Passed }
-        ensures sends { Appends outbox.old outbox.new (sends_between self.old self.new Passed) }
-        ensures outcome { result ≡ outcome_at self.old Passed }
-    {
-        if !self.running {
-            return Outcome::Dropped(Why::NotRunning);
-        }
-        self.tick(outbox);
-        Outcome::Ticked
-    }
-
-    // (out of line: no packet shall pay for its room on the stack)
-    #[inline(never)]
-    fn tick(&mut self, outbox: &mut Outbox)
-        requires runs { self.old.running ≡ true }
-        requires room { HasRoomFor self.old Passed outbox.old }
-        ensures follows { Follows R S self.old self.new Passed }
-        ensures sends { Appends outbox.old outbox.new (sends_between self.old self.new Passed) }
-    {
-        crate::laws::bounds();
-        ipx_table::laws::next_facts::<RouteOffer>();
-        ipx_table::laws::next_facts::<ServiceOffer>();
-        let seconds = (self.seconds + 1) % PERIOD;
-        pass_second(
-            outbox,
-            &self.ports,
-            &self.up,
-            &mut self.routes,
-            &mut self.services,
-            seconds == 0,
-        );
-        self.seconds = seconds;
-    }
-
-    /// A port goes down: where it is down already, nothing is done.
-    pub(crate) fn port_down(&mut self, port: u8, outbox: &mut Outbox) -> Outcome
-        requires port { port < length self.old.ports }
-        requires room { HasRoomFor self.old (Down port) outbox.old }
-        ensures follows { Follows R S self.old self.new (Down port) }
-        ensures sends { Appends outbox.old outbox.new (sends_between self.old self.new (Down port)) }
-        ensures outcome { result ≡ outcome_at self.old (Down port) }
-    {
-        if !self.running {
-            return Outcome::Dropped(Why::NotRunning);
-        }
-        if !is_up(&self.up, port) {
-            return Outcome::AlreadyDown;
-        }
-        self.take_down(port, outbox);
-        Outcome::WentDown
-    }
-
-    // (out of line: no packet shall pay for its room on the stack)
-    #[inline(never)]
-    fn take_down(&mut self, port: u8, outbox: &mut Outbox)
-        requires port { port < length self.old.ports }
-        requires runs { self.old.running ≡ true }
-        requires up { is_up self.old.up port ≡ true }
-        requires room { HasRoomFor self.old (Down port) outbox.old }
-        ensures follows { Follows R S self.old self.new (Down port) }
-        ensures sends { Appends outbox.old outbox.new (sends_between self.old self.new (Down port)) }
-    {
-        crate::laws::bounds();
-        ipx_table::laws::next_facts::<RouteOffer>();
-        ipx_table::laws::next_facts::<ServiceOffer>();
-        self.up = without_number(&self.up, port);
-        end_port(
-            outbox,
-            &self.ports,
-            &self.up,
-            &mut self.routes,
-            &mut self.services,
-            port,
-        );
-    }
-
-    /// A port comes up: where it is up already, nothing is done.
-    pub(crate) fn port_up(&mut self, port: u8, outbox: &mut Outbox) -> Outcome
-        requires port { port < length self.old.ports }
-        requires room { HasRoomFor self.old (Up port) outbox.old }
-        ensures follows { Follows R S self.old self.new (Up port) }
-        ensures sends { Appends outbox.old outbox.new (sends_between self.old self.new (Up port)) }
-        ensures outcome { result ≡ outcome_at self.old (Up port) }
-    {
-        if !self.running {
-            return Outcome::Dropped(Why::NotRunning);
-        }
-        if is_up(&self.up, port) {
-            return Outcome::AlreadyUp;
-        }
-        self.bring_up(port, outbox);
-        Outcome::CameUp
-    }
-
-    fn bring_up(&mut self, port: u8, outbox: &mut Outbox)
-        requires port { port < length self.old.ports }
-        requires runs { self.old.running ≡ true }
-        requires down { is_up self.old.up port ≡ false }
-        requires room { HasRoomFor self.old (Up port) outbox.old }
-        ensures follows { Follows R S self.old self.new (Up port) }
-        ensures sends { Appends outbox.old outbox.new (sends_between self.old self.new (Up port)) }
-    {
-        crate::laws::bounds();
-        self.up = with_number(&self.up, port);
-        send_port_up(
-            outbox,
-            &self.ports,
-            &self.up,
-            &self.routes,
-            &self.services,
-            port,
-        );
+/// What comes on a port are bytes.
+fn proves_of_bytes(event: &Event<'_>)
+    ensures { IsOfBytes (happened event.now) }
+{
+    if let Event::Packet { bytes, .. } = event {
+        proves_bytes(bytes);
     }
 }

@@ -8,53 +8,30 @@
 //!   why (`Why`), what it advertises on which port (`Told`, `News`), which packets each event sends (`Sends`,
 //!   `Relays`), and how many at most (`Bounds`). No definition knows a table, a timer or a queue.
 //! - `laws` holds of these definitions: split horizon, relaying, bounds, ports that are down.
+//! - A call whose name begins with `proves_` does nothing: its contract says what holds already, for the proofs.
 //! - It stands on `ipx_table` and `ipx_wire`; simulators and `ipx_cmd` stand on it.
 #![tactic(auto)]
 
-mod addresses;
-mod advertised;
-mod answers;
-mod broadcasts;
-mod changed;
-mod checks;
-mod ended;
+mod advertising;
+mod answering;
 mod event;
+mod events;
+mod forwarding;
 mod handle;
-mod hear;
-mod introducing;
-mod judge;
+mod judging;
 pub mod laws;
-mod learn;
-mod lost;
-mod making;
-mod nearest;
-mod need;
-mod news;
+mod learning;
 mod outbox;
 mod outcome;
-mod outgoing;
-mod packet;
-mod pages;
-mod periodic;
 mod port;
+mod ports;
 mod ports_fault;
 mod relay;
-mod relaying;
-mod requests;
 mod route_offer;
 mod router;
-mod second;
 mod service_offer;
-mod service_pages;
-mod shown;
-mod step;
-mod stopping;
-mod told;
-mod told_routes;
-mod told_services;
-mod touched;
-mod up_ports;
 mod why;
+mod withdrawing;
 
 pub use crate::event::Event;
 pub use crate::outbox::{Need, Outbox, Sent};

@@ -347,7 +347,7 @@ fn put_forwarded(bytes: &mut Vec<u8>, start: usize, packet: &Packet<'_>) -> usiz
     ensures len { vec_len bytes.new ≡ vec_len bytes.old }
     ensures capacity { vec_capacity bytes.new ≡ vec_capacity bytes.old }
 {
-    lengths(packet);
+    proves_lengths(packet);
     write_forwarded(packet, &mut bytes[start..])
 }
 
@@ -367,12 +367,12 @@ fn put_crossed(
     ensures len { vec_len bytes.new ≡ vec_len bytes.old }
     ensures capacity { vec_capacity bytes.new ≡ vec_capacity bytes.old }
 {
-    lengths(packet);
+    proves_lengths(packet);
     write_crossed(packet, arrived, outgoing, &mut bytes[start..])
 }
 
 /// A packet that is sent on is as long as it came.
-pub(crate) fn lengths(packet: &Packet<'_>)
+pub(crate) fn proves_lengths(packet: &Packet<'_>)
     ensures forwarded { length (packet_bytes (forwarded packet.now)) ≡ packet.now.header.length }
     ensures propagated { (arrived outgoing : Network) → packet.now.header.control < 8 → 32 ≤ length packet.now.payload
         → length (packet_bytes (propagated arrived outgoing packet.now)) ≡ packet.now.header.length }

@@ -88,7 +88,7 @@ impl Port {
         if node == Node::BROADCAST {
             return Err(PortFault::Node);
         }
-        are_bytes(&node.0);
+        proves_bytes(&node.0);
         Ok(Port {
             network,
             node,
@@ -112,7 +112,7 @@ impl Port {
     }
 
     /// Its values are a port's: its type says so, and a call of this says it to a proof.
-    pub(crate) fn is_port(&self)
+    pub(crate) fn proves_port(&self)
         ensures { IsPort self.now }
     {
         let _ = &self.network;
@@ -160,6 +160,6 @@ impl Port {
 }
 
 /// What a slice of bytes holds are bytes: its type says so, and a call of this says it to a proof.
-pub(crate) fn are_bytes(bytes: &[u8])
+pub(crate) fn proves_bytes(bytes: &[u8])
     ensures { IsBytes bytes.now }
 {}

@@ -1,168 +1,42 @@
-//! Packets that a router sends on: to the network that they are for, or to every other network.
-ghost use Rattle.std.specs.Prelude.{◌≡◌, ◌*◌, ◌<◌, ◌≤◌, true, length, IfOk, IfErr, Some, None};
-ghost use Rattle.std.specs.List.{flat_map};
-ghost use Rattle.ipx_wire.specs.Forward.{forwarded, propagated};
-ghost use Rattle.ipx_wire.specs.Write.{packet_bytes};
-ghost use Rattle.ipx_wire.specs.declared.network.Network.{Network};
-ghost use Rattle.ipx_router.specs.Checks.{IsListed, IsPassed};
+//! The calls by which a packet is only sent on, and the room that it needs: the router's own processes hear nothing of it.
+ghost use Rattle.std.specs.Prelude.{◌≡◌, ◌*◌, ◌<◌, length};
 ghost use Rattle.ipx_router.specs.Facts.{offers};
-ghost use Rattle.ipx_router.specs.Numbers.{most_ports};
-ghost use Rattle.ipx_router.specs.Outbox.{HasRoom, Fits, Appends, AppendsAtMost};
-ghost use Rattle.ipx_router.specs.Port.{port_at, is_up};
-ghost use Rattle.ipx_router.specs.Relay.{relay_why, relay_outcome, relay_sends, passed_outcome, relay_places};
-ghost use Rattle.ipx_router.specs.Relays.{goes_out, propagated_on, relayed};
+ghost use Rattle.ipx_router.specs.Outbox.{HasRoom, Appends, AppendsAtMost};
+ghost use Rattle.ipx_router.specs.Relay.{relay_outcome, relay_sends, relay_places};
 
-use crate::addresses::port_of;
-use crate::checks::{Passed, check};
-use crate::outbox::{Need, Outbox, lengths};
+use crate::forwarding::sending_on::{relay, relay_need};
+use crate::outbox::{Need, Outbox};
 use crate::outcome::Outcome;
-use crate::outgoing::{longest_on, network_of};
-use crate::port::Port;
-use crate::route_offer::RouteOffer;
-use crate::up_ports::is_up;
-use crate::why::Why;
-use ipx_table::Table;
-use ipx_wire::{Crossed, Packet};
+use crate::router::Router;
+use ipx_wire::Packet;
 
-/// The room that sending a packet on takes at most.
-pub(crate) fn relay_need(ports: &[Port], packet: &Packet<'_>) -> Need
-    requires few { length ports.now ≤ most_ports }
-    ensures packets { result.packets ≡ relay_places ports.now }
-    ensures bytes { result.bytes ≡ relay_places ports.now * packet.now.header.length }
-{
-    let packets = ports.len().saturating_sub(1).max(1);
-    Need {
-        packets,
-        bytes: packets * packet.bytes().len(),
+impl<const P: usize, const R: usize, const S: usize> Router<P, R, S> {
+    /// The room that `relay` needs for a packet: one of its length for each other port, and for one at least.
+    pub fn relay_need(&self, packet: &Packet<'_>) -> Need
+        ensures packets { result.packets ≡ relay_places self.now.ports }
+        ensures bytes { result.bytes ≡ relay_places self.now.ports * packet.now.header.length }
+    {
+        relay_need(&self.ports, packet)
     }
-}
 
-/// Sends a packet on that came on a port, or drops it; the router's own processes don't hear it. `ports`, `up` and `routes`
-/// are the router's.
-pub(crate) fn relay<const R: usize>(
-    running: bool,
-    ports: &[Port],
-    up: &[u8],
-    routes: &Table<RouteOffer, R>,
-    number: u8,
-    packet: &Packet<'_>,
-    outbox: &mut Outbox,
-) -> Outcome
-    requires port { number < length ports.now }
-    requires up { length up.now ≤ length ports.now }
-    requires room { HasRoom outbox.old (relay_places ports.now) (relay_places ports.now * packet.now.header.length) }
-    ensures outcome { result ≡ relay_outcome ports.now up.now (offers routes.now.records) running number packet.now }
-    ensures sends { Appends outbox.old outbox.new (relay_sends ports.now up.now (offers routes.now.records) running number packet.now) }
-    ensures bounds { AppendsAtMost (relay_places ports.now) packet.now.header.length outbox.old.sent outbox.new.sent }
-{
-    if !running {
-        return Outcome::Dropped(Why::NotRunning);
+    /// Sends a packet on that came on a port, or drops it, by the routes and the ports as they are now. One for the port's
+    /// own network stays: nothing is learned or answered.
+    pub fn relay(&self, port: u8, packet: &Packet<'_>, outbox: &mut Outbox) -> Outcome
+        requires port { port < length self.now.ports }
+        requires room { HasRoom outbox.old (relay_places self.now.ports) (relay_places self.now.ports * packet.now.header.length) }
+        ensures outcome { result ≡ relay_outcome self.now.ports self.now.up (offers self.now.routes) self.now.running port packet.now }
+        ensures sends { Appends outbox.old outbox.new (relay_sends self.now.ports self.now.up (offers self.now.routes) self.now.running port packet.now) }
+        // No more than the room that it needs.
+        ensures bounds { AppendsAtMost (relay_places self.now.ports) packet.now.header.length outbox.old.sent outbox.new.sent }
+    {
+        relay(
+            self.running,
+            &self.ports,
+            &self.up,
+            &self.routes,
+            port,
+            packet,
+            outbox,
+        )
     }
-    match pass(ports, up, routes, number, packet) {
-        Ok(passed) => send_on(outbox, ports, up, routes, number, packet, passed),
-        Err(why) => Outcome::Dropped(why),
-    }
-}
-
-/// What is to be done with a packet that came on a port, or why it is dropped; a port that is down drops what nothing else
-/// does.
-fn pass<'a, const R: usize>(
-    ports: &[Port],
-    up: &[u8],
-    routes: &Table<RouteOffer, R>,
-    number: u8,
-    packet: &Packet<'a>,
-) -> Result<Passed<'a>, Why>
-    requires { number < length ports.now }
-    ensures refused { IfErr result (λ why. relay_why ports.now up.now (offers routes.now.records) true number packet.now ≡ Some why) }
-    ensures cleared { IfOk result (λ passed. relay_why ports.now up.now (offers routes.now.records) true number packet.now ≡ None) }
-    ensures passed { IfOk result (IsPassed ports.now up.now (offers routes.now.records) (port_at ports.now number) packet.now) }
-    ensures up { IfOk result (λ passed. is_up up.now number ≡ true) }
-{
-    let passed = check(ports, up, routes, &port_of(ports, number), packet)?;
-    if is_up(up, number) {
-        Ok(passed)
-    } else {
-        Err(Why::DownPort)
-    }
-}
-
-/// Sends on a packet that passed its checks. `routes` are those that they asked.
-fn send_on<const R: usize>(
-    outbox: &mut Outbox,
-    ports: &[Port],
-    up: &[u8],
-    routes: &Table<RouteOffer, R>,
-    number: u8,
-    packet: &Packet<'_>,
-    passed: Passed<'_>,
-) -> Outcome
-    requires passed { IsPassed ports.now up.now (offers routes.now.records) (port_at ports.now number) packet.now passed }
-    requires up { is_up up.now number ≡ true }
-    requires few { length up.now ≤ length ports.now }
-    requires room { HasRoom outbox.old (relay_places ports.now) (relay_places ports.now * packet.now.header.length) }
-    ensures outcome { result ≡ passed_outcome (port_at ports.now number) packet.now.header }
-    ensures sends { Appends outbox.old outbox.new (relayed ports.now up.now (offers routes.now.records) number packet.now) }
-    ensures bounds { AppendsAtMost (relay_places ports.now) packet.now.header.length outbox.old.sent outbox.new.sent }
-{
-    lengths(packet);
-    match passed {
-        Passed::Propagate(crossed) => {
-            propagate(outbox, ports, up, number, packet, &crossed);
-            Outcome::Propagated
-        }
-        Passed::Forward { port, link } => {
-            outbox.append_forwarded(port, link, packet);
-            Outcome::Forwarded
-        }
-        Passed::Near => Outcome::Local,
-    }
-}
-
-/// Sends a propagated packet to the other networks, ports in order.
-pub(crate) fn propagate(
-    outbox: &mut Outbox,
-    ports: &[Port],
-    up: &[u8],
-    number: u8,
-    packet: &Packet<'_>,
-    crossed: &Crossed<'_>,
-)
-    requires listed { IsListed packet.now crossed.now }
-    requires room { Fits outbox.old (flat_map (propagated_on ports.now number packet.now) up.now) }
-    ensures { Appends outbox.old outbox.new (flat_map (propagated_on ports.now number packet.now) up.now) }
-{
-    for &out in up {
-        propagate_on(outbox, ports, number, out, packet, crossed);
-    }
-}
-
-/// The same on one port, if the packet goes out there.
-fn propagate_on(
-    outbox: &mut Outbox,
-    ports: &[Port],
-    number: u8,
-    out: u8,
-    packet: &Packet<'_>,
-    crossed: &Crossed<'_>,
-)
-    requires listed { IsListed packet.now crossed.now }
-    requires room { Fits outbox.old (propagated_on ports.now number packet.now out) }
-    ensures { Appends outbox.old outbox.new (propagated_on ports.now number packet.now out) }
-{
-    if goes_out(ports, number, out, packet, crossed) {
-        let arrived = network_of(ports, number);
-        outbox.append_crossed(out, packet, arrived, network_of(ports, out));
-    }
-}
-
-/// Whether a propagated packet goes out on that port: it is another one, the packet has not crossed its network, and it is
-/// short enough.
-fn goes_out(ports: &[Port], number: u8, out: u8, packet: &Packet<'_>, crossed: &Crossed<'_>) -> bool
-    requires listed { IsListed packet.now crossed.now }
-    ensures { result ≡ goes_out ports.now number packet.now out }
-{
-    out != number
-        && !crossed.contains(network_of(ports, out))
-        && packet.header().length <= longest_on(ports, out)
 }

@@ -9,12 +9,12 @@ ghost use Rattle.ipx_router.specs.Port.{IsPort, AreApart, is_up};
 ghost use Rattle.ipx_router.specs.Routes.{network_order};
 ghost use Rattle.ipx_router.specs.Stands.{StandsFor};
 
-use crate::making::{are_apart, are_ports, copy_of, route_shares, service_shares};
 use crate::port::Port;
+use crate::ports::making::{are_apart, copy_of, proves_ports, route_shares, service_shares};
+use crate::ports::up_ports::{UpPorts, is_up};
 use crate::ports_fault::PortsFault;
 use crate::route_offer::RouteOffer;
 use crate::service_offer::ServiceOffer;
-use crate::up_ports::{UpPorts, is_up};
 use arrayvec::ArrayVec;
 use ipx_table::{Held, Table};
 use ipx_wire::Network;
@@ -99,7 +99,7 @@ impl<const P: usize, const R: usize, const S: usize> Router<P, R, S> {
         ensures made { result ≡ made_of ports.now }
         ensures stands { StandsFor R S result [] }
     {
-        are_ports(ports);
+        proves_ports(ports);
         let route_shares = route_shares(ports);
         let service_shares = service_shares(ports);
         Router {

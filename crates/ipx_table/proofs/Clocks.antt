@@ -3,7 +3,8 @@ use Rattle.std.proofs.Common.{◌≡◌, refl, sym, ap, ◌∙◌, ℕ, ◌+◌,
 use Rattle.std.specs.List.{AllByRecursion, list_any}
 use Rattle.std.proofs.lemmas.Bool.{cases_Bool, eqb-true, eqb-false, eq-eqb, ne_eqb}
 use Rattle.ipx_table.specs.Alive.{lifetime}
-use Rattle.ipx_table.specs.Slots.{next, age_at, seen, seen_at}
+use Rattle.ipx_table.specs.Slots.{age_at, seen, seen_at}
+use Rattle.ipx_table.specs.inside.Clock.{next}
 use Rattle.ipx_table.specs.Stands.{second_later, ended, is_last}
 use Rattle.ipx_table.specs.declared.held.Held.{Held}
 

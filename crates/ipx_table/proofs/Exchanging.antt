@@ -8,7 +8,7 @@ use Rattle.std.proofs.lemmas.List.Folds.{find-append}
 use Rattle.ipx_table.specs.Reading.{Rules}
 use Rattle.ipx_table.specs.Facts.{Offered}
 use Rattle.ipx_table.specs.Accepted.{is_accepted, has_share, may_replace}
-use Rattle.ipx_table.specs.AfterOffer.{fresh, uncut, after_offer}
+use Rattle.ipx_table.specs.inside.AfterOffer.{fresh, uncut, after_offer}
 use Rattle.ipx_table.specs.Stands.{IsDistinct}
 use Rattle.ipx_table.specs.Taken.{is_change, known_of, offer_left, same_left, taken_over, taken_beside}
 use Rattle.ipx_table.specs.declared.held.Held.{Held}

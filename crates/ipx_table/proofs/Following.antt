@@ -7,8 +7,9 @@ use Rattle.ipx_table.specs.Reading.{Reading, Rules, rules_of}
 use Rattle.ipx_table.specs.Facts.{Fact, Offered, Second, PortEnd}
 use Rattle.ipx_table.specs.Alive.{alive, lifetime}
 use Rattle.ipx_table.specs.Accepted.{marked}
-use Rattle.ipx_table.specs.AfterOffer.{after_offer}
-use Rattle.ipx_table.specs.Slots.{seen, seen_at, IsSorted}
+use Rattle.ipx_table.specs.inside.AfterOffer.{after_offer}
+use Rattle.ipx_table.specs.Slots.{seen, seen_at}
+use Rattle.ipx_table.specs.inside.Clock.{IsSorted}
 use Rattle.ipx_table.specs.Stands.{Stands, Ascends, IsAscending, in_order, second_later, is_last, older, without_port, record_of, ended_with_port}
 use Rattle.ipx_table.specs.Taken.{taken, taken_over}
 use Rattle.ipx_table.specs.declared.held.Held.{Held}

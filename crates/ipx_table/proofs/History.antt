@@ -6,7 +6,7 @@ use Rattle.ipx_table.specs.Reading.{Rules}
 use Rattle.ipx_table.specs.Facts.{Fact, Offered, Second, PortEnd, End, Marked, seconds}
 use Rattle.ipx_table.specs.Alive.{cuts, lasts, alive, lifetime}
 use Rattle.ipx_table.specs.Accepted.{is_accepted, marked_after, marked}
-use Rattle.ipx_table.specs.AfterOffer.{fresh, uncut, after_offer}
+use Rattle.ipx_table.specs.inside.AfterOffer.{fresh, uncut, after_offer}
 use Rattle.ipx_table.specs.Stands.{second_later, without_port}
 use Rattle.ipx_table.specs.declared.held.Held.{Held}
 

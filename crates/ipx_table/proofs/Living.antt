@@ -8,7 +8,7 @@ use Rattle.ipx_table.specs.Reading.{Rules, same_key}
 use Rattle.ipx_table.specs.Facts.{Fact, Offered, Second, PortEnd, End, Marked}
 use Rattle.ipx_table.specs.Alive.{alive, cuts}
 use Rattle.ipx_table.specs.Accepted.{is_accepted, is_new_with_room, refreshes, replaces, has_share, may_replace, marked, marked_after}
-use Rattle.ipx_table.specs.AfterOffer.{fresh, uncut, after_offer}
+use Rattle.ipx_table.specs.inside.AfterOffer.{fresh, uncut, after_offer}
 use Rattle.ipx_table.specs.Stands.{second_later, without_port, is_last, older, IsKept}
 use Rattle.ipx_table.specs.declared.held.Held.{Held}
 use Rattle.ipx_table.proofs.History.{alive-offered, alive-second, alive-port, alive-end}

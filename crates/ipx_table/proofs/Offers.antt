@@ -9,7 +9,7 @@ use Rattle.ipx_table.specs.Reading.{Rules, same_key}
 use Rattle.ipx_table.specs.Facts.{Offered}
 use Rattle.ipx_table.specs.Alive.{cuts, lifetime}
 use Rattle.ipx_table.specs.Accepted.{is_accepted, has_share, may_replace}
-use Rattle.ipx_table.specs.AfterOffer.{fresh, uncut, after_offer}
+use Rattle.ipx_table.specs.inside.AfterOffer.{fresh, uncut, after_offer}
 use Rattle.ipx_table.specs.Stands.{put, in_order, IsDistinct, IsKept}
 use Rattle.ipx_table.specs.Taken.{taken_over, taken_beside, taken_down, taken_up}
 use Rattle.ipx_table.specs.declared.taken.Taken.{Taken}

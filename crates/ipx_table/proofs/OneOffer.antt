@@ -5,13 +5,14 @@ use Rattle.std.specs.Cmp.{IsTotalOrder}
 use Rattle.std.proofs.lemmas.Bool.{cases_Bool}
 use Rattle.std.proofs.lemmas.Option.{slice_get-map}
 use Rattle.ipx_table.specs.Accepted.{is_accepted, has_share, may_replace}
-use Rattle.ipx_table.specs.AfterOffer.{fresh, after_offer}
+use Rattle.ipx_table.specs.inside.AfterOffer.{fresh, after_offer}
 use Rattle.ipx_table.specs.Alive.{cuts}
 use Rattle.ipx_table.specs.Facts.{Offered}
 use Rattle.ipx_table.specs.Reading.{Rules, same_key, count_by}
-use Rattle.ipx_table.specs.Slots.{seen, seen_at, IsSorted}
+use Rattle.ipx_table.specs.Slots.{seen, seen_at}
+use Rattle.ipx_table.specs.inside.Clock.{IsSorted}
 use Rattle.ipx_table.specs.Stands.{put, in_order, IsAscending}
-use Rattle.ipx_table.specs.Sought.{answers_to}
+use Rattle.ipx_table.specs.inside.Sought.{answers_to}
 use Rattle.ipx_table.specs.declared.asking.Found.{Found}
 use Rattle.ipx_table.specs.declared.held.Held.{Held}
 use Rattle.ipx_table.proofs.Living.{length-left}

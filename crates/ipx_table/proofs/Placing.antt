@@ -6,9 +6,10 @@ use Rattle.std.proofs.lemmas.Bool.{cases_Bool}
 use Rattle.std.proofs.lemmas.Cmp.{alike_right}
 use Rattle.std.proofs.lemmas.List.{map-set}
 use Rattle.ipx_table.specs.Alive.{lifetime}
-use Rattle.ipx_table.specs.AfterOffer.{fresh}
+use Rattle.ipx_table.specs.inside.AfterOffer.{fresh}
 use Rattle.ipx_table.specs.Reading.{same_key}
-use Rattle.ipx_table.specs.Slots.{seen, seen_at, age_at, IsSorted}
+use Rattle.ipx_table.specs.Slots.{seen, seen_at, age_at}
+use Rattle.ipx_table.specs.inside.Clock.{IsSorted}
 use Rattle.ipx_table.specs.Stands.{put, in_order, IsAscending, IsDistinct, IsKept}
 use Rattle.ipx_table.specs.declared.held.Held.{Held}
 use Rattle.ipx_table.proofs.Order as order

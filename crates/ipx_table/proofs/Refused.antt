@@ -7,7 +7,7 @@ use Rattle.ipx_table.specs.Reading.{Rules}
 use Rattle.ipx_table.specs.Facts.{Fact, Offered}
 use Rattle.ipx_table.specs.Alive.{alive}
 use Rattle.ipx_table.specs.Accepted.{marked, has_share, may_replace}
-use Rattle.ipx_table.specs.AfterOffer.{after_offer}
+use Rattle.ipx_table.specs.inside.AfterOffer.{after_offer}
 use Rattle.ipx_table.specs.Stands.{IsDistinct}
 use Rattle.ipx_table.specs.Taken.{taken, taken_over, taken_beside}
 use Rattle.ipx_table.specs.declared.held.Held.{Held}

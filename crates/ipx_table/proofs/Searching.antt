@@ -4,7 +4,7 @@ use Rattle.std.specs.List.{AllByRecursion, list_any}
 use Rattle.std.specs.Cmp.{IsTotalOrder}
 use Rattle.std.proofs.lemmas.Bool.{cases_Bool, ltb-true, ltb-false, lt-ltb, le-ltb, eqb-true, eqb-false, eq-eqb, ne_eqb}
 use Rattle.ipx_table.specs.Answers.{Answers, places, answer_at}
-use Rattle.ipx_table.specs.Sought.{answers_to}
+use Rattle.ipx_table.specs.inside.Sought.{answers_to}
 use Rattle.ipx_table.specs.Stands.{Ascends, IsAscending, put}
 use Rattle.ipx_table.specs.declared.held.Held.{Held}
 use Rattle.ipx_table.proofs.Order as order

@@ -9,7 +9,7 @@ use Rattle.ipx_table.specs.Reading.{Reading, Rules, same_key, count_by, one_sour
 use Rattle.ipx_table.specs.Facts.{Fact, Offered}
 use Rattle.ipx_table.specs.Alive.{alive, cuts}
 use Rattle.ipx_table.specs.Accepted.{is_accepted, is_new_with_room, refreshes, replaces, has_share, may_replace, marked}
-use Rattle.ipx_table.specs.AfterOffer.{fresh, uncut, after_offer}
+use Rattle.ipx_table.specs.inside.AfterOffer.{fresh, uncut, after_offer}
 use Rattle.ipx_table.specs.Stands.{second_later, is_last, older}
 use Rattle.ipx_table.specs.declared.held.Held.{Held}
 use Rattle.ipx_table.proofs.Living.{always_after, cut_out}

@@ -9,7 +9,7 @@ use Rattle.ipx_table.specs.Reading.{Reading, Rules, rules_of}
 use Rattle.ipx_table.specs.Facts.{Fact, Offered, Second, PortEnd, End}
 use Rattle.ipx_table.specs.Alive.{alive, cuts}
 use Rattle.ipx_table.specs.Accepted.{marked, is_accepted}
-use Rattle.ipx_table.specs.AfterOffer.{fresh, uncut, after_offer}
+use Rattle.ipx_table.specs.inside.AfterOffer.{fresh, uncut, after_offer}
 use Rattle.ipx_table.specs.Taken.{taken, taken_over}
 use Rattle.ipx_table.specs.Stands.{Stands, in_order, second_later, without_port, record_of}
 use Rattle.ipx_table.specs.declared.held.Held.{Held}

@@ -2,7 +2,8 @@
 ghost use Rattle.std.specs.Prelude.{◌≡◌, ◌==◌, ◌<◌, option_map, IfSome};
 ghost use Rattle.std.specs.List.{list_any};
 ghost use Rattle.ipx_table.specs.Alive.{lifetime};
-ghost use Rattle.ipx_table.specs.Slots.{next, age_at, seen_at};
+ghost use Rattle.ipx_table.specs.Slots.{age_at, seen_at};
+ghost use Rattle.ipx_table.specs.inside.Clock.{next};
 
 use crate::held::Held;
 

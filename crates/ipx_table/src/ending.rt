@@ -2,7 +2,7 @@
 ghost use Rattle.std.specs.Prelude.{◌≡◌, ◌==◌, not, length};
 ghost use Rattle.std.specs.List.{list_any, zip};
 ghost use Rattle.ipx_table.specs.Reading.{port_of};
-ghost use Rattle.ipx_table.specs.Slots.{ends};
+ghost use Rattle.ipx_table.specs.inside.Clock.{ends};
 
 use crate::clock::has_slot;
 use crate::offer::Offer;

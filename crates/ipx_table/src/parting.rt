@@ -2,7 +2,7 @@
 ghost use Rattle.std.specs.Prelude.{◌≡◌, ◌≤◌, not, ◌++◌, length, take, drop};
 ghost use Rattle.std.specs.List.{filter, zip};
 ghost use Rattle.ipx_table.specs.Reading.{port_of};
-ghost use Rattle.ipx_table.specs.Slots.{ends, parted};
+ghost use Rattle.ipx_table.specs.inside.Clock.{ends, parted};
 
 use crate::ending::{Ending, any_ends, any_stays};
 use crate::offer::Offer;

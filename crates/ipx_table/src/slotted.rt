@@ -3,7 +3,8 @@
 ghost use Rattle.std.specs.Prelude.{◌≡◌, ◌==◌, ◌<◌, ◌≤◌, not, List, [], length, map, insert, remove, set, slice_get, take, drop};
 ghost use Rattle.std.specs.List.{AllByRecursion, filter, list_any, zip};
 ghost use Rattle.ipx_table.specs.Reading.{port_of};
-ghost use Rattle.ipx_table.specs.Slots.{ends, parted, seen};
+ghost use Rattle.ipx_table.specs.Slots.{seen};
+ghost use Rattle.ipx_table.specs.inside.Clock.{ends, parted};
 ghost use Rattle.ipx_table.specs.Alive.{lifetime};
 
 use crate::clock::has_slot;

@@ -1,7 +1,7 @@
 //! The search for a key among offers that ascend by their keys.
 ghost use Rattle.std.specs.Prelude.{◌≡◌, ℕ, ◌<◌, length, get_or, true};
 ghost use Rattle.ipx_table.specs.Answers.{places, answer_at};
-ghost use Rattle.ipx_table.specs.Sought.{answers_to};
+ghost use Rattle.ipx_table.specs.inside.Sought.{answers_to};
 ghost use Rattle.ipx_table.specs.Stands.{Ascends};
 
 use crate::asking::{Asked, Found, find};

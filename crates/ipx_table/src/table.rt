@@ -44,7 +44,8 @@ pub struct Table<O: Offer, const CAP: usize> {
 
 impl<O: Offer, const CAP: usize> Model for Table<O, CAP> {
     ghost use Rattle.std.specs.Prelude.{map, take, drop};
-    ghost use Rattle.ipx_table.specs.Slots.{seen, IsParted};
+    ghost use Rattle.ipx_table.specs.Slots.{seen};
+    ghost use Rattle.ipx_table.specs.inside.Clock.{IsParted};
     ghost use Rattle.ipx_table.specs.Stands.{Contents};
 
     ghost Value = { Contents O };

@@ -1,7 +1,8 @@
 //! The records of a table, one by one.
 ghost use Rattle.std.specs.Prelude.{◌≡◌};
 ghost use Rattle.std.specs.List.{zip};
-ghost use Rattle.ipx_table.specs.Slots.{AreKept, seen};
+ghost use Rattle.ipx_table.specs.Slots.{seen};
+ghost use Rattle.ipx_table.specs.inside.Clock.{AreKept};
 
 use crate::clock::age_of;
 use crate::held::Held;
@@ -19,7 +20,8 @@ impl<'a, O> Model for TableEntries<'a, O> {
     ghost use Rattle.std.specs.Prelude.{List};
     ghost use Rattle.std.specs.List.{zip};
     ghost use Rattle.ipx_table.specs.declared.held.Held.{Held};
-    ghost use Rattle.ipx_table.specs.Slots.{AreKept, seen};
+    ghost use Rattle.ipx_table.specs.Slots.{seen};
+    ghost use Rattle.ipx_table.specs.inside.Clock.{AreKept};
 
     ghost Value = { List (Held O) };
 

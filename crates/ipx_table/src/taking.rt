@@ -3,11 +3,12 @@ ghost use Rattle.std.specs.Prelude.{◌≡◌, ℕ, ◌<◌, ◌≤◌, if◌the
 ghost use Rattle.std.specs.List.{AllByRecursion, list_any, filter};
 ghost use Rattle.std.specs.Ordering.{is_lt};
 ghost use Rattle.ipx_table.specs.Accepted.{may_replace as allows_replacement};
-ghost use Rattle.ipx_table.specs.AfterOffer.{after_offer};
+ghost use Rattle.ipx_table.specs.inside.AfterOffer.{after_offer};
 ghost use Rattle.ipx_table.specs.Alive.{lifetime};
 ghost use Rattle.ipx_table.specs.Reading.{rules_of, same_key};
-ghost use Rattle.ipx_table.specs.Slots.{seen, seen_at, IsSorted};
-ghost use Rattle.ipx_table.specs.Sought.{answers_to};
+ghost use Rattle.ipx_table.specs.Slots.{seen, seen_at};
+ghost use Rattle.ipx_table.specs.inside.Clock.{IsSorted};
+ghost use Rattle.ipx_table.specs.inside.Sought.{answers_to};
 ghost use Rattle.ipx_table.specs.Stands.{in_order};
 ghost use Rattle.ipx_table.specs.Taken.{known_of, offer_left, taken_over, taken_beside};
 

@@ -3,7 +3,7 @@ use Rattle.std.proofs.lemmas.List.{take_at, drop_at, take-append-drop}
 use Rattle.std.proofs.lemmas.Bool.{lt-ltb, le-ltb}
 use Rattle.ipx_wire.specs.Piece.{IsBytes}
 use Rattle.ipx_wire.specs.Header.{IsHeader, header_bytes, header_at, length_field}
-use Rattle.ipx_wire.specs.Kept.{IsKept}
+use Rattle.ipx_wire.specs.inside.Kept.{IsKept}
 use Rattle.ipx_wire.specs.Packet.{Parts, IsPacket, packet_of}
 use Rattle.ipx_wire.specs.declared.header.Header.{Header}
 use Rattle.ipx_wire.specs.declared.packet.PacketFault.{PacketFault}

@@ -6,7 +6,6 @@ pub mod Ends
 pub mod Forward
 pub mod Header
 pub mod Items
-pub mod Kept
 pub mod Name
 pub mod NameWord
 pub mod Numbers
@@ -18,3 +17,4 @@ pub mod Sap
 pub mod SapEntries
 pub mod Write
 pub mod WriteServices
+pub mod inside

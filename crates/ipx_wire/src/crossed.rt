@@ -31,7 +31,7 @@ impl<'a> Model for Crossed<'a> {
     ghost use Rattle.ipx_wire.specs.declared.network.Network.{Network};
     ghost use Rattle.std.specs.Prelude.{◌-◌};
     ghost use Rattle.ipx_wire.specs.Crossed.{networks_at};
-    ghost use Rattle.ipx_wire.specs.Kept.{IsCounted};
+    ghost use Rattle.ipx_wire.specs.inside.Kept.{IsCounted};
     ghost use Rattle.ipx_wire.specs.Numbers.{crossed_places};
 
     ghost Value = { List Network };

@@ -30,7 +30,7 @@ impl<'a> Model for Packet<'a> {
     ghost use Rattle.std.specs.Prelude.{drop};
     ghost use Rattle.ipx_wire.specs.Header.{header_at};
     ghost use Rattle.ipx_wire.specs.Packet.{Parts};
-    ghost use Rattle.ipx_wire.specs.Kept.{IsKept};
+    ghost use Rattle.ipx_wire.specs.inside.Kept.{IsKept};
 
     ghost Value = { Parts };
 

@@ -100,7 +100,7 @@ pub struct Rip<'a> {
 
 impl<'a> Model for Rip<'a> {
     ghost use Rattle.ipx_wire.specs.Rip.{RipParts, entries_at};
-    ghost use Rattle.ipx_wire.specs.Kept.{IsCounted};
+    ghost use Rattle.ipx_wire.specs.inside.Kept.{IsCounted};
     ghost use Rattle.ipx_wire.specs.Numbers.{most_entries};
 
     ghost Value = { RipParts };

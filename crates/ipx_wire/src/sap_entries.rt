@@ -1,7 +1,7 @@
 //! The entries of service advertising packets, read one by one from the bytes that hold them.
 ghost use Rattle.ipx_wire.specs.Piece.{piece};
 ghost use Rattle.ipx_wire.specs.SapEntries.{sap_entry_at, sap_entries_at};
-ghost use Rattle.ipx_wire.specs.Kept.{IsCounted};
+ghost use Rattle.ipx_wire.specs.inside.Kept.{IsCounted};
 ghost use Rattle.ipx_wire.specs.Numbers.{most_services};
 ghost use Rattle.std.specs.Prelude.{◌≡◌, ◌<◌, ◌≤◌, length, slice_get, Some};
 
@@ -44,7 +44,7 @@ impl<'a> Model for SapEntries<'a> {
     ghost use Rattle.std.specs.Prelude.{List};
     ghost use Rattle.ipx_wire.specs.declared.sap_entries.SapEntry.{SapEntry};
     ghost use Rattle.ipx_wire.specs.SapEntries.{sap_entries_at};
-    ghost use Rattle.ipx_wire.specs.Kept.{IsCounted};
+    ghost use Rattle.ipx_wire.specs.inside.Kept.{IsCounted};
     ghost use Rattle.ipx_wire.specs.Numbers.{most_services};
 
     ghost Value = { List SapEntry };

@@ -3,7 +3,7 @@ ghost use Rattle.std.specs.Vec.{vec_capacity};
 ghost use Rattle.ipx_cmd.specs.CaptureWord.{capture_word};
 ghost use Rattle.ipx_cmd.specs.Shown.{capture_fault_text};
 
-use crate::text::put_decimal;
+use crate::texts::text::put_decimal;
 use ipx_capture::CaptureFault;
 use std::alloc::AllocError;
 

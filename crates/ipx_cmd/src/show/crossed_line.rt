@@ -4,7 +4,7 @@ ghost use Rattle.ipx_wire.specs.Crossed.{crossed_of};
 ghost use Rattle.ipx_cmd.specs.CrossedText.{crossed_text, network_after};
 ghost use Rattle.ipx_cmd.specs.CrossedWord.{crossed_word};
 
-use crate::draft::{Draft, HEAD, ROOM};
+use crate::texts::draft::{Draft, HEAD, ROOM};
 use ipx_wire::{Crossed, CrossedFault, Network};
 
 /// How many bytes the first word of the line has.

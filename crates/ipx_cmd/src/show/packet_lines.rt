@@ -4,11 +4,11 @@ ghost use Rattle.ipx_wire.specs.Packet.{packet_of};
 ghost use Rattle.ipx_cmd.specs.PacketText.{counts_text, data_text, ends_text, header_text, packet_text};
 ghost use Rattle.ipx_router.specs.WhyWord.{packet_word};
 
-use crate::draft::{Draft, HEAD};
-use crate::put::{number_at, put_address, put_number, put_text};
 use crate::show::crossed_line::put_crossed;
 use crate::show::rip_lines::put_rip;
 use crate::show::sap_lines::put_sap;
+use crate::texts::draft::{Draft, HEAD};
+use crate::texts::put::{number_at, put_address, put_number, put_text};
 use ipx_wire::{Header, Packet, PacketFault, Socket};
 
 /// Where the length of a packet stands.

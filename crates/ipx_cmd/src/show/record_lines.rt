@@ -6,8 +6,8 @@ ghost use Rattle.ipx_wire.specs.Packet.{packet_of};
 ghost use Rattle.ipx_cmd.specs.PacketText.{packet_text};
 ghost use Rattle.ipx_cmd.specs.RecordText.{frame_text, record_text};
 
-use crate::draft::Draft;
 use crate::show::packet_lines::put_packet;
+use crate::texts::draft::Draft;
 use ipx_capture::{Captured, Frame, frame};
 use std::alloc::AllocError;
 

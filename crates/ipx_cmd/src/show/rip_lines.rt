@@ -4,8 +4,8 @@ ghost use Rattle.ipx_wire.specs.Rip.{rip_of};
 ghost use Rattle.ipx_cmd.specs.RipText.{rip_text, route_entry_text};
 ghost use Rattle.ipx_router.specs.WhyWord.{rip_word};
 
-use crate::draft::{Draft, HEAD, ROOM};
-use crate::put::{put_hex, put_number, put_text};
+use crate::texts::draft::{Draft, HEAD, ROOM};
+use crate::texts::put::{put_hex, put_number, put_text};
 use ipx_wire::{Rip, RipEntry, RipFault};
 
 /// How many bytes the line of the operation has at most.

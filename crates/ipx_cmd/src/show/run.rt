@@ -4,14 +4,14 @@ ghost use Rattle.std.specs.Prelude.{◌≡◌, [], false, IfErr, IfOk, OnErr, On
 ghost use Rattle.ipx_wire.specs.Ends.{Input};
 ghost use Rattle.ipx_capture.specs.Place.{Opened, keeps, place};
 ghost use Rattle.ipx_cmd.specs.Decoded.{CutOff, Decoded};
-ghost use Rattle.ipx_cmd.specs.Moved.{Moved, Refuses, Tells};
+ghost use Rattle.ipx_cmd.specs.inside.Moved.{Moved, Refuses, Tells};
 ghost use Rattle.ipx_cmd.specs.WroteFront.{IsFaultOf, WroteFront};
 
-use crate::draft::Draft;
 use crate::ended::{Ended, RunFault};
-use crate::play::{LARGE, flush};
 use crate::show::capture_word::fault_line;
 use crate::show::record_lines::record_lines;
+use crate::texts::draft::Draft;
+use crate::texts::flushing::{LARGE, flush};
 use ipx_capture::{Capture, CaptureFault};
 use ipx_wire::{Intake, Outlet};
 use std::alloc::Global;

@@ -7,8 +7,8 @@ ghost use Rattle.ipx_wire.specs.declared.sap.Sap.TheVariants.{Query, Response};
 ghost use Rattle.ipx_cmd.specs.SapText.{sap_text, scope_word, service_entry_text};
 ghost use Rattle.ipx_router.specs.WhyWord.{sap_word};
 
-use crate::draft::{Draft, HEAD, ROOM};
-use crate::service_line::{LONGEST_ENTRY, put_service_line};
+use crate::texts::draft::{Draft, HEAD, ROOM};
+use crate::texts::service_line::{LONGEST_ENTRY, put_service_line};
 use ipx_wire::{Sap, SapEntry, SapFault, Socket};
 
 /// How many bytes the line of a response has.

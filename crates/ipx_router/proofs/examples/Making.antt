@@ -2,7 +2,7 @@
 use Rattle.std.proofs.Common.{◌≡◌, ℕ, ◌<◌, [], ◌∷◌, refl, ap, true≢false, arith, lit<, sym}
 use Rattle.std.specs.List.{AllByRecursion}
 use Rattle.ipx_router.specs.Port.{Port, IsPort, broadcast, same_node}
-use Rattle.ipx_router.proofs.ByteLists.{one_byte, bytes_both, bytes_same}
+use Rattle.ipx_router.proofs.bytes.ListsOfBytes.{one_byte, bytes_both, bytes_same}
 use Rattle.ipx_router.proofs.examples.Words.{port_on, two_ports}
 
 -- a port whose network and node are numbers of one byte

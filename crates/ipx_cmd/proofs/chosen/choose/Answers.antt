@@ -3,7 +3,7 @@ use Rattle.clap.specs.Simple.{is_simple, subcommand_of}
 use Rattle.clap.specs.Takes.{takes}
 use Rattle.clap.specs.Words.{found_of, rows_of}
 use Rattle.clap.proofs.WalkLemmas.{first_value-rows}
-use Rattle.ipx_cmd.proofs.CommandLine.{found, reads, simple, some_same, verb_first}
+use Rattle.ipx_cmd.proofs.acts.WordsOfTheProgram.{found, reads, simple, some_same, verb_first}
 use Rattle.ipx_cmd.specs.Chosen.{command_line, word_of}
 use Rattle.ipx_cmd.proofs.chosen.choose.Goals as goal
 

@@ -1,5 +1,5 @@
-use Rattle.ipx_cmd.proofs.Further.{continues}
-use Rattle.ipx_cmd.proofs.FurtherLines.{internet_continues, script_continues}
+use Rattle.ipx_cmd.proofs.captures.BytesBehindACapture.{continues}
+use Rattle.ipx_cmd.proofs.cuts.BytesBehindLines.{internet_continues, script_continues}
 use Rattle.ipx_cmd.proofs.laws.continues.Goals as goal
 
 pub returns-clause-capture : goal.returns-clause-capture

@@ -1,6 +1,6 @@
 use Rattle.std.proofs.Common.{ℕ, subst, ◌∙◌}
 use Rattle.ipx_cmd.specs.Stretch.{Answered}
-use Rattle.ipx_cmd.proofs.Pieces.{completed_of, last_fine_of, unfinished_of}
+use Rattle.ipx_cmd.proofs.cuts.TextOfAPiece.{completed_of, last_fine_of, unfinished_of}
 use Rattle.ipx_cmd.proofs.play.play_end.Goals as goal
 
 pub answer-requires : goal.answer-requires

@@ -1,6 +1,6 @@
 use Rattle.std.proofs.Common.{ℕ, subst, ◌++◌}
 use Rattle.ipx_cmd.specs.Stretch.{Answered}
-use Rattle.ipx_cmd.proofs.Pieces.{fine_of, gave_up_of, passed_of}
+use Rattle.ipx_cmd.proofs.cuts.TextOfAPiece.{fine_of, gave_up_of, passed_of}
 use Rattle.ipx_cmd.proofs.play.play_piece.Goals as goal
 
 pub answer-requires : goal.answer-requires

@@ -1,9 +1,9 @@
 use Rattle.std.proofs.Common.{rules, ◌≡◌, ◌<◌, ◌≤◌, ◌∙◌, arith, length, length-take}
 use Rattle.ipx_cmd.specs.WroteFront.{IsFaultOf}
 use Rattle.ipx_cmd.specs.declared.ended.Ended.TheVariants.{Done}
-use Rattle.ipx_cmd.proofs.MidScript.{fault_in_piece, given_up_at_read, given_up_in_piece, known_now, script_start, so_far}
-use Rattle.ipx_cmd.proofs.Offs.{on_ok_always}
-use Rattle.ipx_cmd.proofs.ScriptExits.{err_by, fault_at_end_of, given_up_at_end_of, no_read, no_read_at_end, on_err_always, played_bad_at, played_end_of, script_more_at}
+use Rattle.ipx_cmd.proofs.cuts.BetweenTwoPieces.{fault_in_piece, given_up_at_read, given_up_in_piece, known_now, script_start, so_far}
+use Rattle.ipx_cmd.proofs.cuts.WhyAStretchEnds.{on_ok_always}
+use Rattle.ipx_cmd.proofs.cuts.WaysOut.{err_by, fault_at_end_of, given_up_at_end_of, no_read, no_read_at_end, on_err_always, played_bad_at, played_end_of, script_more_at}
 use Rattle.ipx_cmd.proofs.play.play_script.Goals as goal
 
 pub loop-count-init : goal.loop-count-init

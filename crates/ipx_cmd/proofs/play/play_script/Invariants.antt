@@ -1,5 +1,5 @@
 use Rattle.std.proofs.Common.{◌-◌}
-use Rattle.ipx_cmd.proofs.MidScript.{MidScript}
+use Rattle.ipx_cmd.proofs.cuts.BetweenTwoPieces.{MidScript}
 use Rattle.ipx_cmd.proofs.play.play_script.Given as goal
 
 abbrev pub invariant-loop-count : goal.invariant-loop-count

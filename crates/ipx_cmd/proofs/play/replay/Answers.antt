@@ -1,7 +1,7 @@
 use Rattle.ipx_cmd.specs.Machine.{nothing_yet}
 use Rattle.ipx_cmd.specs.MachineStands.{IsStanding}
 use Rattle.ipx_cmd.specs.WroteFront.{IsFaultOf}
-use Rattle.ipx_cmd.proofs.ScriptExits.{if_err_at}
+use Rattle.ipx_cmd.proofs.cuts.WaysOut.{if_err_at}
 use Rattle.ipx_cmd.proofs.play.replay.Goals as goal
 
 pub returns-clause-fault : goal.returns-clause-fault

@@ -1,4 +1,4 @@
-use Rattle.ipx_cmd.proofs.Stretches.{off_line_of, went_line_of}
+use Rattle.ipx_cmd.proofs.cuts.StretchBehindStretch.{off_line_of, went_line_of}
 use Rattle.ipx_cmd.proofs.player.act_on.Goals as goal
 
 pub returns-clause-went : goal.returns-clause-went

@@ -1,4 +1,4 @@
-use Rattle.ipx_cmd.proofs.Finishes.{finished_of, off_last_of}
+use Rattle.ipx_cmd.proofs.cuts.LastLine.{finished_of, off_last_of}
 use Rattle.ipx_cmd.proofs.player.act_on_last.Goals as goal
 
 pub returns-clause-finished : goal.returns-clause-finished

@@ -1,4 +1,4 @@
-use Rattle.ipx_cmd.proofs.Searches.{no_line_end, line_parts}
+use Rattle.ipx_cmd.proofs.bytes.FirstThatPasses.{no_line_end, line_parts}
 use Rattle.ipx_cmd.proofs.player.first_line.Goals as goal
 
 pub returns-in-Some : goal.returns-in-Some

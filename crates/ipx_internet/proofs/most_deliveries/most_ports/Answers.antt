@@ -1,7 +1,7 @@
 use Rattle.std.proofs.Common.{◌≡◌, ap, ◌∙◌, ◌+◌, ℕ, max, List, drop, length, arith}
 use Rattle.ipx_router.specs.Stands.{State}
 use Rattle.ipx_internet.specs.Most.{most_ports}
-use Rattle.ipx_internet.specs.Simulated.{net_among}
+use Rattle.ipx_internet.specs.inside.Simulated.{net_among}
 use Rattle.ipx_internet.proofs.Measuring.{next_left}
 use Rattle.ipx_internet.proofs.most_deliveries.most_ports.Goals as goal
 

@@ -1,6 +1,6 @@
 use Rattle.std.proofs.Common.{◌≡◌, max, drop}
 use Rattle.ipx_internet.specs.Most.{most_ports}
-use Rattle.ipx_internet.specs.Simulated.{net_among}
+use Rattle.ipx_internet.specs.inside.Simulated.{net_among}
 use Rattle.ipx_internet.proofs.most_deliveries.most_ports.Given as goal
 
 abbrev pub invariant-loop-router : goal.invariant-loop-router

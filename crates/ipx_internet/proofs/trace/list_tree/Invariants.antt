@@ -1,6 +1,6 @@
 use Rattle.std.proofs.Common.{◌-◌, ◌≤◌, length}
 use Rattle.ipx_internet.specs.Listed.{IsListed}
-use Rattle.ipx_internet.specs.Simulated.{net_among}
+use Rattle.ipx_internet.specs.inside.Simulated.{net_among}
 use Rattle.ipx_internet.specs.Traced.{routers_of}
 use Rattle.ipx_internet.specs.Tree.{root}
 use Rattle.ipx_internet.specs.Weight.{IsBounded}

@@ -2,11 +2,11 @@ use Rattle.std.proofs.Common.{[], ◌∷◌, map}
 use Rattle.ipx_router.specs.Facts.{routes_held, offers}
 use Rattle.ipx_router.specs.History.{IsOfBytes, running}
 use Rattle.ipx_router.specs.Sends.{ports_sending, sends}
-use Rattle.ipx_router.proofs.Counting.{few_packets}
-use Rattle.ipx_router.proofs.Every.{all_behind}
-use Rattle.ipx_router.proofs.SentFor.{Any, sendings}
-use Rattle.ipx_router.proofs.SentLengths.{short}
-use Rattle.ipx_router.proofs.Wire.{Readings, Rereadings}
+use Rattle.ipx_router.proofs.bounds.PacketsOfEachEvent.{few_packets}
+use Rattle.ipx_router.proofs.lists.EachElement.{all_behind}
+use Rattle.ipx_router.proofs.sending.SentAfterAnyHistory.{Any, sendings}
+use Rattle.ipx_router.proofs.bounds.LengthsOfWhatIsSent.{short}
+use Rattle.ipx_router.proofs.bytes.LawsOfLayouts.{Readings, Rereadings}
 use Rattle.ipx_router.proofs.laws.bounds.Goals as goal
 
 pub returns-clause-few : goal.returns-clause-few

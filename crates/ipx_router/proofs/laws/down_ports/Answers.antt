@@ -5,13 +5,13 @@ use Rattle.ipx_router.specs.Packets.{IsSentFor}
 use Rattle.ipx_router.specs.Port.{is_up}
 use Rattle.ipx_router.specs.Relays.{IsTableRoute}
 use Rattle.ipx_router.specs.Sends.{ports_sending, sends}
-use Rattle.ipx_router.proofs.DownEntries.{Gone, allows_gone, opens_gone, entries_sent_are}
-use Rattle.ipx_router.proofs.DownPorts.{sent_on, none_told, no_news_of}
-use Rattle.ipx_router.proofs.Every.{all_then, all_before, all_behind}
-use Rattle.ipx_router.proofs.PortPlaces.{ports_up-within}
-use Rattle.ipx_router.proofs.SentFor.{sendings_of}
-use Rattle.ipx_router.proofs.Tables.{tables}
-use Rattle.ipx_router.proofs.Wire.{Readings, Rereadings}
+use Rattle.ipx_router.proofs.horizon.DownNetworksUnreachable.{Gone, allows_gone, opens_gone, entries_sent_are}
+use Rattle.ipx_router.proofs.horizon.NothingOnDownPorts.{sent_on, none_told, no_news_of}
+use Rattle.ipx_router.proofs.lists.EachElement.{all_then, all_before, all_behind}
+use Rattle.ipx_router.proofs.port_values.PortOfEachNumber.{ports_up-within}
+use Rattle.ipx_router.proofs.sending.SentAfterAnyHistory.{sendings_of}
+use Rattle.ipx_router.proofs.tables.HeldWasOffered.{tables}
+use Rattle.ipx_router.proofs.bytes.LawsOfLayouts.{Readings, Rereadings}
 use Rattle.ipx_router.proofs.laws.down_ports.Goals as goal
 
 pub returns-clause-silent : goal.returns-clause-silent

@@ -1,4 +1,4 @@
-use Rattle.ipx_router.proofs.Telling.{no_route_news, no_service_news}
+use Rattle.ipx_router.proofs.telling.LawsOfTold.{no_route_news, no_service_news}
 use Rattle.ipx_router.proofs.laws.no_news.Goals as goal
 
 pub returns-clause-routes : goal.returns-clause-routes

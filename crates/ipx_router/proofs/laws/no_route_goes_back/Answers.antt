@@ -1,6 +1,6 @@
 use Rattle.std.proofs.Common.{[], ◌∷◌, ◌++◌}
-use Rattle.ipx_router.proofs.HorizonEvents.{events_keep}
-use Rattle.ipx_router.proofs.Wire.{Readings, Rereadings}
+use Rattle.ipx_router.proofs.horizon.NoEventSendsBack.{events_keep}
+use Rattle.ipx_router.proofs.bytes.LawsOfLayouts.{Readings, Rereadings}
 use Rattle.ipx_router.proofs.laws.no_route_goes_back.Goals as goal
 
 pub returns : goal.returns

@@ -1,4 +1,4 @@
-use Rattle.ipx_router.proofs.Unchanged.{leaves, routes_stay, services_stay}
+use Rattle.ipx_router.proofs.histories.NothingDoneNothingChanged.{leaves, routes_stay, services_stay}
 use Rattle.ipx_router.proofs.laws.nothing_changes.Goals as goal
 
 pub returns-clause-sends : goal.returns-clause-sends

@@ -2,10 +2,10 @@ use Rattle.std.proofs.Common.{[], ◌∷◌}
 use Rattle.ipx_router.specs.Facts.{routes_held, offers}
 use Rattle.ipx_router.specs.History.{IsOfBytes, running}
 use Rattle.ipx_router.specs.Sends.{ports_sending, sends}
-use Rattle.ipx_router.proofs.Every.{all_behind}
-use Rattle.ipx_router.proofs.SentBytes.{of_bytes}
-use Rattle.ipx_router.proofs.SentFor.{Any, sendings, sent_for}
-use Rattle.ipx_router.proofs.Wire.{Readings, Rereadings}
+use Rattle.ipx_router.proofs.lists.EachElement.{all_behind}
+use Rattle.ipx_router.proofs.bytes.SentIsBytes.{of_bytes}
+use Rattle.ipx_router.proofs.sending.SentAfterAnyHistory.{Any, sendings, sent_for}
+use Rattle.ipx_router.proofs.bytes.LawsOfLayouts.{Readings, Rereadings}
 use Rattle.ipx_router.proofs.laws.packets.Goals as goal
 
 -- the laws of the layouts

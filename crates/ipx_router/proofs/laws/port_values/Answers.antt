@@ -1,4 +1,4 @@
-use Rattle.ipx_router.proofs.PortFaults.{either}
+use Rattle.ipx_router.proofs.port_values.PortOrFault.{either}
 use Rattle.ipx_router.proofs.laws.port_values.Goals as goal
 
 pub returns-clause-either : goal.returns-clause-either

@@ -1,7 +1,7 @@
 use Rattle.std.proofs.Common.{◌∙◌, ap, List}
 use Rattle.std.specs.List.{slice_get}
 use Rattle.ipx_router.specs.Relays.{Sent}
-use Rattle.ipx_router.proofs.RelayedAlone.{relay_listed, relay_all, relay_in_order}
+use Rattle.ipx_router.proofs.relays.AskedIsRelated.{relay_listed, relay_all, relay_in_order}
 use Rattle.ipx_router.proofs.laws.relaying.Goals as goal
 
 pub returns-clause-listed : goal.returns-clause-listed

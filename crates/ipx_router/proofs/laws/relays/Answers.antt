@@ -1,6 +1,6 @@
-use Rattle.ipx_router.proofs.Relayed.{listed}
-use Rattle.ipx_router.proofs.Relations.{all}
-use Rattle.ipx_router.proofs.Rising.{in_order, ups}
+use Rattle.ipx_router.proofs.relays.ListedIsRelated.{listed}
+use Rattle.ipx_router.proofs.relays.RelatedIsListed.{all}
+use Rattle.ipx_router.proofs.relays.PortsRise.{in_order, ups}
 use Rattle.ipx_router.proofs.laws.relays.Goals as goal
 
 pub returns-clause-listed : goal.returns-clause-listed

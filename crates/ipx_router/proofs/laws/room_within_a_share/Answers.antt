@@ -9,9 +9,9 @@ use Rattle.ipx_router.specs.contracts.route_offer.RouteOfferPartialEq.TheImpl.{g
 use Rattle.ipx_router.specs.contracts.service_offer.ServiceOfferPartialEq.TheImpl.{ghosts as equal_services}
 use Rattle.ipx_router.specs.declared.route_offer.RouteOffer.{RouteOffer}
 use Rattle.ipx_router.specs.declared.service_offer.ServiceOffer.{ServiceOffer}
-use Rattle.ipx_router.proofs.Offering.{facts_from-more}
-use Rattle.ipx_router.proofs.SharedRoom.{shared_before}
-use Rattle.ipx_router.proofs.Shares.{admitted_by_any, kept}
+use Rattle.ipx_router.proofs.tables.OffersOfAMessage.{facts_from-more}
+use Rattle.ipx_router.proofs.tables.SharesThatFit.{shared_before}
+use Rattle.ipx_router.proofs.tables.SharesHold.{admitted_by_any, kept}
 use Rattle.ipx_router.proofs.laws.room_within_a_share.Goals as goal
 
 pub returns-clause-routes : goal.returns-clause-routes

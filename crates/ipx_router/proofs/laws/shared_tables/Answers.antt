@@ -1,6 +1,6 @@
 use Rattle.std.proofs.Common.{length}
 use Rattle.ipx_router.specs.Port.{numbers}
-use Rattle.ipx_router.proofs.SharedRoom.{routes_shared, services_shared, came_on_one, all_shares}
+use Rattle.ipx_router.proofs.tables.SharesThatFit.{routes_shared, services_shared, came_on_one, all_shares}
 use Rattle.ipx_router.proofs.laws.shared_tables.Goals as goal
 
 pub returns-clause-routes : goal.returns-clause-routes

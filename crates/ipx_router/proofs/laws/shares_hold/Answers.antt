@@ -1,7 +1,7 @@
 use Rattle.std.proofs.Common.{refl, subst, ℕ, ◌≤◌, map}
 use Rattle.ipx_table.specs.Reading.{count_by}
 use Rattle.ipx_router.specs.Facts.{route_facts, routes_held, service_facts, services_held}
-use Rattle.ipx_router.proofs.Shares.{share_at}
+use Rattle.ipx_router.proofs.tables.SharesHold.{share_at}
 use Rattle.ipx_router.proofs.laws.shares_hold.Goals as goal
 
 pub returns-clause-routes : goal.returns-clause-routes

@@ -1,4 +1,4 @@
-use Rattle.ipx_router.proofs.Telling.{told-elsewhere, services_told-elsewhere}
+use Rattle.ipx_router.proofs.telling.LawsOfTold.{told-elsewhere, services_told-elsewhere}
 use Rattle.ipx_router.proofs.laws.split_horizon.Goals as goal
 
 pub returns-clause-routes : goal.returns-clause-routes

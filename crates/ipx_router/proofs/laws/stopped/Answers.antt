@@ -1,4 +1,4 @@
-use Rattle.ipx_router.proofs.Histories.{none_up}
+use Rattle.ipx_router.proofs.histories.OneEventMore.{none_up}
 use Rattle.ipx_router.proofs.laws.stopped.Goals as goal
 
 pub returns-clause-none_up : goal.returns-clause-none_up

@@ -2,9 +2,9 @@ use Rattle.std.proofs.Common.{refl, map}
 use Rattle.ipx_router.specs.Facts.{route_facts, routes_held, service_facts, services_held, offers}
 use Rattle.ipx_router.specs.Routes.{route_rules}
 use Rattle.ipx_router.specs.Services.{service_rules}
-use Rattle.ipx_router.proofs.HeldInOrder.{offers_ascend, networks_rise}
-use Rattle.ipx_router.proofs.Tables.{tables}
-use Rattle.ipx_router.proofs.Upheld.{held_routes_up, held_services_up}
+use Rattle.ipx_router.proofs.tables.HeldRises.{offers_ascend, networks_rise}
+use Rattle.ipx_router.proofs.tables.HeldWasOffered.{tables}
+use Rattle.ipx_router.proofs.tables.HeldCameByPortsUp.{held_routes_up, held_services_up}
 use Rattle.ipx_router.proofs.laws.tables.Goals as goal
 
 pub returns-clause-of_a_table : goal.returns-clause-of_a_table

@@ -4,7 +4,7 @@ use Rattle.ipx_table.specs.Alive.{alive}
 use Rattle.ipx_router.specs.Facts.{route_facts, service_facts}
 use Rattle.ipx_router.specs.Routes.{route_rules}
 use Rattle.ipx_router.specs.Services.{service_rules}
-use Rattle.ipx_router.proofs.Shares.{length-in_order}
+use Rattle.ipx_router.proofs.tables.SharesHold.{length-in_order}
 use Rattle.ipx_router.proofs.laws.within_capacity.Goals as goal
 
 pub returns-clause-routes : goal.returns-clause-routes

@@ -1,5 +1,5 @@
 use Rattle.std.proofs.Common.{◌∙◌, ◌+◌, ◌≤◌, length, arith, sym}
-use Rattle.ipx_router.proofs.Appending.{written_front}
+use Rattle.ipx_router.proofs.sending.OnePacketMore.{written_front}
 use Rattle.ipx_router.proofs.outbox.put_crossed.Goals as goal
 
 pub returns-clause-front : goal.returns-clause-front

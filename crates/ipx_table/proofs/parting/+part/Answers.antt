@@ -2,7 +2,7 @@ use Rattle.std.proofs.Common.{rules, ◌≡◌, ◌∙◌, sym, ap, ap₂, ◌+�
 use Rattle.std.specs.List.{zip}
 use Rattle.std.proofs.lemmas.List.Elements.{filter-append}
 use Rattle.ipx_table.specs.Reading.{port_of}
-use Rattle.ipx_table.specs.Slots.{ends}
+use Rattle.ipx_table.specs.inside.Clock.{ends}
 use Rattle.ipx_table.proofs.Halving.{all_stay, all_end, none_goes, none_stays, two_at_least, append-pairs, drop-pairs, halves, turned, turn-pairs, turn-parted}
 use Rattle.ipx_table.proofs.Pairs.{length-pairs, take-pairs}
 use Rattle.ipx_table.proofs.parting.+part.Goals as goal

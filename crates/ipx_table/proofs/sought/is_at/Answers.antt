@@ -1,5 +1,5 @@
 use Rattle.std.proofs.Common.{◌≡◌, refl, sym, ap, ◌∙◌, ◌||◌, Bool, true, false, is_eq}
-use Rattle.ipx_table.specs.Sought.{answers_to}
+use Rattle.ipx_table.specs.inside.Sought.{answers_to}
 use Rattle.ipx_table.proofs.Order.{is_equal}
 use Rattle.ipx_table.proofs.Searching.{answered, equal_at, through_key}
 use Rattle.ipx_table.proofs.sought.is_at.Goals as goal

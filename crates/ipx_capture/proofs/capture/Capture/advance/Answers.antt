@@ -1,6 +1,6 @@
 use Rattle.std.proofs.Common.{ℕ, ◌+◌, refl, subst, Option, Some, None, Ok, Err}
 use Rattle.ipx_capture.specs.Place.{Place, place}
-use Rattle.ipx_capture.specs.Taking.{Took}
+use Rattle.ipx_capture.specs.inside.Taking.{Took}
 use Rattle.ipx_capture.specs.declared.standing.Standing.TheVariants.{Ended, Broken}
 use Rattle.ipx_capture.proofs.Taken.{takes, few_taken, room_taken, nexts_open}
 use Rattle.ipx_capture.proofs.capture.Capture.advance.Goals as goal

@@ -4,9 +4,9 @@ use Rattle.std.proofs.lemmas.List.Elements.{All-append}
 use Rattle.ipx_cmd.specs.Lines.{line_feed}
 use Rattle.ipx_cmd.specs.Stretch.{WentOff}
 use Rattle.ipx_cmd.specs.declared.ended.RunFault.TheVariants.{Memory}
-use Rattle.ipx_cmd.specs.declared.halt.Halt.TheVariants.{Line, Run}
-use Rattle.ipx_cmd.proofs.Cuts.{not_feed}
-use Rattle.ipx_cmd.proofs.Offs.{off_by, off_empty, off_long, off_memory}
+use Rattle.ipx_cmd.specs.declared.lines.halt.Halt.TheVariants.{Line, Run}
+use Rattle.ipx_cmd.proofs.cuts.LinesOfBytes.{not_feed}
+use Rattle.ipx_cmd.proofs.cuts.WhyAStretchEnds.{off_by, off_empty, off_long, off_memory}
 use Rattle.ipx_cmd.proofs.player.Player.end_line.Goals as goal
 
 pub returns-in_err-check_length-clause-off : goal.returns-in_err-check_length-clause-off

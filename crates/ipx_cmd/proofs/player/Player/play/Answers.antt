@@ -1,10 +1,10 @@
 use Rattle.std.proofs.Common.{ℕ, List, ◌≡◌, ◌+◌, ◌++◌, ◌∷◌, subst, arith, length, length-append, ap, sym}
 use Rattle.std.proofs.lemmas.List.Elements.{All-append}
 use Rattle.ipx_cmd.specs.Lines.{line_feed}
-use Rattle.ipx_cmd.proofs.Cuts.{not_feed}
-use Rattle.ipx_cmd.proofs.Midpiece.{Midpiece}
-use Rattle.ipx_cmd.proofs.Reached.{none_pending}
-use Rattle.ipx_cmd.proofs.Offs.{on_ok_always, mid_end, mid_kept, mid_line, mid_off, mid_start, off_by}
+use Rattle.ipx_cmd.proofs.cuts.LinesOfBytes.{not_feed}
+use Rattle.ipx_cmd.proofs.cuts.BetweenTwoLines.{Midpiece}
+use Rattle.ipx_cmd.proofs.cuts.LedToByBytes.{none_pending}
+use Rattle.ipx_cmd.proofs.cuts.WhyAStretchEnds.{on_ok_always, mid_end, mid_kept, mid_line, mid_off, mid_start, off_by}
 use Rattle.ipx_cmd.proofs.player.Player.play.Goals as goal
 
 pub loop-front-init : goal.loop-front-init

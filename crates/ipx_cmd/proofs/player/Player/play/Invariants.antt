@@ -1,5 +1,5 @@
 use Rattle.std.proofs.Common.{length}
-use Rattle.ipx_cmd.proofs.Midpiece.{Midpiece}
+use Rattle.ipx_cmd.proofs.cuts.BetweenTwoLines.{Midpiece}
 use Rattle.ipx_cmd.proofs.player.Player.play.Given as goal
 
 abbrev pub invariant-loop-front : goal.invariant-loop-front

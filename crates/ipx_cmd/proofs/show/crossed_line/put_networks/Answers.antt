@@ -1,6 +1,6 @@
 use Rattle.std.proofs.Common.{arith}
 use Rattle.ipx_cmd.specs.CrossedText.{network_after}
-use Rattle.ipx_cmd.proofs.Listed.{listed_more}
+use Rattle.ipx_cmd.proofs.written.GrowsByItems.{listed_more}
 use Rattle.ipx_cmd.proofs.show.crossed_line.put_networks.Goals as goal
 
 pub loop-place-preserved : goal.loop-place-preserved

@@ -3,8 +3,8 @@ use Rattle.ipx_wire.specs.Address.{address_at}
 use Rattle.ipx_wire.specs.AddressWord.{address_word}
 use Rattle.ipx_wire.specs.Header.{header_at}
 use Rattle.ipx_cmd.specs.PacketText.{ends_text}
-use Rattle.ipx_cmd.proofs.Drafted.{then}
-use Rattle.ipx_cmd.proofs.PacketTexts.{address_behind}
+use Rattle.ipx_cmd.proofs.bytes.DigitsTwoAtATime.{then}
+use Rattle.ipx_cmd.proofs.written.TextOfPackets.{address_behind}
 use Rattle.ipx_cmd.proofs.show.packet_lines.put_ends.Goals as goal
 
 pub returns-clause-room : goal.returns-clause-room

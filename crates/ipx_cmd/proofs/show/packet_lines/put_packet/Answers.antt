@@ -3,7 +3,7 @@ use Rattle.ipx_wire.specs.Header.{header_at}
 use Rattle.ipx_wire.specs.Packet.{packet_of}
 use Rattle.ipx_wire.specs.declared.header.Header.{Header}
 use Rattle.ipx_cmd.specs.PacketText.{data_text, header_text, packet_text}
-use Rattle.ipx_cmd.proofs.PacketTexts.{header_leads}
+use Rattle.ipx_cmd.proofs.written.TextOfPackets.{header_leads}
 use Rattle.ipx_cmd.proofs.show.packet_lines.put_packet.Goals as goal
 
 pub put_header-draft-inside-requires-clause-whole :

@@ -1,6 +1,6 @@
 use Rattle.std.proofs.Common.{arith}
 use Rattle.ipx_cmd.specs.RipText.{route_entry_text}
-use Rattle.ipx_cmd.proofs.Listed.{listed_more}
+use Rattle.ipx_cmd.proofs.written.GrowsByItems.{listed_more}
 use Rattle.ipx_cmd.proofs.show.rip_lines.put_entries.Goals as goal
 
 pub loop-place-preserved : goal.loop-place-preserved

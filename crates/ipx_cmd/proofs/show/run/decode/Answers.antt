@@ -1,4 +1,4 @@
-use Rattle.ipx_cmd.proofs.Exits.{header_exit, unopened_at}
+use Rattle.ipx_cmd.proofs.captures.HowARunEnds.{header_exit, unopened_at}
 use Rattle.ipx_cmd.proofs.show.run.decode.Goals as goal
 
 pub returns-clause-ok : goal.returns-clause-ok

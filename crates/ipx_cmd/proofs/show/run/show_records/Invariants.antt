@@ -1,6 +1,6 @@
 use Rattle.std.proofs.Common.{◌≡◌, ◌+◌, ◌-◌, ◌*◌, length}
 use Rattle.ipx_capture.specs.Place.{keeps, place}
-use Rattle.ipx_cmd.proofs.Midway.{Midway}
+use Rattle.ipx_cmd.proofs.captures.BetweenTwoRecords.{Midway}
 use Rattle.ipx_cmd.proofs.show.run.show_records.Given as goal
 
 abbrev pub invariant-loop-capture : goal.invariant-loop-capture

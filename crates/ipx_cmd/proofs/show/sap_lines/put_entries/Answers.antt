@@ -5,7 +5,7 @@ use Rattle.ipx_wire.specs.SapEntries.{sap_entry_at, sap_entries_at}
 use Rattle.ipx_wire.proofs.Items.{length-items, slice_get-items}
 use Rattle.ipx_wire.specs.declared.sap_entries.SapEntry.{SapEntry}
 use Rattle.ipx_cmd.specs.SapText.{service_entry_text}
-use Rattle.ipx_cmd.proofs.Listed.{listed_more}
+use Rattle.ipx_cmd.proofs.written.GrowsByItems.{listed_more}
 use Rattle.ipx_cmd.proofs.show.sap_lines.put_entries.Goals as goal
 
 pub loop-place-preserved : goal.loop-place-preserved

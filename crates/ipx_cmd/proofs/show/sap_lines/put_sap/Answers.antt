@@ -4,7 +4,7 @@ use Rattle.ipx_wire.specs.SapEntries.{sap_entries_at}
 use Rattle.ipx_wire.specs.declared.sap.Sap.TheVariants.{Response}
 use Rattle.ipx_wire.specs.declared.sap_entries.SapEntry.{SapEntry}
 use Rattle.ipx_cmd.specs.SapText.{sap_text}
-use Rattle.ipx_cmd.proofs.SapTexts.{entries_stand}
+use Rattle.ipx_cmd.proofs.written.TextOfServiceAdvertising.{entries_stand}
 use Rattle.ipx_cmd.proofs.show.sap_lines.put_sap.Goals as goal
 
 pub put_services-requires-clause-whole : goal.put_services-requires-clause-whole

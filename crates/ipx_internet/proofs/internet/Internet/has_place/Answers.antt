@@ -3,7 +3,7 @@ use Rattle.std.proofs.lemmas.Bool.{both_ways}
 use Rattle.ipx_router.specs.Stands.{State}
 use Rattle.ipx_internet.specs.Internet.{IsPlace}
 use Rattle.ipx_internet.specs.Moment.{Moment}
-use Rattle.ipx_internet.specs.Simulated.{net_among}
+use Rattle.ipx_internet.specs.inside.Simulated.{net_among}
 use Rattle.ipx_internet.proofs.Traced.{has_none}
 use Rattle.ipx_internet.proofs.internet.Internet.has_place.Goals as goal
 

@@ -1,6 +1,6 @@
 use Rattle.std.proofs.Common.{List, sym, subst}
 use Rattle.ipx_router.specs.Stands.{State}
-use Rattle.ipx_internet.specs.Simulated.{IsSimulated}
+use Rattle.ipx_internet.specs.inside.Simulated.{IsSimulated}
 use Rattle.ipx_internet.proofs.Beginning.{begins}
 use Rattle.ipx_internet.proofs.internet.Internet.new.Goals as goal
 

@@ -2,7 +2,7 @@ use Rattle.std.proofs.Common.{arith, ◌≡◌, ◌+◌, ◌<◌, ◌++◌, leng
 use Rattle.ipx_internet.specs.Batches.{delivery_of}
 use Rattle.ipx_router.specs.RouterOf.{HasPast}
 use Rattle.ipx_internet.specs.Moment.{Moment, net_at}
-use Rattle.ipx_internet.specs.Simulated.{moment, net_among, IsComing}
+use Rattle.ipx_internet.specs.inside.Simulated.{moment, net_among, IsComing}
 use Rattle.std.specs.List.{AllByRecursion}
 use Rattle.ipx_internet.proofs.Handing.{first, some_router, it_is_there, left_coming, coming_front, coming_behind, settled_next, still_simulated, at_error, at_moment}
 use Rattle.ipx_internet.proofs.Reckoning.{falls_at}

@@ -4,7 +4,7 @@ use Rattle.ipx_router.specs.Stands.{State}
 use Rattle.ipx_internet.specs.Internet.{IsPlace}
 use Rattle.ipx_internet.specs.Listed.{told}
 use Rattle.ipx_internet.specs.Moment.{Moment}
-use Rattle.ipx_internet.specs.Simulated.{net_among}
+use Rattle.ipx_internet.specs.inside.Simulated.{net_among}
 use Rattle.ipx_internet.specs.Traced.{routers_of, tree, outcome_at}
 use Rattle.ipx_internet.specs.Tree.{Copy, IsRouter, root}
 use Rattle.ipx_internet.specs.Weight.{weight}

@@ -1,6 +1,6 @@
 use Rattle.std.proofs.Common.{◌≡◌, ◌+◌, ◌-◌, refl, arith}
 use Rattle.std.specs.Vec.{vec_len, vec_capacity}
-use Rattle.ipx_router.proofs.Appending.{flat_after, one_appended}
+use Rattle.ipx_router.proofs.sending.OnePacketMore.{flat_after, one_appended}
 use Rattle.ipx_router.proofs.outbox.Outbox.append_sap.Goals as goal
 
 pub invariant_of-self : goal.invariant_of-self

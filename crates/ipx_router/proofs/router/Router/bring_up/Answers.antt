@@ -1,7 +1,7 @@
 use Rattle.std.proofs.Common.{rules, ◌≡◌, ◌<◌, ◌≤◌, refl, sym, ap, ◌∙◌, subst, nat_lt, Bool, true, false, length, arith}
 use Rattle.std.specs.List.{AllByRecursion, flat_map}
 use Rattle.ipx_router.specs.Facts.{offers}
-use Rattle.ipx_router.specs.Following.{Follows}
+use Rattle.ipx_router.specs.inside.Following.{Follows}
 use Rattle.ipx_router.specs.History.{PortUp}
 use Rattle.ipx_router.specs.Needs.{HasRoomFor}
 use Rattle.ipx_router.specs.Outbox.{Fits}
@@ -9,9 +9,9 @@ use Rattle.ipx_router.specs.Port.{is_up}
 use Rattle.ipx_router.specs.Sends.{port_up_on}
 use Rattle.ipx_router.specs.Sorted.{put}
 use Rattle.ipx_router.specs.Stands.{State}
-use Rattle.ipx_router.proofs.Rooms.{next_router}
-use Rattle.ipx_router.proofs.Running.{up_follows, up_room, ups_within, room_for_one, within_put, length-put_number}
-use Rattle.ipx_router.proofs.Steps.{state_of}
+use Rattle.ipx_router.proofs.bounds.RoomIsEnough.{next_router}
+use Rattle.ipx_router.proofs.histories.RouterOneEventMore.{up_follows, up_room, ups_within, room_for_one, within_put, length-put_number}
+use Rattle.ipx_router.proofs.histories.StateAfterEachEvent.{state_of}
 use Rattle.ipx_router.proofs.router.Router.bring_up.Goals as goal
 
 pub with_number-self-inside-requires : goal.with_number-self-inside-requires

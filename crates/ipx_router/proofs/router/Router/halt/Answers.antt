@@ -1,15 +1,15 @@
 use Rattle.std.proofs.Common.{rules, ◌≡◌, ◌<◌, ◌≤◌, sym, ap, ◌∙◌, subst, true, false, map, length}
 use Rattle.std.specs.List.{AllByRecursion, flat_map}
 use Rattle.ipx_router.specs.Facts.{offers}
-use Rattle.ipx_router.specs.Following.{Follows}
+use Rattle.ipx_router.specs.inside.Following.{Follows}
 use Rattle.ipx_router.specs.History.{Stop}
 use Rattle.ipx_router.specs.Needs.{HasRoomFor}
 use Rattle.ipx_router.specs.Outbox.{Fits}
 use Rattle.ipx_router.specs.Sends.{stop_on}
 use Rattle.ipx_router.specs.Stands.{State}
-use Rattle.ipx_router.proofs.Rooms.{next_router}
-use Rattle.ipx_router.proofs.Running.{TableSteps, stop_follows, stop_room, ups_within, few_ups}
-use Rattle.ipx_router.proofs.Steps.{state_of}
+use Rattle.ipx_router.proofs.bounds.RoomIsEnough.{next_router}
+use Rattle.ipx_router.proofs.histories.RouterOneEventMore.{TableSteps, stop_follows, stop_room, ups_within, few_ups}
+use Rattle.ipx_router.proofs.histories.StateAfterEachEvent.{state_of}
 use Rattle.ipx_router.proofs.router.Router.halt.Goals as goal
 
 pub send_stop-requires : goal.send_stop-requires

@@ -1,9 +1,9 @@
 use Rattle.std.proofs.Common.{sym, ◌∙◌, subst, List}
-use Rattle.ipx_router.specs.Following.{sends_between}
+use Rattle.ipx_router.specs.inside.Following.{sends_between}
 use Rattle.ipx_router.specs.Happened.{happened}
 use Rattle.ipx_router.specs.Outbox.{Appends}
 use Rattle.ipx_router.specs.Relays.{Sent}
-use Rattle.ipx_router.proofs.Standing.{follows, sends_stand, outcome_stand}
+use Rattle.ipx_router.proofs.histories.StandsOneEventMore.{follows, sends_stand, outcome_stand}
 use Rattle.ipx_router.proofs.router.Router.handle.Goals as goal
 
 pub returns-clause-stands : goal.returns-clause-stands
@@ -26,7 +26,7 @@ returns-clause-outcome g c = λ h stands.
 
 pub returns-clause-bounds : goal.returns-clause-bounds
 returns-clause-bounds g c =
-    let within = c.stays_within.ensures c.dispatch.new.self c.dispatch.ensures.follows in
+    let within = c.proves_within.ensures c.dispatch.new.self c.dispatch.ensures.follows in
     record {
       packets = sends_between c.args.self.now c.dispatch.new.self (happened c.args.event);
       appended = c.dispatch.ensures.sends.sent;
@@ -35,16 +35,16 @@ returns-clause-bounds g c =
     }
 
 pub returns-clause-capacity : goal.returns-clause-capacity
-returns-clause-capacity g c = (c.stays_within.ensures c.dispatch.new.self c.dispatch.ensures.follows).capacity
+returns-clause-capacity g c = (c.proves_within.ensures c.dispatch.new.self c.dispatch.ensures.follows).capacity
 
 pub returns-clause-route_shares : goal.returns-clause-route_shares
-returns-clause-route_shares g c = (c.stays_within.ensures c.dispatch.new.self c.dispatch.ensures.follows).route_shares
+returns-clause-route_shares g c = (c.proves_within.ensures c.dispatch.new.self c.dispatch.ensures.follows).route_shares
 
 pub returns-clause-service_shares : goal.returns-clause-service_shares
-returns-clause-service_shares g c = (c.stays_within.ensures c.dispatch.new.self c.dispatch.ensures.follows).service_shares
+returns-clause-service_shares g c = (c.proves_within.ensures c.dispatch.new.self c.dispatch.ensures.follows).service_shares
 
 pub returns-clause-route_room : goal.returns-clause-route_room
-returns-clause-route_room g c = (c.stays_within.ensures c.dispatch.new.self c.dispatch.ensures.follows).route_room
+returns-clause-route_room g c = (c.proves_within.ensures c.dispatch.new.self c.dispatch.ensures.follows).route_room
 
 pub returns-clause-service_room : goal.returns-clause-service_room
-returns-clause-service_room g c = (c.stays_within.ensures c.dispatch.new.self c.dispatch.ensures.follows).service_room
+returns-clause-service_room g c = (c.proves_within.ensures c.dispatch.new.self c.dispatch.ensures.follows).service_room

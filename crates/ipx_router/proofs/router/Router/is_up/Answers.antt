@@ -1,7 +1,7 @@
 use Rattle.std.proofs.Common.{◌∙◌, ◌≤◌, ap, length}
 use Rattle.ipx_router.specs.Port.{is_up}
 use Rattle.ipx_router.specs.Stands.{State}
-use Rattle.ipx_router.proofs.RouterOf.{stopped_up, missing_up}
+use Rattle.ipx_router.proofs.histories.NewRouterStands.{stopped_up, missing_up}
 use Rattle.ipx_router.proofs.router.Router.is_up.Goals as goal
 
 pub returns-clause-stopped : goal.returns-clause-stopped

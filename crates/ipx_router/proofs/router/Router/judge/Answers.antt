@@ -1,9 +1,9 @@
 use Rattle.std.proofs.Common.{subst}
 use Rattle.ipx_router.specs.Facts.{offers}
-use Rattle.ipx_router.specs.Judged.{IsVerdict}
+use Rattle.ipx_router.specs.inside.Judged.{IsVerdict}
 use Rattle.ipx_router.specs.Stands.{State}
-use Rattle.ipx_router.proofs.Received.{judged_as}
-use Rattle.ipx_router.proofs.Steps.{state_of}
+use Rattle.ipx_router.proofs.verdicts.EffectOfWhatCame.{judged_as}
+use Rattle.ipx_router.proofs.histories.StateAfterEachEvent.{state_of}
 use Rattle.ipx_router.proofs.router.Router.judge.Goals as goal
 
 pub returns : goal.returns

@@ -1,20 +1,20 @@
 use Rattle.std.proofs.Common.{rules, ◌≡◌, ◌<◌, ◌*◌, refl, sym, ap, subst, List, map, length}
 use Rattle.std.specs.List.{AllByRecursion}
 use Rattle.ipx_router.specs.Facts.{offers}
-use Rattle.ipx_router.specs.Following.{Follows, sends_between}
+use Rattle.ipx_router.specs.inside.Following.{Follows, sends_between}
 use Rattle.ipx_router.specs.Heard.{HeardRip}
 use Rattle.ipx_router.specs.History.{Packet}
 use Rattle.ipx_router.specs.Needs.{HasRoomFor}
 use Rattle.ipx_router.specs.Numbers.{most_own_length}
 use Rattle.ipx_router.specs.Outbox.{HasRoom, Appends}
-use Rattle.ipx_router.specs.Received.{IsPassed, IsHeard}
+use Rattle.ipx_router.specs.inside.Received.{IsPassed, IsHeard}
 use Rattle.ipx_router.specs.Relays.{Sent}
 use Rattle.ipx_router.specs.Stands.{State}
-use Rattle.ipx_router.proofs.AdvertisedChanges.{hear_room}
-use Rattle.ipx_router.proofs.Received.{rip_follows, rip_sent}
-use Rattle.ipx_router.proofs.Rooms.{next_router}
-use Rattle.ipx_router.proofs.Running.{ups_within, ups_fit}
-use Rattle.ipx_router.proofs.Steps.{state_of}
+use Rattle.ipx_router.proofs.changes.ListedForEachPort.{hear_room}
+use Rattle.ipx_router.proofs.verdicts.EffectOfWhatCame.{rip_follows, rip_sent}
+use Rattle.ipx_router.proofs.bounds.RoomIsEnough.{next_router}
+use Rattle.ipx_router.proofs.histories.RouterOneEventMore.{ups_within, ups_fit}
+use Rattle.ipx_router.proofs.histories.StateAfterEachEvent.{state_of}
 use Rattle.ipx_router.proofs.router.Router.learn_routes.Goals as goal
 
 pub hear_routes-requires : goal.hear_routes-requires
@@ -40,7 +40,7 @@ invariant_of-self g c =
     let is : IsHeard s n b (HeardRip c.args.source c.args.rip.now) = subst (λ (v : State). IsHeard v n b (HeardRip c.args.source c.args.rip.now)) (sym c.self.view_is) c.requires.heard in
     let within : n < length s.ports = rw (ap (λ (v : State). length v.ports) c.self.view_is) c.requires.port in
     let step = rip_follows g.row.R g.row.S s n b c.deref.result.now c.deref-2.result.now c.deref.ensures.0 c.deref-2.ensures.0 c.args.source passes c.args.rip.now is c.requires.response c.hear_routes.new.table.records c.hear_routes.ensures.stands in
-    next_router g.row.R g.row.S s i.routes.shares i.services.shares c.self.invariant (state_of s.ports s.running s.up s.seconds c.hear_routes.new.table.records s.services) (Packet n b) within c.are_bytes.ensures step
+    next_router g.row.R g.row.S s i.routes.shares i.services.shares c.self.invariant (state_of s.ports s.running s.up s.seconds c.hear_routes.new.table.records s.services) (Packet n b) within c.proves_bytes.ensures step
     c.hear_routes.new.table.shares i.services.shares c.hear_routes.ensures.shares refl c.self.invariant.minute
 
 pub returns-clause-follows : goal.returns-clause-follows

@@ -2,20 +2,20 @@ use Rattle.std.proofs.Common.{rules, ◌≡◌, ◌<◌, ◌*◌, refl, sym, ap,
 use Rattle.std.specs.List.{AllByRecursion}
 use Rattle.ipx_wire.specs.declared.sap.Sap.TheVariants.{Response as SapResponse}
 use Rattle.ipx_router.specs.Facts.{offers}
-use Rattle.ipx_router.specs.Following.{Follows, sends_between}
+use Rattle.ipx_router.specs.inside.Following.{Follows, sends_between}
 use Rattle.ipx_router.specs.Heard.{HeardSap}
 use Rattle.ipx_router.specs.History.{Packet}
 use Rattle.ipx_router.specs.Needs.{HasRoomFor}
 use Rattle.ipx_router.specs.Numbers.{most_own_length}
 use Rattle.ipx_router.specs.Outbox.{HasRoom, Appends}
-use Rattle.ipx_router.specs.Received.{IsPassed, IsHeard}
+use Rattle.ipx_router.specs.inside.Received.{IsPassed, IsHeard}
 use Rattle.ipx_router.specs.Relays.{Sent}
 use Rattle.ipx_router.specs.Stands.{State}
-use Rattle.ipx_router.proofs.AdvertisedChanges.{hear_room}
-use Rattle.ipx_router.proofs.Received.{sap_follows, sap_sent}
-use Rattle.ipx_router.proofs.Rooms.{next_router}
-use Rattle.ipx_router.proofs.Running.{ups_within, ups_fit}
-use Rattle.ipx_router.proofs.Steps.{state_of}
+use Rattle.ipx_router.proofs.changes.ListedForEachPort.{hear_room}
+use Rattle.ipx_router.proofs.verdicts.EffectOfWhatCame.{sap_follows, sap_sent}
+use Rattle.ipx_router.proofs.bounds.RoomIsEnough.{next_router}
+use Rattle.ipx_router.proofs.histories.RouterOneEventMore.{ups_within, ups_fit}
+use Rattle.ipx_router.proofs.histories.StateAfterEachEvent.{state_of}
 use Rattle.ipx_router.proofs.router.Router.learn_services.Goals as goal
 
 pub hear_services-requires : goal.hear_services-requires
@@ -41,7 +41,7 @@ invariant_of-self g c =
     let is : IsHeard s n b (HeardSap c.args.source (SapResponse c.requires.heard.0 c.args.entries.now)) = subst (λ (v : State). IsHeard v n b (HeardSap c.args.source (SapResponse c.requires.heard.0 c.args.entries.now))) (sym c.self.view_is) c.requires.heard.1 in
     let within : n < length s.ports = rw (ap (λ (v : State). length v.ports) c.self.view_is) c.requires.port in
     let step = sap_follows g.row.R g.row.S s n b c.deref.result.now c.deref-2.result.now c.deref.ensures.0 c.deref-2.ensures.0 c.args.source passes c.requires.heard.0 c.args.entries.now is c.hear_services.new.table.records c.hear_services.ensures.stands in
-    next_router g.row.R g.row.S s i.routes.shares i.services.shares c.self.invariant (state_of s.ports s.running s.up s.seconds s.routes c.hear_services.new.table.records) (Packet n b) within c.are_bytes.ensures step
+    next_router g.row.R g.row.S s i.routes.shares i.services.shares c.self.invariant (state_of s.ports s.running s.up s.seconds s.routes c.hear_services.new.table.records) (Packet n b) within c.proves_bytes.ensures step
     i.routes.shares c.hear_services.new.table.shares refl c.hear_services.ensures.shares c.self.invariant.minute
 
 pub returns-clause-follows : goal.returns-clause-follows

@@ -1,5 +1,5 @@
 use Rattle.std.proofs.Common.{arith, rules}
-use Rattle.ipx_router.proofs.RouterOf.{made_router, made_then}
+use Rattle.ipx_router.proofs.histories.NewRouterStands.{made_router, made_then}
 use Rattle.ipx_router.proofs.router.Router.of.Goals as goal
 
 pub invariant_of-result : goal.invariant_of-result

@@ -2,8 +2,8 @@ use Rattle.std.proofs.Common.{rules, ◌≡◌, refl, sym, ap, ◌∙◌, Bool, 
 use Rattle.ipx_wire.specs.declared.rip.Operation.TheVariants.{Request, Response}
 use Rattle.ipx_wire.specs.declared.sap.Sap.TheVariants.{Query, Response as SapResponse}
 use Rattle.ipx_router.specs.Heard.{HeardRip, HeardSap}
-use Rattle.ipx_router.specs.Received.{IsPassed, IsHeard, IsSentOn, IsSentOnTo}
-use Rattle.ipx_router.proofs.Received.{dropped_follows, forwarded_becomes}
+use Rattle.ipx_router.specs.inside.Received.{IsPassed, IsHeard, IsSentOn, IsSentOnTo}
+use Rattle.ipx_router.proofs.verdicts.EffectOfWhatCame.{dropped_follows, forwarded_becomes}
 use Rattle.ipx_router.proofs.router.Router.packet.Goals as goal
 
 pub learn_routes-requires : goal.learn_routes-requires
@@ -16,8 +16,8 @@ learn_routes-requires g c =
     let says : c.in-Rip.rip.operation ≡ Response = sym c.operation.ensures ∙ c.in-Response.is in
     search (rules, passes, is, says)
 
-pub advertise-requires : goal.advertise-requires
-advertise-requires g c =
+pub answer_routes-requires : goal.answer_routes-requires
+answer_routes-requires g c =
     let n = c.args.port in
     let b = c.args.bytes.now in
     let told = c.in-Rip.ensures in
@@ -36,8 +36,8 @@ learn_services-requires g c =
     (c.in-Response-sap.nearest, told.1 ∙ ap (λ x. Some (HeardSap c.in-Sap.source x)) c.in-Response-sap.is) in
     search (rules, passes, is)
 
-pub answer-requires : goal.answer-requires
-answer-requires g c =
+pub answer_services-requires : goal.answer_services-requires
+answer_services-requires g c =
     let n = c.args.port in
     let b = c.args.bytes.now in
     let told = c.in-Sap.ensures in

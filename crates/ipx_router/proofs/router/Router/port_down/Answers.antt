@@ -1,8 +1,8 @@
 use Rattle.std.proofs.Common.{rules, ◌≡◌, sym, ap, ◌∙◌, subst, true, false, List, ℕ}
-use Rattle.ipx_router.specs.Following.{Follows}
+use Rattle.ipx_router.specs.inside.Following.{Follows}
 use Rattle.ipx_router.specs.History.{PortDown}
-use Rattle.ipx_router.proofs.RouterOf.{stopped_up}
-use Rattle.ipx_router.proofs.Steps.{state_of, already_down}
+use Rattle.ipx_router.proofs.histories.NewRouterStands.{stopped_up}
+use Rattle.ipx_router.proofs.histories.StateAfterEachEvent.{state_of, already_down}
 use Rattle.ipx_router.specs.Port.{is_up}
 use Rattle.ipx_router.specs.Stands.{State}
 use Rattle.ipx_router.proofs.router.Router.port_down.Goals as goal

@@ -1,15 +1,15 @@
 use Rattle.std.proofs.Common.{rules, ◌<◌, sym, ap, subst, List, length}
 use Rattle.std.specs.List.{flat_map}
-use Rattle.ipx_router.specs.Following.{Follows, sends_between}
+use Rattle.ipx_router.specs.inside.Following.{Follows, sends_between}
 use Rattle.ipx_router.specs.History.{Packet}
 use Rattle.ipx_router.specs.Needs.{HasRoomFor}
 use Rattle.ipx_router.specs.Outbox.{Fits, Appends}
-use Rattle.ipx_router.specs.Received.{IsSentOn}
+use Rattle.ipx_router.specs.inside.Received.{IsSentOn}
 use Rattle.ipx_router.specs.Relays.{Sent, propagated_on}
 use Rattle.ipx_router.specs.Stands.{State}
-use Rattle.ipx_router.proofs.Received.{onward_follows, propagated_sent}
-use Rattle.ipx_router.proofs.Rooms.{event_fits}
-use Rattle.ipx_router.proofs.Steps.{state_of}
+use Rattle.ipx_router.proofs.verdicts.EffectOfWhatCame.{onward_follows, propagated_sent}
+use Rattle.ipx_router.proofs.bounds.RoomIsEnough.{event_fits}
+use Rattle.ipx_router.proofs.histories.StateAfterEachEvent.{state_of}
 use Rattle.ipx_router.proofs.router.Router.propagate.Goals as goal
 
 pub propagate-requires : goal.propagate-requires
@@ -22,7 +22,7 @@ propagate-requires g c =
     let within : n < length s.ports = rw (ap (λ (v : State). length v.ports) c.self.view_is) c.requires.port in
     let need : HasRoomFor s (Packet n b) c.args.outbox.now = subst (λ (v : State). HasRoomFor v (Packet n b) c.args.outbox.now) (sym c.self.view_is) c.requires.room in
     let step = onward_follows s n b c.args.packet.now on.0 g.row.R g.row.S in
-    let fits = event_fits g.row.R g.row.S s i.routes.shares i.services.shares c.self.invariant s (Packet n b) within c.are_bytes.ensures step (record { few = c.bounds.ensures.few; short = c.bounds.ensures.short }) c.args.outbox.now need in
+    let fits = event_fits g.row.R g.row.S s i.routes.shares i.services.shares c.self.invariant s (Packet n b) within c.proves_bytes.ensures step (record { few = c.bounds.ensures.few; short = c.bounds.ensures.short }) c.args.outbox.now need in
     let room : Fits c.args.outbox.now (flat_map (propagated_on c.deref.result.now n c.args.packet.now) c.deref-2.result.now) = subst (λ (ps : List Sent). Fits c.args.outbox.now ps) (sym (propagated_sent s n b c.deref.result.now c.deref-2.result.now c.deref.ensures.0 c.deref-2.ensures.0 c.args.packet.now c.args.crossed.now on)) fits in
     let listed = on.2 in
     search (rules, room, listed)

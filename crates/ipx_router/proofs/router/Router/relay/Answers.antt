@@ -5,8 +5,8 @@ use Rattle.ipx_router.specs.Port.{Port}
 use Rattle.ipx_router.specs.Relay.{relay_outcome, relay_sends, relay_places}
 use Rattle.ipx_router.specs.Relays.{Sent}
 use Rattle.ipx_router.specs.Stands.{State}
-use Rattle.ipx_router.proofs.Running.{ups_fit}
-use Rattle.ipx_router.proofs.Steps.{state_of}
+use Rattle.ipx_router.proofs.histories.RouterOneEventMore.{ups_fit}
+use Rattle.ipx_router.proofs.histories.StateAfterEachEvent.{state_of}
 use Rattle.ipx_router.proofs.router.Router.relay.Goals as goal
 
 pub relay-requires : goal.relay-requires

@@ -1,7 +1,7 @@
 use Rattle.std.proofs.Common.{rules, ◌≡◌, ◌<◌, ◌≤◌, refl, sym, ap, ◌∙◌, subst, true, false, List, length, arith, lit<}
 use Rattle.std.specs.List.{AllByRecursion, flat_map}
 use Rattle.ipx_router.specs.Facts.{offers}
-use Rattle.ipx_router.specs.Following.{Follows, sends_between}
+use Rattle.ipx_router.specs.inside.Following.{Follows, sends_between}
 use Rattle.ipx_router.specs.History.{Start}
 use Rattle.ipx_router.specs.Needs.{HasRoomFor}
 use Rattle.ipx_router.specs.Outbox.{Fits, Appends}
@@ -9,11 +9,11 @@ use Rattle.ipx_router.specs.Port.{numbers}
 use Rattle.ipx_router.specs.Relays.{Sent}
 use Rattle.ipx_router.specs.Sends.{introduction}
 use Rattle.ipx_router.specs.Stands.{State}
-use Rattle.ipx_router.proofs.Lengths.{length-numbers}
-use Rattle.ipx_router.proofs.PortPlaces.{numbers_below}
-use Rattle.ipx_router.proofs.Rooms.{next_router}
-use Rattle.ipx_router.proofs.Running.{start_follows, start_sends, run_room, stopped_routes, stopped_services}
-use Rattle.ipx_router.proofs.Steps.{state_of}
+use Rattle.ipx_router.proofs.bounds.ItemsOfEachList.{length-numbers}
+use Rattle.ipx_router.proofs.port_values.PortOfEachNumber.{numbers_below}
+use Rattle.ipx_router.proofs.bounds.RoomIsEnough.{next_router}
+use Rattle.ipx_router.proofs.histories.RouterOneEventMore.{start_follows, start_sends, run_room, stopped_routes, stopped_services}
+use Rattle.ipx_router.proofs.histories.StateAfterEachEvent.{state_of}
 use Rattle.ipx_router.proofs.router.Router.run.Goals as goal
 
 pub introduce_all-requires : goal.introduce_all-requires

@@ -1,8 +1,8 @@
 use Rattle.std.proofs.Common.{subst}
-use Rattle.ipx_router.specs.Following.{Follows}
+use Rattle.ipx_router.specs.inside.Following.{Follows}
 use Rattle.ipx_router.specs.History.{Second}
 use Rattle.ipx_router.specs.Stands.{State}
-use Rattle.ipx_router.proofs.Steps.{state_of, stopped_second}
+use Rattle.ipx_router.proofs.histories.StateAfterEachEvent.{state_of, stopped_second}
 use Rattle.ipx_router.proofs.router.Router.second.Goals as goal
 
 pub returns-then-not-self-clause-follows : goal.returns-then-not-self-clause-follows

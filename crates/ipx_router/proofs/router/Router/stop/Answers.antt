@@ -1,9 +1,9 @@
 use Rattle.std.proofs.Common.{◌≡◌, subst, false}
-use Rattle.ipx_router.specs.Following.{Follows}
+use Rattle.ipx_router.specs.inside.Following.{Follows}
 use Rattle.ipx_router.specs.History.{Stop}
 use Rattle.ipx_router.specs.Stands.{State}
-use Rattle.ipx_router.proofs.Running.{none_of_stopped}
-use Rattle.ipx_router.proofs.Steps.{state_of, stopped_stop}
+use Rattle.ipx_router.proofs.histories.RouterOneEventMore.{none_of_stopped}
+use Rattle.ipx_router.proofs.histories.StateAfterEachEvent.{state_of, stopped_stop}
 use Rattle.ipx_router.proofs.router.Router.stop.Goals as goal
 
 pub returns-then-not-self-clause-follows : goal.returns-then-not-self-clause-follows

@@ -1,16 +1,16 @@
 use Rattle.std.proofs.Common.{rules, ◌≡◌, ◌<◌, ◌==◌, refl, sym, ap, ◌∙◌, subst, not, Bool, true, List, ℕ, map, filter, length}
 use Rattle.std.specs.List.{AllByRecursion}
-use Rattle.ipx_router.specs.EndedSends.{port_down_sends}
-use Rattle.ipx_router.specs.Following.{Follows, sends_between}
+use Rattle.ipx_router.specs.inside.EndedSends.{port_down_sends}
+use Rattle.ipx_router.specs.inside.Following.{Follows, sends_between}
 use Rattle.ipx_router.specs.History.{PortDown}
 use Rattle.ipx_router.specs.Needs.{HasRoomFor}
 use Rattle.ipx_router.specs.Outbox.{Fits, Appends}
 use Rattle.ipx_router.specs.Port.{is_up}
 use Rattle.ipx_router.specs.Relays.{Sent}
 use Rattle.ipx_router.specs.Stands.{State}
-use Rattle.ipx_router.proofs.Rooms.{next_router}
-use Rattle.ipx_router.proofs.Running.{TableSteps, down_follows, down_room, down_sent, ups_within, few_ups, within_filter}
-use Rattle.ipx_router.proofs.Steps.{state_of}
+use Rattle.ipx_router.proofs.bounds.RoomIsEnough.{next_router}
+use Rattle.ipx_router.proofs.histories.RouterOneEventMore.{TableSteps, down_follows, down_room, down_sent, ups_within, few_ups, within_filter}
+use Rattle.ipx_router.proofs.histories.StateAfterEachEvent.{state_of}
 use Rattle.ipx_router.proofs.router.Router.take_down.Goals as goal
 
 pub without_number-self-inside-requires : goal.without_number-self-inside-requires

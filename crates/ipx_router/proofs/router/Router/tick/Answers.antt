@@ -1,15 +1,15 @@
 use Rattle.std.proofs.Common.{rules, ◌≡◌, ◌<◌, ◌≤◌, ◌+◌, ◌%◌, ◌==◌, refl, sym, ap, ◌∙◌, subst, Bool, true, List, map, length, arith}
 use Rattle.std.specs.List.{AllByRecursion}
-use Rattle.ipx_router.specs.EndedSends.{second_sends}
-use Rattle.ipx_router.specs.Following.{Follows, is_next_periodic, sends_between}
+use Rattle.ipx_router.specs.inside.EndedSends.{second_sends}
+use Rattle.ipx_router.specs.inside.Following.{Follows, is_next_periodic, sends_between}
 use Rattle.ipx_router.specs.History.{Second}
 use Rattle.ipx_router.specs.Needs.{HasRoomFor}
 use Rattle.ipx_router.specs.Outbox.{Fits, Appends}
 use Rattle.ipx_router.specs.Relays.{Sent}
 use Rattle.ipx_router.specs.Stands.{State}
-use Rattle.ipx_router.proofs.Rooms.{next_router}
-use Rattle.ipx_router.proofs.Running.{TableSteps, second_follows, second_room, second_sent, ups_within, few_ups}
-use Rattle.ipx_router.proofs.Steps.{state_of}
+use Rattle.ipx_router.proofs.bounds.RoomIsEnough.{next_router}
+use Rattle.ipx_router.proofs.histories.RouterOneEventMore.{TableSteps, second_follows, second_room, second_sent, ups_within, few_ups}
+use Rattle.ipx_router.proofs.histories.StateAfterEachEvent.{state_of}
 use Rattle.ipx_router.proofs.router.Router.tick.Goals as goal
 
 pub pass_second-requires : goal.pass_second-requires

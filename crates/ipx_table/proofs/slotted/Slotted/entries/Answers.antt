@@ -1,7 +1,8 @@
 use Rattle.std.proofs.Common.{rules, ◌≡◌, ◌∙◌, sym, ap, ap₂, subst, ◌≤◌, ◌<◌, ℕ, List, length, take, arith}
 use Rattle.std.specs.List.{AllByRecursion, zip}
 use Rattle.ipx_table.specs.Alive.{lifetime}
-use Rattle.ipx_table.specs.Slots.{AreKept, seen}
+use Rattle.ipx_table.specs.Slots.{seen}
+use Rattle.ipx_table.specs.inside.Clock.{AreKept}
 use Rattle.ipx_table.proofs.Pairs.{length-pairs, take-pairs}
 use Rattle.ipx_table.proofs.Halving.{length-take-same}
 use Rattle.ipx_table.proofs.slotted.Slotted.entries.Goals as goal

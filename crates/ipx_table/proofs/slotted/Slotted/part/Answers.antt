@@ -1,6 +1,6 @@
 use Rattle.std.proofs.Common.{◌∙◌, ap, not, length, filter}
 use Rattle.ipx_table.specs.Reading.{port_of}
-use Rattle.ipx_table.specs.Slots.{ends, parted}
+use Rattle.ipx_table.specs.inside.Clock.{ends, parted}
 use Rattle.ipx_table.proofs.slotted.Slotted.part.Goals as goal
 
 pub returns-clause-parted : goal.returns-clause-parted

@@ -1,9 +1,10 @@
 use Rattle.std.proofs.Common.{rules, ◌≡◌, ◌∙◌, sym, ap, subst, List, ℕ, option_map, take, take_all, arith}
 use Rattle.std.proofs.lemmas.Cmp.{on_total}
-use Rattle.ipx_table.specs.AfterOffer.{after_offer}
+use Rattle.ipx_table.specs.inside.AfterOffer.{after_offer}
 use Rattle.ipx_table.specs.Reading.{rules_of}
-use Rattle.ipx_table.specs.Slots.{seen, IsSorted}
-use Rattle.ipx_table.specs.Sought.{answers_to}
+use Rattle.ipx_table.specs.Slots.{seen}
+use Rattle.ipx_table.specs.inside.Clock.{IsSorted}
+use Rattle.ipx_table.specs.inside.Sought.{answers_to}
 use Rattle.ipx_table.specs.Stands.{Ascends, in_order, record_of}
 use Rattle.ipx_table.specs.Taken.{is_change, known_of, offer_left, same_left, taken_over}
 use Rattle.ipx_table.proofs.Exchanging.{left, same_beside}

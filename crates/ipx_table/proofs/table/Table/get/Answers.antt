@@ -3,7 +3,7 @@ use Rattle.std.proofs.lemmas.Cmp.{on_total}
 use Rattle.ipx_table.specs.Alive.{lifetime}
 use Rattle.ipx_table.specs.Reading.{rules_of}
 use Rattle.ipx_table.specs.Slots.{seen, seen_at}
-use Rattle.ipx_table.specs.Sought.{answers_to}
+use Rattle.ipx_table.specs.inside.Sought.{answers_to}
 use Rattle.ipx_table.specs.Stands.{Ascends, record_of}
 use Rattle.ipx_table.proofs.Clocks.{slot-found}
 use Rattle.ipx_table.proofs.OneOffer as one

@@ -2,7 +2,8 @@ use Rattle.std.proofs.Common.{◌∙◌, sym, ap, subst, ℕ, take}
 use Rattle.std.specs.List.{list_any}
 use Rattle.std.proofs.lemmas.Cmp.{on_total}
 use Rattle.ipx_table.specs.Reading.{rules_of}
-use Rattle.ipx_table.specs.Slots.{seen, next, IsSorted}
+use Rattle.ipx_table.specs.Slots.{seen}
+use Rattle.ipx_table.specs.inside.Clock.{next, IsSorted}
 use Rattle.ipx_table.specs.Stands.{second_later, is_last}
 use Rattle.ipx_table.proofs.Clocks.{next_going, quiet-seen}
 use Rattle.ipx_table.proofs.Following.{stands_second, sorted_later, ascending-second}

@@ -3,7 +3,8 @@ use Rattle.std.specs.List.{AllByRecursion}
 use Rattle.std.proofs.lemmas.Cmp.{on_total}
 use Rattle.ipx_table.specs.Alive.{lifetime}
 use Rattle.ipx_table.specs.Reading.{rules_of}
-use Rattle.ipx_table.specs.Slots.{seen, next, IsSorted}
+use Rattle.ipx_table.specs.Slots.{seen}
+use Rattle.ipx_table.specs.inside.Clock.{next, IsSorted}
 use Rattle.ipx_table.specs.Stands.{Ascends, second_later, ended, is_last}
 use Rattle.ipx_table.proofs.Clocks.{next_going, second-seen, ended-seen}
 use Rattle.ipx_table.proofs.Following.{stands_second, sorted_later, ascending-second, ascends-some}

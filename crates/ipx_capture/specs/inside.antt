@@ -1,0 +1,3 @@
+-- Definitions that only clauses inside the crate and its proofs speak of: nobody needs to believe them.
+pub mod Numbered
+pub mod Taking

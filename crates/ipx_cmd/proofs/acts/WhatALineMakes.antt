@@ -1,0 +1,185 @@
+-- What a line makes of a machine, by what was read of it.
+use Rattle.std.proofs.Common.{◌≡◌, ℕ, true, false, Bool, List, [], ◌∷◌, ◌++◌, length, refl, sym, ap, subst, ◌∙◌, Option, None, Some, is_some, Result, Ok, Err, OnOk, IfErr, append-nil}
+use Rattle.std.proofs.KnownBytes.{Appends-nil}
+use Rattle.std.proofs.lemmas.Bool.{true≢false}
+use Rattle.ipx_wire.specs.Ends.{Output}
+use Rattle.ipx_router.specs.History.{History}
+use Rattle.ipx_router.specs.Port.{Port}
+use Rattle.ipx_router.specs.Stands.{State}
+use Rattle.ipx_cmd.specs.Acted.{Acted, Halted}
+use Rattle.ipx_cmd.specs.Instruction.{Instruction, instruction_of, next_port, values_of}
+use Rattle.ipx_cmd.specs.Line.{◌>>=◌, Stops}
+use Rattle.ipx_cmd.specs.Machine.{Standing, Led, acts, does, obeys, past_of, stage_of}
+use Rattle.ipx_cmd.specs.MachineStands.{Machine, RouterStands, IsSame, IsStanding, Leads, Makes, reached}
+use Rattle.ipx_cmd.specs.Making.{named_port}
+use Rattle.ipx_cmd.specs.Script.{line_meaning}
+use Rattle.ipx_cmd.specs.WroteFront.{IsFaultOf}
+use Rattle.ipx_cmd.specs.declared.lines.command.Command.{Command}
+use Rattle.ipx_cmd.specs.declared.lines.command.Command.TheVariants.{Port as PortCommand, Start, Stop, Second, In, Down, Up, Routes, Services}
+use Rattle.ipx_cmd.specs.declared.lines.command.NamedPort.{NamedPort}
+use Rattle.ipx_cmd.specs.declared.lines.command.Stage.{Stage}
+use Rattle.ipx_cmd.specs.declared.ended.RunFault.{RunFault}
+use Rattle.ipx_cmd.specs.declared.ended.RunFault.TheVariants.{Memory}
+use Rattle.ipx_cmd.specs.declared.lines.fault.LineFault.{LineFault}
+use Rattle.ipx_cmd.specs.declared.lines.halt.Halt.{Halt}
+use Rattle.ipx_cmd.specs.declared.lines.halt.Halt.TheVariants.{Line, Run}
+use Rattle.ipx_cmd.proofs.acts.AnotherPortMayBeNamed.{port_line}
+use Rattle.ipx_cmd.proofs.written.AddedOneAfterAnother.{added_kept}
+
+-- ---- what a line does, by its meaning
+
+same_made : (ports : List Port) (router : Option State) (past : Option History) → RouterStands ports router past → is_some router ≡ is_some past
+same_made ports None None s = refl
+same_made ports (Some r) (Some h) s = refl
+same_made ports None (Some h) s = absurd s
+same_made ports (Some r) None s = absurd s
+
+same_stage : (m : Machine) (s : Standing) → IsStanding m s → reached m ≡ stage_of s
+same_stage m s is =
+    ap (λ (b : Bool). record { made = b; ports = length m.ports }) (same_made s.ports m.router s.past is.router)
+    ∙ ap (λ (l : List Port). record { made = is_some s.past; ports = length l }) is.ports
+
+meaning_there : (m : Machine) (s : Standing) (line : List ℕ) (meant : Result (Option Instruction) LineFault) → IsStanding m s → line_meaning (reached m) line ≡ meant
+    → line_meaning (stage_of s) line ≡ meant
+meaning_there m s line meant is e = ap (λ (stage : Stage). line_meaning stage line) (sym (same_stage m s is)) ∙ e
+
+pub acts_by : (m : Machine) (s : Standing) (line : List ℕ) (meant : Result (Option Instruction) LineFault) → IsStanding m s → line_meaning (reached m) line ≡ meant
+    → acts s line ≡ (meant >>= does s)
+unfolding acts
+acts_by m s line meant is e = ap (λ (r : Result (Option Instruction) LineFault). r >>= does s) (meaning_there m s line meant is e)
+
+-- it is still what the lines led to
+pub still : (m n : Machine) (s : Standing) → IsSame m n → IsStanding m s → IsStanding n s
+still m n s same is = record { ports = same.ports ∙ is.ports; router = subst (λ (x : Option State). RouterStands s.ports x s.past) (sym same.router) is.router }
+
+-- what a port's line and one for the router lead to
+abbrev port_led : Standing → Result Port LineFault → Led
+port_led s made = made >>= (λ port. Ok (record { ports = s.ports ++ port ∷ []; past = s.past }, []))
+
+abbrev router_led : Standing → Instruction → Result History LineFault → Led
+router_led s i past = past >>= (λ h. obeys s.ports h i)
+
+-- ---- a line that is wrong, or that memory was wanting for
+stopped : (o : Output) (text : List ℕ) (led : Led) (why : RunFault) → o.failed ≡ false → why ≡ Memory → Halted led o o text text (Run why)
+stopped o text led why fine e =
+    (record { count = 0; written = Appends-nil o.written }, subst (IsFaultOf false o.failed) (sym e) (refl, fine))
+
+pub refused_line : (m : Machine) (s : Standing) (line : List ℕ) (o : Output) (text : List ℕ) (halt : Halt) → o.failed ≡ false → IsStanding m s → Stops (line_meaning (reached m) line) halt
+    → Halted (acts s line) o o text text halt
+refused_line m s line o text (Line fault) fine is stops = (acts_by m s line (Err fault) is stops, refl, refl)
+refused_line m s line o text (Run why) fine is stops = stopped o text (acts s line) why fine stops
+
+-- ---- a line that is skipped
+pub skipped : (m n : Machine) (s : Standing) (line : List ℕ) (o : Output) (text : List ℕ) → o.failed ≡ false → IsStanding m s → IsSame m n → line_meaning (reached m) line ≡ Ok None
+    → Acted acts (IsStanding n) s line o o text text
+skipped m n s line o text fine is same e = record {
+  after = s;
+  said = [];
+  does = acts_by m s line (Ok None) is e;
+  now = still m n s same is;
+  added = added_kept o text text [] fine (sym (append-nil text));
+}
+
+-- ---- a line that names a port
+
+still_bare : (ports more : List Port) (router : Option State) (past : Option History) → is_some router ≡ false → RouterStands ports router past → RouterStands more router past
+still_bare ports more None None none s = tt
+still_bare ports more (Some r) past none s = absurd (true≢false none)
+still_bare ports more None (Some h) none s = absurd s
+
+pub named_line : (m n p : Machine) (s : Standing) (line : List ℕ) (named : NamedPort) (o : Output) (text : List ℕ) → o.failed ≡ false → IsStanding m s → IsSame m n
+    → line_meaning (reached m) line ≡ Ok (Some (next_port named)) → named_port (values_of named) ≡ Ok (values_of named)
+    → p.ports ≡ n.ports ++ values_of named ∷ [] → p.router ≡ n.router → Acted acts (IsStanding p) s line o o text text
+named_line m n p s line named o text fine is same e makes ports router = record {
+  after = record { ports = s.ports ++ values_of named ∷ []; past = s.past };
+  said = [];
+  does = acts_by m s line (Ok (Some (next_port named))) is e ∙ ap (port_led s) makes;
+  now = record {
+    ports = ports ∙ ap (λ (l : List Port). l ++ values_of named ∷ []) (same.ports ∙ is.ports);
+    router = subst (λ (x : Option State). RouterStands (s.ports ++ values_of named ∷ []) x s.past) (sym (router ∙ same.router))
+        (still_bare s.ports (s.ports ++ values_of named ∷ []) m.router s.past (port_line (reached m) line named e).0 is.router);
+  };
+  added = added_kept o text text [] fine (sym (append-nil text));
+}
+
+pub unnamed_line : (m : Machine) (s : Standing) (line : List ℕ) (named : NamedPort) (o : Output) (text : List ℕ) (fault : LineFault) → IsStanding m s
+    → line_meaning (reached m) line ≡ Ok (Some (next_port named)) → named_port (values_of named) ≡ Err fault → Halted (acts s line) o o text text (Line fault)
+unnamed_line m s line named o text fault is e makes = (acts_by m s line (Ok (Some (next_port named))) is e ∙ ap (port_led s) makes, refl, refl)
+
+-- ---- a line for the router
+
+abbrev is_port : Command → Bool
+is_port (PortCommand named) = true
+is_port command = false
+
+router_does : (s : Standing) (buffer : List ℕ) (c : Command) → is_port c ≡ false → does s (Some (instruction_of buffer c)) ≡ router_led s (instruction_of buffer c) (past_of s)
+router_does s buffer (PortCommand named) unlike = absurd (true≢false unlike)
+router_does s buffer Start unlike = refl
+router_does s buffer Stop unlike = refl
+router_does s buffer (Second count) unlike = refl
+router_does s buffer (In port) unlike = refl
+router_does s buffer (Down port) unlike = refl
+router_does s buffer (Up port) unlike = refl
+router_does s buffer Routes unlike = refl
+router_does s buffer Services unlike = refl
+
+-- what the line does, where its router has this history
+router_line : (m : Machine) (s : Standing) (line buffer : List ℕ) (c : Command) (past : Result History LineFault) → is_port c ≡ false → IsStanding m s
+    → line_meaning (reached m) line ≡ Ok (Some (instruction_of buffer c)) → past_of s ≡ past → acts s line ≡ router_led s (instruction_of buffer c) past
+router_line m s line buffer c past unlike is e made =
+    acts_by m s line (Ok (Some (instruction_of buffer c))) is e ∙ router_does s buffer c unlike ∙ ap (router_led s (instruction_of buffer c)) made
+
+pub unmade_line : (m : Machine) (s : Standing) (line buffer : List ℕ) (c : Command) (o : Output) (text : List ℕ) (fault : LineFault) → is_port c ≡ false → IsStanding m s
+    → line_meaning (reached m) line ≡ Ok (Some (instruction_of buffer c)) → past_of s ≡ Err fault → Halted (acts s line) o o text text (Line fault)
+unmade_line m s line buffer c o text fault unlike is e made = (router_line m s line buffer c (Err fault) unlike is e made, refl, refl)
+
+-- the machine whose router is made obeyed
+pub obeyed_line : (m k p : Machine) (s : Standing) (line buffer : List ℕ) (c : Command) (from to : Output) (old new : List ℕ) → is_port c ≡ false → IsStanding m s
+    → line_meaning (reached m) line ≡ Ok (Some (instruction_of buffer c)) → Makes k s → k.buffer ≡ buffer
+    → ((ports : List Port) (h : History) → IsStanding k (record { ports = ports; past = Some h }) → Leads p (obeys ports h (instruction_of k.buffer c)) from to old new)
+    → Acted acts (IsStanding p) s line from to old new
+obeyed_line m k p s line buffer c from to old new unlike is e made same obeyed =
+    let leads = obeyed s.ports made.past made.stands in
+    let does = router_line m s line buffer c (Ok made.past) unlike is e made.is in
+    record {
+      after = leads.after;
+      said = leads.said;
+      does = does ∙ ap (λ (b : List ℕ). obeys s.ports made.past (instruction_of b c)) (sym same) ∙ leads.does;
+      now = leads.now;
+      added = leads.added;
+    }
+
+pub halted_line : (m k : Machine) (s : Standing) (line buffer : List ℕ) (c : Command) (from to : Output) (old new : List ℕ) (halt : Halt) → is_port c ≡ false → IsStanding m s
+    → line_meaning (reached m) line ≡ Ok (Some (instruction_of buffer c)) → Makes k s → k.buffer ≡ buffer
+    → ((ports : List Port) (h : History) → IsStanding k (record { ports = ports; past = Some h }) → Halted (obeys ports h (instruction_of k.buffer c)) from to old new halt)
+    → Halted (acts s line) from to old new halt
+halted_line m k s line buffer c from to old new halt unlike is e made same obeyed =
+    let does = router_line m s line buffer c (Ok made.past) unlike is e made.is ∙ ap (λ (b : List ℕ). obeys s.ports made.past (instruction_of b c)) (sym same) in
+    subst (λ (led : Led). Halted led from to old new halt) (sym does) (obeyed s.ports made.past made.stands)
+
+-- ---- what the last call of a line leaves
+
+pub unlike_port : (c : Command) → ((named : NamedPort) → c ≡ PortCommand named → ⊥) → is_port c ≡ false
+unlike_port (PortCommand named) differs = absurd (differs named refl)
+unlike_port Start differs = refl
+unlike_port Stop differs = refl
+unlike_port (Second count) differs = refl
+unlike_port (In port) differs = refl
+unlike_port (Down port) differs = refl
+unlike_port (Up port) differs = refl
+unlike_port Routes differs = refl
+unlike_port Services differs = refl
+
+pub line_acted : (m k p : Machine) (line buffer : List ℕ) (c : Command) (from to : Output) (old new : List ℕ) (r : Result (Unit {0}) Halt) → is_port c ≡ false
+    → line_meaning (reached m) line ≡ Ok (Some (instruction_of buffer c)) → ((s : Standing) → IsStanding m s → Makes k s) → k.buffer ≡ buffer
+    → OnOk r ((ports : List Port) (h : History) → IsStanding k (record { ports = ports; past = Some h }) → Leads p (obeys ports h (instruction_of k.buffer c)) from to old new)
+    → OnOk r ((s : Standing) → IsStanding m s → Acted acts (IsStanding p) s line from to old new)
+line_acted m k p line buffer c from to old new (Ok done) unlike e makes same obeyed = λ s is. obeyed_line m k p s line buffer c from to old new unlike is e (makes s is) same obeyed
+line_acted m k p line buffer c from to old new (Err halt) unlike e makes same obeyed = tt
+
+pub line_halted : (m k : Machine) (line buffer : List ℕ) (c : Command) (from to : Output) (old new : List ℕ) (r : Result (Unit {0}) Halt) → is_port c ≡ false
+    → line_meaning (reached m) line ≡ Ok (Some (instruction_of buffer c)) → ((s : Standing) → IsStanding m s → Makes k s) → k.buffer ≡ buffer
+    → IfErr r (λ halt. (ports : List Port) (h : History) → IsStanding k (record { ports = ports; past = Some h }) → Halted (obeys ports h (instruction_of k.buffer c)) from to old new halt)
+    → IfErr r (λ halt. (s : Standing) → IsStanding m s → Halted (acts s line) from to old new halt)
+line_halted m k line buffer c from to old new (Ok done) unlike e makes same obeyed = tt
+line_halted m k line buffer c from to old new (Err halt) unlike e makes same obeyed = λ s is. halted_line m k s line buffer c from to old new halt unlike is e (makes s is) same obeyed

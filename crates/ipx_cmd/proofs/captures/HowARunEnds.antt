@@ -1,0 +1,350 @@
+-- How a run of `decode` ends, from where it stood.
+use Rattle.std.proofs.Common.{◌≡◌, ◌⊎◌, ℕ, suc, ◌+◌, true, List, [], ◌++◌, length, take, drop, refl, sym, ap, subst, ◌∙◌, inl, inr, arith, Option, Some, None, Result, Ok, Err, IfOk, IfErr, OnErr, append_assoc, append-nil, length-append, drop_at}
+use Rattle.std.proofs.KnownBytes.{Appends-nil, Appends-trans, Consumes-trans}
+use Rattle.std.proofs.lemmas.Grind.{flat_map-append}
+use Rattle.std.proofs.lemmas.List.{take-append-drop}
+use Rattle.std.specs.Io.KnownBytes.{Appends, Consumes, IsAtEnd}
+use Rattle.std.specs.List.{flat_map}
+use Rattle.ipx_wire.specs.Ends.{Input, Output}
+use Rattle.ipx_wire.specs.declared.failed.Failed.{Failed}
+use Rattle.ipx_capture.specs.Calls.{ending}
+use Rattle.ipx_capture.specs.Given.{UnopenedBy}
+use Rattle.ipx_capture.specs.Header.{header_of}
+use Rattle.ipx_capture.specs.Place.{Place, Opened, Unopened, Takes, Nexts, Continues, told}
+use Rattle.ipx_capture.specs.Records.{Record, Contents, records, records_from, behind_header, first_record}
+use Rattle.ipx_capture.specs.declared.capture.Captured.{Captured}
+use Rattle.ipx_capture.specs.declared.capture_fault.CaptureFault.{CaptureFault}
+use Rattle.ipx_capture.specs.declared.capture_fault.CaptureFault.TheVariants.{CutHeader, Magic, Version, Link, RecordLong, CutRecord, Read, Memory}
+use Rattle.ipx_capture.specs.declared.standing.Standing.TheVariants.{Open}
+use Rattle.ipx_capture.proofs.Calling.{header_append}
+use Rattle.ipx_capture.proofs.First.{first_none}
+use Rattle.ipx_cmd.specs.Decoded.{CutOff, Decoded, IsFront}
+use Rattle.ipx_cmd.specs.inside.Moved.{Refuses, Tells}
+use Rattle.ipx_cmd.specs.RecordText.{record_text}
+use Rattle.ipx_cmd.specs.WroteFront.{WroteAll, WroteFront}
+use Rattle.ipx_cmd.specs.Shown.{shown, shown_end, sofar, judged, settled, contents_text, ending_text, ended_by, is_some_fault, capture_fault_text}
+use Rattle.ipx_cmd.specs.declared.ended.Ended.{Ended}
+use Rattle.ipx_cmd.specs.declared.ended.Ended.TheVariants.{Done, BadInput}
+use Rattle.ipx_cmd.specs.declared.ended.RunFault.{RunFault}
+use Rattle.ipx_cmd.specs.declared.ended.RunFault.TheVariants.{Read as ReadFault, Memory as MemoryFault}
+use Rattle.ipx_cmd.proofs.captures.BetweenTwoRecords.{Midway}
+use Rattle.ipx_cmd.proofs.captures.RecordsInFront.{Rows, rows_append, rows_end, rows_split, prepend}
+
+-- an open capture takes what its call tells
+pub takes_of : (p q : Place) (a b : Result (Option Captured) CaptureFault) → p.standing ≡ Open → Nexts p q (told a) → a ≡ b → Takes p q (told b)
+takes_of p q a b goes_on h e =
+    subst (λ s. Continues s p q (told b)) goes_on (subst (λ (r : Result (Option Captured) CaptureFault). Nexts p q (told r)) e h)
+
+-- texts by the records of the bytes
+pub shown_by : (bytes : List ℕ) (c : Contents) → records bytes ≡ c → shown bytes ≡ contents_text c c.fault
+unfolding shown
+shown_by bytes c e = ap (λ (x : Contents). contents_text x x.fault) e
+
+pub end_by : (bytes : List ℕ) (c : Contents) → records bytes ≡ c → shown_end bytes ≡ ended_by c.fault
+unfolding shown_end
+end_by bytes c e = ap (λ (x : Contents). ended_by x.fault) e
+
+pub sofar_by : (bytes : List ℕ) (c : Contents) → records bytes ≡ c → sofar bytes ≡ contents_text c (settled c.fault)
+unfolding sofar
+sofar_by bytes c e = ap (λ (x : Contents). contents_text x (settled x.fault)) e
+
+pub judged_by : (bytes : List ℕ) (c : Contents) → records bytes ≡ c → judged bytes ≡ is_some_fault (settled c.fault)
+unfolding judged
+judged_by bytes c e = ap (λ (x : Contents). is_some_fault (settled x.fault)) e
+
+-- the records of a file are those behind its header
+file_records : (before : Input) (p : Place) (opened : Opened before p) (more : List ℕ)
+    → records (opened.begun.header ++ more) ≡ records_from (suc (length (opened.begun.header ++ more))) p.order 1 more
+file_records before p opened more =
+    let h = opened.begun.header in
+    let size = opened.begun.size in
+    ap (λ x. behind_header x (h ++ more)) (header_append h more (omega (arith, size)) ∙ opened.begun.order_is)
+    ∙ ap (records_from (suc (length (h ++ more))) p.order 1) (drop_at h more 24 size)
+
+-- its records so far, and then some others
+file_split : (before : Input) (p : Place) (opened : Opened before p) (more rest : List ℕ) (rs : List Record) → Rows p.order 1 more rs rest
+    → (c : Contents) × (records (opened.begun.header ++ more) ≡ prepend rs c)
+file_split before p opened more rest rs rows =
+    let split = rows_split p.order rs (suc (length (opened.begun.header ++ more))) 1 more rest rows (omega (arith, length-append opened.begun.header more)) in
+    (records_from (suc split.left) p.order (1 + length rs) rest, file_records before p opened more ∙ split.are)
+
+-- its records, and what stands behind them
+file_end : (before : Input) (p : Place) (opened : Opened before p) (more rest : List ℕ) (rs : List Record) (m : ℕ) (fault : Option CaptureFault) → Rows p.order 1 more rs rest
+    → m ≡ 1 + length rs → first_record p.order m rest ≡ ending fault → records (opened.begun.header ++ more) ≡ record { records = rs; fault = fault }
+file_end before p opened more rest rs m fault rows same told =
+    file_records before p opened more
+    ∙ rows_end p.order rs (suc (length (opened.begun.header ++ more))) 1 m more rest fault rows (omega (arith, length-append opened.begun.header more)) same told
+
+-- prefixes of texts
+front_of : (whole gone text : List ℕ) (k : ℕ) → whole ≡ gone ++ text → IsFront (gone ++ take k text) whole
+front_of whole gone text k e = record {
+  rest = drop k text;
+  is = e ∙ ap (λ (x : List ℕ). gone ++ x) (sym (take-append-drop k text)) ∙ sym (append_assoc gone (take k text) (drop k text));
+}
+
+front_more : (text whole more longer : List ℕ) → IsFront text whole → longer ≡ whole ++ more → IsFront text longer
+front_more text whole more longer front e = record {
+  rest = front.rest ++ more;
+  is = e ∙ ap (λ (x : List ℕ). x ++ more) front.is ∙ append_assoc text front.rest more;
+}
+
+-- bytes that were read on since
+read_on : (before : Input) (p q : Place) (from o : Output) (text : List ℕ) (n : ℕ) (new : Input) (more : List ℕ) (opened : Opened before p) (m : Midway p q from o text n)
+    → Consumes q.input.left new.left more → Consumes before.left new.left (opened.begun.header ++ (m.more ++ more))
+read_on before p q from o text n new more opened m h =
+    Consumes-trans before.left p.input.left new.left opened.begun.header (m.more ++ more) opened.begun.read
+    (Consumes-trans p.input.left q.input.left new.left m.more more m.read h)
+
+-- the run was given up with bytes read on, and a prefix of the text left was written
+pub cut : (before : Input) (p q : Place) (from o to : Output) (text : List ℕ) (n : ℕ) (new : Input) (more : List ℕ) → Opened before p → Midway p q from o text n
+    → Consumes q.input.left new.left more → WroteFront o to text → CutOff before new from to
+cut before p q from o to text n new more opened m h w =
+    let rows = rows_append p.order m.rs 1 m.more q.ahead more m.rows in
+    let split = file_split before p opened (m.more ++ more) (q.ahead ++ more) m.rs rows in
+    let c = split.0 in
+    let bytes : List ℕ = opened.begun.header ++ (m.more ++ more) in
+    let tail : List ℕ = flat_map record_text c.records ++ ending_text (length (m.rs ++ c.records)) (settled c.fault) in
+    let texts : sofar bytes ≡ flat_map record_text m.rs ++ tail =
+    sofar_by bytes (prepend m.rs c) split.1
+    ∙ ap (λ (x : List ℕ). x ++ ending_text (length (m.rs ++ c.records)) (settled c.fault)) (flat_map-append record_text m.rs c.records)
+    ∙ append_assoc (flat_map record_text m.rs) (flat_map record_text c.records) (ending_text (length (m.rs ++ c.records)) (settled c.fault)) in
+    record {
+      bytes = bytes;
+      text = m.gone ++ take w.count text;
+      read = read_on before p q from o text n new more opened m h;
+      wrote = Appends-trans from.written o.written to.written m.gone (take w.count text) m.wrote w.written;
+      front = inl (front_more (m.gone ++ take w.count text) (flat_map record_text m.rs) tail (sofar bytes) (front_of (flat_map record_text m.rs) m.gone text w.count m.text_is) texts);
+    }
+
+-- nothing was written
+pub wrote_none : (o to : Output) (text : List ℕ) → to ≡ o → WroteFront o to text
+wrote_none o to text e = record { count = 0; written = subst (λ (x : Output). Appends o.written x.written []) (sym e) (Appends-nil o.written) }
+
+-- the records of the bytes read, where a call told their end
+met : (before : Input) (p q s : Place) (from o : Output) (text : List ℕ) (n : ℕ) (opened : Opened before p) (m : Midway p q from o text n) (more : List ℕ) (fault : Option CaptureFault)
+    → first_record q.order (q.taken + 1) (q.ahead ++ more) ≡ ending fault → records (opened.begun.header ++ (m.more ++ more)) ≡ record { records = m.rs; fault = fault }
+met before p q s from o text n opened m more fault told =
+    file_end before p opened (m.more ++ more) (q.ahead ++ more) m.rs (q.taken + 1) fault (rows_append p.order m.rs 1 m.more q.ahead more m.rows) (omega (arith, m.taken))
+    (ap (λ x. first_record x (q.taken + 1) (q.ahead ++ more)) (sym m.order) ∙ told)
+
+-- the end of the file
+pub done : (before : Input) (p q s : Place) (from o to : Output) (text : List ℕ) (n : ℕ) → Opened before p → Midway p q from o text n → Takes q s (Ok None)
+    → WroteAll o to text → Decoded before s.input from to Done
+done before p q s from o to text n opened m t w =
+    let bytes : List ℕ = opened.begun.header ++ (m.more ++ t.more) in
+    let are = met before p q s from o text n opened m t.more None (ap (first_record q.order (q.taken + 1)) t.gives.0 ∙ first_none q.order (q.taken + 1) [] refl) in
+    let texts : shown bytes ≡ m.gone ++ text = shown_by bytes (record { records = m.rs; fault = None }) are ∙ append-nil (flat_map record_text m.rs) ∙ m.text_is in
+    record {
+      bytes = bytes;
+      read = read_on before p q from o text n s.input t.more opened m t.read;
+      wrote = subst (Appends from.written to.written) (sym texts) (Appends-trans from.written o.written to.written m.gone text m.wrote w.written);
+      answer = sym (end_by bytes (record { records = m.rs; fault = None }) are);
+      enough = inl t.gives.2;
+    }
+
+-- a fault of the file that a call told
+pub record Found (before : Input) (p q s : Place) (from o : Output) (text : List ℕ) (n : ℕ) (fault : CaptureFault) : Type 0 where
+  pub opened : Opened before p
+  pub m : Midway p q from o text n
+  pub more : List ℕ
+  pub read : Consumes q.input.left s.input.left more
+  pub is : first_record q.order (q.taken + 1) (q.ahead ++ more) ≡ Err fault
+  pub enough : IsAtEnd s.input.left ⊎ (settled (Some fault) ≡ Some fault)
+  pub line : ending_text (length m.rs) (Some fault) ≡ capture_fault_text (n + 1) fault
+
+-- the bytes that it was found in, and what they have
+pub record Ends (before new : Input) (from o : Output) (text line : List ℕ) (fault : CaptureFault) : Type 0 where
+  pub bytes : List ℕ
+  pub gone : List ℕ
+  pub read : Consumes before.left new.left bytes
+  pub wrote : Appends from.written o.written gone
+  pub shown_is : shown bytes ≡ gone ++ (text ++ line)
+  pub end_is : shown_end bytes ≡ BadInput
+  pub sofar_is : settled (Some fault) ≡ Some fault → sofar bytes ≡ gone ++ (text ++ line)
+  pub judged_is : settled (Some fault) ≡ Some fault → judged bytes ≡ true
+
+found_ends : (before : Input) (p q s : Place) (from o : Output) (text : List ℕ) (n : ℕ) (fault : CaptureFault) → Found before p q s from o text n fault
+    → Ends before s.input from o text (capture_fault_text (n + 1) fault) fault
+found_ends before p q s from o text n fault f =
+    let m = f.m in
+    let bytes : List ℕ = f.opened.begun.header ++ (m.more ++ f.more) in
+    let c : Contents = record { records = m.rs; fault = Some fault } in
+    let are = met before p q s from o text n f.opened m f.more (Some fault) f.is in
+    let line : List ℕ = capture_fault_text (n + 1) fault in
+    let whole : contents_text c (Some fault) ≡ m.gone ++ (text ++ line) =
+    ap (λ (x : List ℕ). flat_map record_text m.rs ++ x) f.line ∙ ap (λ (x : List ℕ). x ++ line) m.text_is ∙ append_assoc m.gone text line in
+    record {
+      bytes = bytes;
+      gone = m.gone;
+      read = read_on before p q from o text n s.input f.more f.opened m f.read;
+      wrote = m.wrote;
+      shown_is = shown_by bytes c are ∙ whole;
+      end_is = end_by bytes c are;
+      sofar_is = λ settles. sofar_by bytes c are ∙ ap (contents_text c) settles ∙ whole;
+      judged_is = λ settles. judged_by bytes c are ∙ ap is_some_fault settles;
+    }
+
+-- it was told
+ends_ok : (before new : Input) (from o to : Output) (text : List ℕ) (n : ℕ) (fault : CaptureFault) (ended : Ended)
+    → Ends before new from o text (capture_fault_text n fault) fault → IsAtEnd new.left ⊎ (settled (Some fault) ≡ Some fault)
+    → ended ≡ BadInput → WroteAll o to (text ++ capture_fault_text n fault) → Decoded before new from to ended
+ends_ok before new from o to text n fault ended e enough answer w = record {
+  bytes = e.bytes;
+  read = e.read;
+  wrote = subst (Appends from.written to.written) (sym e.shown_is) (Appends-trans from.written o.written to.written e.gone (text ++ capture_fault_text n fault) e.wrote w.written);
+  answer = answer ∙ sym e.end_is;
+  enough = elim enough [ inl end ↦ inl end | inr settles ↦ inr (e.judged_is settles) ];
+}
+
+-- or a prefix of it
+ends_err : (before new : Input) (from o to : Output) (text : List ℕ) (n : ℕ) (fault : CaptureFault)
+    → Ends before new from o text (capture_fault_text n fault) fault → IsAtEnd new.left ⊎ (settled (Some fault) ≡ Some fault)
+    → WroteFront o to (text ++ capture_fault_text n fault) → CutOff before new from to
+ends_err before new from o to text n fault e enough w =
+    let t : List ℕ = text ++ capture_fault_text n fault in
+    record {
+      bytes = e.bytes;
+      text = e.gone ++ take w.count t;
+      read = e.read;
+      wrote = Appends-trans from.written o.written to.written e.gone (take w.count t) e.wrote w.written;
+      front = elim enough [
+        | inl end ↦ inr (end, front_of (shown e.bytes) e.gone t w.count e.shown_is)
+        | inr settles ↦ inl (front_of (sofar e.bytes) e.gone t w.count (e.sofar_is settles))
+      ];
+    }
+
+found_ok : (before : Input) (p q s : Place) (from o to : Output) (text : List ℕ) (n : ℕ) (fault : CaptureFault) (r : Result Ended RunFault) → Found before p q s from o text n fault
+    → Tells (n + 1) fault o to text r → IfOk r (λ ended. Decoded before s.input from to ended)
+found_ok before p q s from o to text n fault (Ok ended) f w = ends_ok before s.input from o to text (n + 1) fault ended (found_ends before p q s from o text n fault f) f.enough w.0 w.1
+found_ok before p q s from o to text n fault (Err why) f w = tt
+
+found_err : (before : Input) (p q s : Place) (from o to : Output) (text : List ℕ) (n : ℕ) (fault : CaptureFault) (r : Result Ended RunFault) → Found before p q s from o text n fault
+    → Tells (n + 1) fault o to text r → OnErr r (CutOff before s.input from to)
+found_err before p q s from o to text n fault (Ok ended) f w = tt
+found_err before p q s from o to text n fault (Err why) f w = ends_err before s.input from o to text (n + 1) fault (found_ends before p q s from o text n fault f) f.enough w.0
+
+-- the two faults that a call tells of a file
+found_long : (before : Input) (p q s : Place) (from o : Output) (text : List ℕ) (n : ℕ) → Opened before p → Midway p q from o text n → Takes q s (Err RecordLong)
+    → Found before p q s from o text n RecordLong
+found_long before p q s from o text n opened m t = record {
+  opened = opened;
+  m = m;
+  more = t.more;
+  read = t.read;
+  is = t.gives.0;
+  enough = inr refl;
+  line = ap (λ (k : ℕ). capture_fault_text (k + 1) RecordLong) (sym m.numbered);
+}
+
+found_cut : (before : Input) (p q s : Place) (from o : Output) (text : List ℕ) (n : ℕ) → Opened before p → Midway p q from o text n → Takes q s (Err CutRecord)
+    → Found before p q s from o text n CutRecord
+found_cut before p q s from o text n opened m t = record {
+  opened = opened;
+  m = m;
+  more = t.more;
+  read = t.read;
+  is = t.gives.0;
+  enough = inl t.gives.1;
+  line = ap (λ (k : ℕ). capture_fault_text (k + 1) CutRecord) (sym m.numbered);
+}
+
+-- what a run ends with at a fault that a call told
+pub fault_ok : (before : Input) (p q s : Place) (from o to : Output) (text : List ℕ) (n : ℕ) (fault : CaptureFault) (r : Result Ended RunFault) → Opened before p
+    → Midway p q from o text n → Takes q s (Err fault) → Refuses fault (n + 1) o to text r → IfOk r (λ ended. Decoded before s.input from to ended)
+fault_ok before p q s from o to text n RecordLong r opened m t w = found_ok before p q s from o to text n RecordLong r (found_long before p q s from o text n opened m t) w
+fault_ok before p q s from o to text n CutRecord r opened m t w = found_ok before p q s from o to text n CutRecord r (found_cut before p q s from o text n opened m t) w
+fault_ok before p q s from o to text n Read r opened m t w = subst (λ (x : Result Ended RunFault). IfOk x (λ ended. Decoded before s.input from to ended)) (sym w.0) tt
+fault_ok before p q s from o to text n Memory r opened m t w = subst (λ (x : Result Ended RunFault). IfOk x (λ ended. Decoded before s.input from to ended)) (sym w.0) tt
+fault_ok before p q s from o to text n CutHeader r opened m t w = absurd t.gives
+fault_ok before p q s from o to text n Magic r opened m t w = absurd t.gives
+fault_ok before p q s from o to text n Version r opened m t w = absurd t.gives
+fault_ok before p q s from o to text n Link r opened m t w = absurd t.gives
+
+pub fault_err : (before : Input) (p q s : Place) (from o to : Output) (text : List ℕ) (n : ℕ) (fault : CaptureFault) (r : Result Ended RunFault) → Opened before p
+    → Midway p q from o text n → Takes q s (Err fault) → Refuses fault (n + 1) o to text r → OnErr r (CutOff before s.input from to)
+fault_err before p q s from o to text n RecordLong r opened m t w = found_err before p q s from o to text n RecordLong r (found_long before p q s from o text n opened m t) w
+fault_err before p q s from o to text n CutRecord r opened m t w = found_err before p q s from o to text n CutRecord r (found_cut before p q s from o text n opened m t) w
+fault_err before p q s from o to text n Read r opened m t w =
+    subst (λ (x : Result Ended RunFault). OnErr x (CutOff before s.input from to)) (sym w.0) (cut before p q from o to text n s.input t.more opened m t.read (wrote_none o to text w.1))
+fault_err before p q s from o to text n Memory r opened m t w =
+    subst (λ (x : Result Ended RunFault). OnErr x (CutOff before s.input from to)) (sym w.0) (cut before p q from o to text n s.input t.more opened m t.read (wrote_none o to text w.1))
+fault_err before p q s from o to text n CutHeader r opened m t w = absurd t.gives
+fault_err before p q s from o to text n Magic r opened m t w = absurd t.gives
+fault_err before p q s from o to text n Version r opened m t w = absurd t.gives
+fault_err before p q s from o to text n Link r opened m t w = absurd t.gives
+
+-- what holds anyway holds of an error
+pub on_err_always : {T E P : Type 0} (r : Result T E) → P → OnErr r P
+on_err_always (Ok x) p = tt
+on_err_always (Err e) p = p
+
+pub if_ok_all : {T E : Type 0} {A : Type 0} {B : A → Type 0} (P : A → T → Type 0) (r : Result T E) → ((a : A) → B a → IfOk r (P a)) → IfOk r (λ x. (a : A) → B a → P a x)
+if_ok_all P (Ok x) h = h
+if_ok_all P (Err e) h = tt
+
+pub on_err_all : {T E : Type 0} {A : Type 0} {B : A → Type 0} (P : A → Type 0) (r : Result T E) → ((a : A) → B a → OnErr r (P a)) → OnErr r ((a : A) → B a → P a)
+on_err_all P (Ok x) h = tt
+on_err_all P (Err e) h = h
+
+-- a file whose header was refused
+header_records : (bytes : List ℕ) (fault : CaptureFault) → header_of bytes ≡ Err fault → records bytes ≡ record { records = []; fault = Some fault }
+header_records bytes fault e = ap (λ x. behind_header x bytes) e
+
+header_ends : (before new : Input) (from : Output) (bytes : List ℕ) (fault : CaptureFault) → Consumes before.left new.left bytes → header_of bytes ≡ Err fault
+    → ending_text 0 (Some fault) ≡ capture_fault_text 0 fault → Ends before new from from [] (capture_fault_text 0 fault) fault
+header_ends before new from bytes fault read e line =
+    let are = header_records bytes fault e in
+    let c : Contents = record { records = []; fault = Some fault } in
+    record {
+      bytes = bytes;
+      gone = [];
+      read = read;
+      wrote = Appends-nil from.written;
+      shown_is = shown_by bytes c are ∙ line;
+      end_is = end_by bytes c are;
+      sofar_is = λ settles. sofar_by bytes c are ∙ ap (contents_text c) settles ∙ line;
+      judged_is = λ settles. judged_by bytes c are ∙ ap is_some_fault settles;
+    }
+
+header_found : (before new : Input) (from to : Output) (bytes : List ℕ) (fault : CaptureFault) (r : Result Ended RunFault) → Consumes before.left new.left bytes → header_of bytes ≡ Err fault
+    → IsAtEnd new.left ⊎ (settled (Some fault) ≡ Some fault) → ending_text 0 (Some fault) ≡ capture_fault_text 0 fault → Tells 0 fault from to [] r
+    → IfOk r (Decoded before new from to) × OnErr r (CutOff before new from to)
+header_found before new from to bytes fault (Ok ended) read e enough line w =
+    (ends_ok before new from from to [] 0 fault ended (header_ends before new from bytes fault read e line) enough w.0 w.1, tt)
+header_found before new from to bytes fault (Err why) read e enough line w =
+    (tt, ends_err before new from from to [] 0 fault (header_ends before new from bytes fault read e line) enough w.0)
+
+header_lost : (before new : Input) (from to : Output) (bytes : List ℕ) (r : Result Ended RunFault) (why : RunFault) → Consumes before.left new.left bytes → r ≡ Err why → to ≡ from
+    → IfOk r (Decoded before new from to) × OnErr r (CutOff before new from to)
+header_lost before new from to bytes r why read e same = subst (λ (x : Result Ended RunFault). IfOk x (Decoded before new from to) × OnErr x (CutOff before new from to)) (sym e) (
+  tt,
+  record {
+    bytes = bytes;
+    text = [];
+    read = read;
+    wrote = subst (λ (x : Output). Appends from.written x.written []) (sym same) (Appends-nil from.written);
+    front = inl (record { rest = sofar bytes; is = refl });
+  },
+)
+
+-- what a run ends with where the header is refused
+header_told : (before new : Input) (from to : Output) (fault : CaptureFault) (r : Result Ended RunFault) → Unopened before new fault → Refuses fault 0 from to [] r
+    → IfOk r (Decoded before new from to) × OnErr r (CutOff before new from to)
+header_told before new from to CutHeader r u w = header_found before new from to u.bytes CutHeader r u.read u.told.0 (inl u.told.1) refl w
+header_told before new from to Magic r u w = header_found before new from to u.bytes Magic r u.read u.told.0 (inr refl) refl w
+header_told before new from to Version r u w = header_found before new from to u.bytes Version r u.read u.told.0 (inr refl) refl w
+header_told before new from to Link r u w = header_found before new from to u.bytes Link r u.read u.told.0 (inr refl) refl w
+header_told before new from to Read r u w = header_lost before new from to u.bytes r ReadFault u.read w.0 w.1
+header_told before new from to Memory r u w = header_lost before new from to u.bytes r MemoryFault u.read w.0 w.1
+header_told before new from to RecordLong r u w = absurd u.told
+header_told before new from to CutRecord r u w = absurd u.told
+
+pub header_exit : (before new : Input) (from to : Output) (text : List ℕ) (fault : CaptureFault) (r : Result Ended RunFault) → text ≡ [] → Unopened before new fault
+    → Refuses fault 0 from to text r → IfOk r (Decoded before new from to) × OnErr r (CutOff before new from to)
+header_exit before new from to text fault r none u w = header_told before new from to fault r u (subst (λ (x : List ℕ). Refuses fault 0 from to x r) none w)
+
+-- the header that was refused
+pub unopened_at : {T : Type 0} (asked : ℕ → List ℕ → Result ℕ Failed → ℕ → Type 0) (before new : Input) (fault : CaptureFault) (r : Result T CaptureFault)
+    → OnErr r (IfErr r (UnopenedBy asked before new)) → r ≡ Err fault → Unopened before new fault
+unopened_at {T = T} asked before new fault r h e =
+    let by : UnopenedBy asked before new fault = subst (λ (x : Result T CaptureFault). OnErr x (IfErr x (UnopenedBy asked before new))) e h in by.unopened

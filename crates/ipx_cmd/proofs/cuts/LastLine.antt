@@ -1,0 +1,80 @@
+-- The last line of a script, which no line feed ends.
+use Rattle.std.proofs.Common.{if◌then◌else◌, IfErr, OnOk, ◌≡◌, ℕ, ◌<◌, true, false, List, [], ◌∷◌, length, refl, sym, ap, ◌∙◌, subst, arith, Result, Ok, Err, append-nil}
+use Rattle.ipx_wire.specs.Ends.{Output}
+use Rattle.ipx_cmd.specs.Acted.{Acted, Added, Halted, said_by}
+use Rattle.ipx_cmd.specs.Decoded.{IsFront}
+use Rattle.ipx_cmd.specs.Leads.{IsPending}
+use Rattle.ipx_cmd.specs.Lines.{is_any, without_return}
+use Rattle.ipx_cmd.specs.Playing.{Step, Transcript, all_good, by_lines, goes_on, transcript}
+use Rattle.ipx_cmd.specs.Stretch.{Finished, FinishedOff}
+use Rattle.ipx_cmd.specs.declared.ended.Ended.TheVariants.{Done}
+use Rattle.ipx_cmd.specs.declared.lines.fault.LineFault.{LineFault}
+use Rattle.ipx_cmd.specs.declared.lines.halt.Halt.{Halt}
+use Rattle.ipx_cmd.specs.declared.lines.halt.Halt.TheVariants.{Line, Run}
+use Rattle.ipx_cmd.proofs.cuts.LinesOfBytes.{at_last}
+use Rattle.ipx_cmd.proofs.cuts.LedToByBytes.{line_is, none_pending}
+use Rattle.ipx_cmd.proofs.cuts.StretchBehindStretch.{added_none}
+
+-- nothing is left
+pub finished_none : {S : Type 0} (acts : Step S) (state : S) (number : ℕ) (line : List ℕ) (o : Output) (text : List ℕ) → line ≡ [] → o.failed ≡ false
+    → Finished acts state number line o o text text
+finished_none acts state number line o text none fine = record {
+  said = [];
+  is = ap (λ (x : List ℕ). by_lines acts is_any state number x) none ∙ at_last acts is_any state number [] none_pending.one;
+  added = added_none o text fine;
+}
+
+any_of : (line : List ℕ) → 0 < length line → is_any line ≡ true
+any_of [] some = absurd (omega (arith, some))
+any_of (byte ∷ line) some = refl
+
+-- what a line does is all that is left to say
+last_is : {S : Type 0} (acts : Step S) (state : S) (number : ℕ) (line : List ℕ) (does : Result (S × List ℕ) LineFault) → IsPending line → 0 < length line
+    → acts state (without_return line) ≡ does → by_lines acts is_any state number line ≡ goes_on number does (λ after. all_good)
+last_is acts state number line does p some is =
+    at_last acts is_any state number line p.one
+    ∙ ap (λ b. transcript acts state number (if b then line ∷ [] else [])) (any_of line some)
+    ∙ ap (λ d. goes_on number d (λ after. all_good)) (line_is acts state line p.short ∙ is)
+
+finished_line : {S : Type 0} (acts : Step S) (stands : S → Type 0) (state : S) (number : ℕ) (line : List ℕ) (from to : Output) (old new : List ℕ) → IsPending line → 0 < length line
+    → Acted acts stands state (without_return line) from to old new → Finished acts state number line from to old new
+finished_line acts stands state number line from to old new p some a = record {
+  said = a.said;
+  is = last_is acts state number line (Ok (a.after, a.said)) p some a.does ∙ ap (λ (t : List ℕ). record { text = t; ended = Done }) (append-nil a.said);
+  added = a.added;
+}
+
+front_by : {S : Type 0} (acts : Step S) (state : S) (number : ℕ) (line : List ℕ) → IsPending line → 0 < length line → (does : Result (S × List ℕ) LineFault)
+    → acts state (without_return line) ≡ does → IsFront (said_by does) (by_lines acts is_any state number line).text
+front_by acts state number line p some (Ok done) is = record { rest = []; is = ap (λ (t : Transcript). t.text) (last_is acts state number line (Ok done) p some is) }
+front_by acts state number line p some (Err fault) is = record { rest = (by_lines acts is_any state number line).text; is = refl }
+
+off_last : {S : Type 0} (acts : Step S) (state : S) (number : ℕ) (line : List ℕ) (from to : Output) (old new : List ℕ) (halt : Halt) → from.failed ≡ false → IsPending line → 0 < length line
+    → Halted (acts state (without_return line)) from to old new halt → FinishedOff acts state number line from to old new halt
+off_last acts state number line from to old new (Line fault) fine p some h = record {
+  said = [];
+  is = last_is acts state number line (Err fault) p some h.0;
+  added = subst (λ (o : Output). Added from o old new []) (sym h.1) (subst (λ (t : List ℕ). Added from from old t []) (sym h.2) (added_none from old fine));
+}
+off_last acts state number line from to old new (Run why) fine p some h = record {
+  said = said_by (acts state (without_return line));
+  front = front_by acts state number line p some (acts state (without_return line)) refl;
+  wrote = h.0;
+  fault = h.1;
+}
+
+-- what a call left, whichever way it ended
+pub finished_of : {M S : Type 0} (acts : Step S) (stands : M → S → Type 0) (before after : M) (line whole : List ℕ) (from to : Output) (old new : List ℕ) (r : Result (Unit {0}) Halt)
+    → IsPending line → 0 < length line → whole ≡ without_return line → OnOk r ((state : S) → stands before state → Acted acts (stands after) state whole from to old new)
+    → OnOk r ((state : S) (number : ℕ) → stands before state → Finished acts state number line from to old new)
+finished_of acts stands before after line whole from to old new (Ok u) p some same h = λ state number now.
+    finished_line acts (stands after) state number line from to old new p some (subst (λ (x : List ℕ). Acted acts (stands after) state x from to old new) same (h state now))
+finished_of acts stands before after line whole from to old new (Err e) p some same h = tt
+
+pub off_last_of : {M S : Type 0} (acts : Step S) (stands : M → S → Type 0) (before : M) (line whole : List ℕ) (from to : Output) (old new : List ℕ) (r : Result (Unit {0}) Halt)
+    → from.failed ≡ false → IsPending line → 0 < length line → whole ≡ without_return line
+    → IfErr r (λ halt. (state : S) → stands before state → Halted (acts state whole) from to old new halt)
+    → IfErr r (λ halt. (state : S) (number : ℕ) → stands before state → FinishedOff acts state number line from to old new halt)
+off_last_of acts stands before line whole from to old new (Ok u) fine p some same h = tt
+off_last_of acts stands before line whole from to old new (Err halt) fine p some same h = λ state number now.
+    off_last acts state number line from to old new halt fine p some (subst (λ (x : List ℕ). Halted (acts state x) from to old new halt) same (h state now))

@@ -1,0 +1,135 @@
+-- One stretch of a script's bytes behind another, and what is written on the way.
+use Rattle.std.proofs.Common.{OnOk, IfErr, ◌≡◌, ℕ, suc, ◌+◌, false, List, [], ◌∷◌, ◌++◌, length, take, refl, sym, ap, ◌∙◌, subst, arith, Result, Ok, Err, append_assoc, append-nil}
+use Rattle.std.proofs.KnownBytes.{Appends-nil, Appends-trans}
+use Rattle.std.specs.Io.KnownBytes.{Appends}
+use Rattle.ipx_wire.specs.Ends.{Output}
+use Rattle.ipx_cmd.specs.Acted.{Acted, Added, Halted, said_by}
+use Rattle.ipx_cmd.specs.Leads.{Begins, Ends, IsPending}
+use Rattle.ipx_cmd.specs.Lines.{line_feed, without_return}
+use Rattle.ipx_cmd.specs.Output.{fault_text}
+use Rattle.ipx_cmd.specs.Playing.{Step}
+use Rattle.ipx_cmd.specs.Stretch.{Went, WentOff}
+use Rattle.ipx_cmd.specs.WroteFront.{WroteFront}
+use Rattle.ipx_cmd.specs.declared.lines.fault.LineFault.{LineFault}
+use Rattle.ipx_cmd.specs.declared.lines.halt.Halt.{Halt}
+use Rattle.ipx_cmd.specs.declared.lines.halt.Halt.TheVariants.{Line, Run}
+use Rattle.ipx_cmd.proofs.cuts.LedToByBytes.{begins_line, ends_line, leads_begins, leads_ends, leads_leads, leads_line, leads_none}
+
+-- a text behind one that is written
+take_behind : (a : List ℕ) (n : ℕ) (b : List ℕ) → take (length a + n) (a ++ b) ≡ a ++ take n b
+take_behind [] n b = ap (λ k. take k b) (let e : 0 + n ≡ n = omega arith in e)
+take_behind (x ∷ a) n b = ap (λ k. take k (x ∷ a ++ b)) (let e : suc (length a) + n ≡ suc (length a + n) = omega arith in e) ∙ ap (λ t. x ∷ t) (take_behind a n b)
+
+pub added_none : (o : Output) (text : List ℕ) → o.failed ≡ false → Added o o text text []
+added_none o text fine = record { gone = []; written = Appends-nil o.written; all = append-nil text; fine = fine }
+
+pub added_added : (from o to : Output) (old mid new said further : List ℕ) → Added from o old mid said → Added o to mid new further → Added from to old new (said ++ further)
+added_added from o to old mid new said further one two = record {
+  gone = one.gone ++ two.gone;
+  written = Appends-trans from.written o.written to.written one.gone two.gone one.written two.written;
+  all = sym (append_assoc old said further) ∙ ap (λ t. t ++ further) one.all ∙ append_assoc one.gone mid further
+      ∙ ap (λ (t : List ℕ). one.gone ++ t) two.all ∙ sym (append_assoc one.gone two.gone new);
+  fine = two.fine;
+}
+
+pub added_front : (from o to : Output) (old mid said further : List ℕ) → Added from o old mid said → WroteFront o to (mid ++ further) → WroteFront from to (old ++ (said ++ further))
+added_front from o to old mid said further one w = record {
+  count = length one.gone + w.count;
+  written = subst (Appends from.written to.written)
+      (sym (take_behind one.gone w.count (mid ++ further))
+      ∙ ap (take (length one.gone + w.count)) (sym (append_assoc one.gone mid further) ∙ ap (λ t. t ++ further) (sym one.all) ∙ append_assoc old said further))
+      (Appends-trans from.written o.written to.written one.gone (take w.count (mid ++ further)) one.written w.written);
+}
+
+-- a line acted
+pub went_line : {S : Type 0} (acts : Step S) (stands : S → Type 0) (state : S) (number : ℕ) (line : List ℕ) (from to : Output) (old new : List ℕ) → IsPending line
+    → Acted acts stands state (without_return line) from to old new → Went acts stands state number (line ++ line_feed ∷ []) from to old new (number + 1) []
+went_line acts stands state number line from to old new p a = record {
+  after = a.after;
+  said = a.said;
+  leads = leads_line acts state a.after number line a.said p a.does;
+  now = a.now;
+  added = a.added;
+}
+
+-- or did not
+begins_by : {S : Type 0} (acts : Step S) (state : S) (number : ℕ) (line : List ℕ) → IsPending line → (does : Result (S × List ℕ) LineFault)
+    → acts state (without_return line) ≡ does → Begins acts state number (line ++ line_feed ∷ []) (said_by does)
+begins_by acts state number line p (Ok done) is = begins_line acts state done.0 number line done.1 p is
+begins_by acts state number line p (Err fault) is = record { is = λ counts takes more. record { rest = _; is = refl } }
+
+pub off_line : {S : Type 0} (acts : Step S) (state : S) (number : ℕ) (line : List ℕ) (from to : Output) (old new : List ℕ) (halt : Halt) → from.failed ≡ false → IsPending line
+    → Halted (acts state (without_return line)) from to old new halt → WentOff acts state number (line ++ line_feed ∷ []) from to old new number halt
+off_line acts state number line from to old new (Line fault) fine p h = record {
+  said = [];
+  ends = ends_line acts state number line fault p h.0;
+  added = subst (λ (o : Output). Added from o old new []) (sym h.1) (subst (λ (t : List ℕ). Added from from old t []) (sym h.2) (added_none from old fine));
+}
+off_line acts state number line from to old new (Run why) fine p h = record {
+  said = said_by (acts state (without_return line));
+  begins = begins_by acts state number line p (acts state (without_return line)) refl;
+  wrote = h.0;
+  fault = h.1;
+}
+
+-- a stretch behind another
+pub went_went : {S : Type 0} (acts : Step S) (stood stands : S → Type 0) (state : S) (number second third : ℕ) (bytes more pending left : List ℕ) (from o to : Output) (old mid new : List ℕ)
+    → Went acts stood state number bytes from o old mid second pending
+    → ((middle : S) → stood middle → Went acts stands middle second (pending ++ more) o to mid new third left)
+    → Went acts stands state number (bytes ++ more) from to old new third left
+went_went acts stood stands state number second third bytes more pending left from o to old mid new one later =
+    let two = later one.after one.now in
+    record {
+      after = two.after;
+      said = one.said ++ two.said;
+      leads = leads_leads acts state one.after two.after number second third bytes one.said pending more two.said left one.leads two.leads;
+      now = two.now;
+      added = added_added from o to old mid new one.said two.said one.added two.added;
+    }
+
+pub went_off : {S : Type 0} (acts : Step S) (stood : S → Type 0) (state : S) (number second third : ℕ) (bytes more pending : List ℕ) (from o to : Output) (old mid new : List ℕ) (halt : Halt)
+    → Went acts stood state number bytes from o old mid second pending
+    → ((middle : S) → stood middle → WentOff acts middle second (pending ++ more) o to mid new third halt)
+    → WentOff acts state number (bytes ++ more) from to old new third halt
+went_off acts stood state number second third bytes more pending from o to old mid new (Line fault) one later =
+    let two = later one.after one.now in
+    record {
+      said = one.said ++ two.said;
+      ends = subst (Ends acts state number (bytes ++ more)) (sym (append_assoc one.said two.said (fault_text third fault)))
+          (leads_ends acts state one.after number second bytes one.said pending more (two.said ++ fault_text third fault) one.leads two.ends);
+      added = added_added from o to old mid new one.said two.said one.added two.added;
+    }
+went_off acts stood state number second third bytes more pending from o to old mid new (Run why) one later =
+    let two = later one.after one.now in
+    record {
+      said = one.said ++ two.said;
+      begins = leads_begins acts state one.after number second bytes one.said pending more two.said one.leads two.begins;
+      wrote = added_front from o to old mid one.said two.said one.added two.wrote;
+      fault = two.fault;
+    }
+
+-- a line that isn't at its end yet
+pub went_none : {S : Type 0} (acts : Step S) (stands : S → Type 0) (state : S) (number : ℕ) (pending : List ℕ) (o : Output) (text : List ℕ) → o.failed ≡ false → IsPending pending
+    → stands state → Went acts stands state number pending o o text text number pending
+went_none acts stands state number pending o text fine p now = record {
+  after = state;
+  said = [];
+  leads = leads_none acts state number pending p;
+  now = now;
+  added = added_none o text fine;
+}
+
+-- what a call left, whichever way it ended
+pub went_line_of : {M S : Type 0} (acts : Step S) (stands : M → S → Type 0) (before after : M) (line whole : List ℕ) (from to : Output) (old new : List ℕ) (r : Result (Unit {0}) Halt)
+    → IsPending line → whole ≡ without_return line → OnOk r ((state : S) → stands before state → Acted acts (stands after) state whole from to old new)
+    → OnOk r ((state : S) (number : ℕ) → stands before state → Went acts (stands after) state number (line ++ line_feed ∷ []) from to old new (number + 1) [])
+went_line_of acts stands before after line whole from to old new (Ok u) p same h = λ state number now.
+    went_line acts (stands after) state number line from to old new p (subst (λ (x : List ℕ). Acted acts (stands after) state x from to old new) same (h state now))
+went_line_of acts stands before after line whole from to old new (Err e) p same h = tt
+
+pub off_line_of : {M S : Type 0} (acts : Step S) (stands : M → S → Type 0) (before : M) (line whole : List ℕ) (from to : Output) (old new : List ℕ) (r : Result (Unit {0}) Halt)
+    → from.failed ≡ false → IsPending line → whole ≡ without_return line → IfErr r (λ halt. (state : S) → stands before state → Halted (acts state whole) from to old new halt)
+    → IfErr r (λ halt. (state : S) (number : ℕ) → stands before state → WentOff acts state number (line ++ line_feed ∷ []) from to old new number halt)
+off_line_of acts stands before line whole from to old new (Ok u) fine p same h = tt
+off_line_of acts stands before line whole from to old new (Err halt) fine p same h = λ state number now.
+    off_line acts state number line from to old new halt fine p (subst (λ (x : List ℕ). Halted (acts state x) from to old new halt) same (h state now))

@@ -1,5 +1,0 @@
-use Rattle.ipx_cmd.proofs.Seconds.{SoFar}
-use Rattle.ipx_cmd.proofs.event_text.pass.Given as goal
-
-abbrev pub invariant-loop-passed : goal.invariant-loop-passed
-invariant-loop-passed g l = SoFar l.initial.router l.router l.initial.outlet l.outlet l.initial.text.items l.text.items l._passed

@@ -1,6 +1,0 @@
-use Rattle.std.proofs.Common.{map, take}
-use Rattle.ipx_cmd.proofs.RoutersMade.{AddedSoFar}
-use Rattle.ipx_cmd.proofs.internet_making.add_routers.Given as goal
-
-abbrev pub invariant-loop-ports : goal.invariant-loop-ports
-invariant-loop-ports l = AddedSoFar (map (λ ports. ports.items) (take l.ports-index l.named)) l.internet

@@ -1,5 +1,0 @@
-use Rattle.ipx_cmd.proofs.InternetTexts.{CopiesSoFar}
-use Rattle.ipx_cmd.proofs.internet_text.write_trace.Given as goal
-
-abbrev pub invariant-loop-number : goal.invariant-loop-number
-invariant-loop-number g l = CopiesSoFar l.trace l.initial.outlet l.outlet l.initial.text.items l.text.items l.number

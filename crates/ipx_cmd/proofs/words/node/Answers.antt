@@ -1,5 +1,0 @@
-use Rattle.ipx_cmd.proofs.HexWordLemmas.{no_node}
-use Rattle.ipx_cmd.proofs.words.node.Goals as goal
-
-pub returns-in-Err : goal.returns-in-Err
-returns-in-Err c = no_node c.args.word.now c.in-Err.ensures.cases.0

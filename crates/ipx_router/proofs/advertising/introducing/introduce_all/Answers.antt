@@ -1,0 +1,28 @@
+use Rattle.std.proofs.Common.{rules, ◌<◌, get_or, length}
+use Rattle.ipx_router.specs.Facts.{offers}
+use Rattle.ipx_router.specs.Outbox.{Fits}
+use Rattle.ipx_router.specs.Sends.{introduction}
+use Rattle.ipx_router.proofs.sending.PortByPort.{each_at}
+use Rattle.ipx_router.proofs.sending.OneAfterAnother.{next_fits, next_pays, all_paid}
+use Rattle.ipx_router.proofs.advertising.introducing.introduce_all.Goals as goal
+
+pub introduce-requires : goal.introduce-requires
+introduce-requires g c =
+    let sends = introduction c.args.ports.now c.args.up.now (offers c.args.routes.now.records) (offers c.args.services.now.records) in
+    let k = c.loop-number.number-index in
+    let room : Fits c.loop-number.outbox (sends (get_or c.args.up.now k 0)) =
+    next_fits sends c.args.up.now k 0 c.loop-number-test.true c.loop-number.invariant.pays c.requires.room in
+    let within : get_or c.args.up.now k 0 < length c.args.ports.now =
+    each_at (λ j. j < length c.args.ports.now) c.args.up.now k 0 c.requires.ports c.loop-number-test.true in
+    search (rules, room, within)
+
+pub loop-number-preserved : goal.loop-number-preserved
+loop-number-preserved g c = record {
+  pays = next_pays (introduction c.args.ports.now c.args.up.now (offers c.args.routes.now.records) (offers c.args.services.now.records)) c.args.up.now
+      c.loop-number.number-index 0 c.loop-number-test.true c.loop-number.invariant.pays c.introduce.ensures;
+}
+
+pub returns : goal.returns
+returns g c =
+    all_paid (introduction c.args.ports.now c.args.up.now (offers c.args.routes.now.records) (offers c.args.services.now.records)) c.args.up.now
+    c.loop-number.number-index c.loop-number-test.false c.loop-number.invariant.pays

@@ -1,0 +1,29 @@
+use Rattle.std.proofs.Common.{◌∙◌, refl, sym, ap, subst, length, map, []}
+use Rattle.std.specs.List.{flat_map}
+use Rattle.ipx_router.specs.News.{route_told}
+use Rattle.ipx_router.specs.Numbers.{most_own_length}
+use Rattle.ipx_router.specs.Outbox.{Appends}
+use Rattle.ipx_router.specs.Sends.{rip_broadcast}
+use Rattle.ipx_router.specs.inside.Touched.{change_of}
+use Rattle.ipx_router.proofs.changes.ListedForEachPort.{no_items, room_next, sent_next}
+use Rattle.ipx_router.proofs.ended.SentIsOfEnded.{none_each}
+use Rattle.ipx_router.proofs.sending.OneAfterAnother.{appends_none}
+use Rattle.ipx_router.proofs.learning.news.advertise_route_changes.Goals as goal
+
+pub loop-number-preserved : goal.loop-number-preserved
+loop-number-preserved c =
+    let k = c.loop-number.number-index in
+    let n = length c.args.up.now in
+    record {
+      sent = sent_next (λ j. rip_broadcast c.args.ports.now j (flat_map (route_told c.args.ports.now j) (map change_of c.args.changes.now))) c.args.up.now k _
+          c.loop-number-test.true c.loop-number.invariant.sent c.advertise_routes_on.ensures.sent;
+      room = c.advertise_routes_on.ensures.left _ _ (room_next n k most_own_length c.loop-number-test.true c.loop-number.invariant.room);
+    }
+
+pub returns-then-is_empty : goal.returns-then-is_empty
+returns-then-is_empty c =
+    let a = c.args in
+    subst (Appends a.outbox.now a.outbox.now)
+    (sym (ap (λ cs. flat_map (λ j. rip_broadcast a.ports.now j (flat_map (route_told a.ports.now j) (map change_of cs))) a.up.now) (no_items a.changes.now c.is_empty.ensures c.if-is_empty.true)
+    ∙ none_each (λ j. rip_broadcast a.ports.now j []) (λ j. refl) a.up.now))
+    (appends_none a.outbox.now)

@@ -1,9 +1,0 @@
-use Rattle.std.proofs.Common.{drop}
-use Rattle.std.specs.List.{flat_map}
-use Rattle.ipx_router.specs.EndedSends.{ended_sends}
-use Rattle.ipx_router.specs.Owed.{Pays}
-use Rattle.ipx_router.proofs.second.broadcast_ended.Given as goal
-
-abbrev pub invariant-loop-number : goal.invariant-loop-number
-invariant-loop-number l = Pays l.initial.outbox l.outbox (flat_map (ended_sends l.ports l.ended l.lost) l.up)
-    (flat_map (ended_sends l.ports l.ended l.lost) (drop l.number-index l.up))

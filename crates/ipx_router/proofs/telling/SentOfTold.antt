@@ -1,0 +1,95 @@
+-- What is sent of all that is told: all, all as unreachable, or what was asked for.
+use Rattle.std.proofs.Common.{◌≡◌, refl, sym, ap, ◌∙◌, ℕ, ◌+◌, Bool, true, false, List, [], ◌∷◌, map, take, get_or, slice_get, Some, inl, inr, true≢false, if◌then◌else◌}
+use Rattle.std.specs.List.{flat_map, list_any}
+use Rattle.std.proofs.lemmas.Bool.{cases_Bool}
+use Rattle.std.proofs.lemmas.List.Folds.{list_any_at, list_any_more}
+use Rattle.std.proofs.lemmas.Option.{slice_get_within, get_or_from_slice_get}
+use Rattle.ipx_wire.specs.declared.address.Address.{Address}
+use Rattle.ipx_wire.specs.declared.rip.Operation.TheVariants.{Response}
+use Rattle.ipx_wire.specs.declared.rip.RipEntry.{RipEntry}
+use Rattle.ipx_wire.specs.declared.service.Service.{Service}
+use Rattle.ipx_router.specs.Numbers.{all_routes}
+use Rattle.ipx_router.specs.Port.{Port}
+use Rattle.ipx_router.specs.Sends.{asked, nearest_of, of_kind, rip_sends, sap_sends}
+use Rattle.ipx_router.specs.inside.Shown.{asks_for, is_asked, shown_as, is_of_kind, service_shown_as}
+use Rattle.ipx_router.specs.Told.{dead, dead_service}
+use Rattle.ipx_router.specs.declared.advertising.shown.Shown.{Shown}
+use Rattle.ipx_router.specs.declared.advertising.shown.Shown.TheVariants.{All, Dead, Asked}
+use Rattle.ipx_router.specs.declared.advertising.shown.ShownServices.TheVariants.{All as AllServices, Dead as DeadServices, OfKind}
+
+-- ---- one more of those that are asked
+
+module _ {X : Type 0} (p : X → Bool) (xs : List X) (k : ℕ) (x : X) (at : slice_get xs k ≡ Some x) where
+  pub passes_there : p x ≡ true → list_any p xs ≡ true
+  passes_there e = list_any_at p xs k x (slice_get_within xs k x at) (ap p (get_or_from_slice_get xs k x x at) ∙ e)
+
+  pub none_passes_yet : list_any p (take k xs) ≡ false → p x ≡ false → list_any p (take (k + 1) xs) ≡ false
+  none_passes_yet before e =
+      let here : p (get_or xs k x) ≡ false = ap p (get_or_from_slice_get xs k x x at) ∙ e in
+      list_any_more p xs k x (slice_get_within xs k x at) ∙ rw (before, here) refl
+
+-- ---- routes
+
+pub shown_all : (es : List RipEntry) → flat_map (shown_as All) es ≡ es
+shown_all [] = refl
+shown_all (e ∷ es) = ap (λ (l : List RipEntry). e ∷ l) (shown_all es)
+
+pub shown_dead : (es : List RipEntry) → flat_map (shown_as Dead) es ≡ map dead es
+shown_dead [] = refl
+shown_dead (e ∷ es) = ap (λ (l : List RipEntry). dead e ∷ l) (shown_dead es)
+
+pub shown_asked : (rip : _) (es : List RipEntry) → flat_map (shown_as (Asked rip)) es ≡ asked rip.now.entries es
+shown_asked rip [] = refl
+shown_asked rip (e ∷ es) = elim (cases_Bool (is_asked rip.now.entries e)) [
+  | inl wanted ↦ rw wanted (ap (λ (l : List RipEntry). e ∷ l) (shown_asked rip es))
+  | inr other ↦ rw other (shown_asked rip es)
+]
+
+-- an entry that asks for all asks for each
+asked_all : (wanted : List RipEntry) (k : ℕ) (w : RipEntry) → slice_get wanted k ≡ Some w → w.network.0 ≡ all_routes
+    → (es : List RipEntry) → asked wanted es ≡ es
+asked_all wanted k w at all [] = refl
+asked_all wanted k w at all (e ∷ es) =
+    let here : asks_for w e ≡ true = rw all refl in
+    rw (passes_there (λ x. asks_for x e) wanted k w at here) (ap (λ (l : List RipEntry). e ∷ l) (asked_all wanted k w at all es))
+
+-- so all is shown
+pub shown_to_all : (wanted : List RipEntry) (k : ℕ) (w : RipEntry) → slice_get wanted k ≡ Some w → w.network.0 ≡ all_routes
+    → (es : List RipEntry) → flat_map (shown_as All) es ≡ asked wanted es
+shown_to_all wanted k w at all es = shown_all es ∙ sym (asked_all wanted k w at all es)
+
+-- ---- services
+
+pub services_shown_all : (ss : List Service) → flat_map (service_shown_as AllServices) ss ≡ ss
+services_shown_all [] = refl
+services_shown_all (s ∷ ss) = ap (λ (l : List Service). s ∷ l) (services_shown_all ss)
+
+pub services_shown_dead : (ss : List Service) → flat_map (service_shown_as DeadServices) ss ≡ map dead_service ss
+services_shown_dead [] = refl
+services_shown_dead (s ∷ ss) = ap (λ (l : List Service). dead_service s ∷ l) (services_shown_dead ss)
+
+pub services_shown_of_kind : (kind : ℕ) (ss : List Service) → flat_map (service_shown_as (OfKind kind)) ss ≡ of_kind kind ss
+services_shown_of_kind kind [] = refl
+services_shown_of_kind kind (s ∷ ss) = elim (cases_Bool (is_of_kind kind s)) [
+  | inl wanted ↦ rw wanted (ap (λ (l : List Service). s ∷ l) (services_shown_of_kind kind ss))
+  | inr other ↦ rw other (services_shown_of_kind kind ss)
+]
+
+-- ---- answers
+
+-- to the same address, what is shown of all that is told is the answer to a request
+pub request_answered : (ports : List Port) (number : ℕ) (to to' : Address) (shown : Shown) (wanted es : List RipEntry) → to' ≡ to
+    → flat_map (shown_as shown) es ≡ asked wanted es
+    → rip_sends ports number to' Response (flat_map (shown_as shown) es) ≡ rip_sends ports number to Response (asked wanted es)
+request_answered ports number to to' shown wanted es same all =
+    ap (λ (a : Address). rip_sends ports number a Response (flat_map (shown_as shown) es)) same
+    ∙ ap (rip_sends ports number to Response) all
+
+-- and to a query that isn't for the nearest
+pub query_answered : (ports : List Port) (number : ℕ) (to to' : Address) (nearest : Bool) (kind : ℕ) (ss : List Service) → to' ≡ to → nearest ≡ false
+    → sap_sends ports number to' nearest (flat_map (service_shown_as (OfKind kind)) ss)
+    ≡ sap_sends ports number to nearest (if nearest then nearest_of (of_kind kind ss) else of_kind kind ss)
+query_answered ports number to to' true kind ss same e = absurd (true≢false e)
+query_answered ports number to to' false kind ss same e =
+    ap (λ (a : Address). sap_sends ports number a false (flat_map (service_shown_as (OfKind kind)) ss)) same
+    ∙ ap (sap_sends ports number to false) (services_shown_of_kind kind ss)

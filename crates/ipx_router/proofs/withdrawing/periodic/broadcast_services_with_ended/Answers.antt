@@ -1,0 +1,96 @@
+use Rattle.std.proofs.Common.{false, sym, ap, ◌∙◌, [], ◌++◌, List, arith}
+use Rattle.std.specs.List.{flat_map}
+use Rattle.ipx_wire.specs.declared.service.Service.{Service}
+use Rattle.ipx_router.specs.inside.Ended.{service_ended_on}
+use Rattle.ipx_router.specs.Facts.{offers}
+use Rattle.ipx_router.specs.Numbers.{services_a_page}
+use Rattle.ipx_router.specs.Port.{every_server}
+use Rattle.ipx_router.specs.Sends.{services_sent}
+use Rattle.ipx_router.specs.Sorted.{put_all}
+use Rattle.ipx_router.specs.Told.{by_name, name_before, told_services}
+use Rattle.ipx_router.proofs.ended.EndedRises.{services_with}
+use Rattle.ipx_router.proofs.ended.EndedPageByPage.{services_pay, item_fits, item_page_fits, item_pays, rest_fits, last_fits, last_sent}
+use Rattle.ipx_router.proofs.sending.OneAfterAnother.{pays_none}
+use Rattle.ipx_router.proofs.withdrawing.periodic.broadcast_services_with_ended.Goals as goal
+
+pub loop-service-init : goal.loop-service-init
+loop-service-init g c =
+    let a = c.args in
+    let services = offers a.table.now.records in
+    let ended = flat_map (service_ended_on a.number) a.ended_services.now in
+    let all = told_services services a.number in
+    record {
+      goes = tt;
+      ends = tt;
+      pays = services_pay a.ports.now a.number (c.every_server-to.ensures ∙ ap every_server c.port_of.ensures) c.new-page.ensures
+          (by_name (all ++ ended)) (put_all name_before c.into_iter-service-iterator.result ended)
+          (services_with services a.number ended
+          ∙ ap (λ (es : List Service). put_all name_before es ended) (sym (c.into_iter-service-iterator.ensures.into_iter_gives ∙ c.new-service-items.ensures)))
+          (pays_none a.outbox.now _);
+      ascends = c.requires.ascends;
+    }
+
+pub add_ended_services_before-rest-requires-clause-room : goal.add_ended_services_before-rest-requires-clause-room
+add_ended_services_before-rest-requires-clause-room g c =
+    let a = c.args in
+    let l = c.loop-service in
+    let left = c.next.new.self in (
+      left,
+      item_fits services_a_page (services_sent a.ports.now a.number c.every_server-to.result false) name_before
+          l.page.items l.service-iterator (flat_map (service_ended_on a.number) l.rest.now) l.invariant.pays
+          c.in-Some.service left c.in-Some.ensures.steps c.requires.room,
+    )
+
+pub add_service-requires-clause-room : goal.add_service-requires-clause-room
+add_service-requires-clause-room g c full =
+    let a = c.args in
+    let l = c.loop-service in
+    let left = c.next.new.self in
+    let added = c.add_ended_services_before-rest in
+    item_page_fits services_a_page (services_sent a.ports.now a.number c.every_server-to.result false) name_before
+    l.page.items l.service-iterator (flat_map (service_ended_on a.number) l.rest.now) l.invariant.pays
+    c.in-Some.service left c.in-Some.ensures.steps
+    added.new.page.items (flat_map (service_ended_on a.number) added.result.now) (added.ensures.pays left) (omega arith) c.requires.room full
+
+pub loop-service-preserved : goal.loop-service-preserved
+loop-service-preserved g c =
+    let a = c.args in
+    let l = c.loop-service in
+    let left = c.next.new.self in
+    let added = c.add_ended_services_before-rest in
+    let rest = flat_map (service_ended_on a.number) added.result.now in
+    record {
+      goes = tt;
+      ends = tt;
+      pays = item_pays services_a_page (services_sent a.ports.now a.number c.every_server-to.result false) name_before
+          l.page.items l.service-iterator (flat_map (service_ended_on a.number) l.rest.now) l.invariant.pays
+          c.in-Some.service left c.in-Some.ensures.steps
+          added.new.page.items rest (added.ensures.pays left) c.add_service.new.page.items (c.add_service.ensures (put_all name_before left rest));
+      ascends = added.ensures.ascends;
+    }
+
+pub add_ended_services_before-rest-requires-2-clause-room : goal.add_ended_services_before-rest-requires-2-clause-room
+add_ended_services_before-rest-requires-2-clause-room g c =
+    let a = c.args in
+    let l = c.loop-service in (
+      [],
+      rest_fits services_a_page (services_sent a.ports.now a.number c.every_server-to.result false) name_before
+          l.page.items l.service-iterator (flat_map (service_ended_on a.number) l.rest.now) l.invariant.pays
+          c.in-None.ensures.steps.0 c.requires.room,
+    )
+
+pub send_service_rest-requires-clause-room : goal.send_service_rest-requires-clause-room
+send_service_rest-requires-clause-room g c =
+    let a = c.args in
+    let l = c.loop-service in
+    last_fits services_a_page (services_sent a.ports.now a.number c.every_server-to.result false) name_before
+    l.page.items l.service-iterator (flat_map (service_ended_on a.number) l.rest.now) l.invariant.pays
+    c.in-None.ensures.steps.0 c.add_ended_services_before-rest-2.new.page.items (c.add_ended_services_before-rest-2.ensures.pays []) c.requires.room
+
+pub returns : goal.returns
+returns g c =
+    let a = c.args in
+    let l = c.loop-service in
+    last_sent services_a_page (services_sent a.ports.now a.number c.every_server-to.result false) name_before
+    l.page.items l.service-iterator (flat_map (service_ended_on a.number) l.rest.now) l.invariant.pays
+    c.in-None.ensures.steps.0 c.add_ended_services_before-rest-2.new.page.items (c.add_ended_services_before-rest-2.ensures.pays []) c.send_service_rest.ensures

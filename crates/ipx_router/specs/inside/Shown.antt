@@ -1,0 +1,35 @@
+-- Which routes and services of all that are advertised are sent, and how.
+use Rattle.std.specs.Prelude.{ℕ, ◌==◌, ◌||◌, Bool, if◌then◌else◌, List, [], ◌∷◌}
+use Rattle.std.specs.List.{list_any}
+use Rattle.ipx_wire.specs.declared.rip.RipEntry.{RipEntry}
+use Rattle.ipx_wire.specs.declared.service.Service.{Service}
+use Rattle.ipx_router.specs.Numbers.{all_routes, every_service}
+use Rattle.ipx_router.specs.Told.{dead, dead_service}
+use Rattle.ipx_router.specs.declared.advertising.shown.Shown.{Shown}
+use Rattle.ipx_router.specs.declared.advertising.shown.Shown.TheVariants.{All, Dead, Asked}
+use Rattle.ipx_router.specs.declared.advertising.shown.ShownServices.{ShownServices}
+use Rattle.ipx_router.specs.declared.advertising.shown.ShownServices.TheVariants.{All as AllServices, Dead as DeadServices, OfKind}
+
+-- an entry of a request asks for that entry: for all, or for its network
+abbrev pub asks_for : RipEntry → RipEntry → Bool
+asks_for w e = (w.network.0 == all_routes) || (w.network.0 == e.network.0)
+
+-- the entries of a request ask for the entry
+abbrev pub is_asked : List RipEntry → RipEntry → Bool
+is_asked wanted e = list_any (λ w. asks_for w e) wanted
+
+-- the entry as it is sent, if it is
+abbrev pub shown_as : Shown → RipEntry → List RipEntry
+shown_as All e = e ∷ []
+shown_as Dead e = dead e ∷ []
+shown_as (Asked rip) e = if is_asked rip.now.entries e then e ∷ [] else []
+
+-- a query for the type asks for the service
+abbrev pub is_of_kind : ℕ → Service → Bool
+is_of_kind kind s = (kind == every_service) || (s.kind == kind)
+
+-- the service as it is sent, if it is
+abbrev pub service_shown_as : ShownServices → Service → List Service
+service_shown_as AllServices s = s ∷ []
+service_shown_as DeadServices s = dead_service s ∷ []
+service_shown_as (OfKind kind) s = if is_of_kind kind s then s ∷ [] else []

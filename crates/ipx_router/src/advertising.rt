@@ -1,0 +1,16 @@
+//! What a port advertises, and the packets that carry it.
+//! Comes in: ports, tables, and to whom it goes.
+//! Goes out: packets of at most fifty entries or seven services, in the order of their keys.
+//! Touches: the outbox. The tables are read item by item and not copied.
+//! `told_routes` and `told_services` have what is advertised, of single `items`; `shown` chooses, `told` puts it into pages.
+mod broadcasts;
+pub(crate) mod entry_pages;
+pub(crate) mod introducing;
+pub(crate) mod items;
+mod requests;
+pub(crate) mod service_pages;
+pub(crate) mod shown;
+pub(crate) mod stopping;
+pub(crate) mod told;
+pub(crate) mod told_routes;
+pub(crate) mod told_services;

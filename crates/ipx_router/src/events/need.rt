@@ -1,0 +1,69 @@
+//! The room that an event needs in an outbox.
+ghost use Rattle.std.specs.Prelude.{◌≡◌, ◌^◌, ◌<◌, ◌≤◌, ◌*◌};
+ghost use Rattle.ipx_router.specs.Bounds.{most_packets, most_length};
+ghost use Rattle.ipx_router.specs.Happened.{happened};
+ghost use Rattle.ipx_router.specs.Numbers.{most_ports};
+
+use crate::advertising::entry_pages::ENTRIES_A_PAGE;
+use crate::advertising::service_pages::SERVICES_A_PAGE;
+use crate::event::Event;
+use crate::outbox::Need;
+use ipx_wire::{Header, Packet, SapEntry};
+
+/// The bytes of the longest packet of a router's own: a full page of services.
+const MOST_OWN_LENGTH: usize = Header::SIZE + 2 + SERVICES_A_PAGE * SapEntry::SIZE;
+
+/// The most packets that an event sends, and as many times the bytes of the longest.
+pub(crate) fn need_of(ports: usize, routes: usize, services: usize, event: Event<'_>) -> Need
+    requires some { 1 ≤ ports }
+    requires few { ports ≤ most_ports }
+    requires few_routes { routes < 2 ^ 16 }
+    requires few_services { services < 2 ^ 16 }
+    ensures packets { result.packets ≡ most_packets ports routes services (happened event.entry) }
+    ensures bytes { result.bytes ≡ most_packets ports routes services (happened event.entry) * most_length (happened event.entry) }
+{
+    let packets = packets_of(ports, routes, services, event);
+    Need {
+        packets,
+        bytes: packets * length_of(event),
+    }
+}
+
+/// The most packets that an event sends.
+fn packets_of(ports: usize, routes: usize, services: usize, event: Event<'_>) -> usize
+    requires some { 1 ≤ ports }
+    requires few { ports ≤ most_ports }
+    requires few_routes { routes < 2 ^ 16 }
+    requires few_services { services < 2 ^ 16 }
+    ensures value { result ≡ most_packets ports routes services (happened event.entry) }
+    ensures few { result < 2 ^ 20 }
+{
+    let of_routes = (routes + ports - 1).div_ceil(ENTRIES_A_PAGE);
+    let of_services = services.div_ceil(SERVICES_A_PAGE);
+    match event {
+        Event::Start => 3 * ports,
+        Event::Stop | Event::Second => ports * (of_routes + of_services),
+        Event::Packet { .. } => ports.max(of_routes).max(of_services),
+        Event::PortDown { .. } => (ports - 1) * (of_routes + of_services),
+        Event::PortUp { .. } => ports + 1 + of_routes + of_services,
+    }
+}
+
+/// The bytes of the longest packet that an event sends.
+fn length_of(event: Event<'_>) -> usize
+    ensures value { result ≡ most_length (happened event.entry) }
+    ensures short { result < 2 ^ 16 }
+{
+    let Event::Packet { bytes, .. } = event else {
+        return MOST_OWN_LENGTH;
+    };
+    // A packet is no longer than the bytes that came. So its header is read only where there are more than a packet of
+    // the router's own may have.
+    if bytes.len() <= MOST_OWN_LENGTH {
+        return MOST_OWN_LENGTH;
+    }
+    match Packet::read(bytes) {
+        Ok(packet) => MOST_OWN_LENGTH.max(usize::from(packet.header().length)),
+        Err(_) => MOST_OWN_LENGTH,
+    }
+}

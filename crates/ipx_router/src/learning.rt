@@ -1,0 +1,10 @@
+//! Responses: what neighbours offer, and what that changes.
+//! Comes in: the entries of a response, with their port and neighbour, and the table.
+//! Goes out: in the table, what it takes of them; in the outbox, what changed, but not on the port where that came from.
+//! Touches: one of the two tables, and the outbox.
+//! The way: `hear`; `offering` offers the entries, `touched` notes what each touches, `changed` compares, `news` advertises.
+mod changed;
+pub(crate) mod hear;
+mod news;
+mod offering;
+mod touched;

@@ -1,0 +1,256 @@
+//! Advertises changes at once: each on every port that is up, but not on that of the route or service itself.
+ghost use Rattle.std.specs.Prelude.{◌≡◌, ℕ, ◌+◌, ◌*◌, ◌<◌, ◌≤◌, ◌==◌, if◌then◌else◌, [], ◌∷◌, ◌++◌, length, map, false};
+ghost use Rattle.std.specs.List.{AllByRecursion, flat_map};
+ghost use Rattle.std.specs.Option.{option_to_list};
+ghost use Rattle.ipx_wire.specs.Write.{rip_packet};
+ghost use Rattle.ipx_wire.specs.WriteServices.{sap_packet};
+ghost use Rattle.ipx_wire.specs.declared.rip.Operation.TheVariants.{Response};
+ghost use Rattle.ipx_router.specs.News.{route_now, route_told, service_now, service_told};
+ghost use Rattle.ipx_router.specs.Numbers.{entries_a_page, services_a_page, most_own_length};
+ghost use Rattle.ipx_router.specs.Outbox.{HasRoom, Appends};
+ghost use Rattle.ipx_router.specs.Port.{port_at};
+ghost use Rattle.ipx_router.specs.Sends.{rip_broadcast, sap_broadcast};
+ghost use Rattle.ipx_router.specs.inside.Touched.{change_of};
+
+use crate::advertising::entry_pages::{ENTRIES_A_PAGE, send_page};
+use crate::advertising::items::{dead, dead_service, entry_of, farther, is_reached_on, told_at};
+use crate::advertising::service_pages::{SERVICES_A_PAGE, send_service_page};
+use crate::learning::changed::Changed;
+use crate::outbox::Outbox;
+use crate::port::Port;
+use crate::ports::addresses::{every_server, everyone, own_address, own_services, port_of};
+use crate::route_offer::RouteOffer;
+use crate::service_offer::ServiceOffer;
+use arrayvec::ArrayVec;
+use ipx_wire::{Address, Operation, RipEntry, Service};
+
+/// Advertises changed routes on the ports that are up, in at most a packet each.
+pub(crate) fn advertise_route_changes(
+    outbox: &mut Outbox,
+    ports: &[Port],
+    up: &[u8],
+    changes: &[Changed<RouteOffer>],
+)
+    requires ports { AllByRecursion (λ j. j < length ports.now) up.now }
+    requires few { length changes.now ≤ entries_a_page }
+    requires room { HasRoom outbox.old (length up.now) (length up.now * most_own_length) }
+    ensures { Appends outbox.old outbox.new (flat_map (λ j. rip_broadcast ports.now j (flat_map (route_told ports.now j) (map change_of changes.now))) up.now) }
+{
+    if changes.is_empty() {
+        return;
+    }
+    for &number in up {
+        advertise_routes_on(outbox, ports, number, changes);
+    }
+}
+
+/// Advertises changed services on the ports that are up, in at most a packet each.
+pub(crate) fn advertise_service_changes(
+    outbox: &mut Outbox,
+    ports: &[Port],
+    up: &[u8],
+    changes: &[Changed<ServiceOffer>],
+)
+    requires ports { AllByRecursion (λ j. j < length ports.now) up.now }
+    requires few { length changes.now ≤ services_a_page }
+    requires room { HasRoom outbox.old (length up.now) (length up.now * most_own_length) }
+    ensures { Appends outbox.old outbox.new (flat_map (λ j. sap_broadcast ports.now j (flat_map (service_told j) (map change_of changes.now))) up.now) }
+{
+    if changes.is_empty() {
+        return;
+    }
+    for &number in up {
+        advertise_services_on(outbox, ports, number, changes);
+    }
+}
+
+/// Advertises changed routes on one port, in at most one packet.
+fn advertise_routes_on(
+    outbox: &mut Outbox,
+    ports: &[Port],
+    number: u8,
+    changes: &[Changed<RouteOffer>],
+)
+    requires port { number < length ports.now }
+    requires few { length changes.now ≤ entries_a_page }
+    requires room { HasRoom outbox.old 1 most_own_length }
+    ensures sent { Appends outbox.old outbox.new (rip_broadcast ports.now number (flat_map (route_told ports.now number) (map change_of changes.now))) }
+    ensures left { (packets bytes : ℕ) → HasRoom outbox.old (packets + 1) (bytes + most_own_length) → HasRoom outbox.new packets bytes }
+{
+    let page = news_routes(ports, number, changes);
+    broadcast_page(outbox, ports, number, &page);
+}
+
+/// Advertises changed services on one port, in at most one packet.
+fn advertise_services_on(
+    outbox: &mut Outbox,
+    ports: &[Port],
+    number: u8,
+    changes: &[Changed<ServiceOffer>],
+)
+    requires port { number < length ports.now }
+    requires few { length changes.now ≤ services_a_page }
+    requires room { HasRoom outbox.old 1 most_own_length }
+    ensures sent { Appends outbox.old outbox.new (sap_broadcast ports.now number (flat_map (service_told number) (map change_of changes.now))) }
+    ensures left { (packets bytes : ℕ) → HasRoom outbox.old (packets + 1) (bytes + most_own_length) → HasRoom outbox.new packets bytes }
+{
+    let page = news_services(number, changes);
+    broadcast_service_page(outbox, ports, number, &page);
+}
+
+/// Broadcasts a page of entries on a port, if there is any.
+fn broadcast_page(
+    outbox: &mut Outbox,
+    ports: &[Port],
+    number: u8,
+    page: &ArrayVec<RipEntry, ENTRIES_A_PAGE>,
+)
+    requires port { number < length ports.now }
+    requires room { HasRoom outbox.old 1 most_own_length }
+    ensures sent { Appends outbox.old outbox.new (rip_broadcast ports.now number page.now.items) }
+    ensures left { (packets bytes : ℕ) → HasRoom outbox.old (packets + 1) (bytes + most_own_length) → HasRoom outbox.new packets bytes }
+{
+    if page.is_empty() {
+        return;
+    }
+    let port = port_of(ports, number);
+    let to = everyone(port);
+    proves_routes_fit(own_address(port), to, page);
+    send_page(outbox, ports, number, to, Operation::Response, page);
+}
+
+/// Broadcasts a page of services on a port, if there is any.
+fn broadcast_service_page(
+    outbox: &mut Outbox,
+    ports: &[Port],
+    number: u8,
+    page: &ArrayVec<Service, SERVICES_A_PAGE>,
+)
+    requires port { number < length ports.now }
+    requires room { HasRoom outbox.old 1 most_own_length }
+    ensures sent { Appends outbox.old outbox.new (sap_broadcast ports.now number page.now.items) }
+    ensures left { (packets bytes : ℕ) → HasRoom outbox.old (packets + 1) (bytes + most_own_length) → HasRoom outbox.new packets bytes }
+{
+    if page.is_empty() {
+        return;
+    }
+    let port = port_of(ports, number);
+    let to = every_server(port);
+    proves_services_fit(own_services(port), to, page);
+    send_service_page(outbox, ports, number, to, false, page);
+}
+
+/// A page of entries makes no packet that is longer than an own one may be.
+fn proves_routes_fit(from: Address, to: Address, page: &[RipEntry])
+    requires { length page.now ≤ entries_a_page }
+    ensures { length (rip_packet from to Response page.now) ≤ most_own_length }
+{
+    ipx_wire::laws::sizes();
+}
+
+/// A page of services makes no packet that is longer than an own one may be.
+fn proves_services_fit(from: Address, to: Address, page: &[Service])
+    requires { length page.now ≤ services_a_page }
+    ensures { length (sap_packet from to false page.now) ≤ most_own_length }
+{
+    ipx_wire::laws::sizes();
+    ipx_wire::laws::in_range(page);
+}
+
+/// Changed routes as a port advertises them, by network.
+fn news_routes(
+    ports: &[Port],
+    number: u8,
+    changes: &[Changed<RouteOffer>],
+) -> ArrayVec<RipEntry, ENTRIES_A_PAGE>
+    requires port { number < length ports.now }
+    requires few { length changes.now ≤ entries_a_page }
+    ensures { result.items ≡ flat_map (route_told ports.now number) (map change_of changes.now) }
+{
+    let mut page = ArrayVec::new();
+    for change in changes {
+        push_some(&mut page, news_route(ports, number, change));
+    }
+    page
+}
+
+/// Changed services as a port advertises them, by type and name.
+fn news_services(
+    number: u8,
+    changes: &[Changed<ServiceOffer>],
+) -> ArrayVec<Service, SERVICES_A_PAGE>
+    requires few { length changes.now ≤ services_a_page }
+    ensures { result.items ≡ flat_map (service_told number) (map change_of changes.now) }
+{
+    let mut page = ArrayVec::new();
+    for change in changes {
+        push_some(&mut page, news_service(number, change));
+    }
+    page
+}
+
+/// A changed route as a port advertises it: as it is now or, where it ended, as unreachable.
+fn news_route(ports: &[Port], number: u8, change: &Changed<RouteOffer>) -> Option<RipEntry>
+    requires { number < length ports.now }
+    ensures { option_to_list result ≡ route_told ports.now number (change_of change.now) }
+{
+    if let Some(route) = change.after {
+        return elsewhere(number, route.port, route_now(ports, number, route));
+    }
+    let route = change.before?;
+    elsewhere(number, route.port, dead(entry_of(&route)))
+}
+
+/// A changed service as a port advertises it: as it is now or, where it ended, as unreachable at the address that it had.
+fn news_service(number: u8, change: &Changed<ServiceOffer>) -> Option<Service>
+    ensures { option_to_list result ≡ service_told number (change_of change.now) }
+{
+    if let Some(offer) = change.after {
+        let learned = offer.port;
+        return elsewhere(number, learned, service_now(offer));
+    }
+    let offer = change.before?;
+    let learned = offer.port;
+    elsewhere(number, learned, dead_service(offer.service))
+}
+
+/// A route as a port advertises it; unreachable where the next router couldn't use it.
+fn route_now(ports: &[Port], number: u8, route: RouteOffer) -> RipEntry
+    requires { number < length ports.now }
+    ensures { result ≡ route_now (port_at ports.now number) route }
+{
+    if is_reached_on(route.hops) {
+        told_at(port_of(ports, number).cost(), entry_of(&route))
+    } else {
+        dead(entry_of(&route))
+    }
+}
+
+/// A service as it is advertised; unreachable where the next router couldn't use it.
+fn service_now(offer: ServiceOffer) -> Service
+    ensures { result ≡ service_now offer }
+{
+    if is_reached_on(offer.service.hops) {
+        farther(offer.service)
+    } else {
+        dead_service(offer.service)
+    }
+}
+
+/// Split horizon: nothing on the port where it was learned.
+fn elsewhere<T: Drop>(number: u8, learned: u8, item: T) -> Option<T>
+    ensures { option_to_list result ≡ (if learned == number then [] else item ∷ []) }
+{
+    if learned == number { None } else { Some(item) }
+}
+
+/// Puts an item on a page, if there is one.
+fn push_some<T: Drop, const MOST: usize>(page: &mut ArrayVec<T, MOST>, item: Option<T>)
+    requires room { length page.old.items < MOST }
+    ensures value { page.new.items ≡ page.old.items ++ option_to_list item }
+    ensures few { length page.new.items ≤ length page.old.items + 1 }
+{
+    if let Some(item) = item {
+        page.push(item);
+    }
+}

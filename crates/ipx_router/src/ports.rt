@@ -1,0 +1,7 @@
+//! A router's ports, as the other rooms read them.
+//! Comes in: the ports of a router, or the values of new ones.
+//! Goes out: the port of a number, the addresses of its processes, which ports are up, whether ports make a router.
+//! Touches: nothing.
+pub(crate) mod addresses;
+pub(crate) mod making;
+pub(crate) mod up_ports;

@@ -1,0 +1,4 @@
+-- Definitions that only clauses inside the crate and its proofs speak of: nobody needs to believe them.
+pub mod AfterOffer
+pub mod Clock
+pub mod Sought
