@@ -16,7 +16,7 @@ use Rattle.ipx_capture.specs.declared.order.Order.{Order}
 use Rattle.ipx_capture.specs.declared.standing.Standing.{Standing}
 use Rattle.ipx_capture.specs.declared.standing.Standing.TheVariants.{Open, Ended, Broken}
 
--- how far a capture has been read: its byte order, how many records were taken, which bytes were read and not taken yet,
+-- how far a capture has been read: its byte order, how many records were taken, which bytes the buffer has after them,
 -- for how many bytes its buffer has memory, whether its end was told, and its intake
 pub record Place : Type 0 where
   pub order : Order

@@ -2,7 +2,7 @@
 use Rattle.std.specs.Prelude.{ℕ, ◌+◌, ◌≤◌, max, List}
 use Rattle.ipx_capture.specs.Records.{record_header, most_kept}
 
--- the bytes of the record last taken, those that were read and not taken yet, and for how many bytes the buffer has memory
+-- the bytes of the record last taken, those in the buffer after it, and for how many bytes the buffer has memory
 pub record Held : Type 0 where
   pub taken : List ℕ
   pub ahead : List ℕ

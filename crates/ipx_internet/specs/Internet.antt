@@ -4,7 +4,7 @@ use Rattle.std.specs.List.{AllByRecursion, flat_map}
 use Rattle.ipx_wire.specs.declared.network.Network.{Network}
 use Rattle.ipx_router.specs.Port.{Port, IsPort, AreApart, port_at, numbers}
 
--- the ports of each router; a network is there where a port is on it
+-- the ports of each router; its networks are those that its ports are on
 abbrev pub Internet : Type 0
 Internet = List (List Port)
 

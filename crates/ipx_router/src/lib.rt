@@ -3,7 +3,7 @@
 //!
 //! - `Router` follows its history: after any events its tables have what the definitions say, and each event sends
 //!   exactly the defined packets. `handle` takes no memory; `step` makes the room first, or leaves all as it was.
-//! - Its `specs/` say what a router does, over histories of events alone: whether it runs, and which of its
+//! - Its `specs/` say what a router does, over histories of events, ports, and lists of records: whether it runs, and which of its
 //!   ports are up (`History`), what it holds (`Facts`), where a packet leaves (`Outgoing`), what it drops and
 //!   why (`Why`), what it advertises on which port (`Told`, `News`), which packets each event sends (`Sends`,
 //!   `Relays`), and how many at most (`Bounds`). No definition knows a table, a timer or a queue.

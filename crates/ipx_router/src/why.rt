@@ -19,7 +19,7 @@ pub enum Why {
     BadSource,
     /// Propagated, with no room for the networks crossed.
     CrossedShort,
-    /// Propagated, with eight networks crossed.
+    /// Propagated, with eight or more networks crossed.
     CrossedFull,
     /// Propagated, and it has crossed the port's network before.
     CrossedSeen,

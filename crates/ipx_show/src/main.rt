@@ -70,7 +70,7 @@ fn show_routes(rt: &HostRuntime, data: &[u8]) -> io::Result<()> {
             println!(rt; "  RIP {}", rip.operation())?;
             for entry in rip.entries() {
                 println!(rt;
-                    "  route {}: {} hops, {} ticks",
+                    "  route {}: hops {}, ticks {}",
                     entry.network, entry.hops, entry.ticks
                 )?;
             }
@@ -105,8 +105,8 @@ fn show_service(rt: &HostRuntime, entry: &SapEntry) -> io::Result<()> {
         hops,
     } = entry;
     match name {
-        Some(name) => println!(rt; "  service {kind:04X} {name} at {address}: {hops} hops"),
-        None => println!(rt; "  service {kind:04X} without a name at {address}: {hops} hops"),
+        Some(name) => println!(rt; "  service {kind:04X} {name} at {address}: hops {hops}"),
+        None => println!(rt; "  service {kind:04X} without a name at {address}: hops {hops}"),
     }
 }
 
