@@ -82,10 +82,10 @@ module _ {O K : Type 0} (reading : Reading O K) (order : K → K → Ordering) (
       (λ records port all. all-filter (λ h. reading.is_down h.offer ≡ false) (λ h. not (rules.port h.offer == port)) records all)
       [] tt facts
 
-  abbrev IsNear : Held O → Type 0
+  abbrev pub IsNear : Held O → Type 0
   IsNear h = (hops h.offer < unreachable) × (h.age < lifetime)
 
-  near_young : (facts : List (Fact O)) → AllByRecursion IsNear (alive_after facts)
+  pub near_young : (facts : List (Fact O)) → AllByRecursion IsNear (alive_after facts)
   near_young facts =
       all_then (λ h. (reading.is_down h.offer ≡ false) × (h.age < lifetime)) IsNear
       (λ h both. (leb-false unreachable (hops h.offer) (sym (down h.offer) ∙ both.0), both.1)) (alive_after facts)

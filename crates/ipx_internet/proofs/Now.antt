@@ -24,14 +24,14 @@ stands_now most_routes most_services s history stands =
     ∙ ap (λ (routes : List (Held RouteOffer)). made (running history) (ports_up s.ports history) routes) stands.routes_stand
 
 -- the numbers from the front
-numbers_front : (n : ℕ) → numbers (suc n) ≡ 0 ∷ map suc (numbers n)
+pub numbers_front : (n : ℕ) → numbers (suc n) ≡ 0 ∷ map suc (numbers n)
 numbers_front zero = refl
 numbers_front (suc n) =
     ap (λ (ns : List ℕ). ns ++ suc n ∷ []) (numbers_front n)
     ∙ ap (λ (ns : List ℕ). 0 ∷ ns) (sym (map-append suc (numbers n) (n ∷ [])))
 
 module _ {X : Type 0} where
-  joint : (f : ℕ → X) (ns : List ℕ) → map f (map suc ns) ≡ map (λ n. f (suc n)) ns
+  pub joint : (f : ℕ → X) (ns : List ℕ) → map f (map suc ns) ≡ map (λ n. f (suc n)) ns
   joint f [] = refl
   joint f (n ∷ ns) = ap (λ (xs : List X). f (suc n) ∷ xs) (joint f ns)
 

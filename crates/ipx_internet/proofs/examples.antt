@@ -3,6 +3,7 @@ pub mod Branches
 pub mod Directed
 pub mod Heavy
 pub mod Horizons
+pub mod Leasts
 pub mod Logs
 pub mod Loops
 pub mod Meanwhile

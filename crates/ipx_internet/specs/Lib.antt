@@ -1,3 +1,4 @@
+pub mod Arriving
 pub mod Batches
 pub mod Course
 pub mod Delivery
@@ -5,6 +6,7 @@ pub mod Departure
 pub mod Different
 pub mod Internet
 pub mod InternetWeight
+pub mod Least
 pub mod Listed
 pub mod Log
 pub mod Meanwhile

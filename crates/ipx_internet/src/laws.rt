@@ -1,27 +1,32 @@
 //! What holds of every internet, whatever its routers' tables.
 ghost use Rattle.std.specs.Prelude.{◌≡◌, ◌≢◌, ◌↔◌, ℕ, ◌+◌, ◌-◌, ◌*◌, ◌<◌, ◌≤◌, true, false, List, [], ◌∷◌, ◌++◌, length, map, flat_map, replicate, Option, Some, slice_get};
 ghost use Rattle.std.specs.List.{AllByRecursion};
+ghost use Rattle.std.specs.Option.{option_map};
 ghost use Rattle.ipx_wire.specs.Crossed.{is_among};
 ghost use Rattle.ipx_wire.specs.Numbers.{crossed_places};
 ghost use Rattle.ipx_wire.specs.Packet.{Parts, IsPacket};
 ghost use Rattle.ipx_wire.specs.Piece.{IsBytes};
+ghost use Rattle.ipx_wire.specs.declared.address.Address.{Address};
 ghost use Rattle.ipx_wire.specs.declared.network.Network.{Network};
 ghost use Rattle.ipx_wire.specs.declared.node.Node.{Node};
 ghost use Rattle.ipx_router.specs.Bounds.{most_packets};
 ghost use Rattle.ipx_router.specs.Facts.{routes_held, services_held, offers};
 ghost use Rattle.ipx_router.specs.History.{Event, History, IsOnPort, IsOfBytes};
 ghost use Rattle.ipx_router.specs.Numbers.{most_routers, most_ports};
+ghost use Rattle.ipx_router.specs.Outgoing.{route_to};
 ghost use Rattle.ipx_router.specs.Packets.{IsRelayed};
 ghost use Rattle.ipx_router.specs.Port.{Port, is_up};
 ghost use Rattle.ipx_router.specs.Relays.{Sent};
 ghost use Rattle.ipx_router.specs.Sends.{sends};
 ghost use Rattle.ipx_router.specs.Why.{is_propagated};
+ghost use Rattle.ipx_internet.specs.Arriving.{IsOfHost, Arrives};
 ghost use Rattle.ipx_internet.specs.Course.{IsInCourse, IsPath, visited};
 ghost use Rattle.ipx_internet.specs.Delivery.{delivered};
 ghost use Rattle.ipx_internet.specs.Departure.{ObservesHorizon, departures, handed, deliveries_from};
 ghost use Rattle.ipx_internet.specs.Different.{AreDifferent};
 ghost use Rattle.ipx_internet.specs.Internet.{Internet, Place, IsInternet, NodesDiffer, IsPlace, network_of, ports_of};
 ghost use Rattle.ipx_internet.specs.InternetWeight.{queued_weight};
+ghost use Rattle.ipx_internet.specs.Least.{Way, is_better, least, IsWay, most_hops, AllUp, AreCheap, HasRoom, least_route, way_of, ticks_right, most_ticks_right};
 ghost use Rattle.ipx_internet.specs.Log.{Sending, Reception, reception_at, IsForward, IsLog};
 ghost use Rattle.ipx_internet.specs.Meanwhile.{IsWithoutRoute, IsWithoutService, SaysOnly, IsBusyTick, StaysGone, EachTick};
 ghost use Rattle.ipx_internet.specs.Most.{most, most_of, most_on_network, most_ports as ports_at_most};
@@ -32,7 +37,7 @@ ghost use Rattle.ipx_internet.specs.Run.{Step, Settles, IsStep, AreHistories, Ru
 ghost use Rattle.ipx_internet.specs.Moment.{Moment, StandsFor, net_at};
 ghost use Rattle.ipx_internet.specs.Ticks.{seconds_of, IsOfTick, IsTick, AreTicks, ticked, a_tick, a_tick_by, IsOrder, most_ticks_gone, ups, IsGone};
 ghost use Rattle.ipx_internet.specs.Traced.{tree, routers_of, routers_after};
-ghost use Rattle.ipx_internet.specs.Tree.{Router, router_now, IsRouter, Copy, net_of, sent_on, children, tree_to, IsTree};
+ghost use Rattle.ipx_internet.specs.Tree.{Router, router_now, IsRouter, Copy, root, net_of, sent_on, children, tree_to, IsTree};
 ghost use Rattle.ipx_internet.specs.Weight.{weight, weights, CanCome, IsBounded};
 
 /// How far a packet goes, in any internet and any log: with any tables and any ports up, also such as change on the way.
@@ -404,6 +409,65 @@ pub fn whatever_waits()
         → router < length net → AllByRecursion (AllByRecursion (SaysOnly (IsWithoutService key))) ticks
         → AllByRecursion (λ s. (s.service.kind, s.service.name) ≢ key)
         (offers (services_held (ports_of net router) most_services (history_of (ticked net most_routes most_services run (first ∷ ticks)).histories router))) }
+{
+    ipx_wire::laws::readings();
+    ipx_wire::laws::service_readings();
+    ipx_wire::laws::reread();
+    ipx_router::laws::packets();
+}
+
+/// The least way is a way of at most fifteen hops, and no such way is better.
+pub fn least_ways()
+    ensures way { (net : Internet) (router : ℕ) (network : Network) (way : Way) → least net router network ≡ Some way
+        → IsWay net network router way × (way.hops ≤ most_hops) }
+    ensures none_better { (net : Internet) (router : ℕ) (network : Network) (way : Way) → IsWay net network router way → way.hops ≤ most_hops
+        → (best : Way) × (least net router network ≡ Some best) × (is_better way best ≡ false) }
+{}
+
+/// Every table becomes right and stays so, whatever was in it before: after 2,880 ticks and 60 for each hop every router has the route of
+/// the least way to a network, and where there is no way it has none (`tables`). From then on it is the same route, with hops, ticks,
+/// port and neighbour (`stay`). No network takes longer than 3,780 ticks (`soon`).
+///
+/// All routers run, with all ports up, and there are at most 16. No port costs more than 4,095 ticks. Every table has room for all
+/// networks, and so has the share of every port. Nothing waits when the ticks begin, and nothing but them happens.
+pub fn right()
+    ensures tables { (net : Internet) (most_routes most_services : ℕ) (histories : List History) (ticks : List (List Step)) (router : ℕ) (network : Network)
+        → IsInternet net → NodesDiffer net → length net ≤ most_routers → AreCheap net → HasRoom net most_routes → AreHistories net histories → AllUp net histories
+        → AreTicks net most_routes most_services (begun histories) ticks → router < length net → ticks_right (least_route net router network) ≤ length ticks
+        → option_map way_of
+        (route_to (offers (routes_held (ports_of net router) most_routes (history_of (ticked net most_routes most_services (begun histories) ticks).histories router))) network.0)
+        ≡ least_route net router network }
+    ensures stay { (net : Internet) (most_routes most_services : ℕ) (histories : List History) (ticks further : List (List Step)) (router : ℕ) (network : Network)
+        → IsInternet net → NodesDiffer net → length net ≤ most_routers → AreCheap net → HasRoom net most_routes → AreHistories net histories → AllUp net histories
+        → AreTicks net most_routes most_services (begun histories) (ticks ++ further) → router < length net
+        → ticks_right (least_route net router network) ≤ length ticks
+        → route_to (offers (routes_held (ports_of net router) most_routes
+        (history_of (ticked net most_routes most_services (begun histories) (ticks ++ further)).histories router))) network.0
+        ≡ route_to (offers (routes_held (ports_of net router) most_routes
+        (history_of (ticked net most_routes most_services (begun histories) ticks).histories router))) network.0 }
+    ensures soon { (net : Internet) (router : ℕ) (network : Network) → ticks_right (least_route net router network) ≤ most_ticks_right }
+{
+    ipx_wire::laws::readings();
+    ipx_wire::laws::service_readings();
+    ipx_wire::laws::reread();
+    ipx_router::laws::packets();
+}
+
+/// So packets arrive. After as many ticks a packet of a host for a network, that comes to a port of any router, goes through as many
+/// routers more as the least way of that router has hops, one at a time, and the last one sends it out on that network, for the node that it
+/// is for (`goes`). So each of the first levels of its tree is one reception (`one_each`).
+///
+/// It is for one network, and no port of a router sent it or is where it goes. It is no longer than every port allows. With its transport
+/// control it comes through fewer than 16 routers.
+pub fn arrives()
+    ensures goes { (net : Internet) (most_routes most_services : ℕ) (histories : List History) (ticks : List (List Step)) (place : Place) (bytes : List ℕ) (p : Parts) (way : Way)
+        → IsInternet net → NodesDiffer net → length net ≤ most_routers → AreCheap net → HasRoom net most_routes → AreHistories net histories → AllUp net histories
+        → AreTicks net most_routes most_services (begun histories) ticks → IsPlace net place → IsBytes bytes → IsPacket bytes p → IsOfHost net p
+        → least_route net place.router p.header.destination.network ≡ Some way → ticks_right (Some way) ≤ length ticks
+        → p.header.control + way.hops < most_routers
+        → Arrives (routers_after net most_routes (ticked net most_routes most_services (begun histories) ticks).histories) p.header.destination way.hops 0
+        (root place bytes) }
+    ensures one_each { (routers : List Router) (to : Address) (hops : ℕ) (c : Copy) → Arrives routers to hops 0 c → length (tree_to routers (hops + 1) c) ≡ hops + 1 }
 {
     ipx_wire::laws::readings();
     ipx_wire::laws::service_readings();

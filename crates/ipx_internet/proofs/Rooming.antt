@@ -1,0 +1,226 @@
+-- Where every route is of a real way, there is room: fewer routes are held than there are networks; and which of two routes is worse.
+use Rattle.std.proofs.Common.{◌≡◌, ◌≢◌, refl, sym, ap, ◌∙◌, subst, ℕ, zero, suc, ◌<◌, ◌≤◌, ◌==◌, nat_lt, Bool, true, false, List, [], ◌∷◌, length, map, filter, flat_map, get_or, inl, inr, arith, true≢false, Less, Equal, Greater, is_eq}
+use Rattle.std.specs.List.{AllByRecursion, list_any}
+use Rattle.std.specs.Ordering.{nat_cmp, is_gt}
+use Rattle.std.specs.Cmp.{nat_cmp_is}
+use Rattle.std.proofs.lemmas.Bool.{cases_Bool, cases_eq, cases_lt, or_left, or_right, or_cases, eq-eqb, eqb-true, lt-ltb, both_ways}
+use Rattle.std.proofs.lemmas.List.{length-map}
+use Rattle.ipx_table.specs.Accepted.{has_share, may_replace}
+use Rattle.ipx_table.specs.Reading.{count_by, rank_order, share_of}
+use Rattle.ipx_table.specs.declared.held.Held.{Held}
+use Rattle.ipx_table.proofs.Singles.{length-filter}
+use Rattle.ipx_wire.specs.Crossed.{is_among}
+use Rattle.ipx_wire.specs.declared.network.Network.{Network}
+use Rattle.ipx_router.specs.Port.{Port, port_at, is_up}
+use Rattle.ipx_router.specs.Routes.{route_rules, network_order}
+use Rattle.ipx_router.specs.declared.route_offer.RouteOffer.{RouteOffer}
+use Rattle.ipx_internet.specs.Different.{AreDifferent}
+use Rattle.ipx_internet.specs.Internet.{Internet, Place, IsPlace, ports_of, network_of}
+use Rattle.ipx_internet.specs.Least.{Way, is_on, each_once, networks_of, HasRoom}
+use Rattle.ipx_internet.specs.Real.{IsReal, next, farther}
+use Rattle.ipx_internet.proofs.Having.{AnyIs, any-map, any-flat_map, passes_any}
+use Rattle.ipx_internet.proofs.Lists.{all_or, no_more_than}
+use Rattle.ipx_internet.proofs.Receivers.{same_number}
+use Rattle.ipx_internet.proofs.Runs.{router_there}
+use Rattle.ipx_internet.proofs.Shortest.{NoWorse, port_on}
+use Rattle.ipx_internet.proofs.Sourcing.{off_where_wanted}
+
+-- ---- numbers and ranks in order
+
+less_is : (x y : ℕ) → x < y → nat_cmp x y ≡ Less
+less_is x y less = sym (nat_cmp_is x y Less less)
+
+equal_is : (x y : ℕ) → x ≡ y → nat_cmp x y ≡ Equal
+equal_is x y same = sym (nat_cmp_is x y Equal same)
+
+greater_is : (x y : ℕ) → y < x → nat_cmp x y ≡ Greater
+greater_is x y greater = sym (nat_cmp_is x y Greater greater)
+
+-- two numbers are the same where neither comes first
+pub same_where_equal : (x y : ℕ) → is_eq (nat_cmp x y) ≡ true → x ≡ y
+same_where_equal x y e = elim (cases_eq x y) [
+  | inl same ↦ same
+  | inr off ↦ elim (cases_lt x y) [
+    | inl less ↦ absurd (true≢false (sym e ∙ ap is_eq (less_is x y less)))
+    | inr most ↦ absurd (true≢false (sym e ∙ ap is_eq (greater_is x y (omega (arith, most, off)))))
+  ]
+]
+
+pub equal_where_same : (x y : ℕ) → x ≡ y → is_eq (nat_cmp x y) ≡ true
+equal_where_same x y same = ap is_eq (equal_is x y same)
+
+abbrev rank : Way → ℕ × ℕ
+rank way = (way.ticks, way.hops)
+
+-- a way that isn't worse
+pub not_worse : (a b : Way) → is_gt (rank_order (a.ticks, a.hops) (b.ticks, b.hops)) ≡ false → NoWorse a b
+not_worse a b e = elim (cases_lt a.ticks b.ticks) [
+  | inl less ↦ record { ticks = omega (arith, less); hops = λ same. absurd (omega (arith, less, same)) }
+  | inr most ↦ elim (cases_eq a.ticks b.ticks) [
+    | inr off ↦
+        let greater = greater_is a.ticks b.ticks (omega (arith, most, off)) in
+        absurd (true≢false (rw greater at e))
+    | inl same ↦ elim (cases_lt b.hops a.hops) [
+      | inr few ↦ record { ticks = omega (arith, same); hops = λ also. few }
+      | inl more ↦
+          let equal = equal_is a.ticks b.ticks same in
+          let greater = greater_is a.hops b.hops more in
+          absurd (true≢false (rw (equal, greater) at e))
+    ]
+  ]
+]
+
+-- and one that is, is worse
+pub worse : (a b : Way) → is_gt (rank_order (a.ticks, a.hops) (b.ticks, b.hops)) ≡ true → NoWorse a b → ⊥
+worse a b e less = elim (cases_lt a.ticks b.ticks) [
+  | inl fewer ↦
+      let first = less_is a.ticks b.ticks fewer in
+      true≢false (sym (rw first at e))
+  | inr most ↦
+      let bound = less.ticks in
+      let same : a.ticks ≡ b.ticks = omega (arith, most, bound) in
+      let equal = equal_is a.ticks b.ticks same in
+      let hops = less.hops same in
+      elim (cases_eq a.hops b.hops) [
+        | inl also ↦ let second = equal_is a.hops b.hops also in true≢false (sym (rw (equal, second) at e))
+        | inr off ↦ let second = less_is a.hops b.hops (omega (arith, hops, off)) in true≢false (sym (rw (equal, second) at e))
+      ]
+]
+
+-- ---- networks
+
+still_among : (network : Network) (networks : List Network) → is_among network networks ≡ true → is_among network (each_once networks) ≡ true
+still_among network [] among = among
+still_among network (n ∷ networks) among = elim (cases_Bool (is_among n networks)) [
+  | inl again ↦ rw again (elim (or_cases (n.0 == network.0) (is_among network networks) among) [
+    | inr behind ↦ still_among network networks behind
+    | inl here ↦
+        let same : n ≡ network = same_number n network (eqb-true n.0 network.0 here) in
+        still_among network networks (subst (λ (m : Network). is_among m networks ≡ true) same again)
+  ])
+  | inr once ↦ rw once (elim (or_cases (n.0 == network.0) (is_among network networks) among) [
+    | inr behind ↦ or_right (n.0 == network.0) (is_among network (each_once networks)) (still_among network networks behind)
+    | inl here ↦ or_left (n.0 == network.0) (is_among network (each_once networks)) here
+  ])
+]
+
+in_list : {X : Type 0} (xs : List X) (k : ℕ) (d : X) (P : X → Type 0) → k < length xs → P (get_or xs k d) → AnyIs P xs
+in_list [] k d P less it = absurd (omega (arith, less))
+in_list (x ∷ xs) zero d P less it = inl it
+in_list (x ∷ xs) (suc k) d P less it = inr (in_list xs k d P (omega (arith, less)) it)
+
+-- the network of each port is named
+pub named : (net : Internet) (place : Place) → IsPlace net place → is_among (network_of net place) (networks_of net) ≡ true
+named net place there =
+    let network = network_of net place in
+    still_among network (flat_map (λ ports. map (λ p. p.network) ports) net)
+    (passes_any (λ n. n.0 == network.0) (flat_map (λ ports. map (λ p. p.network) ports) net)
+    (any-flat_map (λ ports. AnyIs (λ p. (p.network.0 == network.0) ≡ true) ports) (λ n. (n.0 == network.0) ≡ true) (λ ports. map (λ p. p.network) ports)
+    (λ ports any. any-map (λ p. (p.network.0 == network.0) ≡ true) (λ n. (n.0 == network.0) ≡ true) (λ p. p.network) (λ p is. is) ports any) net
+    (in_list net place.router [] (λ ports. AnyIs (λ p. (p.network.0 == network.0) ≡ true) ports) (router_there net place.router place.port there)
+    (in_list (ports_of net place.router) place.port (port_at [] 0) (λ p. (p.network.0 == network.0) ≡ true) there (eq-eqb network.0 network.0 refl)))))
+
+-- ---- routes of real ways are to such networks
+
+module _ (net : Internet) (up : ℕ → List ℕ) (there_where_up : (router port : ℕ) → is_up (up router) port ≡ true → port < length (ports_of net router)) where
+  real_named : {router : ℕ} {r : RouteOffer} → IsReal net up router r → is_among r.network (networks_of net) ≡ true
+  real_named (next from beside on apart taken) =
+      subst (λ (n : Network). is_among n (networks_of net) ≡ true) (sym (ap (λ (x : RouteOffer). x.network) taken.offer))
+      (named net (record { router = from.router; port = beside }) (there_where_up from.router beside on))
+  real_named (farther from s apart taken near real) =
+      subst (λ (n : Network). is_among n (networks_of net) ≡ true) (sym (ap (λ (x : RouteOffer). x.network) taken.offer)) (real_named real)
+
+  pub real_wanted : {router : ℕ} {r : RouteOffer} → IsReal net up router r → is_on (ports_of net router) r.network ≡ false
+  real_wanted {router} {r} (next from beside on apart taken) = off_where_wanted (ports_of net router) r.network taken.wanted
+  real_wanted {router} {r} (farther from s apart taken near real) = off_where_wanted (ports_of net router) r.network taken.wanted
+
+  -- ---- how many are held
+
+  abbrev of_key : RouteOffer → Held RouteOffer → Bool
+  of_key o h = is_eq (network_order h.offer.network o.network)
+
+  networks_differ : (records : List (Held RouteOffer)) → ((o : RouteOffer) → length (filter (of_key o) records) ≤ 1)
+      → AreDifferent (map (λ h. h.offer.network) records)
+  networks_differ [] distinct = tt
+  networks_differ (x ∷ records) distinct = (others records (alone records (distinct x.offer)), networks_differ records (λ o. fewer o (distinct o)))
+    where
+      alone : (rest : List (Held RouteOffer)) → length (filter (of_key x.offer) (x ∷ rest)) ≤ 1 → length (filter (of_key x.offer) rest) ≤ 0
+      alone rest few =
+          let here : is_eq (nat_cmp x.offer.network.0 x.offer.network.0) ≡ true = equal_where_same x.offer.network.0 x.offer.network.0 refl in
+          let less : suc (length (filter (of_key x.offer) rest)) ≤ 1 = rw here at few in
+          omega (arith, less)
+
+      others : (rest : List (Held RouteOffer)) → length (filter (of_key x.offer) rest) ≤ 0 → AllByRecursion (λ n. n ≢ x.offer.network) (map (λ h. h.offer.network) rest)
+      others [] few = tt
+      others (y ∷ rest) few = elim (cases_Bool (is_eq (nat_cmp y.offer.network.0 x.offer.network.0))) [
+        | inl e ↦ let less : suc (length (filter (of_key x.offer) rest)) ≤ 0 = rw e at few in absurd (omega (arith, less))
+        | inr e ↦ (
+          (λ same. both_ways (is_eq (nat_cmp y.offer.network.0 x.offer.network.0)) e
+              (equal_where_same y.offer.network.0 x.offer.network.0 (ap (λ (n : Network). n.0) same))),
+          others rest (rw e at few),
+        )
+      ]
+
+      fewer : (o : RouteOffer) → length (filter (of_key o) (x ∷ records)) ≤ 1 → length (filter (of_key o) records) ≤ 1
+      fewer o few = elim (cases_Bool (is_eq (nat_cmp x.offer.network.0 o.network.0))) [
+        | inl e ↦ let less : suc (length (filter (of_key o) records)) ≤ 1 = rw e at few in omega (arith, less)
+        | inr e ↦ rw e at few
+      ]
+
+  -- fewer than there are networks
+  pub few_held : (router port : ℕ) → port < length (ports_of net router) → (records : List (Held RouteOffer)) → ((o : RouteOffer) → length (filter (of_key o) records) ≤ 1)
+      → AllByRecursion (λ h. IsReal net up router h.offer) records → length records < length (networks_of net)
+  few_held router port here records distinct all =
+      let own = network_of net (record { router = router; port = port }) in
+      let networks = map (λ h. h.offer.network) records in
+      let same = length-map records (λ h. h.offer.network) in
+      let most = no_more_than (λ n. n.0) same_number (own ∷ networks) (networks_of net) (apart records all, networks_differ records distinct)
+      (named net (record { router = router; port = port }) here, are_named records all) in
+      omega (arith, same, most)
+    where
+      apart : (rest : List (Held RouteOffer)) → AllByRecursion (λ h. IsReal net up router h.offer) rest
+          → AllByRecursion (λ n. n ≢ network_of net (record { router = router; port = port })) (map (λ h. h.offer.network) rest)
+      apart [] all = tt
+      apart (h ∷ rest) all = (
+        (λ same. both_ways (is_on (ports_of net router) h.offer.network) (real_wanted all.0)
+            (port_on (ports_of net router) h.offer.network port here (sym same))),
+        apart rest all.1,
+      )
+
+      are_named : (rest : List (Held RouteOffer)) → AllByRecursion (λ h. IsReal net up router h.offer) rest
+          → AllByRecursion (λ n. list_any (λ y. y.0 == n.0) (networks_of net) ≡ true) (map (λ h. h.offer.network) rest)
+      are_named [] all = tt
+      are_named (h ∷ rest) all = (real_named all.0, are_named rest all.1)
+
+  -- ---- room and shares
+
+  share_of_all : (n capacity : ℕ) (shares : List ℕ) (port : ℕ) → n ≤ capacity → AllByRecursion (λ s. n ≤ s) shares → n ≤ share_of capacity shares port
+  share_of_all n capacity [] port most all = most
+  share_of_all n capacity (s ∷ shares) zero most all = all.0
+  share_of_all n capacity (s ∷ shares) (suc port) most all = share_of_all n capacity shares port most all.1
+
+  module _ (most_routes : ℕ) (room : HasRoom net most_routes) (router port : ℕ) (here : port < length (ports_of net router)) (records : List (Held RouteOffer))
+      (distinct : (o : RouteOffer) → length (filter (of_key o) records) ≤ 1) (all : AllByRecursion (λ h. IsReal net up router h.offer) records) where
+    abbrev ports : List Port
+    ports = ports_of net router
+
+    pub has_room : nat_lt (length records) most_routes ≡ true
+    has_room =
+        let few = few_held router port here records distinct all in
+        let most = room.table in
+        lt-ltb (length records) most_routes (omega (arith, few, most))
+
+    shares_are : (ps : List Port) → AllByRecursion (λ p. length (networks_of net) ≤ p.route_share) ps → AllByRecursion (λ s. length (networks_of net) ≤ s) (map (λ p. p.route_share) ps)
+    shares_are [] every = tt
+    shares_are (p ∷ ps) every = (every.0, shares_are ps every.1)
+
+    pub shares : (offer : RouteOffer) → has_share (route_rules ports most_routes) offer records ≡ true
+    shares offer =
+        let few = few_held router port here records distinct all in
+        let some = length-filter (λ h. h.offer.port == offer.port) records in
+        let share = share_of_all (length (networks_of net)) most_routes (map (λ p. p.route_share) ports) offer.port room.table
+        (shares_are ports (all_or (AllByRecursion (λ p. length (networks_of net) ≤ p.route_share)) net router [] room.shares tt)) in
+        lt-ltb (count_by (λ r. r.port) offer.port records) (share_of most_routes (map (λ p. p.route_share) ports) offer.port) (omega (arith, few, some, share))
+
+    pub may : (offer : RouteOffer) (h : Held RouteOffer) → may_replace (route_rules ports most_routes) offer records h ≡ true
+    may offer h = or_right (h.offer.port == offer.port) (has_share (route_rules ports most_routes) offer records) (shares offer)

@@ -1,0 +1,27 @@
+-- A packet that arrives: it comes through one router after the other, a stated number of them, and leaves on the network that it is for.
+use Rattle.std.specs.Prelude.{◌≡◌, ℕ, zero, suc, ◌+◌, ◌≤◌, false, List, [], ◌∷◌}
+use Rattle.ipx_wire.specs.Packet.{Parts}
+use Rattle.ipx_wire.specs.declared.address.Address.{Address}
+use Rattle.ipx_router.specs.Outgoing.{is_own_port}
+use Rattle.ipx_router.specs.Port.{port_at}
+use Rattle.ipx_router.specs.Relays.{Sent}
+use Rattle.ipx_router.specs.Why.{is_propagated, is_own_echo, is_bad_source}
+use Rattle.ipx_internet.specs.Internet.{Internet, Place, IsPlace, ports_of, port_of}
+use Rattle.ipx_internet.specs.Tree.{Router, Copy, router_at, forwards, children}
+
+-- a packet of a host for one network, that no port of a router sent, that is for no port of a router, and that is no longer than every
+-- port allows
+pub record IsOfHost (net : Internet) (p : Parts) : Type 0 where
+  pub for_one : is_propagated p.header ≡ false
+  pub source : is_bad_source p.header ≡ false
+  pub no_echo : (place : Place) → IsPlace net place → is_own_echo (port_of net place) p.header ≡ false
+  pub elsewhere : (router : ℕ) → is_own_port (ports_of net router) p.header.destination ≡ false
+  pub short : (place : Place) → IsPlace net place → p.header.length ≤ (port_of net place).longest
+
+module _ (routers : List Router) (to : Address) where
+  -- a reception with that number in the tree sends one packet on, and one router receives it, and so on for so many hops; then it leaves
+  -- on the destination's network, for its node
+  abbrev pub Arrives : ℕ → ℕ → Copy → Type 0
+  Arrives zero number c =
+      (s : Sent) × (forwards routers c ≡ s ∷ []) × ((port_at (router_at routers c.to.router).ports s.port).network ≡ to.network) × (s.link ≡ to.node)
+  Arrives (suc hops) number c = (next : Copy) × (children routers number c ≡ next ∷ []) × Arrives hops (number + 1) next
