@@ -189,12 +189,9 @@ impl Heard {
     /// Fills the table, or refreshes what it holds.
     fn refresh<const R: usize>(&self, router: &mut Router<8, R, 64>, outbox: &mut Outbox) {
         for place in 0..self.responses.len() {
-            hear(
-                router,
-                outbox,
-                port_of(place as u32),
-                &self.responses[place],
-            );
+            if let Some(bytes) = self.responses.get(place) {
+                hear(router, outbox, port_of(place as u32), bytes);
+            }
         }
     }
 

@@ -136,7 +136,7 @@ fn look_up<const R: usize>(table: &Table<Way, R>, number: u32) -> u64 {
 
 fn look_up_in_map(map: &Map, number: u32) -> u64 {
     match map.get(&number) {
-        Some(held) => u64::from(held.age) + u64::from(held.offer.ticks),
+        Some(held) => u64::from(held.age).wrapping_add(u64::from(held.offer.ticks)),
         None => 0,
     }
 }
