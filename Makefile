@@ -1,4 +1,5 @@
-# Needs the Rattle toolchain (its command rt, and the Python that it runs on) and nothing else.
+# Needs the Rattle toolchain (its command rt, and the Python that it runs on) and nothing else. README.md says where that comes from, and how
+# many minutes, how much disk and how much memory a build takes.
 PREFIX ?= /usr/local
 PROGRAM = crates/ipxr/out/ipxr
 MINUTES ?= 60
@@ -51,7 +52,7 @@ fuzz: build embed
 bench:
 	@tools/bench
 
-# Puts what the gate proved and built into dist/: the archive of a release and Debian's packages, with their sums; docs/RELEASES.md.
+# Puts what the gate proved and built into dist/: the archive of a release and Debian's packages, with their sums; docs/authors/RELEASING.md.
 # DRAFT=1 makes a draft where the gate wasn't run on this commit.
 dist:
 	@tools/dist $(if $(DRAFT),--draft)

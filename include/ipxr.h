@@ -104,7 +104,7 @@ extern "C" {
 #define IPXR_OWN_ECHO 300             /* from the port itself */
 #define IPXR_BAD_SOURCE 400           /* from the broadcast node */
 #define IPXR_CROSSED_SHORT 500        /* propagated, no room for the networks crossed */
-#define IPXR_CROSSED_FULL 600         /* propagated, has crossed eight networks */
+#define IPXR_CROSSED_FULL 600         /* propagated, has crossed eight or more networks */
 #define IPXR_CROSSED_SEEN 700         /* propagated, has crossed the port's network */
 #define IPXR_ELSEWHERE 800            /* for another node of the port's network */
 #define IPXR_OTHER_SOCKET 900         /* for a socket that the router doesn't serve */

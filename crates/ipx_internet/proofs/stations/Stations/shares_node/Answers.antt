@@ -1,7 +1,9 @@
 use Rattle.std.proofs.Common.{rules, arith, ◌≡◌, refl, sym, ap, ◌∙◌, subst, ℕ, true, false, Some, inl, inr}
 use Rattle.std.proofs.lemmas.Bool.{cases_lt, both_ways}
 use Rattle.std.proofs.lemmas.Option.{slice_get_within}
-use Rattle.ipx_router.specs.Port.{port_at}
+use Rattle.std.specs.List.{list_any}
+use Rattle.ipx_router.specs.Port.{port_at, same_node}
+use Rattle.ipx_internet.specs.Stations.{stations_on}
 use Rattle.ipx_internet.proofs.Taking.{port_found, no_port, is_taken, taken_has, shares_none}
 use Rattle.ipx_internet.proofs.stations.Stations.shares_node.Goals as goal
 use Rattle.ipx_internet.proofs.stations.Stations.shares_node.Goals.{in-Some+else-has_node, in_default}
@@ -12,7 +14,9 @@ returns-then-has_node g c net of =
     let got = sym c.port.ensures ∙ there in
     let within = slice_get_within c.args.router.now.ports c.loop-number.number c.in-Some.port got in
     let port : port_at c.args.router.now.ports c.loop-number.number ≡ c.in-Some.port = port_found c.args.router.now.ports c.loop-number.number c.in-Some.port got in
-    let taken : is_taken c.args.self.now.list c.in-Some.port ≡ true = search rules in
+    let seen = ap (λ n. list_any (λ s. same_node s.node n) (stations_on c.args.self.now.list c.network.result)) c.node.ensures
+    ∙ ap (λ n. list_any (λ s. same_node s.node c.in-Some.port.node) (stations_on c.args.self.now.list n)) c.network.ensures in
+    let taken : is_taken c.args.self.now.list c.in-Some.port ≡ true = sym seen ∙ sym c.has_node.ensures ∙ c.if-has_node.true in
     let taken_at = ap (λ p. is_taken c.args.self.now.list p) port ∙ taken in
     ((λ yes. (c.loop-number.number, within, taken_has c.same_offers.ensures.nodes net c.args.self.now.list of _ taken_at)), (λ shares. refl))
 
