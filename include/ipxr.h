@@ -73,9 +73,10 @@ extern "C" {
 /* Room for the words of any answer, with the 0 behind them. */
 #define IPXR_MOST_WORD 32
 
-/* Bytes of stack for a thread that makes these calls: what a call takes at most, as measured, and half as much again. That is some
- * copies of the tables, of 17 bytes a route and 77 a service; so it is 1 MB as delivered, and 192 KB for the smallest tables. */
-#define IPXR_STACK (((17 * IPXR_MOST_ROUTES + 77 * IPXR_MOST_SERVICES) / 8192 + 3) * 65536)
+/* Bytes of stack for a thread that makes these calls, ipxr_make among them, which holds a router's tables before they are in their block:
+ * 17 bytes a route and 77 a service. That and half as much again: 192 KB as delivered, 64 KB for small tables. All other calls take
+ * less than 16 KB, whatever the tables. */
+#define IPXR_STACK (((17 * IPXR_MOST_ROUTES + 77 * IPXR_MOST_SERVICES) / 43690 + 1) * 65536)
 
 /* ---- What became of an event: 0 and above. ipxr_word tells the word of each. ---- */
 

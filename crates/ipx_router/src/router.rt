@@ -100,13 +100,15 @@ impl<const P: usize, const R: usize, const S: usize> Router<P, R, S> {
         ensures stands { StandsFor R S result [] }
     {
         are_ports(ports);
+        let route_shares = route_shares(ports);
+        let service_shares = service_shares(ports);
         Router {
             ports: copy_of(ports),
             running: false,
             up: ArrayVec::new(),
             seconds: 0,
-            routes: Table::with_shares(&route_shares(ports)),
-            services: Table::with_shares(&service_shares(ports)),
+            routes: Table::with_shares(&route_shares),
+            services: Table::with_shares(&service_shares),
         }
     }
 

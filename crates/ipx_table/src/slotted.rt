@@ -33,6 +33,7 @@ impl<O: Offer, const CAP: usize> Model for Slotted<O, CAP> {
 }
 
 impl<O: Offer, const CAP: usize> Slotted<O, CAP> {
+    #[inline(always)]
     pub(crate) fn new() -> Slotted<O, CAP>
         ensures { result ≡ [] }
     {

@@ -72,6 +72,7 @@ impl<O: Offer, const CAP: usize> Table<O, CAP> {
     }
 
     /// An empty table. `shares[k]` is the most records that port `k` may have; a port without an entry may fill the table.
+    #[inline(always)]
     pub fn with_shares(shares: &[u16]) -> Table<O, CAP>
         requires few { length shares.now ≤ most_shares }
         ensures empty { result.records ≡ [] }
@@ -79,11 +80,12 @@ impl<O: Offer, const CAP: usize> Table<O, CAP> {
         ensures shares { result.shares ≡ shares.now }
         ensures stands { Stands (rules_of O.reading O.Key.cmp CAP shares.now) result.records [] }
     {
+        let shares = copy_of(shares);
         Table {
             records: Slotted::new(),
             live: 0,
             clock: 0,
-            shares: copy_of(shares),
+            shares,
             next: 0,
         }
     }

@@ -1,7 +1,7 @@
 /* Measures how much stack each call takes: it is made on a thread whose stack is painted, and then is looked how far down the paint
  * is gone. The tables are full, and the calls are those that have the most to do.
  *
- * With no word it says of each call whether it stays within what docs/EMBED.md promises; with the word `figures` it prints bytes. */
+ * With no word it says of each call whether it stays within what docs/EMBED.md says; with the word `figures` it prints bytes. */
 #define _POSIX_C_SOURCE 200112L
 #include <pthread.h>
 #include <stdio.h>
@@ -13,8 +13,9 @@
 
 enum { STACK = 1 << 21, PAINT = 0xA5, LONGEST = 65535, PORTS = 3 };
 
-/* What a call may take, in bytes: an event or a reading; one in which records may end; and the making of a router. */
-enum { MOST = 20 << 10, MOST_ENDING = 440 << 10, MOST_MAKING = 600 << 10 };
+/* What a call may take, in bytes: any call, and the making of a router, which holds the tables' records once before they are in their
+ * block, 17 bytes a route and 77 a service. */
+enum { MOST = 16 << 10, MOST_MAKING = MOST + 17 * IPXR_MOST_ROUTES + 77 * IPXR_MOST_SERVICES };
 
 static const uint8_t NEIGHBOUR[6] = {0, 0, 0, 0, 0, 0xBB};
 static const uint32_t FAR = 0x10000;
@@ -148,7 +149,7 @@ static void measure(const char *what, void (*call)(void), size_t most)
     if (in_figures)
         printf("%s: %zu bytes\n", what, bytes);
     else
-        printf("%s: within %zu KB: %s\n", what, most >> 10, bytes <= most ? "yes" : "no");
+        printf("%s: %s\n", what, bytes <= most ? "no more than stated" : "too much");
 }
 
 /* The same call without a measurement, so often. */
@@ -224,22 +225,22 @@ static void pass_seconds(void)
     play(stop, 1);
     play(start, 1);
     fill();
-    measure("a second", second, MOST_ENDING);
+    measure("a second", second, MOST);
     play(second, 58);
-    measure("a second that advertises all", second, MOST_ENDING);
+    measure("a second that advertises all", second, MOST);
     play(second, 119);
-    measure("a second in which all ends", second, MOST_ENDING);
+    measure("a second in which all ends", second, MOST);
 }
 
 static void lose_ports(void)
 {
     fill();
-    measure("a port goes down, and all ends", down, MOST_ENDING);
+    measure("a port goes down, and all ends", down, MOST);
     measure("a port comes up", up, MOST);
     play(stop, 1);
     play(start, 1);
     fill_by_turns();
-    measure("a port goes down, and half ends", down, MOST_ENDING);
+    measure("a port goes down, and half ends", down, MOST);
 }
 
 int main(int count, char **words)
