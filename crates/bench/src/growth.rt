@@ -188,9 +188,9 @@ impl Heard {
 
     /// Fills the table, or refreshes what it holds.
     fn refresh<const R: usize>(&self, router: &mut Router<8, R, 64>, outbox: &mut Outbox) {
-        for place in 0..self.responses.len() {
-            if let Some(bytes) = self.responses.get(place) {
-                hear(router, outbox, port_of(place as u32), bytes);
+        for place in 0..self.routes.div_ceil(ENTRIES) {
+            if let Some(bytes) = self.responses.get(place as usize) {
+                hear(router, outbox, port_of(place), bytes);
             }
         }
     }
