@@ -15,8 +15,8 @@ use std::time::Instant;
 /// How many routes the tables have, and as many records those that are compared with maps.
 pub const SIZES: [u32; 4] = [256, 2_048, 16_384, 65_535];
 
-/// The network before those of the routes.
-const BEFORE: u32 = 0x10_0000;
+/// The network of the first route; those of the others follow.
+const FIRST: u32 = 0x10_0000;
 
 /// How many routes a response has.
 const ENTRIES: u32 = 50;
@@ -128,6 +128,10 @@ fn measure<const R: usize>(rt: &HostRuntime, kind: Grown) -> io::Result<Timed>
         timed.nanoseconds = timed.nanoseconds.min(start.elapsed(rt)?.as_nanos());
         timed.seen = timed.seen.wrapping_add(seen);
         finish(kind, &mut router, &mut outbox);
+    }
+    // (a table that isn't full would cost less)
+    if router.routes() < R {
+        return Err(ErrorKind::Other.into());
     }
     Ok(timed)
 }
@@ -278,7 +282,7 @@ fn port_of(place: u32) -> u8 {
 }
 
 fn network_at(number: u32) -> Network {
-    Network(BEFORE.wrapping_add(number))
+    Network(FIRST.wrapping_add(number))
 }
 
 /// A packet from port 0 to the network of a route.
