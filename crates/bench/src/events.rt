@@ -1,6 +1,6 @@
 //! What a router of eight ports with full tables does with an event, beside copying the bytes that it sends or, where it sends
 //! none, beside reading a full table once.
-ghost use Rattle.std.specs.Prelude.{◌≡◌, true};
+ghost use Rattle.std.specs.Prelude.{◌≡◌, ◌≤◌, true};
 ghost use Rattle.ipx_router.specs.Happened.{happened};
 ghost use Rattle.ipx_router.specs.History.{IsOnPort};
 
@@ -227,7 +227,12 @@ impl Site {
     }
 }
 
-fn new_router() -> Result<FullRouter, PortFault> {
+/// A router of eight ports, whose networks follow one another.
+#[inline(never)]
+pub fn new_router<const R: usize>() -> Result<Router<8, R, 64>, PortFault>
+    requires some { 1 ≤ R }
+    requires few { R ≤ 65535 }
+{
     let mut ports = [Port::default(); 8];
     for number in 0..8u8 {
         let node = Node([0, 0, 0, 0, 0, number + 1]);
@@ -250,12 +255,21 @@ fn packet(traffic: &Traffic, kind: Kind, turn: u32) -> (u8, &[u8]) {
 }
 
 /// Hands a packet to the router.
-fn hear(router: &mut FullRouter, outbox: &mut Outbox, port: u8, bytes: &[u8]) -> u64 {
+pub fn hear<const R: usize>(
+    router: &mut Router<8, R, 64>,
+    outbox: &mut Outbox,
+    port: u8,
+    bytes: &[u8],
+) -> u64 {
     hand(router, outbox, Event::Packet { port, bytes })
 }
 
 /// Hands an event to the router, with an empty outbox. The answer depends on what is sent.
-fn hand(router: &mut FullRouter, outbox: &mut Outbox, event: Event<'_>) -> u64 {
+pub fn hand<const R: usize>(
+    router: &mut Router<8, R, 64>,
+    outbox: &mut Outbox,
+    event: Event<'_>,
+) -> u64 {
     if !is_on_port(router, event) {
         return 0;
     }
@@ -267,7 +281,7 @@ fn hand(router: &mut FullRouter, outbox: &mut Outbox, event: Event<'_>) -> u64 {
 }
 
 /// Whether an event is one of a port that there is.
-fn is_on_port(router: &FullRouter, event: Event<'_>) -> bool
+fn is_on_port<const R: usize>(router: &Router<8, R, 64>, event: Event<'_>) -> bool
     ensures { result ≡ true → IsOnPort router.now.ports (happened event.entry) }
 {
     match event {

@@ -1,19 +1,21 @@
 //! How fast packets are read and written, beside copying the same bytes in the same run; and how fast a
 //! full table is called, beside reading its records in the same run; and how fast a router with full tables takes its events,
-//! beside copying what it sends; and how fast a capture is shown, beside copying its file; and how fast internets settle and a
-//! packet is traced, in larger and larger ones.
+//! beside copying what it sends; and how it takes them as its table of routes grows, and how a table grows beside an ordered map; and
+//! how fast a capture is shown, beside copying its file; and how fast internets settle and a packet is traced, in larger and larger ones.
 //!
 //! With no word it prints what it can measure; with the word `run` it measures, all or the part that a second word names:
-//! packets, tables, events, captures or internets. A copy is what any
+//! packets, tables, events, growth, captures or internets. A copy is what any
 //! program must at least do with a packet, and a reading with records that age, so the ratios hold on
 //! any machine.
 #![tactic(auto)]
 
 mod captures;
 mod events;
+mod growth;
 mod internets;
 mod jumping;
 mod kinds;
+mod maps;
 mod packets;
 mod tables;
 mod traffic;
@@ -21,7 +23,9 @@ mod work;
 
 use crate::captures::measure_decode;
 use crate::events::{Kind as EventKind, measure_event};
+use crate::growth::{Grown, measure_grown};
 use crate::kinds::Kind;
+use crate::maps::{Kept, measure_kept};
 use crate::packets::Packets;
 use crate::tables::{CALLS, Call, RECORDS};
 use std::time::Instant;
@@ -52,10 +56,27 @@ fn list(rt: &HostRuntime) -> io::Result<()> {
         let name = kind.name();
         println!(rt; "{name}: 8 ports, {RECORDS} routes")?;
     }
+    list_growth(rt)?;
     let records = captures::RECORDS;
     println!(rt; "show a capture: {records} records")?;
     let routers = internets::RINGS.len();
     println!(rt; "settle a ring, trace a packet: {routers} rings")
+}
+
+/// What is measured of growing tables, and how much they hold.
+fn list_growth(rt: &HostRuntime) -> io::Result<()> {
+    for kind in Grown::ALL {
+        let name = kind.name();
+        println!(rt; "{name}: 8 ports, of each size")?;
+    }
+    for call in Kept::ALL {
+        let name = call.name();
+        println!(rt; "{name}: in a table and in an ordered map, of each size")?;
+    }
+    for routes in growth::SIZES {
+        println!(rt; "a size: {routes} routes or records")?;
+    }
+    Ok(())
 }
 
 /// Measures the part of that name, or all parts where none is named.
@@ -75,6 +96,9 @@ fn measure(rt: &HostRuntime, part: &Option<String>) -> io::Result<()> {
         for kind in EventKind::ALL {
             report_event(rt, kind)?;
         }
+    }
+    if is_wanted(part, "growth") {
+        report_growth(rt)?;
     }
     if is_wanted(part, "captures") {
         report_capture(rt, &packets)?;
@@ -128,6 +152,37 @@ fn report_event(rt: &HostRuntime, kind: EventKind) -> io::Result<()> {
     } else {
         println!(rt; "{name}: {each} ns, {ratio} copies of the {bytes} bytes sent ({mark})")
     }
+}
+
+fn report_growth(rt: &HostRuntime) -> io::Result<()> {
+    for kind in Grown::ALL {
+        for routes in growth::SIZES {
+            report_grown(rt, kind, routes)?;
+        }
+    }
+    for call in Kept::ALL {
+        for records in growth::SIZES {
+            report_kept(rt, call, records)?;
+        }
+    }
+    Ok(())
+}
+
+fn report_grown(rt: &HostRuntime, kind: Grown, routes: u32) -> io::Result<()> {
+    let timed = measure_grown(rt, kind, routes)?;
+    let name = kind.name();
+    let each = Tenths(timed.nanoseconds.wrapping_mul(10) / u128::from(timed.count.max(1)));
+    let mark = timed.seen % 10;
+    println!(rt; "{name}: {each} ns, {routes} routes ({mark})")
+}
+
+fn report_kept(rt: &HostRuntime, call: Kept, records: u32) -> io::Result<()> {
+    let timed = measure_kept(rt, call, records)?;
+    let name = call.name();
+    let each = Tenths(timed.table.wrapping_mul(10) / u128::from(timed.count.max(1)));
+    let map = Tenths(timed.map.wrapping_mul(10) / u128::from(timed.count.max(1)));
+    let mark = timed.seen % 10;
+    println!(rt; "{name}: table {each} ns, ordered map {map} ns, {records} records ({mark})")
 }
 
 fn report_capture(rt: &HostRuntime, packets: &Packets) -> io::Result<()> {

@@ -11,11 +11,11 @@ use std::time::Instant;
 /// A way to a network; fewer ticks are better, then fewer hops.
 #[derive(Clone, Copy, Debug, Default, PartialEq, Eq)]
 pub struct Way {
-    network: Network,
-    hops: u16,
-    ticks: u16,
-    port: u8,
-    node: Node,
+    pub network: Network,
+    pub hops: u16,
+    pub ticks: u16,
+    pub port: u8,
+    pub node: Node,
 }
 
 impl Offer for Way {

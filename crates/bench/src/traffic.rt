@@ -28,7 +28,7 @@ const ROUND: usize = 16;
 const NEIGHBOUR: Node = Node([0, 0, 0, 0, 0, 0xAA]);
 
 /// A packet of 62 bytes that came from port 0 to another network, whose number isn't filled in.
-const UNICAST: [u8; 62] = [
+pub const UNICAST: [u8; 62] = [
     0xFF, 0xFF, 0, 62, 3, 17, 0, 0, 0, 0, 0, 0, 0, 0, 0, 0xBB, 4, 0x51, 0, 0, 0x10, 0, 0, 0, 0, 0,
     0, 0xAA, 4, 0x51, 1, 2, 3, 4, 5, 6, 7, 8, 9, 10, 11, 12, 13, 14, 15, 16, 17, 18, 19, 20, 21,
     22, 23, 24, 25, 26, 27, 28, 29, 30, 31, 32,
@@ -195,7 +195,7 @@ fn service(number: u8) -> Service {
 }
 
 /// From a neighbour on a port's network to all its nodes.
-fn addresses(port: u8, socket: Socket) -> (Address, Address) {
+pub fn addresses(port: u8, socket: Socket) -> (Address, Address) {
     let network = network_of(port);
     let from = Address {
         network,
