@@ -74,7 +74,7 @@ module _ (net : Internet) (laws : Layouts) (is : IsInternet net) (most_routes mo
 
     -- ---- ticks
 
-    rests_from : (first : List Step) (ticks : List (List Step)) → AreTicks net most_routes most_services run (first ∷ ticks)
+    pub rests_from : (first : List Step) (ticks : List (List Step)) → AreTicks net most_routes most_services run (first ∷ ticks)
         → Rests net laws is most_routes most_services (ups net run.histories) (length ticks) (ticked net most_routes most_services run (first ∷ ticks))
     rests_from first ticks passes =
         let next = run_of net most_routes most_services run first in

@@ -426,10 +426,11 @@ pub fn least_ways()
 
 /// Every table becomes right and stays so, whatever was in it before: after 2,880 ticks and 60 for each hop every router has the route of
 /// the least way to a network, and where there is no way it has none (`tables`). From then on it is the same route, with hops, ticks,
-/// port and neighbour (`stay`). No network takes longer than 3,780 ticks (`soon`).
+/// port and neighbour (`stay`). No network takes longer than 3,780 ticks (`soon`). That is said of ticks that begin with nothing that waits;
+/// whatever waits, forged packets too, one tick more is enough (`whatever_waits`).
 ///
 /// All routers run, with all ports up, and there are at most 16. No port costs more than 4,095 ticks. Every table has room for all
-/// networks, and so has the share of every port. Nothing waits when the ticks begin, and nothing but them happens.
+/// networks, and so has the share of every port. Nothing but ticks happens.
 pub fn right()
     ensures tables { (net : Internet) (most_routes most_services : ℕ) (histories : List History) (ticks : List (List Step)) (router : ℕ) (network : Network)
         → IsInternet net → NodesDiffer net → length net ≤ most_routers → AreCheap net → HasRoom net most_routes → AreHistories net histories → AllUp net histories
@@ -445,6 +446,13 @@ pub fn right()
         (history_of (ticked net most_routes most_services (begun histories) (ticks ++ further)).histories router))) network.0
         ≡ route_to (offers (routes_held (ports_of net router) most_routes
         (history_of (ticked net most_routes most_services (begun histories) ticks).histories router))) network.0 }
+    ensures whatever_waits { (net : Internet) (most_routes most_services : ℕ) (run : Run) (ticks : List (List Step)) (router : ℕ) (network : Network)
+        → IsInternet net → NodesDiffer net → length net ≤ most_routers → AreCheap net → HasRoom net most_routes → AreHistories net run.histories
+        → AllByRecursion (λ w. IsDelivery net w.delivery) run.waiting → AllUp net run.histories
+        → AreTicks net most_routes most_services run ticks → router < length net → ticks_right (least_route net router network) < length ticks
+        → option_map way_of
+        (route_to (offers (routes_held (ports_of net router) most_routes (history_of (ticked net most_routes most_services run ticks).histories router))) network.0)
+        ≡ least_route net router network }
     ensures soon { (net : Internet) (router : ℕ) (network : Network) → ticks_right (least_route net router network) ≤ most_ticks_right }
 {
     ipx_wire::laws::readings();

@@ -1,14 +1,15 @@
-use Rattle.std.proofs.Common.{◌≡◌, refl, sym, subst, ℕ, ◌+◌, ◌≤◌, List, length, arith}
+use Rattle.std.proofs.Common.{◌≡◌, refl, sym, subst, ℕ, ◌+◌, ◌≤◌, List, [], ◌∷◌, length, arith}
 use Rattle.ipx_wire.specs.declared.network.Network.{Network}
 use Rattle.ipx_router.specs.Facts.{routes_held, offers}
 use Rattle.ipx_router.specs.History.{History}
 use Rattle.ipx_router.specs.Outgoing.{route_to}
 use Rattle.ipx_internet.specs.Internet.{Internet, IsInternet, NodesDiffer, ports_of}
-use Rattle.ipx_internet.specs.Least.{AllUp, AreCheap, HasRoom, least_route}
+use Rattle.ipx_internet.specs.Least.{AllUp, AreCheap, HasRoom, least_route, ticks_right}
 use Rattle.ipx_internet.specs.Queue.{history_of}
-use Rattle.ipx_internet.specs.Run.{Step, Run, AreHistories, begun}
+use Rattle.ipx_internet.specs.Run.{Step, Run, AreHistories, begun, run_of}
 use Rattle.ipx_internet.specs.Ticks.{AreTicks, ticked, ups, most_ticks_gone}
 use Rattle.ipx_internet.proofs.Becoming.{AtRest, at_first}
+use Rattle.ipx_internet.proofs.Clearing.{rests_from}
 use Rattle.ipx_internet.proofs.Replying.{Layouts}
 use Rattle.ipx_internet.proofs.Righting.{some_ticks, soon_enough, each_up, climbs, table_is, stays, first_ticks, ticked_on}
 use Rattle.ipx_internet.proofs.Ticking.{quiet_rests}
@@ -72,3 +73,16 @@ returns-clause-stay c net most_routes most_services histories ticks further rout
 
 pub returns-clause-soon : goal.returns-clause-soon
 returns-clause-soon c = soon_enough
+
+-- the first tick ends with nothing that waits
+pub returns-clause-whatever_waits : goal.returns-clause-whatever_waits
+returns-clause-whatever_waits c net most_routes most_services run [] router network is differ few_routers cheap room are waits all passes inside sure = absurd (omega (arith, sure))
+returns-clause-whatever_waits c net most_routes most_services run (first ∷ ticks) router network is differ few_routers cheap room are waits all passes inside sure =
+    let next = run_of net most_routes most_services run first in
+    let enough : ticks_right (least_route net router network) ≤ length ticks = omega (arith, sure) in
+    let long = some_ticks (least_route net router network) (length ticks) enough in
+    let begins = rests_from net (layouts c) is most_routes most_services run are waits first [] (passes.0, tt) in
+    let count : length ticks + 0 ≡ length ticks = omega arith in
+    table_is net (layouts c) is differ cheap few_routers (ups net run.histories) (each_up net run.histories all) most_routes most_services room network (length ticks) (ticked net most_routes most_services next ticks)
+    (subst (λ (n : ℕ). AtRest net (layouts c) is differ cheap few_routers (ups net run.histories) (each_up net run.histories all) most_routes most_services room network n (ticked net most_routes most_services next ticks)) count
+    (climbs net (layouts c) is differ cheap few_routers (ups net run.histories) (each_up net run.histories all) most_routes most_services room network 0 next ticks begins (λ none. at_first net (layouts c) is differ cheap few_routers (ups net run.histories) (each_up net run.histories all) most_routes most_services room network 0 next (omega arith) begins) passes.1 (omega (arith, long)))) long router inside enough
