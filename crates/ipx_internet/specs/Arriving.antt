@@ -19,7 +19,7 @@ pub record IsOfHost (net : Internet) (p : Parts) : Type 0 where
   pub short : (place : Place) → IsPlace net place → p.header.length ≤ (port_of net place).longest
 
 module _ (routers : List Router) (to : Address) where
-  -- a reception with that number in the tree sends one packet on, and one router receives it, and so on for so many hops; then it leaves
+  -- a reception with that number in the tree sends one packet on, and one router receives it, and so on for that many hops; then it leaves
   -- on the destination's network, for its node
   abbrev pub Arrives : ℕ → ℕ → Copy → Type 0
   Arrives zero number c =

@@ -58,7 +58,7 @@ way_by net ways from = option_map (by_port (port_of net from).cost) (slice_index
 abbrev pub nearest : Internet → Network → List (Option Way) → ℕ → Option Way
 nearest net network ways router = option_or (own_way (ports_of net router) network) (best (map (way_by net ways) (neighbours net router)))
 
--- the best way of each router of at most so many hops
+-- the best way of each router of at most that many hops
 abbrev pub ways_within : ℕ → Internet → Network → List (Option Way)
 ways_within zero net network = map (λ router. own_way (ports_of net router) network) (numbers (length net))
 ways_within (suc hops) net network = map (nearest net network (ways_within hops net network)) (numbers (length net))
