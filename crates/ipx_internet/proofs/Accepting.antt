@@ -10,7 +10,7 @@ use Rattle.ipx_wire.specs.declared.service.Service.{Service}
 use Rattle.ipx_router.specs.Facts.{route_offer, routes_offered, routes_heard, heard_after, route_facts, route_facts_of, routes_held, services_held, offers}
 use Rattle.ipx_router.specs.History.{Event, History, Packet, seconds_run, running, ports_up}
 use Rattle.ipx_router.specs.News.{news, news_services}
-use Rattle.ipx_router.specs.Port.{Port, port_at, numbers, is_up, own_address, everyone, own_services, every_server}
+use Rattle.ipx_router.specs.Port.{Port, port_at, is_up, own_address, everyone, own_services, every_server}
 use Rattle.ipx_router.specs.Relays.{Sent}
 use Rattle.ipx_router.specs.declared.route_offer.RouteOffer.{RouteOffer}
 use Rattle.ipx_router.proofs.lists.EachElement.{all_both}
@@ -26,7 +26,7 @@ use Rattle.ipx_internet.proofs.Gathering.{EntryIs, entries_keep, entries_come}
 use Rattle.ipx_internet.proofs.Having.{any_in_front}
 use Rattle.ipx_internet.proofs.Keeping.{right_offer, same_offer}
 use Rattle.ipx_internet.proofs.Lists.{all_of, all_then, all-append}
-use Rattle.ipx_internet.proofs.Receivers.{ports_at, port_is}
+use Rattle.ipx_internet.proofs.Receivers.{ports_at, port_is, one_port, apart_at}
 use Rattle.ipx_internet.proofs.Replying.{Layouts, IsNewsSent, IsReply, IsCast, IsOnward, news_reply, no_reply, unsaid, answered}
 use Rattle.ipx_internet.proofs.Shortest.{IsNeighbour, few as few_hops}
 use Rattle.ipx_internet.proofs.Sourcing.{there_where_up}
@@ -38,9 +38,8 @@ use Rattle.ipx_wire.specs.declared.rip.Operation.TheVariants.{Response}
 use Rattle.ipx_wire.specs.declared.sap.Sap.TheVariants.{Response as SapResponse}
 use Rattle.ipx_router.specs.Heard.{Heard, HeardRip, HeardSap, heard, heard_in, heard_near}
 use Rattle.ipx_router.specs.Why.{is_near}
-use Rattle.ipx_router.proofs.tables.HeldWasOffered.{came_in}
+use Rattle.ipx_router.proofs.tables.HeldWasOffered.{came_in, heard_up}
 use Rattle.ipx_internet.proofs.Advancing.{WantsOf, begins, Sources, StateIn, PendingOf, SaidOf, KnowsOf, DueOf, Services, Righted, endures_of, runs_where, all_real, knows, state_then, all_speak}
-use Rattle.ipx_internet.proofs.Counts.{is_number}
 use Rattle.ipx_internet.proofs.Delivering.{there}
 use Rattle.ipx_internet.proofs.Listening.{heard_page}
 use Rattle.ipx_internet.proofs.Paging.{answering}
@@ -49,31 +48,31 @@ use Rattle.ipx_internet.proofs.Spending.{Calm, reply_moves}
 use Rattle.ipx_internet.proofs.Ways.{nothing, it_is}
 
 module _ (net : Internet) (laws : Layouts) (is : IsInternet net) (differ : NodesDiffer net) (cheap : AreCheap net) (few_routers : length net ≤ 16) (up : ℕ → List ℕ)
-    (all_up : (router : ℕ) → up router ≡ numbers (length (ports_of net router))) (most_routes most_services : ℕ) (room : HasRoom net most_routes) (network : Network)
+    (in_ports : (router : ℕ) → AllByRecursion (λ j. j < length (ports_of net router)) (up router)) (most_routes most_services : ℕ) (room : HasRoom net most_routes) (network : Network)
     (before : ℕ) (long : most_ticks_gone ≤ before) (clock : ℕ → ℕ) (few_seconds : (router : ℕ) → clock router < 60) (at_start : ℕ → Option RouteOffer) where
   abbrev Wanting : ℕ → Type 0
-  Wanting router = WantsOf net laws is differ cheap few_routers up all_up most_routes most_services room network before long clock few_seconds at_start router
+  Wanting router = WantsOf net laws is differ cheap few_routers up in_ports most_routes most_services room network before long clock few_seconds at_start router
 
   abbrev State_of : List Step → List Delivery → (router : ℕ) → Wanting router → List (Fact RouteOffer) → Type 0
-  State_of = StateIn net laws is differ cheap few_routers up all_up most_routes most_services room network before long clock few_seconds at_start
+  State_of = StateIn net laws is differ cheap few_routers up in_ports most_routes most_services room network before long clock few_seconds at_start
 
   abbrev Pends : ℕ → Place → Delivery → Type 0
-  Pends = PendingOf net laws is differ cheap few_routers up all_up most_routes most_services room network before long clock few_seconds at_start
+  Pends = PendingOf net laws is differ cheap few_routers up in_ports most_routes most_services room network before long clock few_seconds at_start
 
   abbrev Says : Place → RipEntry → Type 0
-  Says = SaidOf net laws is differ cheap few_routers up all_up most_routes most_services room network before long clock few_seconds at_start
+  Says = SaidOf net laws is differ cheap few_routers up in_ports most_routes most_services room network before long clock few_seconds at_start
 
   abbrev Source_of : ℕ → Way → ℕ → Place → Type 0
-  Source_of = Sources net laws is differ cheap few_routers up all_up most_routes most_services room network before long clock few_seconds at_start
+  Source_of = Sources net laws is differ cheap few_routers up in_ports most_routes most_services room network before long clock few_seconds at_start
 
   abbrev starts : Way → ℕ
-  starts = begins net laws is differ cheap few_routers up all_up most_routes most_services room network before long clock few_seconds at_start
+  starts = begins net laws is differ cheap few_routers up in_ports most_routes most_services room network before long clock few_seconds at_start
 
   abbrev AnyOne : Service → Type 0
-  AnyOne = Services net laws is differ cheap few_routers up all_up most_routes most_services room network before long clock few_seconds at_start
+  AnyOne = Services net laws is differ cheap few_routers up in_ports most_routes most_services room network before long clock few_seconds at_start
 
   module _ (rest : List Step) (histories : List History) (queue : List Delivery) (d : Delivery)
-      (righted : Righted net laws is differ cheap few_routers up all_up most_routes most_services room network before long clock few_seconds at_start (Settles ∷ rest) (record { histories = histories; queue = d ∷ queue })) where
+      (righted : Righted net laws is differ cheap few_routers up in_ports most_routes most_services room network before long clock few_seconds at_start (Settles ∷ rest) (record { histories = histories; queue = d ∷ queue })) where
     abbrev left : List Step
     left = Settles ∷ rest
 
@@ -95,7 +94,7 @@ module _ (net : Internet) (laws : Layouts) (is : IsInternet net) (differ : Nodes
     abbrev now : History
     now = past ++ event ∷ []
 
-    abbrev speaks : Speaks net laws is differ cheap few_routers up all_up most_routes most_services room network before long clock few_seconds at_start d
+    abbrev speaks : Speaks net laws is differ cheap few_routers up in_ports most_routes most_services room network before long clock few_seconds at_start d
     speaks = righted.speaks.0
 
     inside : x < length net
@@ -120,7 +119,7 @@ module _ (net : Internet) (laws : Layouts) (is : IsInternet net) (differ : Nodes
         omega (arith, f, l)
 
     endured : Endures net up most_routes most_services x count past
-    endured = endures_of net laws is differ cheap few_routers up all_up most_routes most_services room network before long clock few_seconds at_start left (record { histories = histories; queue = waiting }) righted x inside
+    endured = endures_of net laws is differ cheap few_routers up in_ports most_routes most_services room network before long clock few_seconds at_start left (record { histories = histories; queue = waiting }) righted x inside
 
     going_now : Going net laws is most_routes most_services up (suc before) rest
         (queued net most_routes most_services (record { histories = histories; queue = queue }) x event)
@@ -132,40 +131,42 @@ module _ (net : Internet) (laws : Layouts) (is : IsInternet net) (differ : Nodes
         subst (λ (h : History). Endures net up most_routes most_services x count h) (get_or-set_same histories x now [] listed)
         (going_now.routers x count inside (omega (arith, some)))
 
-    runs : running past ≡ true
-    runs = runs_where net laws is differ cheap few_routers up all_up most_routes most_services room network before long clock few_seconds at_start x d.to.port count past righted.speaks.0.delivery.place endured
+    runs : is_up (up x) d.to.port ≡ true → running past ≡ true
+    runs on = runs_where net laws is differ cheap few_routers up in_ports most_routes most_services room network before long clock few_seconds at_start x d.to.port count past on endured
 
     -- ---- what is offered
 
-    neighbour_of : (f : Place) → Reaches net up f d.to → IsNeighbour net x d.to.port f
-    neighbour_of f reaches = record {
+    neighbour_of : (f : Place) → Reaches net up f d.to → is_up (up x) d.to.port ≡ true → IsNeighbour net up in_ports x d.to.port f
+    neighbour_of f reaches on = record {
       other = λ e. reaches.other (sym e);
-      place = there_where_up net is cheap up all_up network f.router f.port reaches.on;
+      place = there_where_up net is cheap up in_ports network f.router f.port reaches.on;
       here = righted.speaks.0.delivery.place;
       network = reaches.network;
+      on_here = on;
+      on_there = reaches.on;
     }
 
     facts_now : route_facts ports now ≡ route_facts ports past ++ routes_heard ports d.to.port (heard_after ports past d.to.port d.bytes)
     facts_now = facts_from-more (route_facts_of ports) [] past event
 
     module _ (w : Wanting x) (sure : starts w.v ≤ before) where
-      module _ (f : Place) (reaches : Reaches net up f d.to) where
+      module _ (f : Place) (reaches : Reaches net up f d.to) (on : is_up (up x) d.to.port ≡ true) where
         abbrev IsFine : RipEntry → Type 0
         IsFine =
-            EntryIs net is differ cheap few_routers up all_up most_routes room network x w.v w.off w.least w.wanted count enough d.to.port f (neighbour_of f reaches)
+            EntryIs net is differ cheap few_routers up in_ports most_routes room network x w.v w.off w.least w.wanted count enough d.to.port f (neighbour_of f reaches on)
 
         fine : (e : RipEntry) → Says f e → IsFine e
         fine e said = record {
           right = λ named source.
               let hops = ap (λ (y : Way). y.hops) source.by in
               let ticks = ap (λ (y : Way). y.ticks) source.by in
-              let most = few_hops net network 15 x w.v w.least in
+              let most = few_hops net up in_ports network 15 x w.v w.least in
               let s = sure in
               let word = said.1 source.way source.there (record { hops = omega (arith, hops, most); long_enough = omega (arith, hops, s) }) named in
               let word_hops = ap (λ (y : RipEntry). y.hops) word in
               let word_ticks = ap (λ (y : RipEntry). y.ticks) word in
               same_offer (route_offer d.to.port (port_of net f).node e)
-              (right_offer net is differ cheap few_routers up all_up most_routes room network x w.v w.off w.least d.to.port f) named
+              (right_offer net is differ cheap few_routers up in_ports most_routes room network x w.v w.off w.least d.to.port f) named
               (omega (arith, word_hops, hops)) (omega (arith, word_ticks, ticks)) refl refl;
           real = λ taken near. elim (said.0 near) [
             | inl real ↦ real d.to reaches (record { up_here = on; wanted = taken })
@@ -174,11 +175,6 @@ module _ (net : Internet) (laws : Layouts) (is : IsInternet net) (differ : Nodes
                 absurd (omega (arith, soon, near, l))
           ];
         }
-          where
-            on : is_up (up x) d.to.port ≡ true
-            on =
-                subst (λ (us : List ℕ). is_up us d.to.port ≡ true) (sym (all_up x))
-                (is_number d.to.port (length ports) righted.speaks.0.delivery.place)
 
       state_before : State_of left waiting x w (route_facts ports past)
       state_before = righted.states x w sure
@@ -186,12 +182,12 @@ module _ (net : Internet) (laws : Layouts) (is : IsInternet net) (differ : Nodes
       abbrev Known : List (Fact RouteOffer) → Type 0
       Known facts = State_of left waiting x w facts
 
-      keeps : (f : Place) (reaches : Reaches net up f d.to) (entries : List RipEntry) → AllByRecursion (Says f) entries
+      keeps : (f : Place) (reaches : Reaches net up f d.to) → is_up (up x) d.to.port ≡ true → (entries : List RipEntry) → AllByRecursion (Says f) entries
           → Known (route_facts ports past ++ routes_offered ports d.to.port (port_of net f).node entries)
-      keeps f reaches entries all =
-          entries_keep net is differ cheap few_routers up all_up most_routes room network x w.v w.off w.least w.wanted count enough d.to.port f (neighbour_of f reaches)
-          (Fresh net laws is differ cheap few_routers up all_up most_routes most_services room network before long clock few_seconds at_start left waiting x w.v) (λ g. let s = few in omega (arith, s)) (Same net laws is differ cheap few_routers up all_up most_routes most_services room network before long clock few_seconds at_start left waiting x w.v) (Late net laws is differ cheap few_routers up all_up most_routes most_services room network before long clock few_seconds at_start left waiting x w.v) (Later net laws is differ cheap few_routers up all_up most_routes most_services room network before long clock few_seconds at_start left waiting x w.v)
-          (free net laws is differ cheap few_routers up all_up most_routes most_services room network before long clock few_seconds at_start left waiting x w.v) entries (route_facts ports past) (all_then (Says f) (IsFine f reaches) (λ e said. fine f reaches e said) entries all) endured.routes state_before
+      keeps f reaches on entries all =
+          entries_keep net is differ cheap few_routers up in_ports most_routes room network x w.v w.off w.least w.wanted count enough d.to.port f (neighbour_of f reaches on)
+          (Fresh net laws is differ cheap few_routers up in_ports most_routes most_services room network before long clock few_seconds at_start left waiting x w.v) (λ g. let s = few in omega (arith, s)) (Same net laws is differ cheap few_routers up in_ports most_routes most_services room network before long clock few_seconds at_start left waiting x w.v) (Late net laws is differ cheap few_routers up in_ports most_routes most_services room network before long clock few_seconds at_start left waiting x w.v) (Later net laws is differ cheap few_routers up in_ports most_routes most_services room network before long clock few_seconds at_start left waiting x w.v)
+          (free net laws is differ cheap few_routers up in_ports most_routes most_services room network before long clock few_seconds at_start left waiting x w.v) entries (route_facts ports past) (all_then (Says f) (IsFine f reaches on) (λ e said. fine f reaches on e said) entries all) endured.routes state_before
 
       nothing_offered : Known (route_facts ports past ++ [])
       nothing_offered = subst (λ (fs : List (Fact RouteOffer)). Known fs) (sym (append-nil (route_facts ports past))) state_before
@@ -205,15 +201,15 @@ module _ (net : Internet) (laws : Layouts) (is : IsInternet net) (differ : Nodes
       own_state : Known (route_facts ports now)
       own_state = subst (λ (fs : List (Fact RouteOffer)). Known fs) (sym facts_now) (by (heard_after ports past d.to.port d.bytes) refl)
         where
-          page_kept : (p : Parts) (m : Heard) → packet_of d.bytes ≡ Ok p → heard_in p ≡ Some m → IsNewsSent (Says righted.speaks.0.from) AnyOne (port_of net righted.speaks.0.from) d.bytes
+          page_kept : is_up (up x) d.to.port ≡ true → (p : Parts) (m : Heard) → packet_of d.bytes ≡ Ok p → heard_in p ≡ Some m → IsNewsSent (Says righted.speaks.0.from) AnyOne (port_of net righted.speaks.0.from) d.bytes
               → Known (route_facts ports past ++ routes_heard ports d.to.port (Some m))
-          page_kept p m read e (inl page) =
+          page_kept on p m read e (inl page) =
               let from = port_of net righted.speaks.0.from in
               it_is (λ (h : Heard). Known (route_facts ports past ++ routes_heard ports d.to.port (Some h))) m
               (HeardRip (own_address from) (record { operation = Response; entries = page.page }))
               (page_heard (Says righted.speaks.0.from) (own_address from) (everyone from) d.bytes refl page p m read e)
-              (keeps righted.speaks.0.from righted.speaks.0.reaches page.page page.each)
-          page_kept p m read e (inr page) =
+              (keeps righted.speaks.0.from righted.speaks.0.reaches on page.page page.each)
+          page_kept on p m read e (inr page) =
               let from = port_of net righted.speaks.0.from in
               it_is (λ (h : Heard). Known (route_facts ports past ++ routes_heard ports d.to.port (Some h))) m
               (HeardSap (own_services from) (SapResponse false (map sap_entry page.page)))
@@ -223,22 +219,29 @@ module _ (net : Internet) (laws : Layouts) (is : IsInternet net) (differ : Nodes
           by None e = nothing_offered
           by (Some m) e =
               let came_here = came_in ports (ports_up ports past) d.to.port (running past) d.bytes m e in
-              page_kept came_here.packet m came_here.read (near_in came_here.packet m came_here.near) righted.speaks.0.news
+              page_kept (subst (λ (us : List ℕ). is_up us d.to.port ≡ true) endured.ups (heard_up ports (ports_up ports past) d.to.port (running past) d.bytes m e)) came_here.packet m came_here.read (near_in came_here.packet m came_here.near) righted.speaks.0.news
 
       -- where it tells of the network, from a neighbour with the least way
       module _ (f : Place) (port : ℕ) (source : Source_of x w.v port f) (pending : Pends x f d) where
         abbrev Told : List (Fact RouteOffer) → Type 0
         Told facts =
-            StateFor net laws is differ cheap few_routers up all_up most_routes most_services room network x w (Fresh net laws is differ cheap few_routers up all_up most_routes most_services room network before long clock few_seconds at_start left waiting x w.v)
-            (λ g age. Late net laws is differ cheap few_routers up all_up most_routes most_services room network before long clock few_seconds at_start left waiting x w.v g age × (g ≢ f)) ⊥ (Same net laws is differ cheap few_routers up all_up most_routes most_services room network before long clock few_seconds at_start left waiting x w.v)
-            (known_of net laws is differ cheap few_routers up all_up most_routes most_services room network x w facts)
+            StateFor net laws is differ cheap few_routers up in_ports most_routes most_services room network x w (Fresh net laws is differ cheap few_routers up in_ports most_routes most_services room network before long clock few_seconds at_start left waiting x w.v)
+            (λ g age. Late net laws is differ cheap few_routers up in_ports most_routes most_services room network before long clock few_seconds at_start left waiting x w.v g age × (g ≢ f)) ⊥ (Same net laws is differ cheap few_routers up in_ports most_routes most_services room network before long clock few_seconds at_start left waiting x w.v)
+            (known_of net laws is differ cheap few_routers up in_ports most_routes most_services room network x w facts)
+
+        -- the port is that by which the least way comes, so it is up
+        on_now : is_up (up x) d.to.port ≡ true
+        on_now =
+            let same = one_port ports (apart_at net is x) port d.to.port source.neighbour.here righted.speaks.0.delivery.place
+            (source.neighbour.network ∙ sym pending.reaches.network) in
+            subst (λ (k : ℕ). is_up (up x) k ≡ true) same source.neighbour.on_here
 
         heard_so : heard_after ports past d.to.port d.bytes ≡ Some (HeardRip (own_address (port_of net f)) (record { operation = Response; entries = pending.page.page }))
         heard_so =
-            let nb = neighbour_of f pending.reaches in
-            ap (λ b. heard ports (ports_up ports past) b d.to.port d.bytes) runs
+            let nb = neighbour_of f pending.reaches on_now in
+            ap (λ b. heard ports (ports_up ports past) b d.to.port d.bytes) (runs on_now)
             ∙ heard_page ports (ports_up ports past) d.to.port
-            (subst (λ (us : List ℕ). is_up us d.to.port ≡ true) (sym (endured.ups ∙ all_up x)) (is_number d.to.port (length ports) righted.speaks.0.delivery.place))
+            (subst (λ (us : List ℕ). is_up us d.to.port ≡ true) (sym endured.ups) on_now)
             (port_of net f) (sym nb.network)
             (λ same. differ f d.to nb.place righted.speaks.0.delivery.place nb.other (sym nb.network) same) (port_is net is f nb.place).node
             (Says f) d.bytes pending.page
@@ -247,12 +250,12 @@ module _ (net : Internet) (laws : Layouts) (is : IsInternet net) (differ : Nodes
         comes =
             subst (λ (fs : List (Fact RouteOffer)). Told fs)
             (sym (facts_now ∙ ap (λ o. route_facts ports past ++ routes_heard ports d.to.port o) heard_so))
-            (entries_come net is differ cheap few_routers up all_up most_routes room network x w.v w.off w.least w.wanted count enough d.to.port f (neighbour_of f pending.reaches)
-            (Fresh net laws is differ cheap few_routers up all_up most_routes most_services room network before long clock few_seconds at_start left waiting x w.v) (λ g. let s = few in omega (arith, s)) (Same net laws is differ cheap few_routers up all_up most_routes most_services room network before long clock few_seconds at_start left waiting x w.v) (Late net laws is differ cheap few_routers up all_up most_routes most_services room network before long clock few_seconds at_start left waiting x w.v) (Later net laws is differ cheap few_routers up all_up most_routes most_services room network before long clock few_seconds at_start left waiting x w.v)
-            (free net laws is differ cheap few_routers up all_up most_routes most_services room network before long clock few_seconds at_start left waiting x w.v)
-            (record { neighbour = neighbour_of f pending.reaches; way = source.way; there = source.there; by = source.by })
+            (entries_come net is differ cheap few_routers up in_ports most_routes room network x w.v w.off w.least w.wanted count enough d.to.port f (neighbour_of f pending.reaches on_now)
+            (Fresh net laws is differ cheap few_routers up in_ports most_routes most_services room network before long clock few_seconds at_start left waiting x w.v) (λ g. let s = few in omega (arith, s)) (Same net laws is differ cheap few_routers up in_ports most_routes most_services room network before long clock few_seconds at_start left waiting x w.v) (Late net laws is differ cheap few_routers up in_ports most_routes most_services room network before long clock few_seconds at_start left waiting x w.v) (Later net laws is differ cheap few_routers up in_ports most_routes most_services room network before long clock few_seconds at_start left waiting x w.v)
+            (free net laws is differ cheap few_routers up in_ports most_routes most_services room network before long clock few_seconds at_start left waiting x w.v)
+            (record { neighbour = neighbour_of f pending.reaches on_now; way = source.way; there = source.there; by = source.by })
             pending.page.page (route_facts ports past)
-            (all_then (Says f) (IsFine f pending.reaches) (λ e said. fine f pending.reaches e said) pending.page.page pending.page.each) pending.has endured.routes state_before)
+            (all_then (Says f) (IsFine f pending.reaches on_now) (λ e said. fine f pending.reaches on_now e said) pending.page.page pending.page.each) pending.has endured.routes state_before)
 
     -- ---- what is said
 
@@ -265,15 +268,15 @@ module _ (net : Internet) (laws : Layouts) (is : IsInternet net) (differ : Nodes
     abbrev old : List RouteOffer
     old = offers (routes_held ports most_routes past)
 
-    knows_now : KnowsOf net laws is differ cheap few_routers up all_up most_routes most_services room network before long clock few_seconds at_start x routes
-    knows_now = knows net laws is differ cheap few_routers up all_up most_routes most_services room network before long clock few_seconds at_start left waiting x count now enough endures_now own_state
+    knows_now : KnowsOf net laws is differ cheap few_routers up in_ports most_routes most_services room network before long clock few_seconds at_start x routes
+    knows_now = knows net laws is differ cheap few_routers up in_ports most_routes most_services room network before long clock few_seconds at_start left waiting x count now enough endures_now own_state
 
     said_news : (j : ℕ) → AllByRecursion (Says (place j)) (news ports old routes j)
     said_news j =
-        all_both (RouteSaid net up (suc before) (place j)) (Word net laws is differ cheap few_routers up all_up most_routes most_services room network before long clock few_seconds at_start (place j)) (news ports old routes j)
+        all_both (RouteSaid net up (suc before) (place j)) (Word net laws is differ cheap few_routers up in_ports most_routes most_services room network before long clock few_seconds at_start (place j)) (news ports old routes j)
         (changes_said net up most_routes most_services x count (suc before) (let f = few in omega (arith, f)) now endures_now old j)
-        (all_words net laws is differ cheap few_routers up all_up most_routes most_services room network before long clock few_seconds at_start (place j) (news ports old routes j)
-        (λ u is_u settled. words_news net laws is differ cheap few_routers up all_up most_routes most_services room network before long clock few_seconds at_start x u is_u settled old routes (knows_now u is_u settled) (all_real net laws is differ cheap few_routers up all_up most_routes most_services room network before long clock few_seconds at_start x count past enough endured) j))
+        (all_words net laws is differ cheap few_routers up in_ports most_routes most_services room network before long clock few_seconds at_start (place j) (news ports old routes j)
+        (λ u is_u settled. words_news net laws is differ cheap few_routers up in_ports most_routes most_services room network before long clock few_seconds at_start x u is_u settled old routes (knows_now u is_u settled) (all_real net laws is differ cheap few_routers up in_ports most_routes most_services room network before long clock few_seconds at_start x count past enough endured) j))
 
     reply : IsReply (port_of net d.to) d.bytes
     reply =
@@ -306,12 +309,12 @@ module _ (net : Internet) (laws : Layouts) (is : IsInternet net) (differ : Nodes
     abbrev new : List Delivery
     new = flat_map (deliveries_of net x) these
 
-    speaks_new : AllByRecursion (Speaks net laws is differ cheap few_routers up all_up most_routes most_services room network before long clock few_seconds at_start) new
-    speaks_new = all_speak net laws is differ cheap few_routers up all_up most_routes most_services room network before long clock few_seconds at_start histories righted.going.are x event righted.speaks.0.delivery.place righted.speaks.0.delivery.bytes answers
+    speaks_new : AllByRecursion (Speaks net laws is differ cheap few_routers up in_ports most_routes most_services room network before long clock few_seconds at_start) new
+    speaks_new = all_speak net laws is differ cheap few_routers up in_ports most_routes most_services room network before long clock few_seconds at_start histories righted.going.are x event righted.speaks.0.delivery.place righted.speaks.0.delivery.bytes answers
 
     -- ---- every router's state
 
-    due_then : (router : ℕ) (v : Way) (f : Place) → (Pends router f d → ⊥) → DueOf net laws is differ cheap few_routers up all_up most_routes most_services room network before long clock few_seconds at_start left waiting router v f → DueOf net laws is differ cheap few_routers up all_up most_routes most_services room network before long clock few_seconds at_start rest (queue ++ new) router v f
+    due_then : (router : ℕ) (v : Way) (f : Place) → (Pends router f d → ⊥) → DueOf net laws is differ cheap few_routers up in_ports most_routes most_services room network before long clock few_seconds at_start left waiting router v f → DueOf net laws is differ cheap few_routers up in_ports most_routes most_services room network before long clock few_seconds at_start rest (queue ++ new) router v f
     due_then router v f never (inl later) = inl later
     due_then router v f never (inr (inl here)) = absurd (never here)
     due_then router v f never (inr (inr waits)) = inr (any_in_front (Pends router f) queue new waits)
@@ -322,10 +325,10 @@ module _ (net : Internet) (laws : Layouts) (is : IsInternet net) (differ : Nodes
       holds = holds_by (own_state w sure).holds;
     }
       where
-        aged_by : (h : Held RouteOffer) (f : Place) → known_of net laws is differ cheap few_routers up all_up most_routes most_services room network x w (route_facts ports now) ≡ Some h
-            → RightFor net laws is differ cheap few_routers up all_up most_routes most_services room network x w f h.offer
-            → Fresh net laws is differ cheap few_routers up all_up most_routes most_services room network before long clock few_seconds at_start left waiting x w.v f h.age ⊎ Late net laws is differ cheap few_routers up all_up most_routes most_services room network before long clock few_seconds at_start left waiting x w.v f h.age
-            → Fresh net laws is differ cheap few_routers up all_up most_routes most_services room network before long clock few_seconds at_start rest (queue ++ new) x w.v f h.age ⊎ Late net laws is differ cheap few_routers up all_up most_routes most_services room network before long clock few_seconds at_start rest (queue ++ new) x w.v f h.age
+        aged_by : (h : Held RouteOffer) (f : Place) → known_of net laws is differ cheap few_routers up in_ports most_routes most_services room network x w (route_facts ports now) ≡ Some h
+            → RightFor net laws is differ cheap few_routers up in_ports most_routes most_services room network x w f h.offer
+            → Fresh net laws is differ cheap few_routers up in_ports most_routes most_services room network before long clock few_seconds at_start left waiting x w.v f h.age ⊎ Late net laws is differ cheap few_routers up in_ports most_routes most_services room network before long clock few_seconds at_start left waiting x w.v f h.age
+            → Fresh net laws is differ cheap few_routers up in_ports most_routes most_services room network before long clock few_seconds at_start rest (queue ++ new) x w.v f h.age ⊎ Late net laws is differ cheap few_routers up in_ports most_routes most_services room network before long clock few_seconds at_start rest (queue ++ new) x w.v f h.age
         aged_by h f e right (inl young) = inl young
         aged_by h f e right (inr (inl early)) = inr (inl early)
         aged_by h f e right (inr (inr (at_zero, inl later, bound))) = inr (inr (at_zero, inl later, bound))
@@ -335,12 +338,12 @@ module _ (net : Internet) (laws : Layouts) (is : IsInternet net) (differ : Nodes
           | inr late ↦ absurd (late.1 refl)
         ]
 
-        holds_by : ((h : Held RouteOffer) × (f : Place) × (known_of net laws is differ cheap few_routers up all_up most_routes most_services room network x w (route_facts ports now) ≡ Some h)
-            × RightFor net laws is differ cheap few_routers up all_up most_routes most_services room network x w f h.offer × Same net laws is differ cheap few_routers up all_up most_routes most_services room network before long clock few_seconds at_start left waiting x w.v h.offer)
-            ⊎ Later net laws is differ cheap few_routers up all_up most_routes most_services room network before long clock few_seconds at_start left waiting x w.v
-            → ((h : Held RouteOffer) × (f : Place) × (known_of net laws is differ cheap few_routers up all_up most_routes most_services room network x w (route_facts ports now) ≡ Some h)
-            × RightFor net laws is differ cheap few_routers up all_up most_routes most_services room network x w f h.offer × Same net laws is differ cheap few_routers up all_up most_routes most_services room network before long clock few_seconds at_start rest (queue ++ new) x w.v h.offer)
-            ⊎ Later net laws is differ cheap few_routers up all_up most_routes most_services room network before long clock few_seconds at_start rest (queue ++ new) x w.v
+        holds_by : ((h : Held RouteOffer) × (f : Place) × (known_of net laws is differ cheap few_routers up in_ports most_routes most_services room network x w (route_facts ports now) ≡ Some h)
+            × RightFor net laws is differ cheap few_routers up in_ports most_routes most_services room network x w f h.offer × Same net laws is differ cheap few_routers up in_ports most_routes most_services room network before long clock few_seconds at_start left waiting x w.v h.offer)
+            ⊎ Later net laws is differ cheap few_routers up in_ports most_routes most_services room network before long clock few_seconds at_start left waiting x w.v
+            → ((h : Held RouteOffer) × (f : Place) × (known_of net laws is differ cheap few_routers up in_ports most_routes most_services room network x w (route_facts ports now) ≡ Some h)
+            × RightFor net laws is differ cheap few_routers up in_ports most_routes most_services room network x w f h.offer × Same net laws is differ cheap few_routers up in_ports most_routes most_services room network before long clock few_seconds at_start rest (queue ++ new) x w.v h.offer)
+            ⊎ Later net laws is differ cheap few_routers up in_ports most_routes most_services room network before long clock few_seconds at_start rest (queue ++ new) x w.v
         holds_by (inl held) = inl held
         holds_by (inr (port, f, source, inl early)) = inr (port, f, source, inl early)
         holds_by (inr (port, f, source, inr (at_zero, inl later, soon))) = inr (port, f, source, inr (at_zero, inl later, soon))
@@ -366,11 +369,11 @@ module _ (net : Internet) (laws : Layouts) (is : IsInternet net) (differ : Nodes
                 subst P (sym e) (λ v s. subst (λ (h : History). State_of rest (queue ++ new) x v (route_facts ports h)) (sym (get_or-set_same histories x now [] listed)) (state_of_own v s))
         by (inr off) =
             subst (λ (h : History). State_of rest (queue ++ new) router w (route_facts (ports_of net router) h)) (sym (get_or-set_other histories x router now [] off))
-            (state_then net laws is differ cheap few_routers up all_up most_routes most_services room network before long clock few_seconds at_start left rest waiting (queue ++ new) router w refl
+            (state_then net laws is differ cheap few_routers up in_ports most_routes most_services room network before long clock few_seconds at_start left rest waiting (queue ++ new) router w refl
             (λ port f source at_zero due. due_then router w.v f (λ pending. off (sym pending.to)) due)
             (route_facts (ports_of net router) (history_of histories router)) (righted.states router w sure))
 
-    clock_now : (router port : ℕ) → port < length (ports_of net router)
+    clock_now : (router port : ℕ) → is_up (up router) port ≡ true
         → (seconds_run (history_of (with_event histories x event) router) + seconds_of router rest) % 60 ≡ clock router
     clock_now router port here = by (cases_eq router x)
       where
@@ -378,20 +381,20 @@ module _ (net : Internet) (laws : Layouts) (is : IsInternet net) (differ : Nodes
         by (inl same) = moved same here
           where
             P : ℕ → Type 0
-            P r = port < length (ports_of net r) → (seconds_run (history_of (with_event histories x event) r) + seconds_of r rest) % 60 ≡ clock r
+            P r = is_up (up r) port ≡ true → (seconds_run (history_of (with_event histories x event) r) + seconds_of r rest) % 60 ≡ clock r
 
             moved : router ≡ x → P router
             moved e =
                 subst P (sym e) (λ there_is. subst (λ (h : History). (seconds_run h + seconds_of x rest) % 60 ≡ clock x) (sym (get_or-set_same histories x now [] listed))
-                (ap (λ n. (n + seconds_of x rest) % 60) (seconds_stay past event refl refl runs) ∙ righted.clocks x port there_is))
+                (ap (λ n. (n + seconds_of x rest) % 60) (seconds_stay past event refl refl (runs_where net laws is differ cheap few_routers up in_ports most_routes most_services room network before long clock few_seconds at_start x port count past there_is endured)) ∙ righted.clocks x port there_is))
         by (inr off) =
             subst (λ (h : History). (seconds_run h + seconds_of router rest) % 60 ≡ clock router) (sym (get_or-set_other histories x router now [] off))
             (righted.clocks router port here)
 
-    pub delivery_rights : Righted net laws is differ cheap few_routers up all_up most_routes most_services room network before long clock few_seconds at_start rest (queued net most_routes most_services (record { histories = histories; queue = queue }) x event)
+    pub delivery_rights : Righted net laws is differ cheap few_routers up in_ports most_routes most_services room network before long clock few_seconds at_start rest (queued net most_routes most_services (record { histories = histories; queue = queue }) x event)
     delivery_rights = record {
       going = going_now;
       states = state_now;
       clocks = clock_now;
-      speaks = all-append (Speaks net laws is differ cheap few_routers up all_up most_routes most_services room network before long clock few_seconds at_start) queue new righted.speaks.1 speaks_new;
+      speaks = all-append (Speaks net laws is differ cheap few_routers up in_ports most_routes most_services room network before long clock few_seconds at_start) queue new righted.speaks.1 speaks_new;
     }

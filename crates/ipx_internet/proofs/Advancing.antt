@@ -1,5 +1,5 @@
 -- A second of a router, in a tick in which tables become right.
-use Rattle.std.proofs.Common.{◌≡◌, ◌≢◌, refl, sym, ap, ap₂, ◌∙◌, subst, ◌⊎◌, ℕ, suc, ◌+◌, ◌-◌, ◌%◌, ◌<◌, ◌≤◌, Bool, true, false, List, [], ◌∷◌, ◌++◌, length, map, filter, flat_map, Option, inl, inr, arith, if◌then◌else◌, length-append, get_or-set_same, get_or-set_other}
+use Rattle.std.proofs.Common.{◌≡◌, ◌≢◌, refl, sym, ap, ap₂, ◌∙◌, subst, ◌⊎◌, ℕ, suc, ◌+◌, ◌-◌, ◌%◌, ◌<◌, ◌≤◌, Bool, true, false, List, [], ◌∷◌, ◌++◌, length, map, filter, flat_map, Option, inl, inr, arith, true≢false, if◌then◌else◌, length-append, get_or-set_same, get_or-set_other}
 use Rattle.std.specs.List.{AllByRecursion}
 use Rattle.std.proofs.lemmas.Bool.{cases_Bool, cases_eq, eq-eqb}
 use Rattle.std.proofs.lemmas.List.Elements.{filter-append}
@@ -12,7 +12,7 @@ use Rattle.ipx_wire.specs.declared.service.Service.{Service}
 use Rattle.ipx_router.specs.Facts.{route_facts, route_facts_of, routes_held, offers}
 use Rattle.ipx_router.specs.History.{Event, History, Second, IsOnPort, IsOfBytes, is_second, present_run, seconds_run, running}
 use Rattle.ipx_router.specs.News.{news, news_services}
-use Rattle.ipx_router.specs.Port.{Port, numbers}
+use Rattle.ipx_router.specs.Port.{Port, is_up}
 use Rattle.ipx_router.specs.Relays.{Sent}
 use Rattle.ipx_router.specs.Routes.{route_reading, network_order}
 use Rattle.ipx_router.specs.Sends.{Holding, holding, is_periodic, second_on}
@@ -34,66 +34,65 @@ use Rattle.ipx_internet.specs.Run.{Step, Happens, AreHistories}
 use Rattle.ipx_internet.specs.Ticks.{seconds_of, most_ticks_gone}
 use Rattle.ipx_internet.proofs.Aging.{at_last}
 use Rattle.ipx_internet.proofs.Casting.{all_cast}
-use Rattle.ipx_internet.proofs.Counts.{length-numbers}
 use Rattle.ipx_internet.proofs.Enduring.{RouteSaid, Endures, second_endures, routes_said, changes_said}
 use Rattle.ipx_internet.proofs.Gathering.{second_keeps}
-use Rattle.ipx_internet.proofs.Having.{AnyIs, any_in_front, any_behind}
+use Rattle.ipx_internet.proofs.Having.{number_any, AnyIs, any_in_front, any_behind}
 use Rattle.ipx_internet.proofs.Lists.{all_of, all_then, all-append}
 use Rattle.ipx_internet.proofs.Receivers.{ports_at, receives_is}
 use Rattle.ipx_internet.proofs.Replying.{Layouts, IsCast}
 use Rattle.ipx_internet.proofs.Rooming.{real_wanted}
 use Rattle.ipx_internet.proofs.Rounding.{each_delivery}
-use Rattle.ipx_internet.proofs.Shortest.{within, on_or_off, OnOrOff, same_some, number_in, came, few}
+use Rattle.ipx_internet.proofs.Shortest.{within, on_or_off, OnOrOff, same_some, came, few}
 use Rattle.ipx_internet.proofs.Sourcing.{there_where_up}
 use Rattle.ipx_internet.proofs.Ticking.{Going, second_here, second_there, second_goes}
 use Rattle.ipx_internet.proofs.Uniting.{Wants, wants, start, SourceOf, Settled, Said, Word, AnyService, Speaks, Pending, Due, Fresh, Late, LateFrom, Later, Same, StateAt, holds_right, Knows, AllKnow, all_words, words_told, words_news, knows_on, knows_off, told_own, told_learned, pends}
 use Rattle.ipx_internet.proofs.Wording.{Tells, second_tells}
 
 module _ (net : Internet) (laws : Layouts) (is : IsInternet net) (differ : NodesDiffer net) (cheap : AreCheap net) (few_routers : length net ≤ 16) (up : ℕ → List ℕ)
-    (all_up : (router : ℕ) → up router ≡ numbers (length (ports_of net router))) (most_routes most_services : ℕ) (room : HasRoom net most_routes) (network : Network)
+    (in_ports : (router : ℕ) → AllByRecursion (λ j. j < length (ports_of net router)) (up router)) (most_routes most_services : ℕ) (room : HasRoom net most_routes) (network : Network)
     (before : ℕ) (long : most_ticks_gone ≤ before) (clock : ℕ → ℕ) (few_seconds : (router : ℕ) → clock router < 60) (at_start : ℕ → Option RouteOffer) where
   abbrev pub WantsOf : ℕ → Type 0
-  WantsOf router = Wants net laws is differ cheap few_routers up all_up most_routes most_services room network router
+  WantsOf router = Wants net laws is differ cheap few_routers up in_ports most_routes most_services room network router
 
   abbrev pub begins : Way → ℕ
-  begins = start net laws is differ cheap few_routers up all_up most_routes most_services room network
+  begins = start net laws is differ cheap few_routers up in_ports most_routes most_services room network
 
   abbrev pub Sources : ℕ → Way → ℕ → Place → Type 0
-  Sources = SourceOf net laws is differ cheap few_routers up all_up most_routes most_services room network
+  Sources = SourceOf net laws is differ cheap few_routers up in_ports most_routes most_services room network
 
   abbrev pub StateIn : List Step → List Delivery → (router : ℕ) → WantsOf router → List (Fact RouteOffer) → Type 0
-  StateIn = StateAt net laws is differ cheap few_routers up all_up most_routes most_services room network before long clock few_seconds at_start
+  StateIn = StateAt net laws is differ cheap few_routers up in_ports most_routes most_services room network before long clock few_seconds at_start
 
   abbrev pub SpeaksOf : Delivery → Type 0
-  SpeaksOf = Speaks net laws is differ cheap few_routers up all_up most_routes most_services room network before long clock few_seconds at_start
+  SpeaksOf = Speaks net laws is differ cheap few_routers up in_ports most_routes most_services room network before long clock few_seconds at_start
 
   abbrev pub PendingOf : ℕ → Place → Delivery → Type 0
-  PendingOf = Pending net laws is differ cheap few_routers up all_up most_routes most_services room network before long clock few_seconds at_start
+  PendingOf = Pending net laws is differ cheap few_routers up in_ports most_routes most_services room network before long clock few_seconds at_start
 
   abbrev pub SaidOf : Place → RipEntry → Type 0
-  SaidOf = Said net laws is differ cheap few_routers up all_up most_routes most_services room network before long clock few_seconds at_start
+  SaidOf = Said net laws is differ cheap few_routers up in_ports most_routes most_services room network before long clock few_seconds at_start
 
   abbrev pub KnowsOf : ℕ → List RouteOffer → Type 0
-  KnowsOf = AllKnow net laws is differ cheap few_routers up all_up most_routes most_services room network before long clock few_seconds at_start
+  KnowsOf = AllKnow net laws is differ cheap few_routers up in_ports most_routes most_services room network before long clock few_seconds at_start
 
   abbrev pub SettledOf : Way → Type 0
-  SettledOf = Settled net laws is differ cheap few_routers up all_up most_routes most_services room network before long clock few_seconds at_start
+  SettledOf = Settled net laws is differ cheap few_routers up in_ports most_routes most_services room network before long clock few_seconds at_start
 
   abbrev pub DueOf : List Step → List Delivery → ℕ → Way → Place → Type 0
-  DueOf = Due net laws is differ cheap few_routers up all_up most_routes most_services room network before long clock few_seconds at_start
+  DueOf = Due net laws is differ cheap few_routers up in_ports most_routes most_services room network before long clock few_seconds at_start
 
   abbrev pub LateFromOf : List Step → List Delivery → ℕ → Way → Place → Type 0
-  LateFromOf = LateFrom net laws is differ cheap few_routers up all_up most_routes most_services room network before long clock few_seconds at_start
+  LateFromOf = LateFrom net laws is differ cheap few_routers up in_ports most_routes most_services room network before long clock few_seconds at_start
 
   abbrev pub Services : Service → Type 0
-  Services = AnyService net laws is differ cheap few_routers up all_up most_routes most_services room network before long clock few_seconds at_start
+  Services = AnyService net laws is differ cheap few_routers up in_ports most_routes most_services room network before long clock few_seconds at_start
 
   -- what is so while the tick goes on, with the steps that are left of it
   pub record Righted (left : List Step) (q : Queued) : Type 0 where
     pub going : Going net laws is most_routes most_services up (suc before) left q
     pub states : (router : ℕ) (w : WantsOf router) → begins w.v ≤ before
         → StateIn left q.queue router w (route_facts (ports_of net router) (history_of q.histories router))
-    pub clocks : (router port : ℕ) → port < length (ports_of net router) → (seconds_run (history_of q.histories router) + seconds_of router left) % 60 ≡ clock router
+    pub clocks : (router port : ℕ) → is_up (up router) port ≡ true → (seconds_run (history_of q.histories router) + seconds_of router left) % 60 ≡ clock router
     pub speaks : AllByRecursion SpeaksOf q.queue
 
   -- ---- a router at a step
@@ -104,14 +103,14 @@ module _ (net : Internet) (laws : Layouts) (is : IsInternet net) (differ : Nodes
       let some = (righted.going.few router there).1 in
       righted.going.routers router (suc before - seconds_of router left) there (omega (arith, some))
 
-  pub runs_where : (router port had : ℕ) (history : History) → port < length (ports_of net router) → Endures net up most_routes most_services router had history
+  pub runs_where : (router port had : ℕ) (history : History) → is_up (up router) port ≡ true → Endures net up most_routes most_services router had history
       → running history ≡ true
   runs_where router port had history here endures = elim (cases_Bool (running history)) [
     | inl runs ↦ runs
     | inr stopped ↦
-        let none = sym (none_up (ports_of net router) history stopped) ∙ endures.ups ∙ all_up router in
-        let count = ap length none ∙ length-numbers (length (ports_of net router)) in
-        absurd (omega (arith, count, here))
+        let none : up router ≡ [] = sym endures.ups ∙ none_up (ports_of net router) history stopped in
+        let none_on : is_up [] port ≡ true = subst (λ (us : List ℕ). is_up us port ≡ true) none here in
+        absurd (true≢false (sym none_on))
   ]
 
   -- its routes are to networks that it isn't on
@@ -119,7 +118,7 @@ module _ (net : Internet) (laws : Layouts) (is : IsInternet net) (differ : Nodes
       → AllByRecursion (λ r. is_on (ports_of net router) r.network ≡ false) (offers (routes_held (ports_of net router) most_routes history))
   all_real router had history enough endures =
       all_then (IsReal net up router) (λ r. is_on (ports_of net router) r.network ≡ false)
-      (λ r real. real_wanted net up (there_where_up net is cheap up all_up network) real) (offers (routes_held (ports_of net router) most_routes history))
+      (λ r real. real_wanted net up (there_where_up net is cheap up in_ports network) real) (offers (routes_held (ports_of net router) most_routes history))
       (at_last route_reading network_order network_total most_routes (map (λ p. p.route_share) (ports_of net router)) (λ r. r.hops) (λ r. refl) (IsReal net up router)
       had (route_facts (ports_of net router) history) enough endures.routes)
 
@@ -127,26 +126,26 @@ module _ (net : Internet) (laws : Layouts) (is : IsInternet net) (differ : Nodes
   pub knows : (left : List Step) (queue : List Delivery) (router had : ℕ) (history : History) → most_ticks_gone ≤ had → Endures net up most_routes most_services router had history
       → ((w : WantsOf router) → begins w.v ≤ before → StateIn left queue router w (route_facts (ports_of net router) history))
       → KnowsOf router (offers (routes_held (ports_of net router) most_routes history))
-  knows left queue router had history enough endures state u is_u settled = by (on_or_off net network router)
+  knows left queue router had history enough endures state u is_u settled = by (on_or_off net up in_ports network router)
     where
       routes : List RouteOffer
       routes = offers (routes_held (ports_of net router) most_routes history)
 
-      by : OnOrOff net network router → Knows net laws is differ cheap few_routers up all_up most_routes most_services room network before long clock few_seconds at_start router u
+      by : OnOrOff net up in_ports network router → Knows net laws is differ cheap few_routers up in_ports most_routes most_services room network before long clock few_seconds at_start router u
           (offers (routes_held (ports_of net router) most_routes history))
       by (inl on) =
-          knows_on net laws is differ cheap few_routers up all_up most_routes most_services room network before long clock few_seconds at_start router u
+          knows_on net laws is differ cheap few_routers up in_ports most_routes most_services room network before long clock few_seconds at_start router u
           (offers (routes_held (ports_of net router) most_routes history)) on (all_real router had history enough endures)
       by (inr off) =
-          let w = wants net laws is differ cheap few_routers up all_up most_routes most_services room network router u off is_u in
-          let same = same_some net network (within net network 15 router) w.v u w.least is_u in
+          let w = wants net laws is differ cheap few_routers up in_ports most_routes most_services room network router u off is_u in
+          let same = same_some net up in_ports network (within net up in_ports network 15 router) w.v u w.least is_u in
           let hops = ap (λ (x : Way). x.hops) same in
           let sure = settled.long_enough in
-          let (h, from, some, right, keeps) = holds_right net laws is differ cheap few_routers up all_up most_routes most_services room network before long clock few_seconds at_start
+          let (h, from, some, right, keeps) = holds_right net laws is differ cheap few_routers up in_ports most_routes most_services room network before long clock few_seconds at_start
           left queue router w (route_facts (ports_of net router) history) (omega (arith, hops, sure)) (state w (omega (arith, hops, sure))) in
-          subst (λ (x : Way). Knows net laws is differ cheap few_routers up all_up most_routes most_services room network before long clock few_seconds at_start router x
+          subst (λ (x : Way). Knows net laws is differ cheap few_routers up in_ports most_routes most_services room network before long clock few_seconds at_start router x
           (offers (routes_held (ports_of net router) most_routes history))) same
-          (knows_off net laws is differ cheap few_routers up all_up most_routes most_services room network before long clock few_seconds at_start router w history h from some right)
+          (knows_off net laws is differ cheap few_routers up in_ports most_routes most_services room network before long clock few_seconds at_start router w history h from some right)
 
   -- ---- states, where more waits and fewer steps are left
 
@@ -243,14 +242,14 @@ module _ (net : Internet) (laws : Layouts) (is : IsInternet net) (differ : Nodes
     own_state : (w : WantsOf x) → begins w.v ≤ before → StateIn rest queue x w (route_facts ports now)
     own_state w sure =
         subst (λ (fs : List (Fact RouteOffer)). StateIn rest queue x w fs) (sym facts_now)
-        (second_keeps net is differ cheap few_routers up all_up most_routes room network x w.v w.off w.least w.wanted before long
-        (Fresh net laws is differ cheap few_routers up all_up most_routes most_services room network before long clock few_seconds at_start left queue x w.v)
-        (Fresh net laws is differ cheap few_routers up all_up most_routes most_services room network before long clock few_seconds at_start rest queue x w.v)
-        (Late net laws is differ cheap few_routers up all_up most_routes most_services room network before long clock few_seconds at_start left queue x w.v)
-        (Late net laws is differ cheap few_routers up all_up most_routes most_services room network before long clock few_seconds at_start rest queue x w.v)
-        (Later net laws is differ cheap few_routers up all_up most_routes most_services room network before long clock few_seconds at_start left queue x w.v)
-        (Later net laws is differ cheap few_routers up all_up most_routes most_services room network before long clock few_seconds at_start rest queue x w.v)
-        (Same net laws is differ cheap few_routers up all_up most_routes most_services room network before long clock few_seconds at_start rest queue x w.v)
+        (second_keeps net is differ cheap few_routers up in_ports most_routes room network x w.v w.off w.least w.wanted before long
+        (Fresh net laws is differ cheap few_routers up in_ports most_routes most_services room network before long clock few_seconds at_start left queue x w.v)
+        (Fresh net laws is differ cheap few_routers up in_ports most_routes most_services room network before long clock few_seconds at_start rest queue x w.v)
+        (Late net laws is differ cheap few_routers up in_ports most_routes most_services room network before long clock few_seconds at_start left queue x w.v)
+        (Late net laws is differ cheap few_routers up in_ports most_routes most_services room network before long clock few_seconds at_start rest queue x w.v)
+        (Later net laws is differ cheap few_routers up in_ports most_routes most_services room network before long clock few_seconds at_start left queue x w.v)
+        (Later net laws is differ cheap few_routers up in_ports most_routes most_services room network before long clock few_seconds at_start rest queue x w.v)
+        (Same net laws is differ cheap few_routers up in_ports most_routes most_services room network before long clock few_seconds at_start rest queue x w.v)
         (λ f age young. let here = second_here x rest in let y = young in omega (arith, here, y))
         (λ f h right late. elim late [
           | inl early ↦ inl early
@@ -286,9 +285,9 @@ module _ (net : Internet) (laws : Layouts) (is : IsInternet net) (differ : Nodes
       where
         facts_now : route_facts ports now ≡ route_facts ports past ++ PassedSecond ∷ []
         facts_now =
-            let c = came net network 14 x w.v w.off w.least in
+            let c = came net up in_ports network 14 x w.v w.off w.least in
             facts_from-more (route_facts_of ports) [] past Second
-            ∙ ap (λ b. route_facts ports past ++ (if b then PassedSecond ∷ [] else [])) (runs_where x c.port before past c.neighbour.here endured)
+            ∙ ap (λ b. route_facts ports past ++ (if b then PassedSecond ∷ [] else [])) (runs_where x c.port before past c.neighbour.on_here endured)
 
     -- ---- what it says
 
@@ -307,19 +306,19 @@ module _ (net : Internet) (laws : Layouts) (is : IsInternet net) (differ : Nodes
     said_told : (j : ℕ) → AllByRecursion (SaidOf (place j)) (told ports (up x) routes j)
     said_told j =
         all_both (RouteSaid net up (suc before) (place j))
-        (Word net laws is differ cheap few_routers up all_up most_routes most_services room network before long clock few_seconds at_start (place j)) (told ports (up x) routes j)
+        (Word net laws is differ cheap few_routers up in_ports most_routes most_services room network before long clock few_seconds at_start (place j)) (told ports (up x) routes j)
         (routes_said net up most_routes most_services x (suc before) (suc before) (omega arith) now endures_now j)
-        (all_words net laws is differ cheap few_routers up all_up most_routes most_services room network before long clock few_seconds at_start (place j) (told ports (up x) routes j)
-        (λ u is_u settled. words_told net laws is differ cheap few_routers up all_up most_routes most_services room network before long clock few_seconds at_start x u is_u settled
+        (all_words net laws is differ cheap few_routers up in_ports most_routes most_services room network before long clock few_seconds at_start (place j) (told ports (up x) routes j)
+        (λ u is_u settled. words_told net laws is differ cheap few_routers up in_ports most_routes most_services room network before long clock few_seconds at_start x u is_u settled
         routes (knows_now u is_u settled) j))
 
     said_news : (j : ℕ) → AllByRecursion (SaidOf (place j)) (news ports old routes j)
     said_news j =
         all_both (RouteSaid net up (suc before) (place j))
-        (Word net laws is differ cheap few_routers up all_up most_routes most_services room network before long clock few_seconds at_start (place j)) (news ports old routes j)
+        (Word net laws is differ cheap few_routers up in_ports most_routes most_services room network before long clock few_seconds at_start (place j)) (news ports old routes j)
         (changes_said net up most_routes most_services x (suc before) (suc before) (omega arith) now endures_now old j)
-        (all_words net laws is differ cheap few_routers up all_up most_routes most_services room network before long clock few_seconds at_start (place j) (news ports old routes j)
-        (λ u is_u settled. words_news net laws is differ cheap few_routers up all_up most_routes most_services room network before long clock few_seconds at_start x u is_u settled
+        (all_words net laws is differ cheap few_routers up in_ports most_routes most_services room network before long clock few_seconds at_start (place j) (news ports old routes j)
+        (λ u is_u settled. words_news net laws is differ cheap few_routers up in_ports most_routes most_services room network before long clock few_seconds at_start x u is_u settled
         old routes (knows_now u is_u settled) (all_real x before past long endured) j))
 
     abbrev bef : Holding
@@ -359,7 +358,7 @@ module _ (net : Internet) (laws : Layouts) (is : IsInternet net) (differ : Nodes
     still : AllByRecursion IsOfBytes now
     still = all-append IsOfBytes past (Second ∷ []) (righted.going.are.of_bytes x) (tt, tt)
 
-    sends_all : (port : ℕ) → port < length ports → clock x ≡ 0 → sent ≡ flat_map (second_on ports bef aft true) aft.up
+    sends_all : (port : ℕ) → is_up (up x) port ≡ true → clock x ≡ 0 → sent ≡ flat_map (second_on ports bef aft true) aft.up
     sends_all port here at_zero =
         ap₂ (λ (r p : Bool). if r then flat_map (second_on ports bef aft p) aft.up else []) (runs_where x port before past here endured) periodic
       where
@@ -372,11 +371,11 @@ module _ (net : Internet) (laws : Layouts) (is : IsInternet net) (differ : Nodes
     module _ (router : ℕ) (w : WantsOf router) (sure : begins w.v ≤ before) (at_zero : clock x ≡ 0) where
       pend_at : (port j : ℕ) → Sources router w.v port (place j) → AnyIs (PendingOf router (place j)) new
       pend_at port j source =
-          pends net laws is differ cheap few_routers up all_up most_routes most_services room network before long clock few_seconds at_start router w port (place j) source sent sent_bytes
-          (subst (λ (ss : List Sent). AnyIs (Tells ports network source.way (SaidOf (place j)) j) ss) (sym (sends_all j source.neighbour.place at_zero))
+          pends net laws is differ cheap few_routers up in_ports most_routes most_services room network before long clock few_seconds at_start router w port (place j) source sent sent_bytes
+          (subst (λ (ss : List Sent). AnyIs (Tells ports network source.way (SaidOf (place j)) j) ss) (sym (sends_all j source.neighbour.on_there at_zero))
           (second_tells ports network source.way laws.readings laws.again j (port-all _ ports j (ports_at net is x) source.neighbour.place) (SaidOf (place j)) bef aft
-          (subst (λ (us : List ℕ). AnyIs (λ k. k ≡ j) us) (sym (endures_now.ups ∙ all_up x)) (number_in (length ports) j source.neighbour.place))
-          (subst (λ (us : List ℕ). AnyIs (λ e. e.network ≡ network) (told ports us routes j)) (sym endures_now.ups) (has (on_or_off net network x)))
+          (subst (λ (us : List ℕ). AnyIs (λ k. k ≡ j) us) (sym endures_now.ups) (number_any j (up x) source.neighbour.on_there))
+          (subst (λ (us : List ℕ). AnyIs (λ e. e.network ≡ network) (told ports us routes j)) (sym endures_now.ups) (has (on_or_off net up in_ports network x)))
           (all_both IsEntry (SaidOf (place j)) (told ports aft.up routes j)
           (told_fits ports (ports_at net is x) aft.up routes j (ports_up-within ports now) (held_routes_fit laws.readings ports most_routes now still)) (said_after j))
           (all_both IsEntry (SaidOf (place j)) (news ports old routes j)
@@ -389,21 +388,21 @@ module _ (net : Internet) (laws : Layouts) (is : IsInternet net) (differ : Nodes
           near : source.way.hops ≤ 14
           near =
               let h = hops in
-              let most = few net network 15 router w.v w.least in
+              let most = few net up in_ports network 15 router w.v w.least in
               omega (arith, h, most)
 
-          has : OnOrOff net network x → AnyIs (λ e. e.network ≡ network) (told ports (up x) routes j)
+          has : OnOrOff net up in_ports network x → AnyIs (λ e. e.network ≡ network) (told ports (up x) routes j)
           has (inl on) =
-              told_own net laws is differ cheap few_routers up all_up most_routes most_services room network before long clock few_seconds at_start router w port (place j) source routes on
+              told_own net laws is differ cheap few_routers up in_ports most_routes most_services room network before long clock few_seconds at_start router w port (place j) source routes on
           has (inr off) =
-              let second = wants net laws is differ cheap few_routers up all_up most_routes most_services room network x source.way off source.there in
-              let same = same_some net network (within net network 15 x) second.v source.way second.least source.there in
+              let second = wants net laws is differ cheap few_routers up in_ports most_routes most_services room network x source.way off source.there in
+              let same = same_some net up in_ports network (within net up in_ports network 15 x) second.v source.way second.least source.there in
               let equal = ap (λ (y : Way). y.hops) same in
               let h = hops in
               let s = sure in
-              let (it, from, some, right, keeps) = holds_right net laws is differ cheap few_routers up all_up most_routes most_services room network before long clock few_seconds at_start
+              let (it, from, some, right, keeps) = holds_right net laws is differ cheap few_routers up in_ports most_routes most_services room network before long clock few_seconds at_start
               rest queue x second (route_facts ports now) (omega (arith, equal, h, s)) (own_state second (omega (arith, equal, h, s))) in
-              told_learned net laws is differ cheap few_routers up all_up most_routes most_services room network before long clock few_seconds at_start router w port (place j) source
+              told_learned net laws is differ cheap few_routers up in_ports most_routes most_services room network before long clock few_seconds at_start router w port (place j) source
               second now it from near some right
 
       pend : (port : ℕ) (f : Place) → Sources router w.v port f → f.router ≡ x → AnyIs (PendingOf router f) new
@@ -450,7 +449,7 @@ module _ (net : Internet) (laws : Layouts) (is : IsInternet net) (differ : Nodes
             ])
             (route_facts (ports_of net router) (history_of histories router)) (righted.states router w sure))
 
-    clock_now : (router port : ℕ) → port < length (ports_of net router)
+    clock_now : (router port : ℕ) → is_up (up router) port ≡ true
         → (seconds_run (history_of (with_event histories x Second) router) + seconds_of router rest) % 60 ≡ clock router
     clock_now router port here = by (cases_eq router x)
       where
@@ -460,7 +459,7 @@ module _ (net : Internet) (laws : Layouts) (is : IsInternet net) (differ : Nodes
             ∙ ap length (filter-append is_second (present_run past) (Second ∷ []))
             ∙ length-append (filter is_second (present_run past)) (Second ∷ [])
 
-        own : port < length ports → (seconds_run now + seconds_of x rest) % 60 ≡ clock x
+        own : is_up (up x) port ≡ true → (seconds_run now + seconds_of x rest) % 60 ≡ clock x
         own there =
             let after = later (runs_where x port before past there endured) in
             let step = second_here x rest in
@@ -471,7 +470,7 @@ module _ (net : Internet) (laws : Layouts) (is : IsInternet net) (differ : Nodes
         by (inl same) = moved same here
           where
             P : ℕ → Type 0
-            P r = port < length (ports_of net r) → (seconds_run (history_of (with_event histories x Second) r) + seconds_of r rest) % 60 ≡ clock r
+            P r = is_up (up r) port ≡ true → (seconds_run (history_of (with_event histories x Second) r) + seconds_of r rest) % 60 ≡ clock r
 
             moved : router ≡ x → P router
             moved e =

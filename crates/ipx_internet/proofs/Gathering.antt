@@ -1,5 +1,5 @@
 -- What a table keeps of the network after the entries of one packet, and after a second.
-use Rattle.std.proofs.Common.{◌≡◌, ◌≢◌, refl, sym, ap, ◌∙◌, subst, ◌⊎◌, ℕ, ◌+◌, ◌*◌, ◌<◌, ◌≤◌, nat_le, Bool, true, false, List, [], ◌∷◌, ◌++◌, length, map, filter, find, Option, None, Some, inl, inr, arith, append_assoc, append-nil, is_eq}
+use Rattle.std.proofs.Common.{◌≡◌, ◌≢◌, refl, sym, ap, ◌∙◌, subst, ◌⊎◌, ℕ, ◌+◌, ◌*◌, ◌<◌, ◌≤◌, nat_le, false, List, [], ◌∷◌, ◌++◌, length, map, filter, find, Option, None, Some, inl, inr, arith, append_assoc, append-nil, is_eq}
 use Rattle.std.specs.List.{AllByRecursion}
 use Rattle.std.proofs.lemmas.Bool.{cases_Bool, eqb-true, leb-true, leb-false}
 use Rattle.ipx_table.specs.Accepted.{marked}
@@ -16,7 +16,7 @@ use Rattle.ipx_wire.specs.declared.network.Network.{Network}
 use Rattle.ipx_wire.specs.declared.rip.RipEntry.{RipEntry}
 use Rattle.ipx_router.specs.Facts.{route_offer, routes_offered}
 use Rattle.ipx_router.specs.Numbers.{unreachable}
-use Rattle.ipx_router.specs.Port.{Port, numbers, takes_no_route}
+use Rattle.ipx_router.specs.Port.{Port, takes_no_route}
 use Rattle.ipx_router.specs.Routes.{route_rules, route_reading, network_order}
 use Rattle.ipx_router.specs.declared.route_offer.RouteOffer.{RouteOffer}
 use Rattle.ipx_router.proofs.bounds.PacketsOfEachEvent.{network_total}
@@ -26,7 +26,7 @@ use Rattle.ipx_internet.specs.Least.{Way, is_on, AreCheap, HasRoom}
 use Rattle.ipx_internet.specs.Real.{IsReal}
 use Rattle.ipx_internet.specs.Ticks.{most_ticks_gone}
 use Rattle.ipx_internet.proofs.Aging.{Aged, IsOld, IsNear, near_young, after_offers}
-use Rattle.ipx_internet.proofs.Having.{AnyIs}
+use Rattle.ipx_internet.proofs.Having.{AnyIs, found_with}
 use Rattle.ipx_internet.proofs.Keeping.{State, Right, right_offer, decide, comes_right, nothing_comes}
 use Rattle.ipx_internet.proofs.Lists.{all_then}
 use Rattle.ipx_internet.proofs.Receivers.{same_number}
@@ -36,17 +36,9 @@ use Rattle.ipx_internet.proofs.Shortest.{IsNeighbour, within, few}
 use Rattle.ipx_internet.proofs.Sourcing.{Source}
 use Rattle.ipx_internet.proofs.Ways.{nothing, it_is}
 
--- what is found is one of the list, and passes the test
-pub found_with : {X : Type 0} (P : X → Type 0) (test : X → Bool) (xs : List X) (x : X) → AllByRecursion P xs → find test xs ≡ Some x → P x × (test x ≡ true)
-found_with P test [] x all e = nothing e
-found_with P test (y ∷ ys) x all e = elim (cases_Bool (test y)) [
-  | inl passes ↦ it_is (λ z. P z × (test z ≡ true)) x y (rw passes at e) (all.0, passes)
-  | inr other ↦ found_with P test ys x all.1 (rw other at e)
-]
-
 module _ (net : Internet) (is : IsInternet net) (differ : NodesDiffer net) (cheap : AreCheap net) (few_routers : length net ≤ 16) (up : ℕ → List ℕ)
-    (all_up : (router : ℕ) → up router ≡ numbers (length (ports_of net router))) (most_routes : ℕ) (room : HasRoom net most_routes) (network : Network)
-    (router : ℕ) (v : Way) (off : is_on (ports_of net router) network ≡ false) (least : within net network 15 router ≡ Some v)
+    (in_ports : (router : ℕ) → AllByRecursion (λ j. j < length (ports_of net router)) (up router)) (most_routes : ℕ) (room : HasRoom net most_routes) (network : Network)
+    (router : ℕ) (v : Way) (off : is_on (ports_of net router) network ≡ false) (least : within net up in_ports network 15 router ≡ Some v)
     (wanted : takes_no_route (ports_of net router) network ≡ false) where
   abbrev ports : List Port
   ports = ports_of net router
@@ -66,10 +58,10 @@ module _ (net : Internet) (is : IsInternet net) (differ : NodesDiffer net) (chea
       Aged route_reading network_order network_total most_routes (map (λ p. p.route_share) ports) (λ r. r.hops) (λ r. refl) (IsReal net up router) had facts
 
   abbrev RightOf : Place → RouteOffer → Type 0
-  RightOf = Right net is differ cheap few_routers up all_up most_routes room network router v off least
+  RightOf = Right net is differ cheap few_routers up in_ports most_routes room network router v off least
 
   abbrev pub StateOf : (Place → ℕ → Type 0) → (Place → ℕ → Type 0) → Type 0 → (RouteOffer → Type 0) → Option (Held RouteOffer) → Type 0
-  StateOf = State net is differ cheap few_routers up all_up most_routes room network router v off least
+  StateOf = State net is differ cheap few_routers up in_ports most_routes room network router v off least
 
   -- after so many ticks each route is of a real way, and none is old
   pub all_real : (had : ℕ) → most_ticks_gone ≤ had → (facts : List (Fact RouteOffer)) → RoutesAged had facts
@@ -93,14 +85,14 @@ module _ (net : Internet) (is : IsInternet net) (differ : NodesDiffer net) (chea
       (all_real had long facts aged) e in
       (found.0, same_number h.offer.network network (same_where_equal h.offer.network.0 network.0 found.1))
 
-  module _ (had : ℕ) (long : most_ticks_gone ≤ had) (j : ℕ) (from : Place) (neighbour : IsNeighbour net router j from) where
+  module _ (had : ℕ) (long : most_ticks_gone ≤ had) (j : ℕ) (from : Place) (neighbour : IsNeighbour net up in_ports router j from) where
     abbrev offer_of : RipEntry → RouteOffer
     offer_of e = route_offer j (port_of net from).node e
 
     -- an entry for the network is as it should be, where the neighbour is one from which the least way comes; and what is offered is real
     pub record EntryIs (e : RipEntry) : Type 0 where
-      pub right : e.network ≡ network → Source net is cheap up all_up network router v j from
-          → offer_of e ≡ right_offer net is differ cheap few_routers up all_up most_routes room network router v off least j from
+      pub right : e.network ≡ network → Source net is cheap up in_ports network router v j from
+          → offer_of e ≡ right_offer net is differ cheap few_routers up in_ports most_routes room network router v off least j from
       pub real : takes_no_route ports e.network ≡ false → e.hops < unreachable → IsReal net up router (offer_of e)
 
     next_aged : (facts : List (Fact RouteOffer)) (e : RipEntry) → EntryIs e → takes_no_route ports e.network ≡ false → RoutesAged had facts
@@ -137,10 +129,10 @@ module _ (net : Internet) (is : IsInternet net) (differ : NodesDiffer net) (chea
 
         -- one entry of the network, where the neighbour is such a one
         one_right : (facts : List (Fact RouteOffer)) (e : RipEntry) → EntryIs e → RoutesAged had facts → e.network ≡ network
-            → Source net is cheap up all_up network router v j from → Now (known facts) → Then (known (facts ++ Offered (offer_of e) ∷ []))
+            → Source net is cheap up in_ports network router v j from → Now (known facts) → Then (known (facts ++ Offered (offer_of e) ∷ []))
         one_right facts e is_e aged named source state =
             subst (λ (k : Option (Held RouteOffer)). Then k) (sym (own_key facts (offer_of e)))
-            (comes_right net is differ cheap few_routers up all_up most_routes room network router v off least (records facts)
+            (comes_right net is differ cheap few_routers up in_ports most_routes room network router v off least (records facts)
             (kept rules (rules_total route_reading network_order network_total most_routes (map (λ p. p.route_share) ports)) facts).distinct
             (all_then (λ h. IsReal net up router h.offer × (h.age < lifetime)) (λ h. IsReal net up router h.offer) (λ h both. both.0) (records facts) (all_real had long facts aged))
             (λ h found. let known_h = known_is had long facts aged h found in (known_h.0.0, known_h.1))
@@ -154,7 +146,7 @@ module _ (net : Internet) (is : IsInternet net) (differ : NodesDiffer net) (chea
               | inr far ↦ far
               | inl down ↦
                   let hops = ap (λ (r : RouteOffer). r.hops) (is_e.right named source) in
-                  let most = few net network 15 router v least in
+                  let most = few net up in_ports network 15 router v least in
                   let many = leb-true unreachable e.hops down in
                   absurd (omega (arith, hops, most, many))
             ]
@@ -165,11 +157,11 @@ module _ (net : Internet) (is : IsInternet net) (differ : NodesDiffer net) (chea
           | inr apart ↦ subst (λ (k : Option (Held RouteOffer)). Now k) (sym (other_key facts (offer_of e) apart)) state
           | inl same ↦
               let named = same_number e.network network (same_where_equal e.network.0 network.0 same) in
-              elim (decide net is differ cheap few_routers up all_up most_routes room network router v off least j from neighbour) [
+              elim (decide net is differ cheap few_routers up in_ports most_routes room network router v off least j from neighbour) [
                 | inl source ↦ weaker (known (facts ++ Offered (offer_of e) ∷ [])) (one_right facts e is_e aged named source state)
                 | inr no_source ↦
                     subst (λ (k : Option (Held RouteOffer)). Now k) (sym (own_key facts (offer_of e)))
-                    (nothing_comes net is differ cheap few_routers up all_up most_routes room network router v off least (records facts)
+                    (nothing_comes net is differ cheap few_routers up in_ports most_routes room network router v off least (records facts)
                     (kept rules (rules_total route_reading network_order network_total most_routes (map (λ p. p.route_share) ports)) facts).distinct
                     (all_then (λ h. IsReal net up router h.offer × (h.age < lifetime)) (λ h. IsReal net up router h.offer) (λ h both. both.0) (records facts)
                     (all_real had long facts aged))
@@ -193,7 +185,7 @@ module _ (net : Internet) (is : IsInternet net) (differ : NodesDiffer net) (chea
         ]
 
       -- where one of them is of the network, and the neighbour such a one
-      pub entries_come : (Late : Place → ℕ → Type 0) (Later : Type 0) → (Later → (r : RouteOffer) → Same r) → Source net is cheap up all_up network router v j from
+      pub entries_come : (Late : Place → ℕ → Type 0) (Later : Type 0) → (Later → (r : RouteOffer) → Same r) → Source net is cheap up in_ports network router v j from
           → (es : List RipEntry) (facts : List (Fact RouteOffer)) → AllByRecursion EntryIs es → AnyIs (λ e. e.network ≡ network) es → RoutesAged had facts
           → StateOf Fresh Late Later Same (known facts)
           → StateOf Fresh (λ f age. Late f age × (f ≢ from)) ⊥ Same (known (facts ++ routes_offered ports j (port_of net from).node es))

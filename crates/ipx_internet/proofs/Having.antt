@@ -1,7 +1,8 @@
 -- Lists that have such an element.
-use Rattle.std.proofs.Common.{◌≡◌, refl, sym, ◌⊎◌, Bool, true, List, [], ◌∷◌, ◌++◌, map, filter, flat_map, inl, inr, true≢false}
+use Rattle.std.proofs.Common.{◌≡◌, refl, sym, ◌⊎◌, ℕ, ◌==◌, Bool, true, false, List, [], ◌∷◌, ◌++◌, map, filter, find, flat_map, Option, None, Some, ap, inl, inr, true≢false}
 use Rattle.std.specs.List.{AllByRecursion, list_any}
-use Rattle.std.proofs.lemmas.Bool.{cases_Bool, or_cases}
+use Rattle.std.proofs.lemmas.Bool.{cases_Bool, or_cases, eqb-true}
+use Rattle.ipx_internet.proofs.Ways.{nothing, it_is}
 use Rattle.ipx_router.specs.Sorted.{put, put_all, sorted}
 
 module _ {X : Type 0} where
@@ -105,3 +106,26 @@ pub any-flat_map : {X Y : Type 0} (P : X → Type 0) (Q : Y → Type 0) (f : X �
 any-flat_map P Q f step [] any = absurd any
 any-flat_map P Q f step (x ∷ xs) (inl here) = any_in_front Q (f x) (flat_map f xs) (step x here)
 any-flat_map P Q f step (x ∷ xs) (inr behind) = any_behind Q (f x) (flat_map f xs) (any-flat_map P Q f step xs behind)
+
+-- ---- what is found
+
+-- it is one of the list, and passes the test
+pub found_with : {X : Type 0} (P : X → Type 0) (test : X → Bool) (xs : List X) (x : X) → AllByRecursion P xs → find test xs ≡ Some x → P x × (test x ≡ true)
+found_with P test [] x all e = nothing e
+found_with P test (y ∷ ys) x all e = elim (cases_Bool (test y)) [
+  | inl passes ↦ it_is (λ z. P z × (test z ≡ true)) x y (rw passes at e) (all.0, passes)
+  | inr other ↦ found_with P test ys x all.1 (rw other at e)
+]
+
+-- something is where something passes
+pub found_some : {X : Type 0} (test : X → Bool) (xs : List X) → AnyIs (λ x. test x ≡ true) xs → find test xs ≡ None → ⊥
+found_some test [] any e = any
+found_some test (x ∷ xs) (inl here) e = true≢false (sym (ap (λ (o : Option _). elim o [ None ↦ true | Some y ↦ false ]) (rw here at e)))
+found_some test (x ∷ xs) (inr behind) e = elim (cases_Bool (test x)) [
+  | inl here ↦ true≢false (sym (ap (λ (o : Option _). elim o [ None ↦ true | Some y ↦ false ]) (rw here at e)))
+  | inr other ↦ found_some test xs behind (rw other at e)
+]
+
+-- a number among others
+pub number_any : (j : ℕ) (up : List ℕ) → list_any (λ k. k == j) up ≡ true → AnyIs (λ k. k ≡ j) up
+number_any j up on = any_then (λ k. (k == j) ≡ true) (λ k. k ≡ j) (λ k e. eqb-true k j e) up (any_passes (λ k. k == j) up on)

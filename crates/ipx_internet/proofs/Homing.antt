@@ -1,5 +1,5 @@
 -- A packet of a host, once the tables are right: from router to router by their least ways, and out on its network.
-use Rattle.std.proofs.Common.{◌≡◌, ◌≢◌, refl, sym, ap, ap₂, ◌∙◌, subst, ℕ, zero, suc, ◌+◌, ◌*◌, ◌<◌, ◌≤◌, ◌==◌, ◌||◌, Bool, true, false, List, [], ◌∷◌, ◌++◌, length, map, filter, flat_map, find, Option, None, Some, option_map, Result, Ok, Err, inl, inr, arith, true≢false, append-nil, if◌then◌else◌}
+use Rattle.std.proofs.Common.{◌≡◌, ◌≢◌, refl, sym, ap, ap₂, ◌∙◌, subst, ℕ, zero, suc, ◌+◌, ◌*◌, ◌<◌, ◌≤◌, ◌==◌, ◌||◌, Bool, true, false, List, [], ◌∷◌, ◌++◌, length, map, filter, flat_map, Option, None, Some, option_map, Result, Ok, Err, inl, inr, arith, append-nil, if◌then◌else◌}
 use Rattle.std.specs.List.{AllByRecursion}
 use Rattle.std.proofs.lemmas.Bool.{cases_Bool, cases_eq, or_cases, ne_eqb, eq-eqb, eqb-true, both_ways}
 use Rattle.ipx_wire.specs.Forward.{forwarded}
@@ -20,6 +20,7 @@ use Rattle.ipx_router.specs.Why.{why, is_far}
 use Rattle.ipx_router.specs.declared.route_offer.RouteOffer.{RouteOffer}
 use Rattle.ipx_router.specs.declared.why.Why.{Why}
 use Rattle.ipx_router.proofs.verdicts.SentOnPassesChecks.{judged, far_passes}
+use Rattle.ipx_router.proofs.port_values.PortOfEachNumber.{members, one_up}
 use Rattle.ipx_router.proofs.bytes.SentIsBytes.{relayed_bytes}
 use Rattle.ipx_internet.specs.Arriving.{IsOfHost, Arrives}
 use Rattle.ipx_internet.specs.Delivery.{receives, delivered}
@@ -33,22 +34,19 @@ use Rattle.ipx_internet.specs.Traced.{routers_after}
 use Rattle.ipx_internet.specs.Tree.{Router, Copy, router_now, net_of, router_at, sent_on, forwards, receivers, levels, joined}
 use Rattle.ipx_internet.proofs.Advancing.{runs_where}
 use Rattle.ipx_internet.proofs.Becoming.{AtRest, find_none}
-use Rattle.ipx_internet.proofs.Counts.{is_number}
 use Rattle.ipx_internet.proofs.Enduring.{Endures}
-use Rattle.ipx_internet.proofs.Gathering.{found_with}
-use Rattle.ipx_internet.proofs.Having.{AnyIs, any_then}
+use Rattle.ipx_internet.proofs.Having.{number_any, found_with, found_some, AnyIs, any_then}
 use Rattle.ipx_internet.proofs.Keeping.{same_bytes, bytes_same}
 use Rattle.ipx_internet.proofs.Listening.{nodes_apart}
-use Rattle.ipx_internet.proofs.Lists.{all_then, numbers_below}
+use Rattle.ipx_internet.proofs.Lists.{all_then}
 use Rattle.ipx_internet.proofs.Now.{numbers_front, joint}
 use Rattle.ipx_internet.proofs.Places.{places_within, places_differ}
 use Rattle.ipx_internet.proofs.Receivers.{port_is, same_number, same_place, receives_is}
 use Rattle.ipx_internet.proofs.Replying.{Layouts}
 use Rattle.ipx_internet.proofs.Righting.{route_is, by_number}
 use Rattle.ipx_internet.proofs.Runs.{router_there}
-use Rattle.ipx_internet.proofs.Shortest.{IsNeighbour, within, own, own_some, on_or_off, OnOrOff, came, is_there, at_numbers, on_port, port_on, number_in, all_places}
+use Rattle.ipx_internet.proofs.Shortest.{IsNeighbour, within, own, own_is, on_or_off, OnOrOff, came, is_there, at_numbers, port_on, all_places}
 use Rattle.ipx_internet.proofs.Uniting.{some_port}
-use Rattle.ipx_internet.proofs.Ways.{it_is}
 
 -- ---- lists
 
@@ -76,15 +74,6 @@ only_passes test f (x ∷ xs) differ all (inr behind) passes = elim (cases_Bool 
     never (y ∷ ys) apart (inl here) same = apart.0 (here ∙ sym same)
     never (y ∷ ys) apart (inr rest) same = never ys apart.1 rest same
 
--- something is found where something passes
-found_some : {X : Type 0} (test : X → Bool) (xs : List X) → AnyIs (λ x. test x ≡ true) xs → find test xs ≡ None → ⊥
-found_some test [] any e = any
-found_some test (x ∷ xs) (inl here) e = true≢false (sym (ap (λ (o : Option _). elim o [ None ↦ true | Some y ↦ false ]) (rw here at e)))
-found_some test (x ∷ xs) (inr behind) e = elim (cases_Bool (test x)) [
-  | inl here ↦ true≢false (sym (ap (λ (o : Option _). elim o [ None ↦ true | Some y ↦ false ]) (rw here at e)))
-  | inr other ↦ found_some test xs behind (rw other at e)
-]
-
 -- ---- routers as they are
 
 mapped_numbers : {X : Type 0} (f : ℕ → X) (n : ℕ) → map f (numbers (suc n)) ≡ f 0 ∷ map (λ k. f (suc k)) (numbers n)
@@ -101,8 +90,9 @@ net_after net most_routes histories = nets_same net (λ number. router_now (port
 
 -- ---- one receiver
 
-module _ (net : Internet) (is : IsInternet net) (differ : NodesDiffer net) where
-  pub delivered_one : (q port : ℕ) (f : Place) (link : Node) → IsNeighbour net q port f → link ≡ (port_of net f).node
+module _ (net : Internet) (up : ℕ → List ℕ) (in_ports : (router : ℕ) → AllByRecursion (λ j. j < length (ports_of net router)) (up router)) (is : IsInternet net)
+    (differ : NodesDiffer net) where
+  pub delivered_one : (q port : ℕ) (f : Place) (link : Node) → IsNeighbour net up in_ports q port f → link ≡ (port_of net f).node
       → delivered net (record { router = q; port = port }) link ≡ f ∷ []
   delivered_one q port f link neighbour node =
       only_passes (receives net (record { router = q; port = port }) link) f (places net) (places_differ net)
@@ -139,8 +129,8 @@ module _ (net : Internet) (is : IsInternet net) (differ : NodesDiffer net) where
           rw (off, nets, every) refl
 
 module _ (net : Internet) (laws : Layouts) (is : IsInternet net) (differ : NodesDiffer net) (cheap : AreCheap net) (few_routers : length net ≤ 16) (up : ℕ → List ℕ)
-    (all_up : (router : ℕ) → up router ≡ numbers (length (ports_of net router))) (most_routes most_services : ℕ) (room : HasRoom net most_routes) (to : Address)
-    (ticks : ℕ) (run : Run) (rest : AtRest net laws is differ cheap few_routers up all_up most_routes most_services room to.network ticks run) (long : most_ticks_gone ≤ ticks) where
+    (in_ports : (router : ℕ) → AllByRecursion (λ j. j < length (ports_of net router)) (up router)) (most_routes most_services : ℕ) (room : HasRoom net most_routes) (to : Address)
+    (ticks : ℕ) (run : Run) (rest : AtRest net laws is differ cheap few_routers up in_ports most_routes most_services room to.network ticks run) (long : most_ticks_gone ≤ ticks) where
   abbrev routers : List Router
   routers = routers_after net most_routes run.histories
 
@@ -162,18 +152,18 @@ module _ (net : Internet) (laws : Layouts) (is : IsInternet net) (differ : Nodes
     endures : Endures net up most_routes most_services q ticks history
     endures = rest.rests.routers q inside
 
-    ups_are : ups ≡ numbers (length ports)
-    ups_are = endures.ups ∙ all_up q
+    ups_in : AllByRecursion (λ j. j < length ports) ups
+    ups_in = subst (λ (us : List ℕ). AllByRecursion (λ j. j < length ports) us) (sym endures.ups) (in_ports q)
 
-    it_is_up : (j : ℕ) → j < length ports → is_up ups j ≡ true
-    it_is_up j less = subst (λ (us : List ℕ). is_up us j ≡ true) (sym ups_are) (is_number j (length ports) less)
+    it_is_up : (j : ℕ) → is_up (up q) j ≡ true → is_up ups j ≡ true
+    it_is_up j on = subst (λ (us : List ℕ). is_up us j ≡ true) (sym endures.ups) on
 
-    module _ (number : ℕ) (here : number < length ports) (away : (port_at ports number).network ≢ to.network) (v : Way) (least : within net to.network 15 q ≡ Some v)
+    module _ (number : ℕ) (here : number < length ports) (on : is_up (up q) number ≡ true) (away : (port_at ports number).network ≢ to.network) (v : Way) (least : within net up in_ports to.network 15 q ≡ Some v)
         (bytes : List ℕ) (are_bytes : IsBytes bytes) (p : Parts) (is_packet : IsPacket bytes p) (same : p.header.destination ≡ to) (of_host : IsOfHost net p)
         (few_control : p.header.control < 16) where
       other_network : is_local (port_at ports number) p.header.destination.network ≡ false
       other_network =
-          let (place, there, named) = some_port net laws is differ cheap few_routers up all_up most_routes most_services room to.network 15 q v least (on_or_off net to.network q) in
+          let (place, there, named) = some_port net laws is differ cheap few_routers up in_ports most_routes most_services room to.network 15 q v least (on_or_off net up in_ports to.network q) in
           let some = (port_is net is place there).some_network in
           let number_is = ap (λ (n : Network). n.0) named in
           let one : (to.network.0 == 0) ≡ false = ne_eqb to.network.0 0 (λ e. omega (arith, e, some, number_is)) in
@@ -193,7 +183,7 @@ module _ (net : Internet) (laws : Layouts) (is : IsInternet net) (differ : Nodes
       abbrev leaving : Option Outway → List Sent
       leaving o = elim o [ Some out ↦ record { port = out.port; link = out.link; bytes = packet_bytes (forwarded p) } ∷ [] | None ↦ [] ]
 
-      module _ (way : Outway) (routed : way_to ports ups routes to ≡ Some way) (leaves : way.port < length ports) where
+      module _ (way : Outway) (routed : way_to ports ups routes to ≡ Some way) (leaves : way.port < length ports) (leaves_up : is_up (up q) way.port ≡ true) where
         abbrev it : Sent
         it = record { port = way.port; link = way.link; bytes = packet_bytes (forwarded p) }
 
@@ -206,7 +196,7 @@ module _ (net : Internet) (laws : Layouts) (is : IsInternet net) (differ : Nodes
         passes : why ports ups routes true number bytes ≡ None
         passes =
             ap (judged ports ups routes (port_at ports number) number) read
-            ∙ far_passes ports ups routes (port_at ports number) number p (it_is_up number here) way (of_host.no_echo (record { router = q; port = number }) here) of_host.source far
+            ∙ far_passes ports ups routes (port_at ports number) number p (it_is_up number on) way (of_host.no_echo (record { router = q; port = number }) here) of_host.source far
             few_control (of_host.elsewhere q) routed_so (of_host.short (record { router = q; port = way.port }) leaves)
 
         relays : relayed ports ups routes number p ≡ it ∷ []
@@ -216,7 +206,7 @@ module _ (net : Internet) (laws : Layouts) (is : IsInternet net) (differ : Nodes
             rw (alone, away_from) (ap leaving routed_so)
 
         runs : running history ≡ true
-        runs = runs_where net laws is differ cheap few_routers up all_up most_routes most_services room to.network ticks long (λ r. 0) (λ r. omega arith) (λ r. None) q number ticks history here endures
+        runs = runs_where net laws is differ cheap few_routers up in_ports most_routes most_services room to.network ticks long (λ r. 0) (λ r. omega arith) (λ r. None) q number ticks history on endures
 
         pub sends_one : (c : Copy) → c.to ≡ record { router = q; port = number } → c.bytes ≡ bytes → forwards routers c ≡ it ∷ []
         unfolding sent_by
@@ -237,8 +227,8 @@ module _ (net : Internet) (laws : Layouts) (is : IsInternet net) (differ : Nodes
               elsewhere = of_host.elsewhere q;
               way = routed_so;
               leaves = record {
-                comes_up = it_is_up number here;
-                leaves_up = it_is_up way.port leaves;
+                comes_up = it_is_up number on;
+                leaves_up = it_is_up way.port leaves_up;
                 no_echo = of_host.no_echo (record { router = q; port = number }) here;
                 source = of_host.source;
                 short = of_host.short (record { router = q; port = way.port }) leaves;
@@ -266,14 +256,13 @@ module _ (net : Internet) (laws : Layouts) (is : IsInternet net) (differ : Nodes
         none : port_to ports ups to.network ≡ None
         none =
             find_none (λ j. (port_at ports j).network.0 == to.network.0) ups
-            (subst (λ (us : List ℕ). AllByRecursion (λ j. ((port_at ports j).network.0 == to.network.0) ≡ false) us) (sym ups_are)
             (all_then (λ j. j < length ports) (λ j. ((port_at ports j).network.0 == to.network.0) ≡ false)
             (λ j less. ne_eqb (port_at ports j).network.0 to.network.0 (λ e. both_ways (is_on ports to.network) off
-            (port_on ports to.network j less (same_number (port_at ports j).network to.network e)))) (numbers (length ports)) (numbers_below (length ports))))
+            (port_on ports to.network j less (same_number (port_at ports j).network to.network e)))) ups ups_in)
 
-    pub way_direct : is_on ports to.network ≡ true
-        → (j : ℕ) × (j < length ports) × ((port_at ports j).network ≡ to.network) × (way_to ports ups routes to ≡ Some (record { port = j; link = to.node }))
-    way_direct on = by (port_to ports ups to.network) refl
+    pub way_direct : (v : Way) → within net up in_ports to.network 15 q ≡ Some v → is_on ports to.network ≡ true
+        → (j : ℕ) × (is_up (up q) j ≡ true) × ((port_at ports j).network ≡ to.network) × (way_to ports ups routes to ≡ Some (record { port = j; link = to.node }))
+    way_direct v least on = by (port_to ports ups to.network) refl
       where
         out : Option ℕ → Option Outway
         out o = elim o [
@@ -282,58 +271,61 @@ module _ (net : Internet) (laws : Layouts) (is : IsInternet net) (differ : Nodes
         ]
 
         by : (o : Option ℕ) → port_to ports ups to.network ≡ o
-            → (j : ℕ) × (j < length ports) × ((port_at ports j).network ≡ to.network) × (way_to ports ups routes to ≡ Some (record { port = j; link = to.node }))
+            → (j : ℕ) × (is_up (up q) j ≡ true) × ((port_at ports j).network ≡ to.network) × (way_to ports ups routes to ≡ Some (record { port = j; link = to.node }))
         by (Some j) e =
-            let found = found_with (λ k. k < length ports) (λ k. (port_at ports k).network.0 == to.network.0) ups j
-            (subst (λ (us : List ℕ). AllByRecursion (λ k. k < length ports) us) (sym ups_are) (numbers_below (length ports))) e in
-            (j, found.0, same_number (port_at ports j).network to.network (eqb-true (port_at ports j).network.0 to.network.0 found.1), ap out e)
+            let found = found_with (λ k. is_up ups k ≡ true) (λ k. (port_at ports k).network.0 == to.network.0) ups j (members ups) e in (
+              j,
+              subst (λ (us : List ℕ). is_up us j ≡ true) endures.ups found.0,
+              same_number (port_at ports j).network to.network (eqb-true (port_at ports j).network.0 to.network.0 found.1),
+              ap out e,
+            )
         by None e =
-            let (j, less, named) = on_port ports to.network on in
+            let (j, on_j, named, way) = own_is ports (up q) to.network v (sym (own net up in_ports to.network 15 q inside on) ∙ least) in
             absurd (found_some (λ k. (port_at ports k).network.0 == to.network.0) ups
-            (subst (λ (us : List ℕ). AnyIs (λ k. ((port_at ports k).network.0 == to.network.0) ≡ true) us) (sym ups_are)
+            (subst (λ (us : List ℕ). AnyIs (λ k. ((port_at ports k).network.0 == to.network.0) ≡ true) us) (sym endures.ups)
             (any_then (λ k. k ≡ j) (λ k. ((port_at ports k).network.0 == to.network.0) ≡ true)
             (λ k same. ap (λ i. (port_at ports i).network.0 == to.network.0) same ∙ eq-eqb (port_at ports j).network.0 to.network.0 (ap (λ (n : Network). n.0) named))
-            (numbers (length ports)) (number_in (length ports) j less))) e)
+            (up q) (number_any j (up q) on_j))) e)
 
   -- ---- from router to router
 
-  no_hop_on : (q : ℕ) (v : Way) → within net to.network 15 q ≡ Some v → is_on (ports_of net q) to.network ≡ true → v.hops ≡ 0
+  no_hop_on : (q : ℕ) (v : Way) → within net up in_ports to.network 15 q ≡ Some v → is_on (ports_of net q) to.network ≡ true → v.hops ≡ 0
   no_hop_on q v e on =
-      let there = is_there net to.network 15 q v e in
-      let (j, less, same, some) = own_some (ports_of net q) to.network on in
-      it_is (λ (w : Way). w.hops ≡ 0) v (record { hops = 0; ticks = (port_at (ports_of net q) j).cost }) (sym some ∙ sym (own net to.network 15 q there on) ∙ e) refl
+      let there = is_there net up in_ports to.network 15 q v e in
+      let (j, on_j, same, way) = own_is (ports_of net q) (up q) to.network v (sym (own net up in_ports to.network 15 q there on) ∙ e) in
+      ap (λ (w : Way). w.hops) way
 
-  pub goes : (hops q port number : ℕ) (parent : Option ℕ) (bytes : List ℕ) (p : Parts) (v : Way) → port < length (ports_of net q)
+  pub goes : (hops q port number : ℕ) (parent : Option ℕ) (bytes : List ℕ) (p : Parts) (v : Way) → port < length (ports_of net q) → is_up (up q) port ≡ true
       → (port_at (ports_of net q) port).network ≢ to.network → IsBytes bytes → IsPacket bytes p → p.header.destination ≡ to → IsOfHost net p
-      → p.header.control + hops < 16 → within net to.network 15 q ≡ Some v → v.hops ≡ hops → most_ticks_gone + 60 * hops ≤ ticks
+      → p.header.control + hops < 16 → within net up in_ports to.network 15 q ≡ Some v → v.hops ≡ hops → most_ticks_gone + 60 * hops ≤ ticks
       → Arrives routers to hops number (record { parent = parent; to = record { router = q; port = port }; bytes = bytes })
-  goes zero q port number parent bytes p v here away are_bytes is_packet same of_host few_control least none sure = by (on_or_off net to.network q)
+  goes zero q port number parent bytes p v here on_port_here away are_bytes is_packet same of_host few_control least none sure = by (on_or_off net up in_ports to.network q)
     where
-      by : OnOrOff net to.network q → Arrives routers to 0 number (record { parent = parent; to = record { router = q; port = port }; bytes = bytes })
+      by : OnOrOff net up in_ports to.network q → Arrives routers to 0 number (record { parent = parent; to = record { router = q; port = port }; bytes = bytes })
       by (inr off) =
-          let c = came net to.network 14 q v off least in
+          let c = came net up in_ports to.network 14 q v off least in
           let h = ap (λ (w : Way). w.hops) c.by in
           absurd (omega (arith, h, none))
       by (inl on) =
           let inside = router_there net q port here in
-          let (j, less, named, routed) = way_direct q inside on in
+          let (j, on_j, named, routed) = way_direct q inside v least on in
           let out : Outway = record { port = j; link = to.node } in
           let now = at_numbers (λ k. router_now (ports_of net k) most_routes (history_of run.histories k)) (length net) q (router_at [] 0) inside in (
             record { port = j; link = to.node; bytes = packet_bytes (forwarded p) },
-            sends_one q inside port here away v least bytes are_bytes p is_packet same of_host (omega (arith, few_control)) out routed less
+            sends_one q inside port here on_port_here away v least bytes are_bytes p is_packet same of_host (omega (arith, few_control)) out routed (one_up (λ k. k < length (ports_of net q)) (up q) j (in_ports q) on_j) on_j
                 (record { parent = parent; to = record { router = q; port = port }; bytes = bytes }) refl refl,
             ap (λ (r : Router). (port_at r.ports j).network) now ∙ named,
             refl,
           )
-  goes (suc hops) q port number parent bytes p v here away are_bytes is_packet same of_host few_control least some sure =
-      by (on_or_off net to.network q)
-      (λ f u neighbour elsewhere written read_again is_u hops_u. goes hops f.router f.port (number + 1) (Some number) (packet_bytes (forwarded p)) (forwarded p) u neighbour elsewhere written
+  goes (suc hops) q port number parent bytes p v here on_port_here away are_bytes is_packet same of_host few_control least some sure =
+      by (on_or_off net up in_ports to.network q)
+      (λ f u neighbour on_f elsewhere written read_again is_u hops_u. goes hops f.router f.port (number + 1) (Some number) (packet_bytes (forwarded p)) (forwarded p) u neighbour on_f elsewhere written
       read_again same (record { for_one = of_host.for_one; source = of_host.source; no_echo = of_host.no_echo; elsewhere = of_host.elsewhere; short = of_host.short })
       (omega (arith, few_control)) is_u hops_u (omega (arith, sure)))
     where
-      by : OnOrOff net to.network q
-          → ((f : Place) (u : Way) → IsPlace net f → network_of net f ≢ to.network → IsBytes (packet_bytes (forwarded p)) → IsPacket (packet_bytes (forwarded p)) (forwarded p)
-          → within net to.network 15 f.router ≡ Some u → u.hops ≡ hops
+      by : OnOrOff net up in_ports to.network q
+          → ((f : Place) (u : Way) → IsPlace net f → is_up (up f.router) f.port ≡ true → network_of net f ≢ to.network → IsBytes (packet_bytes (forwarded p)) → IsPacket (packet_bytes (forwarded p)) (forwarded p)
+          → within net up in_ports to.network 15 f.router ≡ Some u → u.hops ≡ hops
           → Arrives routers to hops (number + 1) (record { parent = Some number; to = f; bytes = packet_bytes (forwarded p) }))
           → Arrives routers to (suc hops) number (record { parent = parent; to = record { router = q; port = port }; bytes = bytes })
       by (inl on) deeper =
@@ -342,16 +334,16 @@ module _ (net : Internet) (laws : Layouts) (is : IsInternet net) (differ : Nodes
       by (inr off) deeper =
           let inside = router_there net q port here in
           let enough : most_ticks_gone + 60 * v.hops ≤ ticks = omega (arith, some, sure) in
-          let has = route_is net laws is differ cheap few_routers up all_up most_routes most_services room to.network ticks run rest long q inside v off least enough in
-          let held = by_number net laws is differ cheap few_routers up all_up most_routes most_services room to.network ticks run rest long q inside ∙ has.held in
+          let has = route_is net laws is differ cheap few_routers up in_ports most_routes most_services room to.network ticks run rest long q inside v off least enough in
+          let held = by_number net laws is differ cheap few_routers up in_ports most_routes most_services room to.network ticks run rest long q inside ∙ has.held in
           let out : Outway = record { port = has.route.port; link = has.route.node } in
           let routed = way_by_route q inside off has.route held in
           let leaves = has.source.neighbour.here in
           let few_now : p.header.control < 16 = omega (arith, few_control) in
           let c : Copy = record { parent = parent; to = record { router = q; port = port }; bytes = bytes } in
           let it : Sent = record { port = has.route.port; link = has.route.node; bytes = packet_bytes (forwarded p) } in
-          let one = sends_one q inside port here away v least bytes are_bytes p is_packet same of_host few_now out routed leaves c refl refl in
-          let there = delivered_one net is differ q has.route.port has.from has.route.node has.source.neighbour has.node in
+          let one = sends_one q inside port here on_port_here away v least bytes are_bytes p is_packet same of_host few_now out routed leaves has.source.neighbour.on_here c refl refl in
+          let there = delivered_one net up in_ports is differ q has.route.port has.from has.route.node has.source.neighbour has.node in
           let next : Copy = record { parent = Some number; to = has.from; bytes = packet_bytes (forwarded p) } in
           let hops_by = ap (λ (w : Way). w.hops) has.source.by in (
             next,
@@ -359,10 +351,10 @@ module _ (net : Internet) (laws : Layouts) (is : IsInternet net) (differ : Nodes
                 ∙ ap (λ (n : Internet). map (λ x. record { parent = Some number; to = x; bytes = packet_bytes (forwarded p) })
                 (delivered n (record { router = q; port = has.route.port }) has.route.node)) (net_after net most_routes run.histories)
                 ∙ ap (map (λ x. record { parent = Some number; to = x; bytes = packet_bytes (forwarded p) })) there,
-            deeper has.from has.source.way has.source.neighbour.place
+            deeper has.from has.source.way has.source.neighbour.place has.source.neighbour.on_there
                 (λ named. both_ways (is_on (ports_of net q) to.network) off (port_on (ports_of net q) to.network has.route.port leaves (has.source.neighbour.network ∙ named)))
-                (written q inside port here away v least bytes are_bytes p is_packet same of_host few_now out routed leaves)
-                (read_again q inside port here away v least bytes are_bytes p is_packet same of_host few_now out routed leaves)
+                (written q inside port here on_port_here away v least bytes are_bytes p is_packet same of_host few_now out routed leaves has.source.neighbour.on_here)
+                (read_again q inside port here on_port_here away v least bytes are_bytes p is_packet same of_host few_now out routed leaves has.source.neighbour.on_here)
                 has.source.there (omega (arith, hops_by, some)),
           )
 

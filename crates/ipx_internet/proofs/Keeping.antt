@@ -15,7 +15,7 @@ use Rattle.ipx_table.proofs.Standing.{rules_total}
 use Rattle.ipx_wire.specs.declared.network.Network.{Network}
 use Rattle.ipx_wire.specs.declared.node.Node.{Node}
 use Rattle.ipx_router.specs.Numbers.{unreachable}
-use Rattle.ipx_router.specs.Port.{numbers, is_up}
+use Rattle.ipx_router.specs.Port.{is_up}
 use Rattle.ipx_router.specs.Routes.{route_rules, route_reading, network_order}
 use Rattle.ipx_router.specs.declared.route_offer.RouteOffer.{RouteOffer}
 use Rattle.ipx_router.proofs.bounds.PacketsOfEachEvent.{network_total}
@@ -63,10 +63,10 @@ same_offer a b network hops ticks port node =
     ∙ ap (λ m. make b.network b.hops b.ticks b.port m) node
 
 module _ (net : Internet) (is : IsInternet net) (differ : NodesDiffer net) (cheap : AreCheap net) (few_routers : length net ≤ 16) (up : ℕ → List ℕ)
-    (all_up : (router : ℕ) → up router ≡ numbers (length (ports_of net router))) (most_routes : ℕ) (room : HasRoom net most_routes) (network : Network)
-    (router : ℕ) (v : Way) (off : is_on (ports_of net router) network ≡ false) (least : within net network 15 router ≡ Some v) where
+    (in_ports : (router : ℕ) → AllByRecursion (λ j. j < length (ports_of net router)) (up router)) (most_routes : ℕ) (room : HasRoom net most_routes) (network : Network)
+    (router : ℕ) (v : Way) (off : is_on (ports_of net router) network ≡ false) (least : within net up in_ports network 15 router ≡ Some v) where
   abbrev IsSource : ℕ → Place → Type 0
-  IsSource port from = Source net is cheap up all_up network router v port from
+  IsSource port from = Source net is cheap up in_ports network router v port from
 
   -- what a neighbour offers whose least way, gone on, is the router's
   abbrev pub right_offer : ℕ → Place → RouteOffer
@@ -78,7 +78,7 @@ module _ (net : Internet) (is : IsInternet net) (differ : NodesDiffer net) (chea
     pub same : o ≡ right_offer o.port from
 
   -- a neighbour's port is known by port and node
-  pub one_place : (p q : ℕ) (a b : Place) → p ≡ q → IsNeighbour net router p a → IsNeighbour net router q b → (port_of net a).node ≡ (port_of net b).node → a ≡ b
+  pub one_place : (p q : ℕ) (a b : Place) → p ≡ q → IsNeighbour net up in_ports router p a → IsNeighbour net up in_ports router q b → (port_of net a).node ≡ (port_of net b).node → a ≡ b
   one_place p q a b same one two node =
       let nets : network_of net a ≡ network_of net b =
       sym one.network ∙ ap (λ k. network_of net (record { router = router; port = k })) same ∙ two.network in
@@ -88,15 +88,15 @@ module _ (net : Internet) (is : IsInternet net) (differ : NodesDiffer net) (chea
       ]
 
   -- it is such a neighbour or isn't
-  pub decide : (port : ℕ) (from : Place) → IsNeighbour net router port from → IsSource port from ⊎ (IsSource port from → ⊥)
-  decide port from neighbour = by (within net network 15 from.router) refl
+  pub decide : (port : ℕ) (from : Place) → IsNeighbour net up in_ports router port from → IsSource port from ⊎ (IsSource port from → ⊥)
+  decide port from neighbour = by (within net up in_ports network 15 from.router) refl
     where
-      by : (o : Option Way) → within net network 15 from.router ≡ o → IsSource port from ⊎ (IsSource port from → ⊥)
+      by : (o : Option Way) → within net up in_ports network 15 from.router ≡ o → IsSource port from ⊎ (IsSource port from → ⊥)
       by None none = inr (λ s. nothing (sym none ∙ s.there))
       by (Some u) some =
           let on = by_port (port_of net from).cost u in
           let otherwise = λ (s : IsSource port from).
-          s.by ∙ ap (by_port (port_of net from).cost) (same_some net network (within net network 15 from.router) s.way u s.there some) in
+          s.by ∙ ap (by_port (port_of net from).cost) (same_some net up in_ports network (within net up in_ports network 15 from.router) s.way u s.there some) in
           elim (cases_eq v.ticks on.ticks) [
             | inr apart ↦ inr (λ s. apart (ap (λ (w : Way). w.ticks) (otherwise s)))
             | inl ticks ↦ elim (cases_eq v.hops on.hops) [
@@ -108,10 +108,10 @@ module _ (net : Internet) (is : IsInternet net) (differ : NodesDiffer net) (chea
   -- a route of a real way that is as good as the least way is such an offer
   pub right_where_least : (r : RouteOffer) → IsReal net up router r → r.network ≡ network → v ≡ way_of r → (from : Place) × Right from r
   right_where_least r real named same =
-      let way = real_way net is cheap up all_up network real named in (
+      let way = real_way net is cheap up in_ports network real named in (
         way.from,
         record {
-          source = came_from net is cheap up all_up network few_routers router r v way least same;
+          source = came_from net is cheap up in_ports network few_routers router r v way least same;
           same = same_offer r (right_offer r.port way.from) named (sym (ap (λ (w : Way). w.hops) same)) (sym (ap (λ (w : Way). w.ticks) same)) refl way.node;
         },
       )
@@ -119,8 +119,8 @@ module _ (net : Internet) (is : IsInternet net) (differ : NodesDiffer net) (chea
   -- no route of a real way is better
   pub not_beaten : (r : RouteOffer) → IsReal net up router r → r.network ≡ network → NoWorse v (way_of r)
   not_beaten r real named =
-      let (w, is_w, less) = none_beats net is cheap up all_up network router r (real_way net is cheap up all_up network real named) in
-      subst (λ (x : Way). NoWorse x (way_of r)) (same_some net network (within net network 15 router) w v is_w least) less
+      let (w, is_w, less) = none_beats net is cheap up in_ports network router r (real_way net is cheap up in_ports network real named) in
+      subst (λ (x : Way). NoWorse x (way_of r)) (same_some net up in_ports network (within net up in_ports network 15 router) w v is_w least) less
 
   pub right_way : (from : Place) (o : RouteOffer) → Right from o → way_of o ≡ v
   right_way from o right = ap way_of right.same
@@ -140,7 +140,7 @@ module _ (net : Internet) (is : IsInternet net) (differ : NodesDiffer net) (chea
   module _ (records : List (Held RouteOffer)) (distinct : IsDistinct (route_rules (ports_of net router) most_routes).by_key records)
       (all : AllByRecursion (λ h. IsReal net up router h.offer) records) (all_found : (h : Held RouteOffer) → find (λ h. is_eq (network_order h.offer.network network)) records ≡ Some h
       → IsReal net up router h.offer × (h.offer.network ≡ network))
-      (o : RouteOffer) (named : o.network ≡ network) (from : Place) (neighbour : IsNeighbour net router o.port from) (node : o.node ≡ (port_of net from).node)
+      (o : RouteOffer) (named : o.network ≡ network) (from : Place) (neighbour : IsNeighbour net up in_ports router o.port from) (node : o.node ≡ (port_of net from).node)
       (real_if : nat_le unreachable o.hops ≡ false → IsReal net up router o) where
     abbrev rules : Rules RouteOffer
     rules = route_rules (ports_of net router) most_routes
@@ -158,7 +158,7 @@ module _ (net : Internet) (is : IsInternet net) (differ : NodesDiffer net) (chea
     total = rules_total route_reading network_order network_total most_routes (map (λ p. p.route_share) (ports_of net router))
 
     there_up : (r port : ℕ) → is_up (up r) port ≡ true → port < length (ports_of net r)
-    there_up = there_where_up net is cheap up all_up network
+    there_up = there_where_up net is cheap up in_ports network
 
     has_place : (nat_lt (length records) most_routes) ≡ true
     has_place = has_room net up there_up most_routes room router o.port neighbour.here records (λ x. distinct x) all
@@ -234,7 +234,7 @@ module _ (net : Internet) (is : IsInternet net) (differ : NodesDiffer net) (chea
 
           not_from : one_source (h.offer.port, h.offer.node) (o.port, o.node) ≡ false → (f : Place) → Right f h.offer → f ≢ from
           not_from other f right same =
-              let here : IsNeighbour net router h.offer.port from = subst (λ (g : Place). IsNeighbour net router h.offer.port g) same right.source.neighbour in
+              let here : IsNeighbour net up in_ports router h.offer.port from = subst (λ (g : Place). IsNeighbour net up in_ports router h.offer.port g) same right.source.neighbour in
               let ports : h.offer.port ≡ o.port =
               one_port (ports_of net router) (apart_at net is router) h.offer.port o.port here.here neighbour.here (here.network ∙ sym neighbour.network) in
               let nodes : h.offer.node ≡ o.node = right_node f h.offer right ∙ ap (λ g. (port_of net g).node) same ∙ sym node in

@@ -2,18 +2,17 @@
 use Rattle.std.proofs.Common.{◌≡◌, refl, sym, ap, ◌∙◌, subst, ◌⊎◌, ℕ, suc, ◌+◌, ◌*◌, ◌<◌, ◌≤◌, ◌==◌, true, false, List, [], ◌∷◌, ◌++◌, length, map, Option, None, Some, option_map, inl, inr, arith, is_eq}
 use Rattle.std.specs.List.{AllByRecursion}
 use Rattle.std.proofs.lemmas.Bool.{cases_Bool, cases_lt, both_ways}
-use Rattle.std.proofs.lemmas.List.{get_or_past}
 use Rattle.std.proofs.lemmas.Nat.{mod_below}
 use Rattle.ipx_wire.specs.declared.network.Network.{Network}
 use Rattle.ipx_router.specs.Facts.{route_facts, routes_held, offers}
-use Rattle.ipx_router.specs.History.{History, ports_up, seconds_run}
+use Rattle.ipx_router.specs.History.{History, seconds_run}
 use Rattle.ipx_router.specs.Outgoing.{route_to}
-use Rattle.ipx_router.specs.Port.{Port, numbers}
 use Rattle.ipx_router.specs.Routes.{route_reading, network_order}
 use Rattle.ipx_router.specs.declared.route_offer.RouteOffer.{RouteOffer}
 use Rattle.ipx_router.proofs.bounds.PacketsOfEachEvent.{network_total}
+use Rattle.ipx_router.proofs.port_values.PortOfEachNumber.{ports_up-within}
 use Rattle.ipx_internet.specs.Internet.{Internet, Place, port_of, IsInternet, NodesDiffer, ports_of}
-use Rattle.ipx_internet.specs.Least.{Way, is_on, way_of, least_route, AllUp, AreCheap, HasRoom, ticks_right, most_ticks_right}
+use Rattle.ipx_internet.specs.Least.{Way, is_on, way_of, least_route, AreCheap, HasRoom, ticks_right, most_ticks_right}
 use Rattle.ipx_internet.specs.Queue.{history_of}
 use Rattle.ipx_internet.specs.Real.{IsReal}
 use Rattle.ipx_internet.specs.Run.{Step, Run, run_of}
@@ -31,40 +30,36 @@ use Rattle.ipx_internet.proofs.Ticking.{Rests, ticks_rest}
 use Rattle.ipx_internet.proofs.Uniting.{SourceOf, Wants, wants, found_there}
 use Rattle.ipx_internet.proofs.Ways.{nothing}
 
--- where all ports of the routers are up, so are those of every number
-pub each_up : (net : Internet) (histories : List History) → AllUp net histories → (router : ℕ) → ups net histories router ≡ numbers (length (ports_of net router))
-each_up net histories all router = elim (cases_lt router (length net)) [
-  | inl there ↦ all router there
-  | inr past ↦
-      let none : ports_of net router ≡ [] = get_or_past net router [] past in
-      subst (λ (ports : List Port). ports_up ports (history_of histories router) ≡ numbers (length ports)) (sym none) refl
-]
+-- the ports that are up are ports
+pub ups_within : (net : Internet) (histories : List History) (router : ℕ) → AllByRecursion (λ j. j < length (ports_of net router)) (ups net histories router)
+ups_within net histories router = ports_up-within (ports_of net router) (history_of histories router)
 
 -- they are at least those after which every route is of a real way, and no more than stated
 pub some_ticks : (o : Option Way) (ticks : ℕ) → ticks_right o ≤ ticks → most_ticks_gone ≤ ticks
 some_ticks None ticks sure = sure
 some_ticks (Some way) ticks sure = omega (arith, sure)
 
-pub soon_enough : (net : Internet) (router : ℕ) (network : Network) → ticks_right (least_route net router network) ≤ most_ticks_right
-soon_enough net router network = by (on_or_off net network router) (within net network 15 router) refl
+pub soon_enough : (net : Internet) (up : ℕ → List ℕ) → ((router : ℕ) → AllByRecursion (λ j. j < length (ports_of net router)) (up router)) → (router : ℕ) (network : Network)
+    → ticks_right (least_route net up router network) ≤ most_ticks_right
+soon_enough net up in_ports router network = by (on_or_off net up in_ports network router) (within net up in_ports network 15 router) refl
   where
-    by : OnOrOff net network router → (o : Option Way) → within net network 15 router ≡ o → ticks_right (least_route net router network) ≤ most_ticks_right
+    by : OnOrOff net up in_ports network router → (o : Option Way) → within net up in_ports network 15 router ≡ o → ticks_right (least_route net up router network) ≤ most_ticks_right
     by (inl on) o e = rw on (omega arith)
     by (inr off) None e =
-        let none : least_route net router network ≡ None = rw off e in
+        let none : least_route net up router network ≡ None = rw off e in
         subst (λ (o : Option Way). ticks_right o ≤ most_ticks_right) (sym none) (omega arith)
     by (inr off) (Some v) e =
-        let should : least_route net router network ≡ Some v = rw off e in
-        let most = few net network 15 router v e in
+        let should : least_route net up router network ≡ Some v = rw off e in
+        let most = few net up in_ports network 15 router v e in
         subst (λ (o : Option Way). ticks_right o ≤ most_ticks_right) (sym should) (omega (arith, most))
 
 module _ (net : Internet) (laws : Layouts) (is : IsInternet net) (differ : NodesDiffer net) (cheap : AreCheap net) (few_routers : length net ≤ 16) (up : ℕ → List ℕ)
-    (all_up : (router : ℕ) → up router ≡ numbers (length (ports_of net router))) (most_routes most_services : ℕ) (room : HasRoom net most_routes) (network : Network) where
+    (in_ports : (router : ℕ) → AllByRecursion (λ j. j < length (ports_of net router)) (up router)) (most_routes most_services : ℕ) (room : HasRoom net most_routes) (network : Network) where
   abbrev RestsAt : ℕ → Run → Type 0
-  RestsAt = AtRest net laws is differ cheap few_routers up all_up most_routes most_services room network
+  RestsAt = AtRest net laws is differ cheap few_routers up in_ports most_routes most_services room network
 
   abbrev RouteOf : Run → ℕ → Option RouteOffer
-  RouteOf = route_of net laws is differ cheap few_routers up all_up most_routes most_services room network
+  RouteOf = route_of net laws is differ cheap few_routers up in_ports most_routes most_services room network
 
   -- ---- ticks, one after the other
 
@@ -83,8 +78,8 @@ module _ (net : Internet) (laws : Layouts) (is : IsInternet net) (differ : Nodes
       subst (λ (n : ℕ). RestsAt n (ticked net most_routes most_services next ticks)) same
       (climbs (suc so_far) next ticks later
       (λ enough. elim (cases_lt so_far most_ticks_gone) [
-        | inl early ↦ at_first net laws is differ cheap few_routers up all_up most_routes most_services room network (suc so_far) next (omega (arith, early)) later
-        | inr sure ↦ tick_rests net laws is differ cheap few_routers up all_up most_routes most_services room network so_far sure run steps (at sure) are.0
+        | inl early ↦ at_first net laws is differ cheap few_routers up in_ports most_routes most_services room network (suc so_far) next (omega (arith, early)) later
+        | inr sure ↦ tick_rests net laws is differ cheap few_routers up in_ports most_routes most_services room network so_far sure run steps (at sure) are.0
       ])
       are.1 (omega (arith, long)))
 
@@ -115,12 +110,12 @@ module _ (net : Internet) (laws : Layouts) (is : IsInternet net) (differ : Nodes
     pub none_on : is_on (ports_of net router) network ≡ true → RouteOf run router ≡ None
     none_on on =
         none_of (λ r real named. both_ways (is_on (ports_of net router) network)
-        (subst (λ (n : Network). is_on (ports_of net router) n ≡ false) named (real_wanted net up (there_where_up net is cheap up all_up network) real)) on)
+        (subst (λ (n : Network). is_on (ports_of net router) n ≡ false) named (real_wanted net up (there_where_up net is cheap up in_ports network) real)) on)
 
-    pub none_without : within net network 15 router ≡ None → RouteOf run router ≡ None
+    pub none_without : within net up in_ports network 15 router ≡ None → RouteOf run router ≡ None
     none_without none =
         none_of (λ r real named.
-        let (v, is_v, less) = none_beats net is cheap up all_up network router r (real_way net is cheap up all_up network real named) in
+        let (v, is_v, less) = none_beats net is cheap up in_ports network router r (real_way net is cheap up in_ports network real named) in
         nothing (sym none ∙ is_v))
 
     -- the route of the least way, and the neighbour that it came from
@@ -129,27 +124,27 @@ module _ (net : Internet) (laws : Layouts) (is : IsInternet net) (differ : Nodes
       pub held : RouteOf run router ≡ Some route
       pub way : way_of route ≡ v
       pub from : Place
-      pub source : SourceOf net laws is differ cheap few_routers up all_up most_routes most_services room network router v route.port from
+      pub source : SourceOf net laws is differ cheap few_routers up in_ports most_routes most_services room network router v route.port from
       pub node : route.node ≡ (port_of net from).node
 
-    pub route_is : (v : Way) → is_on (ports_of net router) network ≡ false → within net network 15 router ≡ Some v → most_ticks_gone + 60 * v.hops ≤ ticks
+    pub route_is : (v : Way) → is_on (ports_of net router) network ≡ false → within net up in_ports network 15 router ≡ Some v → most_ticks_gone + 60 * v.hops ≤ ticks
         → HasRoute v
     route_is v off is_v sure =
-        let w = wants net laws is differ cheap few_routers up all_up most_routes most_services room network router v off is_v in
-        let same = same_some net network (within net network 15 router) w.v v w.least is_v in
+        let w = wants net laws is differ cheap few_routers up in_ports most_routes most_services room network router v off is_v in
+        let same = same_some net up in_ports network (within net up in_ports network 15 router) w.v v w.least is_v in
         let state = rest.states router w in
         let hops = ap (λ (y : Way). y.hops) same in
         elim state.holds [
           | inl held ↦
               let (h, f, some, right, tt_is) = held in
-              let way = right_way net is differ cheap few_routers up all_up most_routes room network router w.v w.off w.least f h.offer right in
+              let way = right_way net is differ cheap few_routers up in_ports most_routes room network router w.v w.off w.least f h.offer right in
               record {
                 route = h.offer;
-                held = found_there net laws is differ cheap few_routers up all_up most_routes most_services room network router w history h some (ap (λ (r : RouteOffer). r.network) right.same) way;
+                held = found_there net laws is differ cheap few_routers up in_ports most_routes most_services room network router w history h some (ap (λ (r : RouteOffer). r.network) right.same) way;
                 way = way ∙ same;
                 from = f;
-                source = subst (λ (y : Way). SourceOf net laws is differ cheap few_routers up all_up most_routes most_services room network router y h.offer.port f) same right.source;
-                node = right_node net is differ cheap few_routers up all_up most_routes room network router w.v w.off w.least f h.offer right;
+                source = subst (λ (y : Way). SourceOf net laws is differ cheap few_routers up in_ports most_routes most_services room network router y h.offer.port f) same right.source;
+                node = right_node net is differ cheap few_routers up in_ports most_routes room network router w.v w.off w.least f h.offer right;
               }
           | inr late ↦
               let clock = mod_below (seconds_run (history_of run.histories late.1.router)) 60 (omega arith) in
@@ -161,47 +156,47 @@ module _ (net : Internet) (laws : Layouts) (is : IsInternet net) (differ : Nodes
     pub by_number : route_to routes network.0 ≡ RouteOf run router
     by_number = find_same (λ r. r.network.0 == network.0) (λ o. is_eq (network_order o.network network)) (λ r. tied r.network.0 network.0) routes
 
-    pub table_is : ticks_right (least_route net router network) ≤ ticks → option_map way_of (route_to routes network.0) ≡ least_route net router network
-    table_is sure = ap (option_map way_of) by_number ∙ by (on_or_off net network router) (within net network 15 router) refl
+    pub table_is : ticks_right (least_route net up router network) ≤ ticks → option_map way_of (route_to routes network.0) ≡ least_route net up router network
+    table_is sure = ap (option_map way_of) by_number ∙ by (on_or_off net up in_ports network router) (within net up in_ports network 15 router) refl
       where
-        by : OnOrOff net network router → (o : Option Way) → within net network 15 router ≡ o → option_map way_of (RouteOf run router) ≡ least_route net router network
+        by : OnOrOff net up in_ports network router → (o : Option Way) → within net up in_ports network 15 router ≡ o → option_map way_of (RouteOf run router) ≡ least_route net up router network
         by (inl on) o e = ap (option_map way_of) (none_on on) ∙ rw on refl
         by (inr off) None e = ap (option_map way_of) (none_without e) ∙ rw off (sym e)
         by (inr off) (Some v) e =
-            let should : least_route net router network ≡ Some v = rw off e in
+            let should : least_route net up router network ≡ Some v = rw off e in
             let has = route_is v off e (subst (λ (o : Option Way). ticks_right o ≤ ticks) should sure) in
             ap (option_map way_of) has.held ∙ ap Some has.way ∙ rw off (sym e)
 
   -- ---- it stays
 
   stays_by : (ticks : ℕ) (run : Run) (further : List (List Step)) → RestsAt ticks run → AreTicks net most_routes most_services run further
-      → (router : ℕ) (w : Wants net laws is differ cheap few_routers up all_up most_routes most_services room network router) → most_ticks_gone + 60 * w.v.hops ≤ ticks
+      → (router : ℕ) (w : Wants net laws is differ cheap few_routers up in_ports most_routes most_services room network router) → most_ticks_gone + 60 * w.v.hops ≤ ticks
       → RouteOf (ticked net most_routes most_services run further) router ≡ RouteOf run router
   stays_by ticks run [] rest are router w sure = refl
   stays_by ticks run (steps ∷ further) rest are router w sure =
       let next = run_of net most_routes most_services run steps in
       let long : most_ticks_gone ≤ ticks = omega (arith, sure) in
-      stays_by (suc ticks) next further (tick_rests net laws is differ cheap few_routers up all_up most_routes most_services room network ticks long run steps rest are.0) are.1 router w (omega (arith, sure))
-      ∙ route_stays net laws is differ cheap few_routers up all_up most_routes most_services room network ticks long run steps rest are.0 router w (omega (arith, sure))
+      stays_by (suc ticks) next further (tick_rests net laws is differ cheap few_routers up in_ports most_routes most_services room network ticks long run steps rest are.0) are.1 router w (omega (arith, sure))
+      ∙ route_stays net laws is differ cheap few_routers up in_ports most_routes most_services room network ticks long run steps rest are.0 router w (omega (arith, sure))
 
   rests_after : (ticks : ℕ) (run : Run) (further : List (List Step)) → RestsAt ticks run → most_ticks_gone ≤ ticks → AreTicks net most_routes most_services run further
       → RestsAt (length further + ticks) (ticked net most_routes most_services run further)
   rests_after ticks run further rest long are = climbs ticks run further rest.rests (λ enough. rest) are (omega (arith, long))
 
   pub stays : (ticks : ℕ) (run : Run) (further : List (List Step)) → RestsAt ticks run → AreTicks net most_routes most_services run further
-      → (router : ℕ) → router < length net → ticks_right (least_route net router network) ≤ ticks
+      → (router : ℕ) → router < length net → ticks_right (least_route net up router network) ≤ ticks
       → route_to (offers (routes_held (ports_of net router) most_routes (history_of (ticked net most_routes most_services run further).histories router))) network.0
       ≡ route_to (offers (routes_held (ports_of net router) most_routes (history_of run.histories router))) network.0
   stays ticks run further rest are router inside sure =
-      let long = some_ticks (least_route net router network) ticks sure in
+      let long = some_ticks (least_route net up router network) ticks sure in
       let later = rests_after ticks run further rest long are in
       let longer : most_ticks_gone ≤ length further + ticks = omega (arith, long) in
       by_number (length further + ticks) (ticked net most_routes most_services run further) later longer router inside
-      ∙ by later longer long (on_or_off net network router) (within net network 15 router) refl
+      ∙ by later longer long (on_or_off net up in_ports network router) (within net up in_ports network 15 router) refl
       ∙ sym (by_number ticks run rest long router inside)
     where
       by : RestsAt (length further + ticks) (ticked net most_routes most_services run further) → most_ticks_gone ≤ length further + ticks → most_ticks_gone ≤ ticks
-          → OnOrOff net network router → (o : Option Way) → within net network 15 router ≡ o
+          → OnOrOff net up in_ports network router → (o : Option Way) → within net up in_ports network 15 router ≡ o
           → RouteOf (ticked net most_routes most_services run further) router ≡ RouteOf run router
       by later longer long (inl on) o e =
           none_on (length further + ticks) (ticked net most_routes most_services run further) later longer router inside on ∙ sym (none_on ticks run rest long router inside on)
@@ -209,9 +204,9 @@ module _ (net : Internet) (laws : Layouts) (is : IsInternet net) (differ : Nodes
           none_without (length further + ticks) (ticked net most_routes most_services run further) later longer router inside e
           ∙ sym (none_without ticks run rest long router inside e)
       by later longer long (inr off) (Some v) e =
-          let should : least_route net router network ≡ Some v = rw off e in
-          let w = wants net laws is differ cheap few_routers up all_up most_routes most_services room network router v off e in
-          let same = same_some net network (within net network 15 router) w.v v w.least e in
+          let should : least_route net up router network ≡ Some v = rw off e in
+          let w = wants net laws is differ cheap few_routers up in_ports most_routes most_services room network router v off e in
+          let same = same_some net up in_ports network (within net up in_ports network 15 router) w.v v w.least e in
           let hops = ap (λ (y : Way). y.hops) same in
           let enough : most_ticks_gone + 60 * v.hops ≤ ticks = subst (λ (o : Option Way). ticks_right o ≤ ticks) should sure in
           stays_by ticks run further rest are router w (omega (arith, enough, hops))

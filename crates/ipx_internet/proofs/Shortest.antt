@@ -1,14 +1,15 @@
 -- Least ways: each is that of a neighbour gone on, none is better, and more hops make none worse.
-use Rattle.std.proofs.Common.{◌≡◌, ◌≢◌, refl, sym, ap, ap₂, ◌∙◌, subst, ◌⊎◌, ℕ, zero, suc, ◌+◌, ◌<◌, ◌≤◌, ◌==◌, ◌&&◌, nat_lt, true, false, not, List, [], ◌∷◌, ◌++◌, length, map, get_or, Option, None, Some, option_map, inl, inr, arith, true≢false}
-use Rattle.std.specs.Option.{option_or}
-use Rattle.std.proofs.lemmas.Bool.{cases_Bool, and_parts, or_cases, or_parts, ltb-true, ltb-false, eqb-true, eqb-false, eq-eqb, ne_eqb, cases_eq, cases_lt, not-true}
+use Rattle.std.proofs.Common.{◌≡◌, ◌≢◌, refl, sym, ap, ap₂, ◌∙◌, subst, ◌⊎◌, ℕ, zero, suc, ◌+◌, ◌<◌, ◌≤◌, ◌==◌, ◌&&◌, nat_lt, Bool, true, false, not, List, [], ◌∷◌, ◌++◌, length, map, find, get_or, Option, None, Some, option_map, inl, inr, arith, true≢false}
+use Rattle.std.specs.List.{AllByRecursion}
+use Rattle.std.proofs.lemmas.Bool.{cases_Bool, and_parts, or_cases, or_parts, ltb-true, ltb-false, eqb-true, eqb-false, eq-eqb, ne_eqb, cases_eq, cases_lt, not-true, both_ways}
 use Rattle.std.proofs.lemmas.List.{get_or_append_left, get_or-append-add, get_or_past, length-map, map-append}
 use Rattle.ipx_wire.specs.declared.network.Network.{Network}
-use Rattle.ipx_router.specs.Port.{Port, port_at, numbers}
+use Rattle.ipx_router.specs.Port.{Port, port_at, numbers, is_up}
+use Rattle.ipx_router.proofs.port_values.PortOfEachNumber.{members, one_up}
 use Rattle.ipx_internet.specs.Internet.{Internet, Place, IsPlace, ports_of, port_of, network_of, places}
-use Rattle.ipx_internet.specs.Least.{Way, is_better, better_of, best, is_on, own_way, neighbours, by_port, way_by, nearest, ways_within}
+use Rattle.ipx_internet.specs.Least.{Way, is_better, better_of, best, is_on, is_up_on, own_way, neighbours, by_port, way_by, nearest, ways_within}
 use Rattle.ipx_internet.proofs.Counts.{length-numbers}
-use Rattle.ipx_internet.proofs.Having.{AnyIs, any_and_all, the_one, any-map, any_mapped, any_in_front, any_behind, any-filter, any-flat_map}
+use Rattle.ipx_internet.proofs.Having.{AnyIs, any_then, any_passes, passes_any, found_with, found_some, any_and_all, the_one, any-map, any_mapped, any_in_front, any_behind, any-filter, any-flat_map}
 use Rattle.ipx_internet.proofs.Lists.{all_passed}
 use Rattle.ipx_internet.proofs.Places.{places_within}
 use Rattle.ipx_internet.proofs.Receivers.{same_number}
@@ -169,34 +170,64 @@ port_on (p ∷ ports) network (suc j) less same = elim (cases_Bool (p.network.0 
   | inr e ↦ rw e (port_on ports network j (omega (arith, less)) same)
 ]
 
--- a router has no way of its own exactly where it isn't on the network
-pub own_none : (ports : List Port) (network : Network) → is_on ports network ≡ false → own_way ports network ≡ None
-own_none [] network off = refl
-own_none (p ∷ ports) network off =
-    let parts = or_parts (p.network.0 == network.0) (is_on ports network) off in
-    rw parts.0 (own_none ports network parts.1)
+-- ---- ports that are up
 
-pub own_some : (ports : List Port) (network : Network) → is_on ports network ≡ true
-    → (j : ℕ) × (j < length ports) × ((port_at ports j).network ≡ network) × (own_way ports network ≡ Some (record { hops = 0; ticks = (port_at ports j).cost }))
-own_some [] network e = absurd (true≢false (sym e))
-own_some (p ∷ ports) network on = elim (cases_Bool (p.network.0 == network.0)) [
-  | inl here ↦ (0, omega arith, same_number p.network network (eqb-true p.network.0 network.0 here), rw here refl)
-  | inr other ↦
-      let behind : is_on ports network ≡ true = rw other at on in
-      let (j, less, same, own) = own_some ports network behind in
-      (suc j, omega (arith, less), same, rw other own)
-]
+-- where a port of a list of numbers is on the network, the number
+pub up_port : (ports : List Port) (up : List ℕ) (network : Network) → is_up_on ports up network ≡ true
+    → (j : ℕ) × (is_up up j ≡ true) × ((port_at ports j).network ≡ network)
+up_port ports up network e =
+    let any = any_and_all (λ j. ((port_at ports j).network.0 == network.0) ≡ true) (λ j. is_up up j ≡ true) up
+    (any_passes (λ j. (port_at ports j).network.0 == network.0) up e) (members up) in
+    let found = the_one _ up any in
+    (found.0, found.1.1, same_number (port_at ports found.0).network network (eqb-true (port_at ports found.0).network.0 network.0 found.1.0))
+
+pub port_up : (ports : List Port) (up : List ℕ) (network : Network) (j : ℕ) → is_up up j ≡ true → (port_at ports j).network ≡ network → is_up_on ports up network ≡ true
+port_up ports up network j on same =
+    passes_any (λ k. (port_at ports k).network.0 == network.0) up
+    (any_then (λ k. (k == j) ≡ true) (λ k. ((port_at ports k).network.0 == network.0) ≡ true)
+    (λ k e. ap (λ i. (port_at ports i).network.0 == network.0) (eqb-true k j e) ∙ eq-eqb (port_at ports j).network.0 network.0 (ap (λ (n : Network). n.0) same))
+    up (any_passes (λ k. k == j) up on))
+
+-- what a router's own way is: of a port on the network that is up
+pub own_is : (ports : List Port) (up : List ℕ) (network : Network) (w : Way) → own_way ports up network ≡ Some w
+    → (j : ℕ) × (is_up up j ≡ true) × ((port_at ports j).network ≡ network) × (w ≡ record { hops = 0; ticks = (port_at ports j).cost })
+own_is ports up network w e = by (find (λ j. (port_at ports j).network.0 == network.0) up) refl e
+  where
+    by : (o : Option ℕ) → find (λ j. (port_at ports j).network.0 == network.0) up ≡ o
+        → option_map (λ j. record { hops = 0; ticks = (port_at ports j).cost }) o ≡ Some w
+        → (j : ℕ) × (is_up up j ≡ true) × ((port_at ports j).network ≡ network) × (w ≡ record { hops = 0; ticks = (port_at ports j).cost })
+    by None there e = nothing e
+    by (Some j) there e =
+        let found = found_with (λ k. is_up up k ≡ true) (λ k. (port_at ports k).network.0 == network.0) up j (members up) there in (
+          j,
+          found.0,
+          same_number (port_at ports j).network network (eqb-true (port_at ports j).network.0 network.0 found.1),
+          it_is (λ (x : Way). x ≡ record { hops = 0; ticks = (port_at ports j).cost }) w (record { hops = 0; ticks = (port_at ports j).cost }) e refl,
+        )
+
+-- there is one where such a port is
+pub own_there : (ports : List Port) (up : List ℕ) (network : Network) → is_up_on ports up network ≡ true
+    → (w : Way) × (own_way ports up network ≡ Some w)
+own_there ports up network e = by (find (λ j. (port_at ports j).network.0 == network.0) up) refl
+  where
+    by : (o : Option ℕ) → find (λ j. (port_at ports j).network.0 == network.0) up ≡ o → (w : Way) × (own_way ports up network ≡ Some w)
+    by (Some j) there = (record { hops = 0; ticks = (port_at ports j).cost }, ap (option_map (λ k. record { hops = 0; ticks = (port_at ports k).cost })) there)
+    by None there = absurd (found_some (λ j. (port_at ports j).network.0 == network.0) up (any_passes (λ j. (port_at ports j).network.0 == network.0) up e) there)
+
+-- and none where the router isn't on the network
+pub own_none : (ports : List Port) (up : List ℕ) (network : Network) → AllByRecursion (λ j. j < length ports) up → is_on ports network ≡ false
+    → own_way ports up network ≡ None
+own_none ports up network within off = by (own_way ports up network) refl
+  where
+    by : (o : Option Way) → own_way ports up network ≡ o → own_way ports up network ≡ None
+    by None e = e
+    by (Some w) e =
+        let (j, on, same, cost) = own_is ports up network w e in
+        absurd (both_ways (is_on ports network) off (port_on ports network j (one_up (λ k. k < length ports) up j within on) same))
 
 -- ---- ways in an internet
 
 module _ (net : Internet) where
-  -- a port of another router on the network of a port
-  pub record IsNeighbour (router port : ℕ) (from : Place) : Type 0 where
-    pub other : from.router ≢ router
-    pub place : IsPlace net from
-    pub here : port < length (ports_of net router)
-    pub network : network_of net (record { router = router; port = port }) ≡ network_of net from
-
   at : ℕ → ℕ → Place
   at router port = record { router = router; port = port }
 
@@ -209,37 +240,64 @@ module _ (net : Internet) where
       (number_in (length (ports_of net router)) from.port (subst (λ (r : ℕ). from.port < length (ports_of net r)) (sym same) there)))
       (numbers (length net)) (number_in (length net) from.router (router_there net from.router from.port there))
 
-  pub in_neighbours : (router port : ℕ) (from : Place) → IsNeighbour router port from → AnyIs (λ p. p ≡ from) (neighbours net router)
+module _ (net : Internet) (up : ℕ → List ℕ) (in_ports : (router : ℕ) → AllByRecursion (λ j. j < length (ports_of net router)) (up router)) where
+  -- a port of another router on the network of a port, both up
+  pub record IsNeighbour (router port : ℕ) (from : Place) : Type 0 where
+    pub other : from.router ≢ router
+    pub place : IsPlace net from
+    pub here : port < length (ports_of net router)
+    pub network : network_of net (record { router = router; port = port }) ≡ network_of net from
+    pub on_here : is_up (up router) port ≡ true
+    pub on_there : is_up (up from.router) from.port ≡ true
+
+  abbrev IsBeside : ℕ → Place → Bool
+  IsBeside router from = not (from.router == router) && is_up (up from.router) from.port && is_up_on (ports_of net router) (up router) (network_of net from)
+
+  pub in_neighbours : (router port : ℕ) (from : Place) → IsNeighbour router port from → AnyIs (λ p. p ≡ from) (neighbours net up router)
   in_neighbours router port from is =
-      any-filter (λ p. p ≡ from) (λ p. not (p.router == router) && is_on (ports_of net router) (network_of net p))
-      (λ p same. subst (λ (q : Place). (not (q.router == router) && is_on (ports_of net router) (network_of net q)) ≡ true) (sym same) passes)
-      (places net) (all_places from is.place)
+      any-filter (λ p. p ≡ from) (IsBeside router) (λ p same. subst (λ (q : Place). IsBeside router q ≡ true) (sym same) passes) (places net) (all_places net from is.place)
     where
-      passes : (not (from.router == router) && is_on (ports_of net router) (network_of net from)) ≡ true
+      passes : (not (from.router == router) && is_up (up from.router) from.port && is_up_on (ports_of net router) (up router) (network_of net from)) ≡ true
       passes =
           let off : (from.router == router) ≡ false = ne_eqb from.router router is.other in
-          rw off (port_on (ports_of net router) (network_of net from) port is.here is.network)
+          let there = is.on_there in
+          rw (off, there) (port_up (ports_of net router) (up router) (network_of net from) port is.on_here is.network)
 
-  pub a_neighbour : (router : ℕ) (from : Place) → IsPlace net from → (not (from.router == router) && is_on (ports_of net router) (network_of net from)) ≡ true
-      → (port : ℕ) × IsNeighbour router port from
+  pub a_neighbour : (router : ℕ) (from : Place) → IsPlace net from → IsBeside router from ≡ true → (port : ℕ) × IsNeighbour router port from
   a_neighbour router from there e =
-      let parts = and_parts (not (from.router == router)) (is_on (ports_of net router) (network_of net from)) e in
-      let (port, here, same) = on_port (ports_of net router) (network_of net from) parts.1 in
-      (port, record { other = eqb-false from.router router (not-true (from.router == router) parts.0); place = there; here = here; network = same })
+      let parts = and_parts (not (from.router == router) && is_up (up from.router) from.port) (is_up_on (ports_of net router) (up router) (network_of net from)) e in
+      let first_parts = and_parts (not (from.router == router)) (is_up (up from.router) from.port) parts.0 in
+      let (port, on, same) = up_port (ports_of net router) (up router) (network_of net from) parts.1 in (
+        port,
+        record {
+          other = eqb-false from.router router (not-true (from.router == router) first_parts.0);
+          place = there;
+          here = one_up (λ k. k < length (ports_of net router)) (up router) port (in_ports router) on;
+          network = same;
+          on_here = on;
+          on_there = first_parts.1;
+        },
+      )
 
   module _ (network : Network) where
     -- the best way of at most so many hops
     abbrev pub within : ℕ → ℕ → Option Way
-    within hops router = get_or (ways_within hops net network) router None
+    within hops router = get_or (ways_within net up hops network) router None
 
     abbrev cost_of : Place → ℕ
     cost_of from = (port_of net from).cost
 
-    pub first : (router : ℕ) → router < length net → within 0 router ≡ own_way (ports_of net router) network
-    first router there = at_numbers (λ router. own_way (ports_of net router) network) (length net) router None there
+    abbrev pub own_of : ℕ → Option Way
+    own_of router = own_way (ports_of net router) (up router) network
 
-    pub later : (hops router : ℕ) → router < length net → within (suc hops) router ≡ nearest net network (ways_within hops net network) router
-    later hops router there = at_numbers (nearest net network (ways_within hops net network)) (length net) router None there
+    pub none_of_own : (router : ℕ) → is_on (ports_of net router) network ≡ false → own_of router ≡ None
+    none_of_own router off = own_none (ports_of net router) (up router) network (in_ports router) off
+
+    pub first : (router : ℕ) → router < length net → within 0 router ≡ own_of router
+    first router there = at_numbers (λ router. own_of router) (length net) router None there
+
+    pub later : (hops router : ℕ) → router < length net → within (suc hops) router ≡ nearest net up network (ways_within net up hops network) router
+    later hops router there = at_numbers (nearest net up network (ways_within net up hops network)) (length net) router None there
 
     pub is_there : (hops router : ℕ) (v : Way) → within hops router ≡ Some v → router < length net
     is_there hops router v e = elim (cases_lt router (length net)) [
@@ -248,15 +306,18 @@ module _ (net : Internet) where
     ]
       where
         none : (hops : ℕ) → length net ≤ router → within hops router ≡ None
-        none zero past = past_numbers (λ router. own_way (ports_of net router) network) (length net) router None past
-        none (suc hops) past = past_numbers (nearest net network (ways_within hops net network)) (length net) router None past
+        none zero past = past_numbers (λ router. own_of router) (length net) router None past
+        none (suc hops) past = past_numbers (nearest net up network (ways_within net up hops network)) (length net) router None past
 
-    -- a router on the network has its own way, whatever the hops
-    pub own : (hops router : ℕ) → router < length net → is_on (ports_of net router) network ≡ true → within hops router ≡ own_way (ports_of net router) network
+    -- a router on the network has its own way, if any, whatever the hops
+    pub own : (hops router : ℕ) → router < length net → is_on (ports_of net router) network ≡ true → within hops router ≡ own_of router
     own zero router there on = first router there
-    own (suc hops) router there on =
-        let (j, less, same, some) = own_some (ports_of net router) network on in
-        later hops router there ∙ ap (λ (o : Option Way). option_or o (best (map (way_by net (ways_within hops net network)) (neighbours net router)))) some ∙ sym some
+    own (suc hops) router there on = later hops router there ∙ rw on refl
+
+    -- another one has the best by a neighbour
+    by_others : (hops router : ℕ) → router < length net → is_on (ports_of net router) network ≡ false
+        → within (suc hops) router ≡ best (map (way_by net (ways_within net up hops network)) (neighbours net up router))
+    by_others hops router there off = later hops router there ∙ rw off refl
 
     -- a neighbour and its way
     pub record Came (hops router : ℕ) (v : Way) : Type 0 where
@@ -269,27 +330,27 @@ module _ (net : Internet) where
 
     -- another router has one by a neighbour
     pub came : (hops router : ℕ) (v : Way) → is_on (ports_of net router) network ≡ false → within (suc hops) router ≡ Some v → Came hops router v
-    came hops router v off e = found (the_one _ (neighbours net router) both)
+    came hops router v off e = found (the_one _ (neighbours net up router) both)
       where
         all : List (Option Way)
-        all = map (way_by net (ways_within hops net network)) (neighbours net router)
+        all = map (way_by net (ways_within net up hops network)) (neighbours net up router)
 
         is_best : best all ≡ Some v
         is_best =
             let there = is_there (suc hops) router v e in
-            sym (ap (λ (o : Option Way). option_or o (best all)) (own_none (ports_of net router) network off)) ∙ sym (later hops router there) ∙ e
+            sym (by_others hops router there off) ∙ e
 
-        any : AnyIs (λ from. way_by net (ways_within hops net network) from ≡ Some v) (neighbours net router)
-        any = any_mapped (λ o. o ≡ Some v) (way_by net (ways_within hops net network)) (neighbours net router) (best_is all v is_best)
+        any : AnyIs (λ from. way_by net (ways_within net up hops network) from ≡ Some v) (neighbours net up router)
+        any = any_mapped (λ o. o ≡ Some v) (way_by net (ways_within net up hops network)) (neighbours net up router) (best_is all v is_best)
 
-        both : AnyIs (λ from. (way_by net (ways_within hops net network) from ≡ Some v)
-            × (IsPlace net from × ((not (from.router == router) && is_on (ports_of net router) (network_of net from)) ≡ true))) (neighbours net router)
+        both : AnyIs (λ from. (way_by net (ways_within net up hops network) from ≡ Some v)
+            × (IsPlace net from × (IsBeside router from ≡ true))) (neighbours net up router)
         both =
-            any_and_all (λ from. way_by net (ways_within hops net network) from ≡ Some v) _ (neighbours net router) any
-            (all_passed (IsPlace net) (λ from. not (from.router == router) && is_on (ports_of net router) (network_of net from)) (places net) (places_within net))
+            any_and_all (λ from. way_by net (ways_within net up hops network) from ≡ Some v) _ (neighbours net up router) any
+            (all_passed (IsPlace net) (IsBeside router) (places net) (places_within net))
 
-        found : (from : Place) × ((way_by net (ways_within hops net network) from ≡ Some v)
-            × (IsPlace net from × ((not (from.router == router) && is_on (ports_of net router) (network_of net from)) ≡ true))) → Came hops router v
+        found : (from : Place) × ((way_by net (ways_within net up hops network) from ≡ Some v)
+            × (IsPlace net from × (IsBeside router from ≡ true))) → Came hops router v
         found (from, (is, (there, passes))) =
             let (port, neighbour) = a_neighbour router from there passes in
             by_way port from neighbour (within hops from.router) refl is
@@ -304,13 +365,13 @@ module _ (net : Internet) where
     pub none_better : (hops router port : ℕ) (from : Place) (u : Way) → IsNeighbour router port from → is_on (ports_of net router) network ≡ false
         → within hops from.router ≡ Some u → (v : Way) × (within (suc hops) router ≡ Some v) × NoWorse v (by_port (cost_of from) u)
     none_better hops router port from u is off e =
-        let all = map (way_by net (ways_within hops net network)) (neighbours net router) in
+        let all = map (way_by net (ways_within net up hops network)) (neighbours net up router) in
         let there = router_there net router port is.here in
-        let one : way_by net (ways_within hops net network) from ≡ Some (by_port (cost_of from) u) = ap (option_map (by_port (cost_of from))) e in
+        let one : way_by net (ways_within net up hops network) from ≡ Some (by_port (cost_of from) u) = ap (option_map (by_port (cost_of from))) e in
         let (v, is_best, least) = best_least all (by_port (cost_of from) u)
-        (any-map (λ p. p ≡ from) (λ o. o ≡ Some (by_port (cost_of from) u)) (way_by net (ways_within hops net network))
-        (λ p same. ap (way_by net (ways_within hops net network)) same ∙ one) (neighbours net router) (in_neighbours router port from is)) in
-        (v, later hops router there ∙ ap (λ (o : Option Way). option_or o (best all)) (own_none (ports_of net router) network off) ∙ is_best, least)
+        (any-map (λ p. p ≡ from) (λ o. o ≡ Some (by_port (cost_of from) u)) (way_by net (ways_within net up hops network))
+        (λ p same. ap (way_by net (ways_within net up hops network)) same ∙ one) (neighbours net up router) (in_neighbours router port from is)) in
+        (v, by_others hops router there off ∙ is_best, least)
 
     -- ---- more hops
 
@@ -330,7 +391,7 @@ module _ (net : Internet) where
         (v, own (suc hops) router there on ∙ sym (own hops router there on) ∙ e, itself v)
     more_by zero router v e (inr off) =
         let there = is_there 0 router v e in
-        nothing (sym (first router there ∙ own_none (ports_of net router) network off) ∙ e)
+        nothing (sym (first router there ∙ none_of_own router off) ∙ e)
     more_by (suc hops) router v e (inr off) =
         let c = came hops router v off e in
         let (u, is, less) = more_by hops c.from.router c.way c.there (on_or_off c.from.router) in
@@ -359,12 +420,12 @@ module _ (net : Internet) where
     few_by : (hops router : ℕ) (v : Way) → within hops router ≡ Some v → OnOrOff router → v.hops ≤ hops
     few_by hops router v e (inl on) =
         let there = is_there hops router v e in
-        let (j, less, same, some) = own_some (ports_of net router) network on in
-        it_is (λ (w : Way). w.hops ≤ hops) v (record { hops = 0; ticks = (port_at (ports_of net router) j).cost })
-        (sym some ∙ sym (own hops router there on) ∙ e) (omega arith)
+        let (j, is_j, same, cost) = own_is (ports_of net router) (up router) network v (sym (own hops router there on) ∙ e) in
+        let none = ap (λ (w : Way). w.hops) cost in
+        omega (arith, none)
     few_by zero router v e (inr off) =
         let there = is_there 0 router v e in
-        nothing (sym (first router there ∙ own_none (ports_of net router) network off) ∙ e)
+        nothing (sym (first router there ∙ none_of_own router off) ∙ e)
     few_by (suc hops) router v e (inr off) =
         let c = came hops router v off e in
         let h = few_by hops c.from.router c.way c.there (on_or_off c.from.router) in

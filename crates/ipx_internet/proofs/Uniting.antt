@@ -1,7 +1,7 @@
 -- A tick in which tables become right: what is asked of each router, and of what waits, while it goes on.
 use Rattle.std.proofs.Common.{◌≡◌, ◌≢◌, refl, sym, ap, ◌∙◌, subst, ◌⊎◌, ℕ, zero, suc, ◌+◌, ◌*◌, ◌<◌, ◌≤◌, ◌==◌, ◌||◌, nat_lt, Bool, true, false, not, List, [], ◌∷◌, length, map, filter, flat_map, find, Option, None, Some, option_map, inl, inr, arith, is_eq}
 use Rattle.std.specs.List.{AllByRecursion}
-use Rattle.std.proofs.lemmas.Bool.{cases_Bool, ne_eqb, eq-eqb, lt-ltb, both_ways, or_right}
+use Rattle.std.proofs.lemmas.Bool.{eqb-true, cases_Bool, ne_eqb, eq-eqb, lt-ltb, both_ways, or_right}
 use Rattle.ipx_table.specs.Facts.{Fact}
 use Rattle.ipx_table.specs.Stands.{held}
 use Rattle.ipx_table.specs.declared.held.Held.{Held}
@@ -14,7 +14,7 @@ use Rattle.ipx_wire.specs.declared.rip.RipEntry.{RipEntry}
 use Rattle.ipx_wire.specs.declared.service.Service.{Service}
 use Rattle.ipx_router.specs.Facts.{route_facts, routes_held, offers}
 use Rattle.ipx_router.specs.History.{History}
-use Rattle.ipx_router.specs.Port.{Port, broadcast, port_at, numbers, is_up, takes_no_route, same_node, own_address, everyone}
+use Rattle.ipx_router.specs.Port.{Port, broadcast, port_at, is_up, takes_no_route, same_node, own_address, everyone}
 use Rattle.ipx_router.specs.Relays.{Sent}
 use Rattle.ipx_router.specs.Routes.{route_rules, route_reading, network_order}
 use Rattle.ipx_router.specs.Told.{told, is_route_told}
@@ -30,17 +30,16 @@ use Rattle.ipx_internet.specs.Queue.{Delivery, deliveries_of}
 use Rattle.ipx_internet.specs.Rounds.{IsDelivery}
 use Rattle.ipx_internet.specs.Run.{Step}
 use Rattle.ipx_internet.specs.Ticks.{seconds_of, most_ticks_gone}
-use Rattle.ipx_internet.proofs.Counts.{is_number}
 use Rattle.ipx_internet.proofs.Enduring.{Reaches, RouteSaid}
 use Rattle.ipx_internet.proofs.Gathering.{StateOf, known, records}
-use Rattle.ipx_internet.proofs.Having.{AnyIs, any_then, any_and_all, any-map, any-filter, any-flat_map}
+use Rattle.ipx_internet.proofs.Having.{any_passes, AnyIs, any_then, any_and_all, any-map, any-filter, any-flat_map}
 use Rattle.ipx_internet.proofs.Keeping.{Right, right_way}
 use Rattle.ipx_internet.proofs.Lists.{all_or, all_then, all_of}
 use Rattle.ipx_internet.proofs.Paging.{IsRipPage}
 use Rattle.ipx_internet.proofs.Receivers.{one_port, apart_at, port_is}
 use Rattle.ipx_internet.proofs.Replying.{Layouts, IsNewsSent}
 use Rattle.ipx_internet.proofs.Rooming.{equal_where_same}
-use Rattle.ipx_internet.proofs.Shortest.{within, own, own_some, on_or_off, OnOrOff, came, first, own_none, few, same_some, is_there, all_places, on_port, port_on, number_in}
+use Rattle.ipx_internet.proofs.Shortest.{within, own, own_is, on_or_off, OnOrOff, came, first, none_of_own, few, same_some, is_there, all_places, on_port, port_on}
 use Rattle.ipx_internet.proofs.Sourcing.{Source, most, elsewhere, there_where_up}
 use Rattle.ipx_internet.proofs.Ways.{nothing, it_is}
 use Rattle.ipx_internet.proofs.Wording.{IsWord, HasWay, told_words, news_words, told_route, told_direct, Tells}
@@ -54,29 +53,29 @@ find_any test (y ∷ ys) x e = elim (cases_Bool (test y)) [
 ]
 
 module _ (net : Internet) (laws : Layouts) (is : IsInternet net) (differ : NodesDiffer net) (cheap : AreCheap net) (few_routers : length net ≤ 16) (up : ℕ → List ℕ)
-    (all_up : (router : ℕ) → up router ≡ numbers (length (ports_of net router))) (most_routes most_services : ℕ) (room : HasRoom net most_routes) (network : Network) where
+    (in_ports : (router : ℕ) → AllByRecursion (λ j. j < length (ports_of net router)) (up router)) (most_routes most_services : ℕ) (room : HasRoom net most_routes) (network : Network) where
   -- ---- a router that should have a route
 
   -- it isn't on the network, and there is a way
   pub record Wants (router : ℕ) : Type 0 where
     pub v : Way
     pub off : is_on (ports_of net router) network ≡ false
-    pub least : within net network 15 router ≡ Some v
+    pub least : within net up in_ports network 15 router ≡ Some v
     pub wanted : takes_no_route (ports_of net router) network ≡ false
 
-  pub some_port : (hops router : ℕ) (v : Way) → within net network hops router ≡ Some v → OnOrOff net network router
+  pub some_port : (hops router : ℕ) (v : Way) → within net up in_ports network hops router ≡ Some v → OnOrOff net up in_ports network router
       → (place : Place) × IsPlace net place × (network_of net place ≡ network)
   some_port hops router v e (inl on) =
       let (j, less, same) = on_port (ports_of net router) network on in
       (record { router = router; port = j }, less, same)
   some_port zero router v e (inr off) =
-      let there = is_there net network 0 router v e in
-      nothing (sym (first net network router there ∙ own_none (ports_of net router) network off) ∙ e)
+      let there = is_there net up in_ports network 0 router v e in
+      nothing (sym (first net up in_ports network router there ∙ none_of_own net up in_ports network router off) ∙ e)
   some_port (suc hops) router v e (inr off) =
-      let c = came net network hops router v off e in
-      some_port hops c.from.router c.way c.there (on_or_off net network c.from.router)
+      let c = came net up in_ports network hops router v off e in
+      some_port hops c.from.router c.way c.there (on_or_off net up in_ports network c.from.router)
 
-  pub wants : (router : ℕ) (v : Way) → is_on (ports_of net router) network ≡ false → within net network 15 router ≡ Some v → Wants router
+  pub wants : (router : ℕ) (v : Way) → is_on (ports_of net router) network ≡ false → within net up in_ports network 15 router ≡ Some v → Wants router
   wants router v off e =
       let (place, there, same) = some_port 15 router v e (inr off) in
       let port = port_is net is place there in
@@ -88,20 +87,21 @@ module _ (net : Internet) (laws : Layouts) (is : IsInternet net) (differ : Nodes
       record { v = v; off = off; least = e; wanted = rw (not_zero, not_all, off) refl }
 
   -- ticks aren't too many
-  few_ticks : (hops router : ℕ) (v : Way) → within net network hops router ≡ Some v → OnOrOff net network router → v.ticks ≤ 4095 * (v.hops + 1)
+  few_ticks : (hops router : ℕ) (v : Way) → within net up in_ports network hops router ≡ Some v → OnOrOff net up in_ports network router → v.ticks ≤ 4095 * (v.hops + 1)
   few_ticks hops router v e (inl on) =
-      let there = is_there net network hops router v e in
-      let (j, less, same, some) = own_some (ports_of net router) network on in
-      let cost = most net is cheap up all_up network (record { router = router; port = j }) less in
-      it_is (λ (w : Way). w.ticks ≤ 4095 * (w.hops + 1)) v (record { hops = 0; ticks = (port_at (ports_of net router) j).cost })
-      (sym some ∙ sym (own net network hops router there on) ∙ e) (omega (arith, cost))
+      let there = is_there net up in_ports network hops router v e in
+      let (j, on_j, same, way) = own_is (ports_of net router) (up router) network v (sym (own net up in_ports network hops router there on) ∙ e) in
+      let cost = most net is cheap up in_ports network (record { router = router; port = j }) (there_where_up net is cheap up in_ports network router j on_j) in
+      let none = ap (λ (w : Way). w.hops) way in
+      let ticks = ap (λ (w : Way). w.ticks) way in
+      omega (arith, cost, none, ticks)
   few_ticks zero router v e (inr off) =
-      let there = is_there net network 0 router v e in
-      nothing (sym (first net network router there ∙ own_none (ports_of net router) network off) ∙ e)
+      let there = is_there net up in_ports network 0 router v e in
+      nothing (sym (first net up in_ports network router there ∙ none_of_own net up in_ports network router off) ∙ e)
   few_ticks (suc hops) router v e (inr off) =
-      let c = came net network hops router v off e in
-      let rest = few_ticks hops c.from.router c.way c.there (on_or_off net network c.from.router) in
-      let cost = most net is cheap up all_up network c.from c.neighbour.place in
+      let c = came net up in_ports network hops router v off e in
+      let rest = few_ticks hops c.from.router c.way c.there (on_or_off net up in_ports network c.from.router) in
+      let cost = most net is cheap up in_ports network c.from c.neighbour.place in
       let h = ap (λ (w : Way). w.hops) c.by in
       let t = ap (λ (w : Way). w.ticks) c.by in
       omega (arith, h, t, rest, cost)
@@ -112,16 +112,16 @@ module _ (net : Internet) (laws : Layouts) (is : IsInternet net) (differ : Nodes
 
   -- the tables of a router
   abbrev pub StateFor : (router : ℕ) → Wants router → (Place → ℕ → Type 0) → (Place → ℕ → Type 0) → Type 0 → (RouteOffer → Type 0) → Option (Held RouteOffer) → Type 0
-  StateFor router w = StateOf net is differ cheap few_routers up all_up most_routes room network router w.v w.off w.least w.wanted
+  StateFor router w = StateOf net is differ cheap few_routers up in_ports most_routes room network router w.v w.off w.least w.wanted
 
   abbrev pub known_of : (router : ℕ) → Wants router → List (Fact RouteOffer) → Option (Held RouteOffer)
-  known_of router w = known net is differ cheap few_routers up all_up most_routes room network router w.v w.off w.least w.wanted
+  known_of router w = known net is differ cheap few_routers up in_ports most_routes room network router w.v w.off w.least w.wanted
 
   abbrev pub RightFor : (router : ℕ) → Wants router → Place → RouteOffer → Type 0
-  RightFor router w = Right net is differ cheap few_routers up all_up most_routes room network router w.v w.off w.least
+  RightFor router w = Right net is differ cheap few_routers up in_ports most_routes room network router w.v w.off w.least
 
   abbrev pub SourceOf : (router : ℕ) → Way → ℕ → Place → Type 0
-  SourceOf = Source net is cheap up all_up network
+  SourceOf = Source net is cheap up in_ports network
 
   -- the tick from which on a router of a way may be right
   abbrev pub start : Way → ℕ
@@ -139,7 +139,7 @@ module _ (net : Internet) (laws : Layouts) (is : IsInternet net) (differ : Nodes
         found (λ o. is_eq (network_order o.network network)) (routes_held (ports_of net router) most_routes history)
         ∙ ap (option_map (λ x. x.offer))
         (record-in_order route_reading network_order network_total most_routes (map (λ p. p.route_share) (ports_of net router)) network
-        (records net is differ cheap few_routers up all_up most_routes room network router w.v w.off w.least w.wanted (route_facts (ports_of net router) history)) ∙ some)
+        (records net is differ cheap few_routers up in_ports most_routes room network router w.v w.off w.least w.wanted (route_facts (ports_of net router) history)) ∙ some)
 
     pub in_held : AnyIs (λ r. r ≡ h.offer) all_held
     in_held = find_any (λ o. is_eq (network_order o.network network)) all_held h.offer found_there
@@ -154,7 +154,7 @@ module _ (net : Internet) (laws : Layouts) (is : IsInternet net) (differ : Nodes
 
     -- what a port sends of the network is the least way of its router, gone on
     abbrev pub Word : Place → RipEntry → Type 0
-    Word from e = (u : Way) → within net network 15 from.router ≡ Some u → Settled u → IsWord (ports_of net from.router) network u from.port e
+    Word from e = (u : Way) → within net up in_ports network 15 from.router ≡ Some u → Settled u → IsWord (ports_of net from.router) network u from.port e
 
     abbrev pub Said : Place → RipEntry → Type 0
     Said from e = RouteSaid net up (suc before) from e × Word from e
@@ -230,46 +230,45 @@ module _ (net : Internet) (laws : Layouts) (is : IsInternet net) (differ : Nodes
       pub there : is_on (ports_of net router) network ≡ false → find (λ o. is_eq (network_order o.network network)) routes ≡ None → ⊥
 
     abbrev pub AllKnow : ℕ → List RouteOffer → Type 0
-    AllKnow router routes = (u : Way) → within net network 15 router ≡ Some u → Settled u → Knows router u routes
+    AllKnow router routes = (u : Way) → within net up in_ports network 15 router ≡ Some u → Settled u → Knows router u routes
 
     abbrev pub AllReal : ℕ → List RouteOffer → Type 0
     AllReal router routes = AllByRecursion (λ r. is_on (ports_of net router) r.network ≡ false) routes
 
     pub all_words : (from : Place) (entries : List RipEntry)
-        → ((u : Way) → within net network 15 from.router ≡ Some u → Settled u → AllByRecursion (IsWord (ports_of net from.router) network u from.port) entries)
+        → ((u : Way) → within net up in_ports network 15 from.router ≡ Some u → Settled u → AllByRecursion (IsWord (ports_of net from.router) network u from.port) entries)
         → AllByRecursion (Word from) entries
     all_words from [] all = tt
     all_words from (e ∷ entries) all = ((λ u is_u settled. (all u is_u settled).0), all_words from entries (λ u is_u settled. (all u is_u settled).1))
 
-    module _ (router : ℕ) (u : Way) (least : within net network 15 router ≡ Some u) (settled : Settled u) where
+    module _ (router : ℕ) (u : Way) (least : within net up in_ports network 15 router ≡ Some u) (settled : Settled u) where
       abbrev ports : List Port
       ports = ports_of net router
 
       few_for : (j : ℕ) → u.ticks + (port_at ports j).cost < 65535
       few_for j =
-          let some = few_ticks 15 router u least (on_or_off net network router) in
+          let some = few_ticks 15 router u least (on_or_off net up in_ports network router) in
           let cost = cost_few router j in
           let hops = settled.hops in
           omega (arith, some, cost, hops)
 
       own_way_is : (other : ℕ) → is_up (up router) other ≡ true → (port_at ports other).network ≡ network → (u.hops ≡ 0) × (u.ticks ≡ (port_at ports other).cost)
       own_way_is other on named =
-          let less = there_where_up net is cheap up all_up network router other on in
+          let less = there_where_up net is cheap up in_ports network router other on in
           let here = port_on ports network other less named in
-          let (j, within_j, same_j, some) = own_some ports network here in
-          let one = one_port ports (apart_at net is router) j other within_j less (same_j ∙ sym named) in
-          let there = is_there net network 15 router u least in
-          it_is (λ (w : Way). (w.hops ≡ 0) × (w.ticks ≡ (port_at ports other).cost)) u (record { hops = 0; ticks = (port_at ports j).cost })
-          (sym some ∙ sym (own net network 15 router there here) ∙ least) (refl, ap (λ k. (port_at ports k).cost) one)
+          let there = is_there net up in_ports network 15 router u least in
+          let (j, on_j, same_j, way) = own_is ports (up router) network u (sym (own net up in_ports network 15 router there here) ∙ least) in
+          let one = one_port ports (apart_at net is router) j other (there_where_up net is cheap up in_ports network router j on_j) less (same_j ∙ sym named) in
+          (ap (λ (w : Way). w.hops) way, ap (λ (w : Way). w.ticks) way ∙ ap (λ k. (port_at ports k).cost) one)
 
       pub words_told : (routes : List RouteOffer) → Knows router u routes → (j : ℕ) → AllByRecursion (IsWord ports network u j) (told ports (up router) routes j)
       words_told routes knows j = told_words ports network u few_for (up router) routes own_way_is knows.has j
 
       pub words_news : (old routes : List RouteOffer) → Knows router u routes → AllReal router old → (j : ℕ)
           → AllByRecursion (IsWord ports network u j) (news ports old routes j)
-      words_news old routes knows real j = news_words ports network u few_for settled.hops old routes knows.has (lasting (on_or_off net network router)) j
+      words_news old routes knows real j = news_words ports network u few_for settled.hops old routes knows.has (lasting (on_or_off net up in_ports network router)) j
         where
-          lasting : OnOrOff net network router
+          lasting : OnOrOff net up in_ports network router
               → AllByRecursion (λ r. r.network ≡ network → find (λ o. is_eq (network_order o.network network)) routes ≡ None → ⊥) old
           lasting (inl on) =
               all_then (λ r. is_on ports r.network ≡ false) (λ r. r.network ≡ network → find (λ o. is_eq (network_order o.network network)) routes ≡ None → ⊥)
@@ -319,16 +318,16 @@ module _ (net : Internet) (laws : Layouts) (is : IsInternet net) (differ : Nodes
         named = ap (λ (r : RouteOffer). r.network) right.same
 
         way : way_of h.offer ≡ w.v
-        way = right_way net is differ cheap few_routers up all_up most_routes room network router w.v w.off w.least from h.offer right
+        way = right_way net is differ cheap few_routers up in_ports most_routes room network router w.v w.off w.least from h.offer right
 
         there : find (λ o. is_eq (network_order o.network network)) (offers (routes_held (ports_of net router) most_routes history)) ≡ Some h.offer
         there = found_there router w history h some named way
 
         distinct : length (filter (λ x. is_eq (network_order x.offer.network network))
-            (records net is differ cheap few_routers up all_up most_routes room network router w.v w.off w.least w.wanted (route_facts (ports_of net router) history))) ≤ 1
+            (records net is differ cheap few_routers up in_ports most_routes room network router w.v w.off w.least w.wanted (route_facts (ports_of net router) history))) ≤ 1
         distinct =
             subst (λ (n : Network). length (filter (λ x. is_eq (network_order x.offer.network n))
-            (records net is differ cheap few_routers up all_up most_routes room network router w.v w.off w.least w.wanted (route_facts (ports_of net router) history))) ≤ 1) named
+            (records net is differ cheap few_routers up in_ports most_routes room network router w.v w.off w.least w.wanted (route_facts (ports_of net router) history))) ≤ 1) named
             ((kept (route_rules (ports_of net router) most_routes)
             (rules_total route_reading network_order network_total most_routes (map (λ p. p.route_share) (ports_of net router)))
             (route_facts (ports_of net router) history)).distinct h.offer)
@@ -337,13 +336,13 @@ module _ (net : Internet) (laws : Layouts) (is : IsInternet net) (differ : Nodes
         has =
             all_offers (HasWay (ports_of net router) network w.v) (routes_held (ports_of net router) most_routes history)
             (all_in_order (HasWay (ports_of net router) network w.v) (route_rules (ports_of net router) most_routes).by_key
-            (records net is differ cheap few_routers up all_up most_routes room network router w.v w.off w.least w.wanted (route_facts (ports_of net router) history))
+            (records net is differ cheap few_routers up in_ports most_routes room network router w.v w.off w.least w.wanted (route_facts (ports_of net router) history))
             (all_then (λ x. is_eq (network_order x.offer.network network) ≡ true → x ≡ h) (λ x. HasWay (ports_of net router) network w.v x.offer)
             (λ x one is_named.
             let equal = one (equal_where_same x.offer.network.0 network.0 (ap (λ (n : Network). n.0) is_named)) in
             ap (λ (y : Held RouteOffer). way_of y.offer) equal ∙ way)
-            (records net is differ cheap few_routers up all_up most_routes room network router w.v w.off w.least w.wanted (route_facts (ports_of net router) history))
-            (only_one (records net is differ cheap few_routers up all_up most_routes room network router w.v w.off w.least w.wanted (route_facts (ports_of net router) history))
+            (records net is differ cheap few_routers up in_ports most_routes room network router w.v w.off w.least w.wanted (route_facts (ports_of net router) history))
+            (only_one (records net is differ cheap few_routers up in_ports most_routes room network router w.v w.off w.least w.wanted (route_facts (ports_of net router) history))
             h distinct some)))
 
     -- ---- a neighbour advertises it
@@ -357,12 +356,16 @@ module _ (net : Internet) (laws : Layouts) (is : IsInternet net) (differ : Nodes
           → AnyIs (λ e. e.network ≡ network) (told (ports_of net from.router) (up from.router) routes from.port)
       told_own routes on =
           let ports = ports_of net from.router in
-          let (j, less, same) = on_port ports network on in
+          let there = is_there net up in_ports network 15 from.router source.way source.there in
+          let (j, on_j, same, way) =
+          own_is ports (up from.router) network source.way (sym (own net up in_ports network 15 from.router there on) ∙ source.there) in
           let apart : (j == from.port) ≡ false = ne_eqb j from.port (λ e. not_there (ap (λ k. (port_at ports k).network) (sym e) ∙ same)) in
           told_direct ports network source.way (up from.router) routes from.port
-          (subst (λ (us : List ℕ). AnyIs (λ other. ((port_at ports other).network ≡ network) × (not (other == from.port) ≡ true)) us) (sym (all_up from.router))
-          (any_then (λ other. other ≡ j) (λ other. ((port_at ports other).network ≡ network) × (not (other == from.port) ≡ true))
-          (λ other e. (ap (λ k. (port_at ports k).network) e ∙ same, ap (λ k. not (k == from.port)) e ∙ ap not apart)) (numbers (length ports)) (number_in (length ports) j less)))
+          (any_then (λ other. (other == j) ≡ true) (λ other. ((port_at ports other).network ≡ network) × (not (other == from.port) ≡ true))
+          (λ other e.
+          let equal = eqb-true other j e in
+          (ap (λ k. (port_at ports k).network) equal ∙ same, ap (λ k. not (k == from.port)) equal ∙ ap not apart)) (up from.router)
+          (any_passes (λ k. k == j) (up from.router) on_j))
 
       -- by its route
       pub told_learned : (second : Wants from.router) (history : History) (h : Held RouteOffer) (place : Place) → source.way.hops ≤ 14
@@ -371,13 +374,13 @@ module _ (net : Internet) (laws : Layouts) (is : IsInternet net) (differ : Nodes
           (told (ports_of net from.router) (up from.router) (offers (routes_held (ports_of net from.router) most_routes history)) from.port)
       told_learned second history h place near some right =
           let ports = ports_of net from.router in
-          let same = same_some net network (within net network 15 from.router) second.v source.way second.least source.there in
+          let same = same_some net up in_ports network (within net up in_ports network 15 from.router) second.v source.way second.least source.there in
           let named = ap (λ (r : RouteOffer). r.network) right.same in
-          let way = right_way net is differ cheap few_routers up all_up most_routes room network from.router second.v second.off second.least place h.offer right in
+          let way = right_way net is differ cheap few_routers up in_ports most_routes room network from.router second.v second.off second.least place h.offer right in
           let hops = ap (λ (x : Way). x.hops) (way ∙ same) in
           let here : SourceOf from.router source.way h.offer.port place = subst (λ (x : Way). SourceOf from.router x h.offer.port place) same right.source in
           let apart : (h.offer.port == from.port) ≡ false =
-          ne_eqb h.offer.port from.port (elsewhere net is cheap up all_up network router w.v port from h.offer.port place w.off w.least source here) in
+          ne_eqb h.offer.port from.port (elsewhere net is cheap up in_ports network router w.v port from h.offer.port place w.off w.least source here) in
           let reached : nat_lt h.offer.hops 15 ≡ true = lt-ltb h.offer.hops 15 (omega (arith, hops, near)) in
           let told_here : is_route_told from.port h.offer ≡ true = rw (apart, reached) refl in
           told_route ports network source.way (up from.router) (offers (routes_held ports most_routes history)) from.port
@@ -410,7 +413,7 @@ module _ (net : Internet) (laws : Layouts) (is : IsInternet net) (differ : Nodes
                 reaches = subst (λ (q : Place). Reaches net up from q) (sym same) (record {
                   other = λ e. source.neighbour.other (sym e);
                   network = source.neighbour.network;
-                  on = subst (λ (us : List ℕ). is_up us from.port ≡ true) (sym (all_up from.router)) (is_number from.port (length (ports_of net from.router)) source.neighbour.place);
+                  on = source.neighbour.on_there;
                 });
                 page = tells.page;
                 has = tells.has;

@@ -23,8 +23,7 @@ use Rattle.ipx_router.proofs.port_values.PortOfEachNumber.{members}
 use Rattle.ipx_router.proofs.bytes.LawsOfLayouts.{Readings, Rereadings}
 use Rattle.ipx_internet.specs.Least.{Way, way_of}
 use Rattle.ipx_internet.proofs.Announced.{unless}
-use Rattle.ipx_internet.proofs.Gathering.{found_with}
-use Rattle.ipx_internet.proofs.Having.{AnyIs, any_and_all, any_in_front, any_behind, any-map, any-filter, any-flat_map, any-sorted}
+use Rattle.ipx_internet.proofs.Having.{found_with, AnyIs, any_and_all, any_in_front, any_behind, any-map, any-filter, any-flat_map, any-sorted}
 use Rattle.ipx_internet.proofs.Lists.{all_of, all_then, all_passed, all-append, all-filter, all-map, all-flat_map}
 use Rattle.ipx_internet.proofs.Paging.{IsRipPage, everyone_is, rip_again}
 use Rattle.ipx_internet.proofs.Receivers.{same_number}

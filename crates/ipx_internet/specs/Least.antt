@@ -1,18 +1,19 @@
--- The least way of a router to a network: of all ways that lead from router to router, by ports that all are up, the one of the fewest
+-- The least way of a router to a network: of all ways that lead from router to router, by ports that are up, the one of the fewest
 -- ticks and then of the fewest hops.
-use Rattle.std.specs.Prelude.{ℕ, zero, suc, ◌+◌, ◌*◌, ◌==◌, ◌&&◌, ◌||◌, nat_lt, Bool, not, if◌then◌else◌, List, [], ◌∷◌, length, map, Option, None, Some, slice_index_or, ◌≡◌, ◌≢◌, ◌≤◌, ◌<◌, false}
-use Rattle.std.specs.List.{AllByRecursion, filter, find, flat_map, list_any}
-use Rattle.std.specs.Option.{option_map, option_or}
+use Rattle.std.specs.Prelude.{ℕ, zero, suc, ◌+◌, ◌*◌, ◌==◌, ◌&&◌, ◌||◌, nat_lt, Bool, not, if◌then◌else◌, List, [], ◌∷◌, length, map, Option, None, Some, slice_index_or, ◌≡◌, ◌≢◌, ◌≤◌, true, false}
+use Rattle.std.specs.List.{AllByRecursion, filter, flat_map, list_any}
+use Rattle.std.specs.Option.{option_map}
 use Rattle.ipx_wire.specs.Crossed.{is_among}
 use Rattle.ipx_wire.specs.declared.network.Network.{Network}
-use Rattle.ipx_router.specs.History.{History}
 use Rattle.ipx_router.specs.Numbers.{period}
-use Rattle.ipx_router.specs.Port.{Port, numbers}
+use Rattle.ipx_router.specs.Outgoing.{port_to}
+use Rattle.ipx_router.specs.Port.{Port, port_at, numbers, is_up}
 use Rattle.ipx_router.specs.declared.route_offer.RouteOffer.{RouteOffer}
 use Rattle.ipx_internet.specs.Internet.{Internet, Place, IsPlace, ports_of, port_of, network_of, places}
-use Rattle.ipx_internet.specs.Ticks.{ups, most_ticks_gone}
+use Rattle.ipx_internet.specs.Ticks.{most_ticks_gone}
 
--- how far a network is: how many routers are between, and the sum of the costs of the ports by which what is for it is sent
+-- how far a network is: how many routers are between, and in ticks what the last one's port on it costs, and each port on which a router
+-- advertises the way
 pub record Way : Type 0 where
   pub hops : ℕ
   pub ticks : ℕ
@@ -32,19 +33,19 @@ best [] = None
 best (None ∷ ways) = best ways
 best (Some way ∷ ways) = Some (better_of way (best ways))
 
--- ---- ways in an internet
+-- ---- ways in an internet, where those ports of each router are up
 
--- a router has a port on the network
+-- a router has a port on the network, up or not; it takes no route to it then
 abbrev pub is_on : List Port → Network → Bool
 is_on ports network = list_any (λ p. p.network.0 == network.0) ports
 
--- a router's own way to the network of one of its ports: no router is between, and the port costs what it costs
-abbrev pub own_way : List Port → Network → Option Way
-own_way ports network = option_map (λ p. record { hops = 0; ticks = p.cost }) (find (λ p. p.network.0 == network.0) ports)
+-- a router has a port on the network that is up
+abbrev pub is_up_on : List Port → List ℕ → Network → Bool
+is_up_on ports up network = list_any (λ j. (port_at ports j).network.0 == network.0) up
 
--- the ports of other routers on the networks of a router's ports
-abbrev pub neighbours : Internet → ℕ → List Place
-neighbours net router = filter (λ from. not (from.router == router) && is_on (ports_of net router) (network_of net from)) (places net)
+-- a router's own way to the network of one of its ports that is up: no router is between, and the port costs what it costs
+abbrev pub own_way : List Port → List ℕ → Network → Option Way
+own_way ports up network = option_map (λ j. record { hops = 0; ticks = (port_at ports j).cost }) (port_to ports up network)
 
 -- a way by a neighbour: one hop more, and the cost of the neighbour's port
 abbrev pub by_port : ℕ → Way → Way
@@ -54,44 +55,50 @@ by_port cost way = record { hops = way.hops + 1; ticks = way.ticks + cost }
 abbrev pub way_by : Internet → List (Option Way) → Place → Option Way
 way_by net ways from = option_map (by_port (port_of net from).cost) (slice_index_or ways from.router None)
 
--- the best way of a router, where those are the ways of all routers with a hop less: its own, or else the best by a neighbour
-abbrev pub nearest : Internet → Network → List (Option Way) → ℕ → Option Way
-nearest net network ways router = option_or (own_way (ports_of net router) network) (best (map (way_by net ways) (neighbours net router)))
+module _ (net : Internet) (up : ℕ → List ℕ) where
+  -- the ports of other routers that are up, on the networks of a router's ports that are up
+  abbrev pub neighbours : ℕ → List Place
+  neighbours router =
+      filter (λ from. not (from.router == router) && is_up (up from.router) from.port && is_up_on (ports_of net router) (up router) (network_of net from)) (places net)
 
--- the best way of each router of at most that many hops
-abbrev pub ways_within : ℕ → Internet → Network → List (Option Way)
-ways_within zero net network = map (λ router. own_way (ports_of net router) network) (numbers (length net))
-ways_within (suc hops) net network = map (nearest net network (ways_within hops net network)) (numbers (length net))
+  -- the best way of a router, where those are the ways of all routers with a hop less: its own, or else the best by a neighbour
+  abbrev pub nearest : Network → List (Option Way) → ℕ → Option Way
+  nearest network ways router =
+      if is_on (ports_of net router) network then own_way (ports_of net router) (up router) network else best (map (way_by net ways) (neighbours router))
+
+  -- the best way of each router of at most that many hops
+  abbrev pub ways_within : ℕ → Network → List (Option Way)
+  ways_within zero network = map (λ router. own_way (ports_of net router) (up router) network) (numbers (length net))
+  ways_within (suc hops) network = map (nearest network (ways_within hops network)) (numbers (length net))
 
 -- a route of more hops isn't taken
 abbrev pub most_hops : ℕ
 most_hops = 15
 
--- the least way of a router to a network
-abbrev pub least : Internet → ℕ → Network → Option Way
-least net router network = slice_index_or (ways_within most_hops net network) router None
+module _ (net : Internet) (up : ℕ → List ℕ) where
+  -- the least way of a router to a network
+  abbrev pub least : ℕ → Network → Option Way
+  least router network = slice_index_or (ways_within net up most_hops network) router None
 
-module _ (net : Internet) (network : Network) where
-  -- what a way is: a router's own, or, where it has no port on the network, that of a neighbour on the network of one of its ports, gone on
+  -- the way that a router should have a route for: the least, where it has no port on the network itself
+  abbrev pub least_route : ℕ → Network → Option Way
+  least_route router network = if is_on (ports_of net router) network then None else least router network
+
+module _ (net : Internet) (up : ℕ → List ℕ) (network : Network) where
+  -- what a way is: a router's own, or, where it has no port on the network, that of a neighbour on the network of one of its ports, gone
+  -- on; all these ports are up
   pub data IsWay : ℕ → Way → Type 0 where
-    direct : {router : ℕ} {way : Way} → own_way (ports_of net router) network ≡ Some way → IsWay router way
+    direct : {router : ℕ} {way : Way} → own_way (ports_of net router) (up router) network ≡ Some way → IsWay router way
     further : {router : ℕ} {way : Way} (port : ℕ) (from : Place) → is_on (ports_of net router) network ≡ false → from.router ≢ router
-        → port < length (ports_of net router) → IsPlace net from → network_of net (record { router = router; port = port }) ≡ network_of net from
+        → is_up (up router) port ≡ true → IsPlace net from → is_up (up from.router) from.port ≡ true
+        → network_of net (record { router = router; port = port }) ≡ network_of net from
         → IsWay from.router way → IsWay router (by_port (port_of net from).cost way)
-
--- the way that a router should have a route for: the least, where it has no port on the network itself
-abbrev pub least_route : Internet → ℕ → Network → Option Way
-least_route net router network = if is_on (ports_of net router) network then None else least net router network
 
 -- hops and ticks of a route
 abbrev pub way_of : RouteOffer → Way
 way_of route = record { hops = route.hops; ticks = route.ticks }
 
 -- ---- an internet whose tables become right
-
--- every router runs, and all its ports are up
-abbrev pub AllUp : Internet → List History → Type 0
-AllUp net histories = (router : ℕ) → router < length net → ups net histories router ≡ numbers (length (ports_of net router))
 
 -- the most that a port may cost, so that the ticks of no way of fifteen hops are too many for an entry
 abbrev pub most_cost : ℕ

@@ -26,7 +26,7 @@ ghost use Rattle.ipx_internet.specs.Departure.{ObservesHorizon, departures, hand
 ghost use Rattle.ipx_internet.specs.Different.{AreDifferent};
 ghost use Rattle.ipx_internet.specs.Internet.{Internet, Place, IsInternet, NodesDiffer, IsPlace, network_of, ports_of};
 ghost use Rattle.ipx_internet.specs.InternetWeight.{queued_weight};
-ghost use Rattle.ipx_internet.specs.Least.{Way, is_better, least, IsWay, most_hops, AllUp, AreCheap, HasRoom, least_route, way_of, ticks_right, most_ticks_right};
+ghost use Rattle.ipx_internet.specs.Least.{Way, is_better, least, IsWay, most_hops, AreCheap, HasRoom, least_route, way_of, ticks_right, most_ticks_right};
 ghost use Rattle.ipx_internet.specs.Log.{Sending, Reception, reception_at, IsForward, IsLog};
 ghost use Rattle.ipx_internet.specs.Meanwhile.{IsWithoutRoute, IsWithoutService, SaysOnly, IsBusyTick, StaysGone, EachTick};
 ghost use Rattle.ipx_internet.specs.Most.{most, most_of, most_on_network, most_ports as ports_at_most};
@@ -416,12 +416,12 @@ pub fn whatever_waits()
     ipx_router::laws::packets();
 }
 
-/// The least way is a way of at most fifteen hops, and no such way is better.
+/// The least way over the ports that are up is a way of at most fifteen hops, and no such way is better.
 pub fn least_ways()
-    ensures way { (net : Internet) (router : ℕ) (network : Network) (way : Way) → least net router network ≡ Some way
-        → IsWay net network router way × (way.hops ≤ most_hops) }
-    ensures none_better { (net : Internet) (router : ℕ) (network : Network) (way : Way) → IsWay net network router way → way.hops ≤ most_hops
-        → (best : Way) × (least net router network ≡ Some best) × (is_better way best ≡ false) }
+    ensures way { (net : Internet) (histories : List History) (router : ℕ) (network : Network) (way : Way) → least net (ups net histories) router network ≡ Some way
+        → IsWay net (ups net histories) network router way × (way.hops ≤ most_hops) }
+    ensures none_better { (net : Internet) (histories : List History) (router : ℕ) (network : Network) (way : Way) → IsWay net (ups net histories) network router way → way.hops ≤ most_hops
+        → (best : Way) × (least net (ups net histories) router network ≡ Some best) × (is_better way best ≡ false) }
 {}
 
 /// Every table becomes right and stays so, whatever was in it before: after 2,880 ticks and 60 for each hop every router has the route of
@@ -429,31 +429,32 @@ pub fn least_ways()
 /// port and neighbour (`stay`). No network takes longer than 3,780 ticks (`soon`). That is said of ticks that begin with nothing that waits;
 /// whatever waits, forged packets too, one tick more is enough (`whatever_waits`).
 ///
-/// All routers run, with all ports up, and there are at most 16. No port costs more than 4,095 ticks. Every table has room for all
-/// networks, and so has the share of every port. Nothing but ticks happens.
+/// Ways lead over the ports that are up, of routers that run, whichever these are. There are at most 16 routers, and no port costs more than
+/// 4,095 ticks. Every table has room for all networks, and so has the share of every port. Nothing but ticks happens, so ports stay as
+/// they are.
 pub fn right()
     ensures tables { (net : Internet) (most_routes most_services : ℕ) (histories : List History) (ticks : List (List Step)) (router : ℕ) (network : Network)
-        → IsInternet net → NodesDiffer net → length net ≤ most_routers → AreCheap net → HasRoom net most_routes → AreHistories net histories → AllUp net histories
-        → AreTicks net most_routes most_services (begun histories) ticks → router < length net → ticks_right (least_route net router network) ≤ length ticks
+        → IsInternet net → NodesDiffer net → length net ≤ most_routers → AreCheap net → HasRoom net most_routes → AreHistories net histories
+        → AreTicks net most_routes most_services (begun histories) ticks → router < length net → ticks_right (least_route net (ups net histories) router network) ≤ length ticks
         → option_map way_of
         (route_to (offers (routes_held (ports_of net router) most_routes (history_of (ticked net most_routes most_services (begun histories) ticks).histories router))) network.0)
-        ≡ least_route net router network }
+        ≡ least_route net (ups net histories) router network }
     ensures stay { (net : Internet) (most_routes most_services : ℕ) (histories : List History) (ticks further : List (List Step)) (router : ℕ) (network : Network)
-        → IsInternet net → NodesDiffer net → length net ≤ most_routers → AreCheap net → HasRoom net most_routes → AreHistories net histories → AllUp net histories
+        → IsInternet net → NodesDiffer net → length net ≤ most_routers → AreCheap net → HasRoom net most_routes → AreHistories net histories
         → AreTicks net most_routes most_services (begun histories) (ticks ++ further) → router < length net
-        → ticks_right (least_route net router network) ≤ length ticks
+        → ticks_right (least_route net (ups net histories) router network) ≤ length ticks
         → route_to (offers (routes_held (ports_of net router) most_routes
         (history_of (ticked net most_routes most_services (begun histories) (ticks ++ further)).histories router))) network.0
         ≡ route_to (offers (routes_held (ports_of net router) most_routes
         (history_of (ticked net most_routes most_services (begun histories) ticks).histories router))) network.0 }
     ensures whatever_waits { (net : Internet) (most_routes most_services : ℕ) (run : Run) (ticks : List (List Step)) (router : ℕ) (network : Network)
         → IsInternet net → NodesDiffer net → length net ≤ most_routers → AreCheap net → HasRoom net most_routes → AreHistories net run.histories
-        → AllByRecursion (λ w. IsDelivery net w.delivery) run.waiting → AllUp net run.histories
-        → AreTicks net most_routes most_services run ticks → router < length net → ticks_right (least_route net router network) < length ticks
+        → AllByRecursion (λ w. IsDelivery net w.delivery) run.waiting
+        → AreTicks net most_routes most_services run ticks → router < length net → ticks_right (least_route net (ups net run.histories) router network) < length ticks
         → option_map way_of
         (route_to (offers (routes_held (ports_of net router) most_routes (history_of (ticked net most_routes most_services run ticks).histories router))) network.0)
-        ≡ least_route net router network }
-    ensures soon { (net : Internet) (router : ℕ) (network : Network) → ticks_right (least_route net router network) ≤ most_ticks_right }
+        ≡ least_route net (ups net run.histories) router network }
+    ensures soon { (net : Internet) (histories : List History) (router : ℕ) (network : Network) → ticks_right (least_route net (ups net histories) router network) ≤ most_ticks_right }
 {
     ipx_wire::laws::readings();
     ipx_wire::laws::service_readings();
@@ -461,7 +462,7 @@ pub fn right()
     ipx_router::laws::packets();
 }
 
-/// So packets arrive. After as many ticks a packet of a host for a network, that comes to a port of any router, goes through as many
+/// So packets arrive. After as many ticks a packet of a host for a network, that comes to a port of any router that is up, goes through as many
 /// routers more as the least way of that router has hops, one at a time, and the last one sends it out on that network, for the node that it
 /// is for (`goes`). So each of the first levels of its tree is one reception (`one_each`).
 ///
@@ -469,9 +470,9 @@ pub fn right()
 /// control it comes through fewer than 16 routers.
 pub fn arrives()
     ensures goes { (net : Internet) (most_routes most_services : ℕ) (histories : List History) (ticks : List (List Step)) (place : Place) (bytes : List ℕ) (p : Parts) (way : Way)
-        → IsInternet net → NodesDiffer net → length net ≤ most_routers → AreCheap net → HasRoom net most_routes → AreHistories net histories → AllUp net histories
-        → AreTicks net most_routes most_services (begun histories) ticks → IsPlace net place → IsBytes bytes → IsPacket bytes p → IsOfHost net p
-        → least_route net place.router p.header.destination.network ≡ Some way → ticks_right (Some way) ≤ length ticks
+        → IsInternet net → NodesDiffer net → length net ≤ most_routers → AreCheap net → HasRoom net most_routes → AreHistories net histories
+        → AreTicks net most_routes most_services (begun histories) ticks → IsPlace net place → is_up (ups net histories place.router) place.port ≡ true → IsBytes bytes → IsPacket bytes p → IsOfHost net p
+        → least_route net (ups net histories) place.router p.header.destination.network ≡ Some way → ticks_right (Some way) ≤ length ticks
         → p.header.control + way.hops < most_routers
         → Arrives (routers_after net most_routes (ticked net most_routes most_services (begun histories) ticks).histories) p.header.destination way.hops 0
         (root place bytes) }

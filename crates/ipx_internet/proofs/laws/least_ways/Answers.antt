@@ -1,8 +1,11 @@
+use Rattle.ipx_internet.specs.Ticks.{ups}
+use Rattle.ipx_internet.proofs.Righting.{ups_within}
 use Rattle.ipx_internet.proofs.Wayfaring.{least_is, none_beats_least}
 use Rattle.ipx_internet.proofs.laws.least_ways.Goals as goal
 
 pub returns-clause-way : goal.returns-clause-way
-returns-clause-way c net router network way e = least_is net network router way e
+returns-clause-way c net histories router network way e = least_is net (ups net histories) (ups_within net histories) network router way e
 
 pub returns-clause-none_better : goal.returns-clause-none_better
-returns-clause-none_better c net router network way is short = none_beats_least net network router way is short
+returns-clause-none_better c net histories router network way is short =
+    none_beats_least net (ups net histories) (ups_within net histories) network router way is short

@@ -4,14 +4,14 @@ use Rattle.ipx_router.specs.Facts.{routes_held, offers}
 use Rattle.ipx_router.specs.History.{History}
 use Rattle.ipx_router.specs.Outgoing.{route_to}
 use Rattle.ipx_internet.specs.Internet.{Internet, IsInternet, NodesDiffer, ports_of}
-use Rattle.ipx_internet.specs.Least.{AllUp, AreCheap, HasRoom, least_route, ticks_right}
+use Rattle.ipx_internet.specs.Least.{AreCheap, HasRoom, least_route, ticks_right}
 use Rattle.ipx_internet.specs.Queue.{history_of}
 use Rattle.ipx_internet.specs.Run.{Step, Run, AreHistories, begun, run_of}
 use Rattle.ipx_internet.specs.Ticks.{AreTicks, ticked, ups, most_ticks_gone}
 use Rattle.ipx_internet.proofs.Becoming.{AtRest, at_first}
 use Rattle.ipx_internet.proofs.Clearing.{rests_from}
 use Rattle.ipx_internet.proofs.Replying.{Layouts}
-use Rattle.ipx_internet.proofs.Righting.{some_ticks, soon_enough, each_up, climbs, table_is, stays, first_ticks, ticked_on}
+use Rattle.ipx_internet.proofs.Righting.{some_ticks, soon_enough, ups_within, climbs, table_is, stays, first_ticks, ticked_on}
 use Rattle.ipx_internet.proofs.Ticking.{quiet_rests}
 use Rattle.ipx_internet.proofs.laws.right.Goals as goal
 
@@ -40,49 +40,49 @@ layouts c = record {
 
 module _ (c : goal.After-packets) (net : Internet) (most_routes most_services : ℕ) (histories : List History) (ticks : List (List Step)) (network : Network)
     (is : IsInternet net) (differ : NodesDiffer net) (few_routers : length net ≤ 16) (cheap : AreCheap net) (room : HasRoom net most_routes)
-    (are : AreHistories net histories) (all : AllUp net histories) (passes : AreTicks net most_routes most_services (begun histories) ticks)
+    (are : AreHistories net histories) (passes : AreTicks net most_routes most_services (begun histories) ticks)
     (long : most_ticks_gone ≤ length ticks) where
-  rests : AtRest net (layouts c) is differ cheap few_routers (ups net histories) (each_up net histories all) most_routes most_services room network (length ticks)
+  rests : AtRest net (layouts c) is differ cheap few_routers (ups net histories) (ups_within net histories) most_routes most_services room network (length ticks)
       (ticked net most_routes most_services (begun histories) ticks)
   rests =
       let begins = quiet_rests net (layouts c) is most_routes most_services (ups net histories) (begun histories) are (λ router. refl) refl in
       let count : length ticks + 0 ≡ length ticks = omega arith in
-      subst (λ (n : ℕ). AtRest net (layouts c) is differ cheap few_routers (ups net histories) (each_up net histories all) most_routes most_services room network n
+      subst (λ (n : ℕ). AtRest net (layouts c) is differ cheap few_routers (ups net histories) (ups_within net histories) most_routes most_services room network n
       (ticked net most_routes most_services (begun histories) ticks)) count
-      (climbs net (layouts c) is differ cheap few_routers (ups net histories) (each_up net histories all) most_routes most_services room network 0 (begun histories) ticks begins
-      (λ enough. at_first net (layouts c) is differ cheap few_routers (ups net histories) (each_up net histories all) most_routes most_services room network 0 (begun histories)
+      (climbs net (layouts c) is differ cheap few_routers (ups net histories) (ups_within net histories) most_routes most_services room network 0 (begun histories) ticks begins
+      (λ enough. at_first net (layouts c) is differ cheap few_routers (ups net histories) (ups_within net histories) most_routes most_services room network 0 (begun histories)
       (omega arith) begins) passes (omega (arith, long)))
 
 pub returns-clause-tables : goal.returns-clause-tables
-returns-clause-tables c net most_routes most_services histories ticks router network is differ few_routers cheap room are all passes inside sure =
-    let long = some_ticks (least_route net router network) (length ticks) sure in
-    table_is net (layouts c) is differ cheap few_routers (ups net histories) (each_up net histories all) most_routes most_services room network (length ticks) (ticked net most_routes most_services (begun histories) ticks)
-    (rests c net most_routes most_services histories ticks network is differ few_routers cheap room are all passes long) long router inside sure
+returns-clause-tables c net most_routes most_services histories ticks router network is differ few_routers cheap room are passes inside sure =
+    let long = some_ticks (least_route net (ups net histories) router network) (length ticks) sure in
+    table_is net (layouts c) is differ cheap few_routers (ups net histories) (ups_within net histories) most_routes most_services room network (length ticks) (ticked net most_routes most_services (begun histories) ticks)
+    (rests c net most_routes most_services histories ticks network is differ few_routers cheap room are passes long) long router inside sure
 
 pub returns-clause-stay : goal.returns-clause-stay
-returns-clause-stay c net most_routes most_services histories ticks further router network is differ few_routers cheap room are all passes inside sure =
-    let long = some_ticks (least_route net router network) (length ticks) sure in
+returns-clause-stay c net most_routes most_services histories ticks further router network is differ few_routers cheap room are passes inside sure =
+    let long = some_ticks (least_route net (ups net histories) router network) (length ticks) sure in
     let parts = first_ticks net most_routes most_services (begun histories) ticks further passes in
     subst (λ (run : Run).
     route_to (offers (routes_held (ports_of net router) most_routes (history_of run.histories router))) network.0
     ≡ route_to (offers (routes_held (ports_of net router) most_routes
     (history_of (ticked net most_routes most_services (begun histories) ticks).histories router))) network.0)
     (sym (ticked_on net most_routes most_services (begun histories) ticks further))
-    (stays net (layouts c) is differ cheap few_routers (ups net histories) (each_up net histories all) most_routes most_services room network (length ticks) (ticked net most_routes most_services (begun histories) ticks) further
-    (rests c net most_routes most_services histories ticks network is differ few_routers cheap room are all parts.0 long) parts.1 router inside sure)
+    (stays net (layouts c) is differ cheap few_routers (ups net histories) (ups_within net histories) most_routes most_services room network (length ticks) (ticked net most_routes most_services (begun histories) ticks) further
+    (rests c net most_routes most_services histories ticks network is differ few_routers cheap room are parts.0 long) parts.1 router inside sure)
 
 pub returns-clause-soon : goal.returns-clause-soon
-returns-clause-soon c = soon_enough
+returns-clause-soon c net histories router network = soon_enough net (ups net histories) (ups_within net histories) router network
 
 -- the first tick ends with nothing that waits
 pub returns-clause-whatever_waits : goal.returns-clause-whatever_waits
-returns-clause-whatever_waits c net most_routes most_services run [] router network is differ few_routers cheap room are waits all passes inside sure = absurd (omega (arith, sure))
-returns-clause-whatever_waits c net most_routes most_services run (first ∷ ticks) router network is differ few_routers cheap room are waits all passes inside sure =
+returns-clause-whatever_waits c net most_routes most_services run [] router network is differ few_routers cheap room are waits passes inside sure = absurd (omega (arith, sure))
+returns-clause-whatever_waits c net most_routes most_services run (first ∷ ticks) router network is differ few_routers cheap room are waits passes inside sure =
     let next = run_of net most_routes most_services run first in
-    let enough : ticks_right (least_route net router network) ≤ length ticks = omega (arith, sure) in
-    let long = some_ticks (least_route net router network) (length ticks) enough in
+    let enough : ticks_right (least_route net (ups net run.histories) router network) ≤ length ticks = omega (arith, sure) in
+    let long = some_ticks (least_route net (ups net run.histories) router network) (length ticks) enough in
     let begins = rests_from net (layouts c) is most_routes most_services run are waits first [] (passes.0, tt) in
     let count : length ticks + 0 ≡ length ticks = omega arith in
-    table_is net (layouts c) is differ cheap few_routers (ups net run.histories) (each_up net run.histories all) most_routes most_services room network (length ticks) (ticked net most_routes most_services next ticks)
-    (subst (λ (n : ℕ). AtRest net (layouts c) is differ cheap few_routers (ups net run.histories) (each_up net run.histories all) most_routes most_services room network n (ticked net most_routes most_services next ticks)) count
-    (climbs net (layouts c) is differ cheap few_routers (ups net run.histories) (each_up net run.histories all) most_routes most_services room network 0 next ticks begins (λ none. at_first net (layouts c) is differ cheap few_routers (ups net run.histories) (each_up net run.histories all) most_routes most_services room network 0 next (omega arith) begins) passes.1 (omega (arith, long)))) long router inside enough
+    table_is net (layouts c) is differ cheap few_routers (ups net run.histories) (ups_within net run.histories) most_routes most_services room network (length ticks) (ticked net most_routes most_services next ticks)
+    (subst (λ (n : ℕ). AtRest net (layouts c) is differ cheap few_routers (ups net run.histories) (ups_within net run.histories) most_routes most_services room network n (ticked net most_routes most_services next ticks)) count
+    (climbs net (layouts c) is differ cheap few_routers (ups net run.histories) (ups_within net run.histories) most_routes most_services room network 0 next ticks begins (λ none. at_first net (layouts c) is differ cheap few_routers (ups net run.histories) (ups_within net run.histories) most_routes most_services room network 0 next (omega arith) begins) passes.1 (omega (arith, long)))) long router inside enough
