@@ -31,7 +31,7 @@ if [ "$1" = remove ]; then
     if [ -d /run/systemd/system ]; then
         deb-systemd-invoke stop ipxr-gateway.service >/dev/null || true
     fi
-    if [ -x /usr/bin/deb-systemd-helper ]; then
+    if command -v deb-systemd-helper >/dev/null; then
         deb-systemd-helper update-state ipxr-gateway.service >/dev/null || true
         deb-systemd-helper purge ipxr-gateway.service >/dev/null || true
     fi
