@@ -13,6 +13,33 @@ LIB = "lib/x86_64-linux-gnu"
 UNITS = "lib/systemd/system"
 NO_LICENCE = "No licence has been named: that is the owner's word, which is still to come.\n"
 
+# What the gateway's package does beside its files. There is no postrm: so nothing of it stays where it is removed and not purged.
+BEGUN = """#!/bin/sh
+# A gateway that runs is begun anew by the newer program; one that doesn't is left alone.
+set -e
+if [ "$1" = configure ] && [ -d /run/systemd/system ]; then
+    systemctl --system daemon-reload >/dev/null || true
+    if [ -n "$2" ]; then
+        deb-systemd-invoke try-restart ipxr-gateway.service >/dev/null || true
+    fi
+fi
+"""
+ENDED = """#!/bin/sh
+# A gateway that runs ends before its program is removed, and one that was enabled isn't any more.
+set -e
+if [ "$1" = remove ]; then
+    if [ -d /run/systemd/system ]; then
+        deb-systemd-invoke stop ipxr-gateway.service >/dev/null || true
+    fi
+    if command -v deb-systemd-helper >/dev/null; then
+        deb-systemd-helper update-state ipxr-gateway.service >/dev/null || true
+        deb-systemd-helper purge ipxr-gateway.service >/dev/null || true
+    fi
+fi
+"""
+# Which packages are of use beside one: the documents are in ipxr, and it reads what the gateway captures.
+SUGGESTED = {"ipxr": "ipxr-gateway, libipxr-dev", "libipxr-dev": "ipxr", "ipxr-gateway": "ipxr"}
+
 # Of each package its section, what it is in a line and in a paragraph, and what else it depends on.
 ABOUT = {
     "ipxr": (
@@ -58,10 +85,11 @@ def control(name, release, kilobytes):
     section, line, paragraph, more = ABOUT[name]
     depends = [] if name in WITHOUT_PROGRAMS else [f"libc6 (>= {release.libc})"]
     depends += [more.format(version=release.version)] if more else []
+    suggests = f"Suggests: {SUGGESTED[name]}\n" if name in SUGGESTED else ""
     same = "Multi-Arch: same\n" if name.startswith("lib") else ""
     return (
         f"Package: {name}\nVersion: {release.version}\nArchitecture: amd64\nMaintainer: {release.author}\n"
-        f"Installed-Size: {kilobytes}\nDepends: {', '.join(depends)}\nSection: {section}\nPriority: optional\n{same}"
+        f"Installed-Size: {kilobytes}\nDepends: {', '.join(depends)}\n{suggests}Section: {section}\nPriority: optional\n{same}"
         f"Description: {line}\n {paragraph}\n"
     )
 
@@ -94,7 +122,10 @@ def installed(name, pages, release):
 
 
 def extras(name, release):
-    """What else stands beside the control file: what programs that are linked with the library depend on."""
+    """What else stands beside the control file: what is run at an installation or a removal, and what programs that are linked with the
+    library depend on."""
+    if name == "ipxr-gateway":
+        return {"postinst": BEGUN, "prerm": ENDED}
     if name != "libipxr1":
         return {}
     return {"shlibs": f"libipxr 1 libipxr1 (>= {release.version})\n", "triggers": "activate-noawait ldconfig\n"}
@@ -117,7 +148,8 @@ def package(name, pieces, release):
         kilobytes = sum(len(it.content) for it in pieces) // 1024 + 1
         texts = {"control": control(name, release, kilobytes), "md5sums": sums(pieces), **extras(name, release)}
         for file, text in texts.items():
-            layout.put(layout.Piece(name, file, text.encode()), f"{root}/DEBIAN")
+            mode = 0o755 if text.startswith("#!") else 0o644
+            layout.put(layout.Piece(name, file, text.encode(), mode), f"{root}/DEBIAN")
         words = ["dpkg-deb", "--root-owner-group", "-Zxz", "--build", root, f"{folder}/made.deb"]
         subprocess.run(words, check=True, stdout=subprocess.DEVNULL, env={**os.environ, "SOURCE_DATE_EPOCH": str(release.time)})
         with open(f"{folder}/made.deb", "rb") as it:

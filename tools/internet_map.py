@@ -28,7 +28,7 @@ class Internet:
         for words in map(str.split, lines):
             if words[:1] == ["router"]:
                 self.routers.append([])
-            elif words[:1] == ["port"]:
+            elif words[:1] == ["port"] and len(words) > 1 and self.routers:
                 self.routers[-1].append(words[1].lstrip("0").upper())
         comments = " ".join(it for it in lines if it.startswith("#"))
         named = {int(number): name for name, number in re.findall(r"\b(\w+) \(router (\d+)\)", comments)}

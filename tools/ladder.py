@@ -37,6 +37,8 @@ def entry(line):
         hops = int(words[3])
         far = "" if hops == 65535 else " gone" if hops >= 16 else f" ({hops})"
         return {"FFFFFFFF": "all", "FFFFFFFE": "default"}.get(words[1], short(words[1])) + far
+    if words[1] == "bad":
+        return "a bad entry"
     return f"{words[2]} gone" if words[-1] == "16" else words[2]
 
 
@@ -195,7 +197,7 @@ def script_parties(found):
 
 def of_script(file):
     lines = played.lines_of(file)
-    networks = [short(it.split()[1].upper()) for it in lines if it.startswith("port ")]
+    networks = [short(words[1].upper()) for words in map(str.split, lines) if words[:1] == ["port"] and len(words) > 1]
     moments = [*played.moments(lines)]
     frames = []
     for it in moments:
@@ -237,6 +239,8 @@ def draw_row(drawing, row, y, place, right):
 
 def drawn(file, rows, parties):
     """The ladder of some rows."""
+    if not rows or not parties:
+        raise SystemExit(f"{file} has no packet to draw")
     drawing = Drawing(file.rpartition("/")[2])
     lane = max(NARROWEST, min(WIDEST, WIDTH // len(parties)))
     place = {it: LEFT + 60 + lane * k for k, it in enumerate(parties)}

@@ -114,6 +114,7 @@ def library(lib, system_prefix):
 def gateway(prefix, units):
     yield Piece("ipxr-gateway", "sbin/ipxr-gateway", stamped(GATEWAY), 0o755)
     yield Piece("ipxr-gateway", "share/bash-completion/completions/ipxr-gateway", content("completions/ipxr.bash"))
+    yield Piece("ipxr-gateway", "share/zsh/site-functions/_ipxr-gateway", content("completions/_ipxr-gateway"))
     yield Piece("ipxr-gateway", "share/ipxr/ipxr-gateway.conf", content("gateway/example.conf"))
     yield Piece("ipxr-gateway", f"{units}/ipxr-gateway.service", filled("gateway/ipxr-gateway.service.in", prefix))
 

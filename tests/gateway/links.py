@@ -2,7 +2,8 @@
 import socket
 
 from frames import KINDS, Station, Tcp, Udp, frame
-from lab import EVERYONE, GAME, LIMIT, Client, Counts, Gateway, address, comes_next, free_ports, is_routers, packet, reaches, tunnels
+from lab import (EVERYONE, GAME, LIMIT, Client, Counts, Gateway, address, comes_next, free_ports, is_routers, packet, reaches, tunnels,
+                 until)
 
 STATION = bytes.fromhex("020000000AA1")
 
@@ -161,9 +162,17 @@ def extended():
         assert comes_next(station, far) and gate.counted(0x20, "not extended") == 1
 
 
+def nobody_listens():
+    """Where no QEMU has the other address, what is sent there is refused and counted."""
+    (port,) = free_ports(1)
+    with Gateway(tunnels(1) + f"network 20 1 1490 qemu-udp 0 127.0.0.1:{port} raw\n") as gate:
+        until(lambda: gate.counted(0x20, "not sent") > 0, "packets that are not sent")
+
+
 def main():
     counts = Counts()
-    for test in (datagrams, two_networks_on_a_link, long_frames, a_connection_comes, a_newer_connection, a_connection_goes, extended):
+    for test in (datagrams, two_networks_on_a_link, long_frames, a_connection_comes, a_newer_connection, a_connection_goes, extended,
+                 nobody_listens):
         counts.run(test)
     return counts
 

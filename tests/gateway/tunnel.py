@@ -201,10 +201,27 @@ def the_capture():
             assert run.returncode == 0 and len(lines) == len(packets) and all(" EthernetII " in it for it in lines), run
 
 
+def counts_and_lines():
+    """What the report counts, and for what the log has lines."""
+    with Gateway(tunnels(1), options=["--log"]) as gate:
+        report = gate.report()
+        assert " out 00000010 " in report and gate.counted(0x10, "out", report) == 0, "a line, though nobody is there to be counted"
+        a, b, c = (Client(gate.ports[0x10]) for _ in range(3))
+        a.say(address(0, EVERYONE, GAME), b"all")
+        assert b.hear() is not None and c.hear() is not None
+        a.say(b.at(), b"one")
+        assert b.hear() is not None
+        report = gate.report()
+        first = next(k for k, it in enumerate(gate.lines) if " comes to " in it)
+        lines = {way: sum(f" {way} 00000010 " in it for it in gate.lines[first:]) for way in ("in", "out")}
+        assert lines["in"] == 2 and gate.counted(0x10, "in", report) == 5, "three registrations are counted, and have no line"
+        assert gate.counted(0x10, "out", report) == lines["out"] + 5, "so have their answers, and what is handed on"
+
+
 def main():
     counts = Counts()
     for test in (two_clients, three_clients, seventy_clients, starts_again, control_is_cleared, false_sources, ping, all_sizes,
-                 nobody_there, neighbours, extended, flood, the_capture):
+                 nobody_there, neighbours, extended, flood, the_capture, counts_and_lines):
         counts.run(test)
     return counts
 

@@ -60,7 +60,7 @@ def the_command_line():
 def what_is_right():
     """What is right is told so: the example, 32 networks, shares, blanks, comments, the last line without its end."""
     example = os.path.join(TOP, "gateway", "example.conf")
-    assert asked("--check", example)[:2] == (0, f"{example}: 3 networks, nothing wrong\n")
+    assert asked("--check", example)[:2] == (0, f"{example}: 2 networks, nothing wrong\n")
     many = tunnels(32).encode()
     assert asked("--check", "/dev/stdin", stdin=many)[:2] == (0, "/dev/stdin: 32 networks, nothing wrong\n")
     status, _, complaint = asked("--check", "/dev/stdin", stdin=many + b"network FF 1 1424 dosbox 0\n")

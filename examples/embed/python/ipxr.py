@@ -1,4 +1,4 @@
-"""A router for Python, over the shared library that is made of libipxr.a."""
+"""A router for Python, over the shared library."""
 import ctypes
 from ctypes import POINTER, Structure, byref, c_bool, c_int32, c_size_t, c_uint8, c_uint16, c_uint32, c_void_p
 

@@ -1,6 +1,6 @@
 """Joins two networks, plays a few packets to the router, and prints what it sends; c/two_networks.c draws the networks.
 
-The argument is the shared library: cc -shared -Wl,--whole-archive libipxr.a -Wl,--no-whole-archive -o libipxr.so
+The argument is the shared library, libipxr.so.1.
 """
 import sys
 
@@ -22,6 +22,8 @@ def show(router, event, answer):
 
 
 def main():
+    if len(sys.argv) != 2:
+        sys.exit("usage: two_networks.py FOLDER/libipxr.so.1")
     ports = [(0x10, bytes([0, 0, 0, 0, 0, 1]), 1, 576), (0x20, bytes([0, 0, 0, 0, 0, 2]), 1, 576)]
     with ipxr.Router(ipxr.load(sys.argv[1]), ports) as router:
         show(router, "start", router.call("start"))
