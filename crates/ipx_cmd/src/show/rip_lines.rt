@@ -30,7 +30,7 @@ pub(crate) fn put_rip(draft: &mut Draft, payload: &[u8])
     }
 }
 
-#[tactic(auto, using(crate::proofs::Drafted::operation_short), unfolding(crate::specs::RipText::rip_text))]
+#[tactic(auto, using(crate::proofs::bytes::DigitsTwoAtATime::operation_short), unfolding(crate::specs::RipText::rip_text))]
 fn put_routes(draft: &mut Draft, rip: &Rip<'_>)
     requires { length draft.old ≤ HEAD }
     ensures { draft.new ≡ draft.old ++ rip_text (Ok rip.now) }
