@@ -48,7 +48,8 @@ use Rattle.ipx_internet.proofs.Spending.{Calm, reply_moves}
 use Rattle.ipx_internet.proofs.Ways.{nothing, it_is}
 
 module _ (net : Internet) (laws : Layouts) (is : IsInternet net) (differ : NodesDiffer net) (cheap : AreCheap net) (few_routers : length net ≤ 16) (up : ℕ → List ℕ)
-    (in_ports : (router : ℕ) → AllByRecursion (λ j. j < length (ports_of net router)) (up router)) (most_routes most_services : ℕ) (room : HasRoom net most_routes) (network : Network)
+    (in_ports : (router : ℕ) → AllByRecursion (λ j. j < length (ports_of net router)) (up router)) (most_routes most_services : ℕ) (room : HasRoom net most_routes)
+    (network : Network)
     (before : ℕ) (long : most_ticks_gone ≤ before) (clock : ℕ → ℕ) (few_seconds : (router : ℕ) → clock router < 60) (at_start : ℕ → Option RouteOffer) where
   abbrev Wanting : ℕ → Type 0
   Wanting router = WantsOf net laws is differ cheap few_routers up in_ports most_routes most_services room network before long clock few_seconds at_start router
@@ -72,7 +73,8 @@ module _ (net : Internet) (laws : Layouts) (is : IsInternet net) (differ : Nodes
   AnyOne = Services net laws is differ cheap few_routers up in_ports most_routes most_services room network before long clock few_seconds at_start
 
   module _ (rest : List Step) (histories : List History) (queue : List Delivery) (d : Delivery)
-      (righted : Righted net laws is differ cheap few_routers up in_ports most_routes most_services room network before long clock few_seconds at_start (Settles ∷ rest) (record { histories = histories; queue = d ∷ queue })) where
+      (righted : Righted net laws is differ cheap few_routers up in_ports most_routes most_services room network before long clock few_seconds at_start
+      (Settles ∷ rest) (record { histories = histories; queue = d ∷ queue })) where
     abbrev left : List Step
     left = Settles ∷ rest
 
@@ -119,7 +121,9 @@ module _ (net : Internet) (laws : Layouts) (is : IsInternet net) (differ : Nodes
         omega (arith, f, l)
 
     endured : Endures net up most_routes most_services x count past
-    endured = endures_of net laws is differ cheap few_routers up in_ports most_routes most_services room network before long clock few_seconds at_start left (record { histories = histories; queue = waiting }) righted x inside
+    endured =
+        endures_of net laws is differ cheap few_routers up in_ports most_routes most_services room network before long clock few_seconds at_start
+        left (record { histories = histories; queue = waiting }) righted x inside
 
     going_now : Going net laws is most_routes most_services up (suc before) rest
         (queued net most_routes most_services (record { histories = histories; queue = queue }) x event)
@@ -132,7 +136,9 @@ module _ (net : Internet) (laws : Layouts) (is : IsInternet net) (differ : Nodes
         (going_now.routers x count inside (omega (arith, some)))
 
     runs : is_up (up x) d.to.port ≡ true → running past ≡ true
-    runs on = runs_where net laws is differ cheap few_routers up in_ports most_routes most_services room network before long clock few_seconds at_start x d.to.port count past on endured
+    runs on =
+        runs_where net laws is differ cheap few_routers up in_ports most_routes most_services room network before long clock few_seconds at_start
+        x d.to.port count past on endured
 
     -- ---- what is offered
 
@@ -153,7 +159,8 @@ module _ (net : Internet) (laws : Layouts) (is : IsInternet net) (differ : Nodes
       module _ (f : Place) (reaches : Reaches net up f d.to) (on : is_up (up x) d.to.port ≡ true) where
         abbrev IsFine : RipEntry → Type 0
         IsFine =
-            EntryIs net is differ cheap few_routers up in_ports most_routes room network x w.v w.off w.least w.wanted count enough d.to.port f (neighbour_of f reaches on)
+            EntryIs net is differ cheap few_routers up in_ports most_routes room network
+            x w.v w.off w.least w.wanted count enough d.to.port f (neighbour_of f reaches on)
 
         fine : (e : RipEntry) → Says f e → IsFine e
         fine e said = record {
@@ -185,9 +192,16 @@ module _ (net : Internet) (laws : Layouts) (is : IsInternet net) (differ : Nodes
       keeps : (f : Place) (reaches : Reaches net up f d.to) → is_up (up x) d.to.port ≡ true → (entries : List RipEntry) → AllByRecursion (Says f) entries
           → Known (route_facts ports past ++ routes_offered ports d.to.port (port_of net f).node entries)
       keeps f reaches on entries all =
-          entries_keep net is differ cheap few_routers up in_ports most_routes room network x w.v w.off w.least w.wanted count enough d.to.port f (neighbour_of f reaches on)
-          (Fresh net laws is differ cheap few_routers up in_ports most_routes most_services room network before long clock few_seconds at_start left waiting x w.v) (λ g. let s = few in omega (arith, s)) (Same net laws is differ cheap few_routers up in_ports most_routes most_services room network before long clock few_seconds at_start left waiting x w.v) (Late net laws is differ cheap few_routers up in_ports most_routes most_services room network before long clock few_seconds at_start left waiting x w.v) (Later net laws is differ cheap few_routers up in_ports most_routes most_services room network before long clock few_seconds at_start left waiting x w.v)
-          (free net laws is differ cheap few_routers up in_ports most_routes most_services room network before long clock few_seconds at_start left waiting x w.v) entries (route_facts ports past) (all_then (Says f) (IsFine f reaches on) (λ e said. fine f reaches on e said) entries all) endured.routes state_before
+          entries_keep net is differ cheap few_routers up in_ports most_routes room network
+          x w.v w.off w.least w.wanted count enough d.to.port f (neighbour_of f reaches on)
+          (Fresh net laws is differ cheap few_routers up in_ports most_routes most_services room network before long clock few_seconds at_start
+          left waiting x w.v) (λ g. let s = few in omega (arith, s)) (Same net laws is differ cheap few_routers up in_ports most_routes most_services room network
+          before long clock few_seconds at_start left waiting x w.v) (Late net laws is differ cheap few_routers up in_ports most_routes most_services room network
+          before long clock few_seconds at_start left waiting x w.v) (Later net laws is differ cheap few_routers up in_ports most_routes most_services room network
+          before long clock few_seconds at_start left waiting x w.v)
+          (free net laws is differ cheap few_routers up in_ports most_routes most_services room network before long clock few_seconds at_start
+          left waiting x w.v) entries (route_facts ports past) (all_then (Says f) (IsFine f reaches on)
+          (λ e said. fine f reaches on e said) entries all) endured.routes state_before
 
       nothing_offered : Known (route_facts ports past ++ [])
       nothing_offered = subst (λ (fs : List (Fact RouteOffer)). Known fs) (sym (append-nil (route_facts ports past))) state_before
@@ -201,7 +215,8 @@ module _ (net : Internet) (laws : Layouts) (is : IsInternet net) (differ : Nodes
       own_state : Known (route_facts ports now)
       own_state = subst (λ (fs : List (Fact RouteOffer)). Known fs) (sym facts_now) (by (heard_after ports past d.to.port d.bytes) refl)
         where
-          page_kept : is_up (up x) d.to.port ≡ true → (p : Parts) (m : Heard) → packet_of d.bytes ≡ Ok p → heard_in p ≡ Some m → IsNewsSent (Says righted.speaks.0.from) AnyOne (port_of net righted.speaks.0.from) d.bytes
+          page_kept : is_up (up x) d.to.port ≡ true → (p : Parts) (m : Heard) → packet_of d.bytes ≡ Ok p → heard_in p ≡ Some m → IsNewsSent
+              (Says righted.speaks.0.from) AnyOne (port_of net righted.speaks.0.from) d.bytes
               → Known (route_facts ports past ++ routes_heard ports d.to.port (Some m))
           page_kept on p m read e (inl page) =
               let from = port_of net righted.speaks.0.from in
@@ -219,14 +234,19 @@ module _ (net : Internet) (laws : Layouts) (is : IsInternet net) (differ : Nodes
           by None e = nothing_offered
           by (Some m) e =
               let came_here = came_in ports (ports_up ports past) d.to.port (running past) d.bytes m e in
-              page_kept (subst (λ (us : List ℕ). is_up us d.to.port ≡ true) endured.ups (heard_up ports (ports_up ports past) d.to.port (running past) d.bytes m e)) came_here.packet m came_here.read (near_in came_here.packet m came_here.near) righted.speaks.0.news
+              page_kept (subst (λ (us : List ℕ). is_up us d.to.port ≡ true) endured.ups (heard_up ports (ports_up ports past) d.to.port
+              (running past) d.bytes m e)) came_here.packet m came_here.read (near_in came_here.packet m came_here.near) righted.speaks.0.news
 
       -- where it tells of the network, from a neighbour with the least way
       module _ (f : Place) (port : ℕ) (source : Source_of x w.v port f) (pending : Pends x f d) where
         abbrev Told : List (Fact RouteOffer) → Type 0
         Told facts =
-            StateFor net laws is differ cheap few_routers up in_ports most_routes most_services room network x w (Fresh net laws is differ cheap few_routers up in_ports most_routes most_services room network before long clock few_seconds at_start left waiting x w.v)
-            (λ g age. Late net laws is differ cheap few_routers up in_ports most_routes most_services room network before long clock few_seconds at_start left waiting x w.v g age × (g ≢ f)) ⊥ (Same net laws is differ cheap few_routers up in_ports most_routes most_services room network before long clock few_seconds at_start left waiting x w.v)
+            StateFor net laws is differ cheap few_routers up in_ports most_routes most_services room network
+            x w (Fresh net laws is differ cheap few_routers up in_ports most_routes most_services room network before long clock few_seconds at_start
+            left waiting x w.v)
+            (λ g age. Late net laws is differ cheap few_routers up in_ports most_routes most_services room network before long clock few_seconds at_start
+            left waiting x w.v g age × (g ≢ f)) ⊥ (Same net laws is differ cheap few_routers up in_ports most_routes most_services room network before long clock few_seconds at_start
+            left waiting x w.v)
             (known_of net laws is differ cheap few_routers up in_ports most_routes most_services room network x w facts)
 
         -- the port is that by which the least way comes, so it is up
@@ -236,7 +256,8 @@ module _ (net : Internet) (laws : Layouts) (is : IsInternet net) (differ : Nodes
             (source.neighbour.network ∙ sym pending.reaches.network) in
             subst (λ (k : ℕ). is_up (up x) k ≡ true) same source.neighbour.on_here
 
-        heard_so : heard_after ports past d.to.port d.bytes ≡ Some (HeardRip (own_address (port_of net f)) (record { operation = Response; entries = pending.page.page }))
+        heard_so : heard_after ports past d.to.port d.bytes ≡ Some (HeardRip (own_address (port_of net f))
+            (record { operation = Response; entries = pending.page.page }))
         heard_so =
             let nb = neighbour_of f pending.reaches on_now in
             ap (λ b. heard ports (ports_up ports past) b d.to.port d.bytes) (runs on_now)
@@ -250,12 +271,18 @@ module _ (net : Internet) (laws : Layouts) (is : IsInternet net) (differ : Nodes
         comes =
             subst (λ (fs : List (Fact RouteOffer)). Told fs)
             (sym (facts_now ∙ ap (λ o. route_facts ports past ++ routes_heard ports d.to.port o) heard_so))
-            (entries_come net is differ cheap few_routers up in_ports most_routes room network x w.v w.off w.least w.wanted count enough d.to.port f (neighbour_of f pending.reaches on_now)
-            (Fresh net laws is differ cheap few_routers up in_ports most_routes most_services room network before long clock few_seconds at_start left waiting x w.v) (λ g. let s = few in omega (arith, s)) (Same net laws is differ cheap few_routers up in_ports most_routes most_services room network before long clock few_seconds at_start left waiting x w.v) (Late net laws is differ cheap few_routers up in_ports most_routes most_services room network before long clock few_seconds at_start left waiting x w.v) (Later net laws is differ cheap few_routers up in_ports most_routes most_services room network before long clock few_seconds at_start left waiting x w.v)
+            (entries_come net is differ cheap few_routers up in_ports most_routes room network
+            x w.v w.off w.least w.wanted count enough d.to.port f (neighbour_of f pending.reaches on_now)
+            (Fresh net laws is differ cheap few_routers up in_ports most_routes most_services room network before long clock few_seconds at_start
+            left waiting x w.v) (λ g. let s = few in omega (arith, s)) (Same net laws is differ cheap few_routers up in_ports most_routes most_services room network
+            before long clock few_seconds at_start left waiting x w.v) (Late net laws is differ cheap few_routers up in_ports most_routes most_services room network
+            before long clock few_seconds at_start left waiting x w.v) (Later net laws is differ cheap few_routers up in_ports most_routes most_services room network
+            before long clock few_seconds at_start left waiting x w.v)
             (free net laws is differ cheap few_routers up in_ports most_routes most_services room network before long clock few_seconds at_start left waiting x w.v)
             (record { neighbour = neighbour_of f pending.reaches on_now; way = source.way; there = source.there; by = source.by })
             pending.page.page (route_facts ports past)
-            (all_then (Says f) (IsFine f pending.reaches on_now) (λ e said. fine f pending.reaches on_now e said) pending.page.page pending.page.each) pending.has endured.routes state_before)
+            (all_then (Says f) (IsFine f pending.reaches on_now)
+            (λ e said. fine f pending.reaches on_now e said) pending.page.page pending.page.each) pending.has endured.routes state_before)
 
     -- ---- what is said
 
@@ -269,14 +296,20 @@ module _ (net : Internet) (laws : Layouts) (is : IsInternet net) (differ : Nodes
     old = offers (routes_held ports most_routes past)
 
     knows_now : KnowsOf net laws is differ cheap few_routers up in_ports most_routes most_services room network before long clock few_seconds at_start x routes
-    knows_now = knows net laws is differ cheap few_routers up in_ports most_routes most_services room network before long clock few_seconds at_start left waiting x count now enough endures_now own_state
+    knows_now =
+        knows net laws is differ cheap few_routers up in_ports most_routes most_services room network before long clock few_seconds at_start
+        left waiting x count now enough endures_now own_state
 
     said_news : (j : ℕ) → AllByRecursion (Says (place j)) (news ports old routes j)
     said_news j =
-        all_both (RouteSaid net up (suc before) (place j)) (Word net laws is differ cheap few_routers up in_ports most_routes most_services room network before long clock few_seconds at_start (place j)) (news ports old routes j)
+        all_both (RouteSaid net up (suc before) (place j)) (Word net laws is differ cheap few_routers up in_ports most_routes most_services room network
+        before long clock few_seconds at_start (place j)) (news ports old routes j)
         (changes_said net up most_routes most_services x count (suc before) (let f = few in omega (arith, f)) now endures_now old j)
-        (all_words net laws is differ cheap few_routers up in_ports most_routes most_services room network before long clock few_seconds at_start (place j) (news ports old routes j)
-        (λ u is_u settled. words_news net laws is differ cheap few_routers up in_ports most_routes most_services room network before long clock few_seconds at_start x u is_u settled old routes (knows_now u is_u settled) (all_real net laws is differ cheap few_routers up in_ports most_routes most_services room network before long clock few_seconds at_start x count past enough endured) j))
+        (all_words net laws is differ cheap few_routers up in_ports most_routes most_services room network before long clock few_seconds at_start
+        (place j) (news ports old routes j)
+        (λ u is_u settled. words_news net laws is differ cheap few_routers up in_ports most_routes most_services room network before long clock few_seconds at_start
+        x u is_u settled old routes (knows_now u is_u settled) (all_real net laws is differ cheap few_routers up in_ports most_routes most_services room network
+        before long clock few_seconds at_start x count past enough endured) j))
 
     reply : IsReply (port_of net d.to) d.bytes
     reply =
@@ -309,12 +342,17 @@ module _ (net : Internet) (laws : Layouts) (is : IsInternet net) (differ : Nodes
     abbrev new : List Delivery
     new = flat_map (deliveries_of net x) these
 
-    speaks_new : AllByRecursion (Speaks net laws is differ cheap few_routers up in_ports most_routes most_services room network before long clock few_seconds at_start) new
-    speaks_new = all_speak net laws is differ cheap few_routers up in_ports most_routes most_services room network before long clock few_seconds at_start histories righted.going.are x event righted.speaks.0.delivery.place righted.speaks.0.delivery.bytes answers
+    speaks_new : AllByRecursion (Speaks net laws is differ cheap few_routers up in_ports most_routes most_services room network
+        before long clock few_seconds at_start) new
+    speaks_new =
+        all_speak net laws is differ cheap few_routers up in_ports most_routes most_services room network before long clock few_seconds at_start
+        histories righted.going.are x event righted.speaks.0.delivery.place righted.speaks.0.delivery.bytes answers
 
     -- ---- every router's state
 
-    due_then : (router : ℕ) (v : Way) (f : Place) → (Pends router f d → ⊥) → DueOf net laws is differ cheap few_routers up in_ports most_routes most_services room network before long clock few_seconds at_start left waiting router v f → DueOf net laws is differ cheap few_routers up in_ports most_routes most_services room network before long clock few_seconds at_start rest (queue ++ new) router v f
+    due_then : (router : ℕ) (v : Way) (f : Place) → (Pends router f d → ⊥) → DueOf net laws is differ cheap few_routers up in_ports most_routes most_services room network
+        before long clock few_seconds at_start left waiting router v f → DueOf net laws is differ cheap few_routers up in_ports most_routes most_services room network
+        before long clock few_seconds at_start rest (queue ++ new) router v f
     due_then router v f never (inl later) = inl later
     due_then router v f never (inr (inl here)) = absurd (never here)
     due_then router v f never (inr (inr waits)) = inr (any_in_front (Pends router f) queue new waits)
@@ -325,10 +363,15 @@ module _ (net : Internet) (laws : Layouts) (is : IsInternet net) (differ : Nodes
       holds = holds_by (own_state w sure).holds;
     }
       where
-        aged_by : (h : Held RouteOffer) (f : Place) → known_of net laws is differ cheap few_routers up in_ports most_routes most_services room network x w (route_facts ports now) ≡ Some h
+        aged_by : (h : Held RouteOffer) (f : Place) → known_of net laws is differ cheap few_routers up in_ports most_routes most_services room network
+            x w (route_facts ports now) ≡ Some h
             → RightFor net laws is differ cheap few_routers up in_ports most_routes most_services room network x w f h.offer
-            → Fresh net laws is differ cheap few_routers up in_ports most_routes most_services room network before long clock few_seconds at_start left waiting x w.v f h.age ⊎ Late net laws is differ cheap few_routers up in_ports most_routes most_services room network before long clock few_seconds at_start left waiting x w.v f h.age
-            → Fresh net laws is differ cheap few_routers up in_ports most_routes most_services room network before long clock few_seconds at_start rest (queue ++ new) x w.v f h.age ⊎ Late net laws is differ cheap few_routers up in_ports most_routes most_services room network before long clock few_seconds at_start rest (queue ++ new) x w.v f h.age
+            → Fresh net laws is differ cheap few_routers up in_ports most_routes most_services room network before long clock few_seconds at_start
+            left waiting x w.v f h.age ⊎ Late net laws is differ cheap few_routers up in_ports most_routes most_services room network before long clock few_seconds at_start
+            left waiting x w.v f h.age
+            → Fresh net laws is differ cheap few_routers up in_ports most_routes most_services room network before long clock few_seconds at_start
+            rest (queue ++ new) x w.v f h.age ⊎ Late net laws is differ cheap few_routers up in_ports most_routes most_services room network before long clock few_seconds at_start
+            rest (queue ++ new) x w.v f h.age
         aged_by h f e right (inl young) = inl young
         aged_by h f e right (inr (inl early)) = inr (inl early)
         aged_by h f e right (inr (inr (at_zero, inl later, bound))) = inr (inr (at_zero, inl later, bound))
@@ -338,12 +381,19 @@ module _ (net : Internet) (laws : Layouts) (is : IsInternet net) (differ : Nodes
           | inr late ↦ absurd (late.1 refl)
         ]
 
-        holds_by : ((h : Held RouteOffer) × (f : Place) × (known_of net laws is differ cheap few_routers up in_ports most_routes most_services room network x w (route_facts ports now) ≡ Some h)
-            × RightFor net laws is differ cheap few_routers up in_ports most_routes most_services room network x w f h.offer × Same net laws is differ cheap few_routers up in_ports most_routes most_services room network before long clock few_seconds at_start left waiting x w.v h.offer)
+        holds_by : ((h : Held RouteOffer) × (f : Place) × (known_of net laws is differ cheap few_routers up in_ports most_routes most_services room network
+            x w (route_facts ports now) ≡ Some h)
+            × RightFor net laws is differ cheap few_routers up in_ports most_routes most_services room network
+            x w f h.offer × Same net laws is differ cheap few_routers up in_ports most_routes most_services room network before long clock few_seconds at_start
+            left waiting x w.v h.offer)
             ⊎ Later net laws is differ cheap few_routers up in_ports most_routes most_services room network before long clock few_seconds at_start left waiting x w.v
-            → ((h : Held RouteOffer) × (f : Place) × (known_of net laws is differ cheap few_routers up in_ports most_routes most_services room network x w (route_facts ports now) ≡ Some h)
-            × RightFor net laws is differ cheap few_routers up in_ports most_routes most_services room network x w f h.offer × Same net laws is differ cheap few_routers up in_ports most_routes most_services room network before long clock few_seconds at_start rest (queue ++ new) x w.v h.offer)
-            ⊎ Later net laws is differ cheap few_routers up in_ports most_routes most_services room network before long clock few_seconds at_start rest (queue ++ new) x w.v
+            → ((h : Held RouteOffer) × (f : Place) × (known_of net laws is differ cheap few_routers up in_ports most_routes most_services room network
+            x w (route_facts ports now) ≡ Some h)
+            × RightFor net laws is differ cheap few_routers up in_ports most_routes most_services room network
+            x w f h.offer × Same net laws is differ cheap few_routers up in_ports most_routes most_services room network before long clock few_seconds at_start
+            rest (queue ++ new) x w.v h.offer)
+            ⊎ Later net laws is differ cheap few_routers up in_ports most_routes most_services room network before long clock few_seconds at_start
+            rest (queue ++ new) x w.v
         holds_by (inl held) = inl held
         holds_by (inr (port, f, source, inl early)) = inr (port, f, source, inl early)
         holds_by (inr (port, f, source, inr (at_zero, inl later, soon))) = inr (port, f, source, inr (at_zero, inl later, soon))
@@ -358,18 +408,23 @@ module _ (net : Internet) (laws : Layouts) (is : IsInternet net) (differ : Nodes
         → State_of rest (queue ++ new) router w (route_facts (ports_of net router) (history_of (with_event histories x event) router))
     state_now router w sure = by (cases_eq router x)
       where
-        by : (router ≡ x) ⊎ (router ≢ x) → State_of rest (queue ++ new) router w (route_facts (ports_of net router) (history_of (with_event histories x event) router))
+        by : (router ≡ x) ⊎ (router ≢ x) → State_of rest (queue ++ new) router w (route_facts (ports_of net router) (history_of
+            (with_event histories x event) router))
         by (inl same) = moved same w sure
           where
             P : ℕ → Type 0
-            P r = (v : Wanting r) → starts v.v ≤ before → State_of rest (queue ++ new) r v (route_facts (ports_of net r) (history_of (with_event histories x event) r))
+            P r =
+                (v : Wanting r) → starts v.v ≤ before → State_of rest (queue ++ new) r v (route_facts (ports_of net r) (history_of (with_event histories x event) r))
 
             moved : router ≡ x → P router
             moved e =
-                subst P (sym e) (λ v s. subst (λ (h : History). State_of rest (queue ++ new) x v (route_facts ports h)) (sym (get_or-set_same histories x now [] listed)) (state_of_own v s))
+                subst P (sym e) (λ v s. subst (λ (h : History). State_of rest (queue ++ new) x v (route_facts ports h)) (sym
+                (get_or-set_same histories x now [] listed)) (state_of_own v s))
         by (inr off) =
-            subst (λ (h : History). State_of rest (queue ++ new) router w (route_facts (ports_of net router) h)) (sym (get_or-set_other histories x router now [] off))
-            (state_then net laws is differ cheap few_routers up in_ports most_routes most_services room network before long clock few_seconds at_start left rest waiting (queue ++ new) router w refl
+            subst (λ (h : History). State_of rest (queue ++ new) router w (route_facts (ports_of net router) h)) (sym
+            (get_or-set_other histories x router now [] off))
+            (state_then net laws is differ cheap few_routers up in_ports most_routes most_services room network before long clock few_seconds at_start
+            left rest waiting (queue ++ new) router w refl
             (λ port f source at_zero due. due_then router w.v f (λ pending. off (sym pending.to)) due)
             (route_facts (ports_of net router) (history_of histories router)) (righted.states router w sure))
 
@@ -385,16 +440,21 @@ module _ (net : Internet) (laws : Layouts) (is : IsInternet net) (differ : Nodes
 
             moved : router ≡ x → P router
             moved e =
-                subst P (sym e) (λ there_is. subst (λ (h : History). (seconds_run h + seconds_of x rest) % 60 ≡ clock x) (sym (get_or-set_same histories x now [] listed))
-                (ap (λ n. (n + seconds_of x rest) % 60) (seconds_stay past event refl refl (runs_where net laws is differ cheap few_routers up in_ports most_routes most_services room network before long clock few_seconds at_start x port count past there_is endured)) ∙ righted.clocks x port there_is))
+                subst P (sym e) (λ there_is. subst (λ (h : History). (seconds_run h + seconds_of x rest) % 60 ≡ clock x) (sym
+                (get_or-set_same histories x now [] listed))
+                (ap (λ n. (n + seconds_of x rest) % 60) (seconds_stay past event refl refl (runs_where net laws is differ cheap few_routers up in_ports most_routes most_services room network
+                before long clock few_seconds at_start x port count past there_is endured)) ∙ righted.clocks x port there_is))
         by (inr off) =
             subst (λ (h : History). (seconds_run h + seconds_of router rest) % 60 ≡ clock router) (sym (get_or-set_other histories x router now [] off))
             (righted.clocks router port here)
 
-    pub delivery_rights : Righted net laws is differ cheap few_routers up in_ports most_routes most_services room network before long clock few_seconds at_start rest (queued net most_routes most_services (record { histories = histories; queue = queue }) x event)
+    pub delivery_rights : Righted net laws is differ cheap few_routers up in_ports most_routes most_services room network before long clock few_seconds at_start
+        rest (queued net most_routes most_services (record { histories = histories; queue = queue }) x event)
     delivery_rights = record {
       going = going_now;
       states = state_now;
       clocks = clock_now;
-      speaks = all-append (Speaks net laws is differ cheap few_routers up in_ports most_routes most_services room network before long clock few_seconds at_start) queue new righted.speaks.1 speaks_new;
+      speaks =
+          all-append (Speaks net laws is differ cheap few_routers up in_ports most_routes most_services room network
+          before long clock few_seconds at_start) queue new righted.speaks.1 speaks_new;
     }

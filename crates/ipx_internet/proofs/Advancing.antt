@@ -45,11 +45,12 @@ use Rattle.ipx_internet.proofs.Rounding.{each_delivery}
 use Rattle.ipx_internet.proofs.Shortest.{within, on_or_off, OnOrOff, same_some, came, few}
 use Rattle.ipx_internet.proofs.Sourcing.{there_where_up}
 use Rattle.ipx_internet.proofs.Ticking.{Going, second_here, second_there, second_goes}
-use Rattle.ipx_internet.proofs.Uniting.{Wants, wants, start, SourceOf, Settled, Said, Word, AnyService, Speaks, Pending, Due, Fresh, Late, LateFrom, Later, Same, StateAt, holds_right, Knows, AllKnow, all_words, words_told, words_news, knows_on, knows_off, told_own, told_learned, pends}
+use Rattle.ipx_internet.proofs.Uniting.{Wants, wants, start, SourceOf, Said, Word, AnyService, Speaks, Pending, Due, Fresh, Late, Later, Same, StateAt, holds_right, Knows, AllKnow, all_words, words_told, words_news, knows_on, knows_off, told_own, told_learned, pends}
 use Rattle.ipx_internet.proofs.Wording.{Tells, second_tells}
 
 module _ (net : Internet) (laws : Layouts) (is : IsInternet net) (differ : NodesDiffer net) (cheap : AreCheap net) (few_routers : length net ≤ 16) (up : ℕ → List ℕ)
-    (in_ports : (router : ℕ) → AllByRecursion (λ j. j < length (ports_of net router)) (up router)) (most_routes most_services : ℕ) (room : HasRoom net most_routes) (network : Network)
+    (in_ports : (router : ℕ) → AllByRecursion (λ j. j < length (ports_of net router)) (up router)) (most_routes most_services : ℕ) (room : HasRoom net most_routes)
+    (network : Network)
     (before : ℕ) (long : most_ticks_gone ≤ before) (clock : ℕ → ℕ) (few_seconds : (router : ℕ) → clock router < 60) (at_start : ℕ → Option RouteOffer) where
   abbrev pub WantsOf : ℕ → Type 0
   WantsOf router = Wants net laws is differ cheap few_routers up in_ports most_routes most_services room network router
@@ -75,14 +76,8 @@ module _ (net : Internet) (laws : Layouts) (is : IsInternet net) (differ : Nodes
   abbrev pub KnowsOf : ℕ → List RouteOffer → Type 0
   KnowsOf = AllKnow net laws is differ cheap few_routers up in_ports most_routes most_services room network before long clock few_seconds at_start
 
-  abbrev pub SettledOf : Way → Type 0
-  SettledOf = Settled net laws is differ cheap few_routers up in_ports most_routes most_services room network before long clock few_seconds at_start
-
   abbrev pub DueOf : List Step → List Delivery → ℕ → Way → Place → Type 0
   DueOf = Due net laws is differ cheap few_routers up in_ports most_routes most_services room network before long clock few_seconds at_start
-
-  abbrev pub LateFromOf : List Step → List Delivery → ℕ → Way → Place → Type 0
-  LateFromOf = LateFrom net laws is differ cheap few_routers up in_ports most_routes most_services room network before long clock few_seconds at_start
 
   abbrev pub Services : Service → Type 0
   Services = AnyService net laws is differ cheap few_routers up in_ports most_routes most_services room network before long clock few_seconds at_start
@@ -119,11 +114,13 @@ module _ (net : Internet) (laws : Layouts) (is : IsInternet net) (differ : Nodes
   all_real router had history enough endures =
       all_then (IsReal net up router) (λ r. is_on (ports_of net router) r.network ≡ false)
       (λ r real. real_wanted net up (there_where_up net is cheap up in_ports network) real) (offers (routes_held (ports_of net router) most_routes history))
-      (at_last route_reading network_order network_total most_routes (map (λ p. p.route_share) (ports_of net router)) (λ r. r.hops) (λ r. refl) (IsReal net up router)
+      (at_last route_reading network_order network_total most_routes (map (λ p. p.route_share) (ports_of net router)) (λ r. r.hops) (λ r. refl)
+      (IsReal net up router)
       had (route_facts (ports_of net router) history) enough endures.routes)
 
   -- it knows the least way, where it has been right long enough
-  pub knows : (left : List Step) (queue : List Delivery) (router had : ℕ) (history : History) → most_ticks_gone ≤ had → Endures net up most_routes most_services router had history
+  pub knows : (left : List Step) (queue : List Delivery) (router had : ℕ) (history : History) → most_ticks_gone ≤ had
+      → Endures net up most_routes most_services router had history
       → ((w : WantsOf router) → begins w.v ≤ before → StateIn left queue router w (route_facts (ports_of net router) history))
       → KnowsOf router (offers (routes_held (ports_of net router) most_routes history))
   knows left queue router had history enough endures state u is_u settled = by (on_or_off net up in_ports network router)
@@ -131,7 +128,8 @@ module _ (net : Internet) (laws : Layouts) (is : IsInternet net) (differ : Nodes
       routes : List RouteOffer
       routes = offers (routes_held (ports_of net router) most_routes history)
 
-      by : OnOrOff net up in_ports network router → Knows net laws is differ cheap few_routers up in_ports most_routes most_services room network before long clock few_seconds at_start router u
+      by : OnOrOff net up in_ports network router → Knows net laws is differ cheap few_routers up in_ports most_routes most_services room network before long clock few_seconds at_start
+          router u
           (offers (routes_held (ports_of net router) most_routes history))
       by (inl on) =
           knows_on net laws is differ cheap few_routers up in_ports most_routes most_services room network before long clock few_seconds at_start router u
@@ -141,16 +139,20 @@ module _ (net : Internet) (laws : Layouts) (is : IsInternet net) (differ : Nodes
           let same = same_some net up in_ports network (within net up in_ports network 15 router) w.v u w.least is_u in
           let hops = ap (λ (x : Way). x.hops) same in
           let sure = settled.long_enough in
-          let (h, from, some, right, keeps) = holds_right net laws is differ cheap few_routers up in_ports most_routes most_services room network before long clock few_seconds at_start
+          let (h, from, some, right, keeps) = holds_right net laws is differ cheap few_routers up in_ports most_routes most_services room network
+          before long clock few_seconds at_start
           left queue router w (route_facts (ports_of net router) history) (omega (arith, hops, sure)) (state w (omega (arith, hops, sure))) in
-          subst (λ (x : Way). Knows net laws is differ cheap few_routers up in_ports most_routes most_services room network before long clock few_seconds at_start router x
+          subst (λ (x : Way). Knows net laws is differ cheap few_routers up in_ports most_routes most_services room network before long clock few_seconds at_start
+          router x
           (offers (routes_held (ports_of net router) most_routes history))) same
-          (knows_off net laws is differ cheap few_routers up in_ports most_routes most_services room network before long clock few_seconds at_start router w history h from some right)
+          (knows_off net laws is differ cheap few_routers up in_ports most_routes most_services room network before long clock few_seconds at_start
+          router w history h from some right)
 
   -- ---- states, where more waits and fewer steps are left
 
   module _ (left rest : List Step) (queue more : List Delivery) (router : ℕ) (w : WantsOf router) (same_seconds : seconds_of router rest ≡ seconds_of router left)
-      (due : (port : ℕ) (from : Place) → Sources router w.v port from → clock from.router ≡ 0 → DueOf left queue router w.v from → DueOf rest more router w.v from) where
+      (due : (port : ℕ) (from : Place) → Sources router w.v port from → clock from.router ≡ 0 → DueOf left queue router w.v from
+      → DueOf rest more router w.v from) where
     pub state_then : (facts : List (Fact RouteOffer)) → StateIn left queue router w facts → StateIn rest more router w facts
     state_then facts state = record {
       aged = λ h f e right. elim (state.aged h f e right) [
@@ -197,7 +199,8 @@ module _ (net : Internet) (laws : Layouts) (is : IsInternet net) (differ : Nodes
         reaches = record { other = got.other; network = got.network; on = both.1.on };
         news = both.1.news;
       })
-      sent (all_both (λ s. IsBytes s.bytes) (IsCast (up router) (λ j. SaidOf (record { router = router; port = j })) (λ j. Services) (ports_of net router)) sent bytes casts)
+      sent (all_both (λ s. IsBytes s.bytes) (IsCast (up router) (λ j. SaidOf (record { router = router; port = j })) (λ j. Services)
+      (ports_of net router)) sent bytes casts)
 
   -- ---- a second
 
@@ -306,19 +309,25 @@ module _ (net : Internet) (laws : Layouts) (is : IsInternet net) (differ : Nodes
     said_told : (j : ℕ) → AllByRecursion (SaidOf (place j)) (told ports (up x) routes j)
     said_told j =
         all_both (RouteSaid net up (suc before) (place j))
-        (Word net laws is differ cheap few_routers up in_ports most_routes most_services room network before long clock few_seconds at_start (place j)) (told ports (up x) routes j)
+        (Word net laws is differ cheap few_routers up in_ports most_routes most_services room network before long clock few_seconds at_start
+        (place j)) (told ports (up x) routes j)
         (routes_said net up most_routes most_services x (suc before) (suc before) (omega arith) now endures_now j)
-        (all_words net laws is differ cheap few_routers up in_ports most_routes most_services room network before long clock few_seconds at_start (place j) (told ports (up x) routes j)
-        (λ u is_u settled. words_told net laws is differ cheap few_routers up in_ports most_routes most_services room network before long clock few_seconds at_start x u is_u settled
+        (all_words net laws is differ cheap few_routers up in_ports most_routes most_services room network before long clock few_seconds at_start
+        (place j) (told ports (up x) routes j)
+        (λ u is_u settled. words_told net laws is differ cheap few_routers up in_ports most_routes most_services room network before long clock few_seconds at_start
+        x u is_u settled
         routes (knows_now u is_u settled) j))
 
     said_news : (j : ℕ) → AllByRecursion (SaidOf (place j)) (news ports old routes j)
     said_news j =
         all_both (RouteSaid net up (suc before) (place j))
-        (Word net laws is differ cheap few_routers up in_ports most_routes most_services room network before long clock few_seconds at_start (place j)) (news ports old routes j)
+        (Word net laws is differ cheap few_routers up in_ports most_routes most_services room network before long clock few_seconds at_start
+        (place j)) (news ports old routes j)
         (changes_said net up most_routes most_services x (suc before) (suc before) (omega arith) now endures_now old j)
-        (all_words net laws is differ cheap few_routers up in_ports most_routes most_services room network before long clock few_seconds at_start (place j) (news ports old routes j)
-        (λ u is_u settled. words_news net laws is differ cheap few_routers up in_ports most_routes most_services room network before long clock few_seconds at_start x u is_u settled
+        (all_words net laws is differ cheap few_routers up in_ports most_routes most_services room network before long clock few_seconds at_start
+        (place j) (news ports old routes j)
+        (λ u is_u settled. words_news net laws is differ cheap few_routers up in_ports most_routes most_services room network before long clock few_seconds at_start
+        x u is_u settled
         old routes (knows_now u is_u settled) (all_real x before past long endured) j))
 
     abbrev bef : Holding
@@ -371,15 +380,19 @@ module _ (net : Internet) (laws : Layouts) (is : IsInternet net) (differ : Nodes
     module _ (router : ℕ) (w : WantsOf router) (sure : begins w.v ≤ before) (at_zero : clock x ≡ 0) where
       pend_at : (port j : ℕ) → Sources router w.v port (place j) → AnyIs (PendingOf router (place j)) new
       pend_at port j source =
-          pends net laws is differ cheap few_routers up in_ports most_routes most_services room network before long clock few_seconds at_start router w port (place j) source sent sent_bytes
+          pends net laws is differ cheap few_routers up in_ports most_routes most_services room network before long clock few_seconds at_start
+          router w port (place j) source sent sent_bytes
           (subst (λ (ss : List Sent). AnyIs (Tells ports network source.way (SaidOf (place j)) j) ss) (sym (sends_all j source.neighbour.on_there at_zero))
-          (second_tells ports network source.way laws.readings laws.again j (port-all _ ports j (ports_at net is x) source.neighbour.place) (SaidOf (place j)) bef aft
+          (second_tells ports network source.way laws.readings laws.again j (port-all _ ports j (ports_at net is x) source.neighbour.place) (SaidOf
+          (place j)) bef aft
           (subst (λ (us : List ℕ). AnyIs (λ k. k ≡ j) us) (sym endures_now.ups) (number_any j (up x) source.neighbour.on_there))
           (subst (λ (us : List ℕ). AnyIs (λ e. e.network ≡ network) (told ports us routes j)) (sym endures_now.ups) (has (on_or_off net up in_ports network x)))
           (all_both IsEntry (SaidOf (place j)) (told ports aft.up routes j)
-          (told_fits ports (ports_at net is x) aft.up routes j (ports_up-within ports now) (held_routes_fit laws.readings ports most_routes now still)) (said_after j))
+          (told_fits ports (ports_at net is x) aft.up routes j (ports_up-within ports now) (held_routes_fit laws.readings ports most_routes now still))
+          (said_after j))
           (all_both IsEntry (SaidOf (place j)) (news ports old routes j)
-          (news_fit ports old routes j (held_routes_fit laws.readings ports most_routes past (righted.going.are.of_bytes x)) (held_routes_fit laws.readings ports most_routes now still))
+          (news_fit ports old routes j (held_routes_fit laws.readings ports most_routes past (righted.going.are.of_bytes x))
+          (held_routes_fit laws.readings ports most_routes now still))
           (said_news j))))
         where
           hops : w.v.hops ≡ source.way.hops + 1
@@ -393,16 +406,19 @@ module _ (net : Internet) (laws : Layouts) (is : IsInternet net) (differ : Nodes
 
           has : OnOrOff net up in_ports network x → AnyIs (λ e. e.network ≡ network) (told ports (up x) routes j)
           has (inl on) =
-              told_own net laws is differ cheap few_routers up in_ports most_routes most_services room network before long clock few_seconds at_start router w port (place j) source routes on
+              told_own net laws is differ cheap few_routers up in_ports most_routes most_services room network before long clock few_seconds at_start
+              router w port (place j) source routes on
           has (inr off) =
               let second = wants net laws is differ cheap few_routers up in_ports most_routes most_services room network x source.way off source.there in
               let same = same_some net up in_ports network (within net up in_ports network 15 x) second.v source.way second.least source.there in
               let equal = ap (λ (y : Way). y.hops) same in
               let h = hops in
               let s = sure in
-              let (it, from, some, right, keeps) = holds_right net laws is differ cheap few_routers up in_ports most_routes most_services room network before long clock few_seconds at_start
+              let (it, from, some, right, keeps) = holds_right net laws is differ cheap few_routers up in_ports most_routes most_services room network
+              before long clock few_seconds at_start
               rest queue x second (route_facts ports now) (omega (arith, equal, h, s)) (own_state second (omega (arith, equal, h, s))) in
-              told_learned net laws is differ cheap few_routers up in_ports most_routes most_services room network before long clock few_seconds at_start router w port (place j) source
+              told_learned net laws is differ cheap few_routers up in_ports most_routes most_services room network before long clock few_seconds at_start
+              router w port (place j) source
               second now it from near some right
 
       pend : (port : ℕ) (f : Place) → Sources router w.v port f → f.router ≡ x → AnyIs (PendingOf router f) new
@@ -428,17 +444,21 @@ module _ (net : Internet) (laws : Layouts) (is : IsInternet net) (differ : Nodes
             (λ port f source at_zero due. elim due [ inl later ↦ inl later | inr waits ↦ inr (any_in_front (PendingOf x f) queue new waits) ])
             (route_facts ports now) (own_state own s)
 
-        by : (router ≡ x) ⊎ (router ≢ x) → StateIn rest (queue ++ new) router w (route_facts (ports_of net router) (history_of (with_event histories x Second) router))
+        by : (router ≡ x) ⊎ (router ≢ x) → StateIn rest (queue ++ new) router w (route_facts (ports_of net router) (history_of
+            (with_event histories x Second) router))
         by (inl same) = moved same w sure
           where
             P : ℕ → Type 0
-            P r = (v : WantsOf r) → begins v.v ≤ before → StateIn rest (queue ++ new) r v (route_facts (ports_of net r) (history_of (with_event histories x Second) r))
+            P r =
+                (v : WantsOf r) → begins v.v ≤ before → StateIn rest (queue ++ new) r v (route_facts (ports_of net r) (history_of (with_event histories x Second) r))
 
             moved : router ≡ x → P router
             moved e =
-                subst P (sym e) (λ v s. subst (λ (h : History). StateIn rest (queue ++ new) x v (route_facts ports h)) (sym (get_or-set_same histories x now [] listed)) (here v s))
+                subst P (sym e) (λ v s. subst (λ (h : History). StateIn rest (queue ++ new) x v (route_facts ports h)) (sym
+                (get_or-set_same histories x now [] listed)) (here v s))
         by (inr off) =
-            subst (λ (h : History). StateIn rest (queue ++ new) router w (route_facts (ports_of net router) h)) (sym (get_or-set_other histories x router now [] off))
+            subst (λ (h : History). StateIn rest (queue ++ new) router w (route_facts (ports_of net router) h)) (sym
+            (get_or-set_other histories x router now [] off))
             (state_then left rest queue (queue ++ new) router w (sym (second_there x router Second rest off))
             (λ port f source at_zero due. elim due [
               | inr waits ↦ inr (any_in_front (PendingOf router f) queue new waits)
@@ -474,7 +494,8 @@ module _ (net : Internet) (laws : Layouts) (is : IsInternet net) (differ : Nodes
 
             moved : router ≡ x → P router
             moved e =
-                subst P (sym e) (λ there. subst (λ (h : History). (seconds_run h + seconds_of x rest) % 60 ≡ clock x) (sym (get_or-set_same histories x now [] listed)) (own there))
+                subst P (sym e) (λ there. subst (λ (h : History). (seconds_run h + seconds_of x rest) % 60 ≡ clock x) (sym
+                (get_or-set_same histories x now [] listed)) (own there))
         by (inr off) =
             let same : seconds_run (history_of histories router) + seconds_of router rest ≡ seconds_run (history_of histories router) + seconds_of router left =
             ap (λ n. seconds_run (history_of histories router) + n) (sym (second_there x router Second rest off)) in

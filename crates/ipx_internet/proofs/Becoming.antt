@@ -66,7 +66,8 @@ tied a b = elim (cases_eq a b) [
     ]
 
 module _ (net : Internet) (laws : Layouts) (is : IsInternet net) (differ : NodesDiffer net) (cheap : AreCheap net) (few_routers : length net ≤ 16) (up : ℕ → List ℕ)
-    (in_ports : (router : ℕ) → AllByRecursion (λ j. j < length (ports_of net router)) (up router)) (most_routes most_services : ℕ) (room : HasRoom net most_routes) (network : Network) where
+    (in_ports : (router : ℕ) → AllByRecursion (λ j. j < length (ports_of net router)) (up router)) (most_routes most_services : ℕ) (room : HasRoom net most_routes)
+    (network : Network) where
   abbrev Wanting : ℕ → Type 0
   Wanting = Wants net laws is differ cheap few_routers up in_ports most_routes most_services room network
 
@@ -99,11 +100,15 @@ module _ (net : Internet) (laws : Layouts) (is : IsInternet net) (differ : Nodes
       clocks = righted.clocks;
       speaks = tt;
     }
-    settles_rights rest histories (d ∷ queue) righted = delivery_rights net laws is differ cheap few_routers up in_ports most_routes most_services room network before long clock few_seconds at_start rest histories queue d righted
+    settles_rights rest histories (d ∷ queue) righted =
+        delivery_rights net laws is differ cheap few_routers up in_ports most_routes most_services room network before long clock few_seconds at_start
+        rest histories queue d righted
 
     happens_rights : (rest : List Step) (q : Queued) (router : ℕ) (event : Event) → router < length net → is_second event ≡ true
         → RightedOf (Happens router event ∷ rest) q → RightedOf rest (queued net most_routes most_services q router event)
-    happens_rights rest q router Second inside second righted = second_rights net laws is differ cheap few_routers up in_ports most_routes most_services room network before long clock few_seconds at_start rest q.histories q.queue router inside righted
+    happens_rights rest q router Second inside second righted =
+        second_rights net laws is differ cheap few_routers up in_ports most_routes most_services room network before long clock few_seconds at_start
+        rest q.histories q.queue router inside righted
     happens_rights rest q router Start inside second righted = absurd (true≢false (sym second))
     happens_rights rest q router Stop inside second righted = absurd (true≢false (sym second))
     happens_rights rest q router (Packet number bytes) inside second righted = absurd (true≢false (sym second))
@@ -134,11 +139,14 @@ module _ (net : Internet) (laws : Layouts) (is : IsInternet net) (differ : Nodes
   Early ticks run v f age = ticks ≤ starts v + ClockOf run f.router
 
   abbrev EarlyFrom : ℕ → Run → ℕ → Way → Type 0
-  EarlyFrom ticks run router v = (port : ℕ) × (f : Place) × SourceOf net laws is differ cheap few_routers up in_ports most_routes most_services room network router v port f × (ticks ≤ starts v + ClockOf run f.router)
+  EarlyFrom ticks run router v =
+      (port : ℕ) × (f : Place) × SourceOf net laws is differ cheap few_routers up in_ports most_routes most_services room network
+      router v port f × (ticks ≤ starts v + ClockOf run f.router)
 
   abbrev StateAfter : ℕ → Run → (router : ℕ) → Wanting router → Type 0
   StateAfter ticks run router w =
-      StateFor net laws is differ cheap few_routers up in_ports most_routes most_services room network router w (Young run) (Early ticks run w.v) (EarlyFrom ticks run router w.v) (λ o. Unit {0})
+      StateFor net laws is differ cheap few_routers up in_ports most_routes most_services room network
+      router w (Young run) (Early ticks run w.v) (EarlyFrom ticks run router w.v) (λ o. Unit {0})
       (KnownOf router w (route_facts (ports_of net router) (history_of run.histories router)))
 
   -- what is so after so many ticks
@@ -169,7 +177,8 @@ module _ (net : Internet) (laws : Layouts) (is : IsInternet net) (differ : Nodes
 
   -- ---- one tick
 
-  module _ (before : ℕ) (long : most_ticks_gone ≤ before) (run : Run) (steps : List Step) (rest : AtRest before run) (tick : IsTick net most_routes most_services run steps) where
+  module _ (before : ℕ) (long : most_ticks_gone ≤ before) (run : Run) (steps : List Step) (rest : AtRest before run)
+      (tick : IsTick net most_routes most_services run steps) where
     abbrev clock : ℕ → ℕ
     clock router = (seconds_run (history_of run.histories router) + 1) % 60
 
@@ -205,7 +214,8 @@ module _ (net : Internet) (laws : Layouts) (is : IsInternet net) (differ : Nodes
     }
 
     -- when it begins
-    begins_right : (router : ℕ) (w : Wanting router) → StateIn net laws is differ cheap few_routers up in_ports most_routes most_services room network before long clock few_seconds at_start steps queue router w (route_facts (ports_of net router) (history_of run.histories router))
+    begins_right : (router : ℕ) (w : Wanting router) → StateIn net laws is differ cheap few_routers up in_ports most_routes most_services room network before long clock few_seconds at_start
+        steps queue router w (route_facts (ports_of net router) (history_of run.histories router))
     begins_right router w = record {
       aged = λ h f e right. aged_by h f right (tick.each f.router (router_there net f.router f.port right.source.neighbour.place))
           (next_clock (seconds_run (history_of run.histories f.router))) ((rest.states router w).aged h f e right);
@@ -227,13 +237,17 @@ module _ (net : Internet) (laws : Layouts) (is : IsInternet net) (differ : Nodes
         same_at_start : (h : Held RouteOffer) (f : Place) → KnownOf router w (route_facts (ports_of net router) (history_of run.histories router)) ≡ Some h
             → RightFor net laws is differ cheap few_routers up in_ports most_routes most_services room network router w f h.offer → at_start router ≡ Some h.offer
         same_at_start h f some right =
-            found_there net laws is differ cheap few_routers up in_ports most_routes most_services room network router w (history_of run.histories router) h some (ap (λ (r : RouteOffer). r.network) right.same)
+            found_there net laws is differ cheap few_routers up in_ports most_routes most_services room network
+            router w (history_of run.histories router) h some (ap (λ (r : RouteOffer). r.network) right.same)
             (right_way net is differ cheap few_routers up in_ports most_routes room network router w.v w.off w.least f h.offer right)
 
-        aged_by : (h : Held RouteOffer) (f : Place) → RightFor net laws is differ cheap few_routers up in_ports most_routes most_services room network router w f h.offer → seconds_of f.router steps ≡ 1
+        aged_by : (h : Held RouteOffer) (f : Place) → RightFor net laws is differ cheap few_routers up in_ports most_routes most_services room network
+            router w f h.offer → seconds_of f.router steps ≡ 1
             → (clock f.router ≡ ClockOf run f.router + 1) ⊎ ((clock f.router ≡ 0) × (ClockOf run f.router ≡ 59))
             → Young run f h.age ⊎ Early before run w.v f h.age
-            → Fresh net laws is differ cheap few_routers up in_ports most_routes most_services room network before long clock few_seconds at_start steps queue router w.v f h.age ⊎ Late net laws is differ cheap few_routers up in_ports most_routes most_services room network before long clock few_seconds at_start steps queue router w.v f h.age
+            → Fresh net laws is differ cheap few_routers up in_ports most_routes most_services room network before long clock few_seconds at_start
+            steps queue router w.v f h.age ⊎ Late net laws is differ cheap few_routers up in_ports most_routes most_services room network before long clock few_seconds at_start
+            steps queue router w.v f h.age
         aged_by h f right due (inl next) (inl young) = inl (let s = here in omega (arith, s, next, young))
         aged_by h f right due (inl next) (inr early) = inr (inl (omega (arith, next, early)))
         aged_by h f right due (inr (at_zero, end)) (inl young) = inr (inr (at_zero, inl due, inl (let s = here in omega (arith, s, end, young))))
@@ -241,19 +255,24 @@ module _ (net : Internet) (laws : Layouts) (is : IsInternet net) (differ : Nodes
 
         late_by : (f : Place) → seconds_of f.router steps ≡ 1
             → (clock f.router ≡ ClockOf run f.router + 1) ⊎ ((clock f.router ≡ 0) × (ClockOf run f.router ≡ 59))
-            → before ≤ starts w.v + ClockOf run f.router → LateFrom net laws is differ cheap few_routers up in_ports most_routes most_services room network before long clock few_seconds at_start steps queue router w.v f
+            → before ≤ starts w.v + ClockOf run f.router → LateFrom net laws is differ cheap few_routers up in_ports most_routes most_services room network
+            before long clock few_seconds at_start steps queue router w.v f
         late_by f due (inl next) early = inl (omega (arith, next, early))
         late_by f due (inr (at_zero, end)) early = inr (at_zero, inl due, omega (arith, end, early))
 
-    righted : Righted net laws is differ cheap few_routers up in_ports most_routes most_services room network before long clock few_seconds at_start steps (forgotten run)
+    righted : Righted net laws is differ cheap few_routers up in_ports most_routes most_services room network before long clock few_seconds at_start
+        steps (forgotten run)
     righted = record {
       going = goes;
       states = λ router w sure. begins_right router w;
-      clocks = λ router port here. ap (λ n. (seconds_run (history_of run.histories router) + n) % 60) (tick.each router (router_there net router port (there_where_up net is cheap up in_ports network router port here)));
+      clocks =
+          λ router port here. ap (λ n. (seconds_run (history_of run.histories router) + n) % 60) (tick.each router (router_there net router port
+          (there_where_up net is cheap up in_ports network router port here)));
       speaks = none_waits _ run.waiting rest.rests.quiet;
     }
 
-    ended : Righted net laws is differ cheap few_routers up in_ports most_routes most_services room network before long clock few_seconds at_start [] (forgotten last)
+    ended : Righted net laws is differ cheap few_routers up in_ports most_routes most_services room network before long clock few_seconds at_start
+        [] (forgotten last)
     ended = steps_right before long clock few_seconds at_start steps run tick.passes righted
 
     -- when it is over
@@ -269,12 +288,16 @@ module _ (net : Internet) (laws : Layouts) (is : IsInternet net) (differ : Nodes
             let sum : seconds_run (history_of last.histories router) + 0 ≡ seconds_run (history_of last.histories router) = omega arith in
             ap (λ n. n % 60) (sym sum) ∙ ended.clocks router port here
 
-        due_none : (router : ℕ) (v : Way) (f : Place) → Due net laws is differ cheap few_routers up in_ports most_routes most_services room network before long clock few_seconds at_start [] (map (λ w. w.delivery) last.waiting) router v f → ⊥
+        due_none : (router : ℕ) (v : Way) (f : Place) → Due net laws is differ cheap few_routers up in_ports most_routes most_services room network before long clock few_seconds at_start
+            [] (map (λ w. w.delivery) last.waiting) router v f → ⊥
         due_none router v f (inl one) = omega (arith, one)
         due_none router v f (inr waits) = none_is _ last.waiting tick.quiet waits
 
-        aged_by : (router : ℕ) (w : Wanting router) (h : Held RouteOffer) (f : Place) → RightFor net laws is differ cheap few_routers up in_ports most_routes most_services room network router w f h.offer
-            → Fresh net laws is differ cheap few_routers up in_ports most_routes most_services room network before long clock few_seconds at_start [] (map (λ w. w.delivery) last.waiting) router w.v f h.age ⊎ Late net laws is differ cheap few_routers up in_ports most_routes most_services room network before long clock few_seconds at_start [] (map (λ w. w.delivery) last.waiting) router w.v f h.age
+        aged_by : (router : ℕ) (w : Wanting router) (h : Held RouteOffer) (f : Place) → RightFor net laws is differ cheap few_routers up in_ports most_routes most_services room network
+            router w f h.offer
+            → Fresh net laws is differ cheap few_routers up in_ports most_routes most_services room network before long clock few_seconds at_start
+            [] (map (λ w. w.delivery) last.waiting) router w.v f h.age ⊎ Late net laws is differ cheap few_routers up in_ports most_routes most_services room network
+            before long clock few_seconds at_start [] (map (λ w. w.delivery) last.waiting) router w.v f h.age
             → Young last f h.age ⊎ Early (suc before) last w.v f h.age
         aged_by router w h f right (inl young) =
             let c = clock_is f.router f.port right.source.neighbour.on_there in
@@ -303,8 +326,10 @@ module _ (net : Internet) (laws : Layouts) (is : IsInternet net) (differ : Nodes
     pub route_stays : (router : ℕ) (w : Wanting router) → starts w.v + 60 ≤ before → route_of last router ≡ route_of run router
     route_stays router w settled =
         let sure : starts w.v ≤ before = omega (arith, settled) in
-        let (h, f, some, right, same) = holds_right net laws is differ cheap few_routers up in_ports most_routes most_services room network before long clock few_seconds at_start [] (map (λ w. w.delivery) last.waiting) router w (route_facts (ports_of net router) (history_of last.histories router)) settled
+        let (h, f, some, right, same) = holds_right net laws is differ cheap few_routers up in_ports most_routes most_services room network before long clock few_seconds at_start
+        [] (map (λ w. w.delivery) last.waiting) router w (route_facts (ports_of net router) (history_of last.histories router)) settled
         (ended.states router w sure) in
-        found_there net laws is differ cheap few_routers up in_ports most_routes most_services room network router w (history_of last.histories router) h some (ap (λ (r : RouteOffer). r.network) right.same)
+        found_there net laws is differ cheap few_routers up in_ports most_routes most_services room network
+        router w (history_of last.histories router) h some (ap (λ (r : RouteOffer). r.network) right.same)
         (right_way net is differ cheap few_routers up in_ports most_routes room network router w.v w.off w.least f h.offer right)
         ∙ sym (same settled)

@@ -37,7 +37,8 @@ use Rattle.ipx_internet.proofs.Sourcing.{Source}
 use Rattle.ipx_internet.proofs.Ways.{nothing, it_is}
 
 module _ (net : Internet) (is : IsInternet net) (differ : NodesDiffer net) (cheap : AreCheap net) (few_routers : length net ≤ 16) (up : ℕ → List ℕ)
-    (in_ports : (router : ℕ) → AllByRecursion (λ j. j < length (ports_of net router)) (up router)) (most_routes : ℕ) (room : HasRoom net most_routes) (network : Network)
+    (in_ports : (router : ℕ) → AllByRecursion (λ j. j < length (ports_of net router)) (up router)) (most_routes : ℕ) (room : HasRoom net most_routes)
+    (network : Network)
     (router : ℕ) (v : Way) (off : is_on (ports_of net router) network ≡ false) (least : within net up in_ports network 15 router ≡ Some v)
     (wanted : takes_no_route (ports_of net router) network ≡ false) where
   abbrev ports : List Port
@@ -67,7 +68,8 @@ module _ (net : Internet) (is : IsInternet net) (differ : NodesDiffer net) (chea
   pub all_real : (had : ℕ) → most_ticks_gone ≤ had → (facts : List (Fact RouteOffer)) → RoutesAged had facts
       → AllByRecursion (λ h. IsReal net up router h.offer × (h.age < lifetime)) (records facts)
   all_real had long facts aged =
-      all_then (λ h. IsOld route_reading network_order network_total most_routes (map (λ p. p.route_share) ports) (λ r. r.hops) (λ r. refl) (IsReal net up router) had h
+      all_then (λ h. IsOld route_reading network_order network_total most_routes (map (λ p. p.route_share) ports) (λ r. r.hops) (λ r. refl)
+      (IsReal net up router) had h
       × IsNear route_reading network_order network_total most_routes (map (λ p. p.route_share) ports) (λ r. r.hops) (λ r. refl) h)
       (λ h. IsReal net up router h.offer × (h.age < lifetime)) (λ h both. (one h both.0 both.1.0 both.1.1, both.1.1)) (records facts)
       (all_both _ _ (records facts) aged
@@ -134,7 +136,8 @@ module _ (net : Internet) (is : IsInternet net) (differ : NodesDiffer net) (chea
             subst (λ (k : Option (Held RouteOffer)). Then k) (sym (own_key facts (offer_of e)))
             (comes_right net is differ cheap few_routers up in_ports most_routes room network router v off least (records facts)
             (kept rules (rules_total route_reading network_order network_total most_routes (map (λ p. p.route_share) ports)) facts).distinct
-            (all_then (λ h. IsReal net up router h.offer × (h.age < lifetime)) (λ h. IsReal net up router h.offer) (λ h both. both.0) (records facts) (all_real had long facts aged))
+            (all_then (λ h. IsReal net up router h.offer × (h.age < lifetime)) (λ h. IsReal net up router h.offer) (λ h both. both.0) (records facts)
+            (all_real had long facts aged))
             (λ h found. let known_h = known_is had long facts aged h found in (known_h.0.0, known_h.1))
             (offer_of e) named from neighbour refl (near_if e is_e taken) Fresh now Late Later Same free state source (is_e.right named source) near)
           where
@@ -195,7 +198,8 @@ module _ (net : Internet) (is : IsInternet net) (differ : NodesDiffer net) (chea
           let rest = routes_offered ports j (port_of net from).node es in
           let taken : takes_no_route ports e.network ≡ false = subst (λ (n : Network). takes_no_route ports n ≡ false) (sym named) wanted in
           let next = one_right Late Later free facts e all.0 aged named source state in
-          let done = entries_keep (λ f age. Late f age × (f ≢ from)) ⊥ (λ none r. absurd none) es (facts ++ o ∷ []) all.1 (next_aged facts e all.0 taken aged) next in
+          let done = entries_keep (λ f age. Late f age × (f ≢ from)) ⊥ (λ none r. absurd none) es (facts ++ o ∷ []) all.1
+          (next_aged facts e all.0 taken aged) next in
           rw taken (subst (λ (fs : List (Fact RouteOffer)). Then Late Later free (known fs)) (append_assoc facts (o ∷ []) rest) done)
       entries_come Late Later free source (e ∷ es) facts all (inr behind) aged state = elim (cases_Bool (takes_no_route ports e.network)) [
         | inl none ↦ rw none (entries_come Late Later free source es facts all.1 behind aged state)
@@ -210,9 +214,11 @@ module _ (net : Internet) (is : IsInternet net) (differ : NodesDiffer net) (chea
   -- ---- a second
 
   pub second_keeps : (had : ℕ) → most_ticks_gone ≤ had → (Fresh Then Late Still : Place → ℕ → Type 0) (Later After : Type 0) (Same : RouteOffer → Type 0)
-      → ((f : Place) (age : ℕ) → Fresh f age → Then f (age + 1)) → ((f : Place) (h : Held RouteOffer) → RightOf f h.offer → Late f h.age → Still f (h.age + 1)) → (Later → After)
+      → ((f : Place) (age : ℕ) → Fresh f age → Then f (age + 1)) → ((f : Place) (h : Held RouteOffer) → RightOf f h.offer → Late f h.age → Still f (h.age + 1)) →
+      (Later → After)
       → ((f : Place) (h : Held RouteOffer) → RightOf f h.offer → Fresh f 179 ⊎ Late f 179 → After)
-      → (facts : List (Fact RouteOffer)) → RoutesAged had facts → StateOf Fresh Late Later Same (known facts) → StateOf Then Still After Same (known (facts ++ Second ∷ []))
+      → (facts : List (Fact RouteOffer)) → RoutesAged had facts → StateOf Fresh Late Later Same (known facts) → StateOf Then Still After Same (known
+      (facts ++ Second ∷ []))
   second_keeps had long Fresh Then Late Still Later After Same grows lates later ends facts aged state =
       subst (λ (k : Option (Held RouteOffer)). StateOf Then Still After Same k) (sym next) (by (known facts) refl)
     where

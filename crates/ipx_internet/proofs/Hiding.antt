@@ -45,7 +45,8 @@ module _ (net : Internet) (up : ℕ → List ℕ) (in_ports : (router : ℕ) →
       let (j, is_j, same, cost) = own_is (ports_of net router) (up router) network v (sym (own net up in_ports network hops router there on) ∙ e) in
       ap (λ (w : Way). w.hops) cost
 
-  routers_of : (hops router : ℕ) (v : Way) → within net up in_ports network hops router ≡ Some v → v.hops ≡ hops → OnOrOff net up in_ports network router → Routers hops v
+  routers_of : (hops router : ℕ) (v : Way) → within net up in_ports network hops router ≡ Some v → v.hops ≡ hops → OnOrOff net up in_ports network router
+      → Routers hops v
   routers_of zero router v e exact case = record {
     all = router ∷ [];
     count = refl;
@@ -67,8 +68,10 @@ module _ (net : Internet) (up : ℕ → List ℕ) (in_ports : (router : ℕ) →
         count = omega (arith, count);
         differ = (
           all_then (OnWay hops c.way) (λ other. other ≢ router) (λ other on same.
-              let (w, is_w, less) = many_more net up in_ports network (suc hops - on.after) on.after (suc hops) other on.way (let n = on.no_more in omega (arith, n)) on.there in
-              let again : within net up in_ports network (suc hops) router ≡ Some w = subst (λ (r : ℕ). within net up in_ports network (suc hops) r ≡ Some w) same is_w in
+              let (w, is_w, less) = many_more net up in_ports network (suc hops - on.after) on.after (suc hops) other on.way (let n = on.no_more in omega
+              (arith, n)) on.there in
+              let again : within net up in_ports network (suc hops) router ≡ Some w = subst (λ (r : ℕ). within net up in_ports network
+              (suc hops) r ≡ Some w) same is_w in
               let equal = ap (λ (x : Way). x.ticks) (same_some net up in_ports network (within net up in_ports network (suc hops) router) w v again e) in
               let most = less.ticks in
               let bound = on.ticks in
@@ -76,16 +79,33 @@ module _ (net : Internet) (up : ℕ → List ℕ) (in_ports : (router : ℕ) →
           rest.differ,
         );
         each = (
-          record { inside = is_there net up in_ports network (suc hops) router v e; after = suc hops; no_more = omega arith; way = v; there = e; ticks = omega arith },
+          record {
+            inside = is_there net up in_ports network
+                (suc hops) router v e;
+            after = suc hops;
+            no_more = omega arith;
+            way = v;
+            there = e;
+            ticks = omega arith;
+          },
           all_then (OnWay hops c.way) (OnWay (suc hops) v) (λ other on.
               let n = on.no_more in
               let bound = on.ticks in
-              record { inside = on.inside; after = on.after; no_more = omega (arith, n); way = on.way; there = on.there; ticks = omega (arith, bound, t) }) rest.all rest.each,
+              record {
+                inside = on.inside;
+                after = on.after;
+                no_more = omega (arith, n);
+                way = on.way;
+                there = on.there;
+                ticks = omega
+                    (arith, bound, t);
+              }) rest.all rest.each,
         );
       }
 
   -- a way through so many routers goes through all
-  through_all : (hops router : ℕ) (v : Way) → within net up in_ports network hops router ≡ Some v → v.hops ≡ hops → length net ≤ suc hops → (other : ℕ) → other < length net
+  through_all : (hops router : ℕ) (v : Way) → within net up in_ports network hops router ≡ Some v → v.hops ≡ hops → length net ≤ suc hops → (other : ℕ)
+      → other < length net
       → OnWay hops v other
   through_all hops router v e exact few_routers other inside = by (cases_Bool (list_any (λ j. j == other) rs.all))
     where
@@ -112,14 +132,17 @@ module _ (net : Internet) (up : ℕ → List ℕ) (in_ports : (router : ℕ) →
 
   -- ---- nothing is hidden
 
-  pub nothing_hidden : length net ≤ 16 → (router port : ℕ) (from : Place) (v s u : Way) → IsNeighbour net up in_ports router port from → is_on (ports_of net router) network ≡ false
-      → within net up in_ports network 15 router ≡ Some v → v ≡ by_port (cost_of from) s → within net up in_ports network 15 from.router ≡ Some u → NoWorse u s → u ≡ s
+  pub nothing_hidden : length net ≤ 16 → (router port : ℕ) (from : Place) (v s u : Way) → IsNeighbour net up in_ports router port from → is_on
+      (ports_of net router) network ≡ false
+      → within net up in_ports network 15 router ≡ Some v → v ≡ by_port (cost_of from) s → within net up in_ports network 15 from.router ≡ Some u → NoWorse u s
+      → u ≡ s
   nothing_hidden few_routers router port from v s u neighbour off is_v by_s is_u less = elim (cases_lt u.hops 15) [
     | inl short ↦
         let deeper = enough net up in_ports network 14 from.router u is_u (omega (arith, short)) in
         let (w, is_w, least) = none_better net up in_ports network 14 router port from u neighbour off deeper in
         let one : NoWorse v (by_port (cost_of from) u) =
-        subst (λ (x : Way). NoWorse x (by_port (cost_of from) u)) (same_some net up in_ports network (within net up in_ports network 15 router) w v is_w is_v) least in
+        subst (λ (x : Way). NoWorse x (by_port (cost_of from) u)) (same_some net up in_ports network
+        (within net up in_ports network 15 router) w v is_w is_v) least in
         let two : NoWorse (by_port (cost_of from) u) v = subst (λ (x : Way). NoWorse (by_port (cost_of from) u) x) (sym by_s) (goes_on (cost_of from) u s less) in
         let same : by_port (cost_of from) u ≡ by_port (cost_of from) s = both_no_worse (by_port (cost_of from) u) v two one ∙ by_s in
         let h = ap (λ (x : Way). x.hops) same in

@@ -51,7 +51,8 @@ use Rattle.ipx_internet.proofs.Uniting.{some_port}
 -- ---- lists
 
 -- where one alone passes, a filter keeps that
-only_passes : {X : Type 0} (test : X → Bool) (f : X) (xs : List X) → AreDifferent xs → AllByRecursion (λ x. test x ≡ true → x ≡ f) xs → AnyIs (λ x. x ≡ f) xs → test f ≡ true
+only_passes : {X : Type 0} (test : X → Bool) (f : X) (xs : List X) → AreDifferent xs → AllByRecursion (λ x. test x ≡ true → x ≡ f) xs → AnyIs (λ x. x ≡ f) xs
+    → test f ≡ true
     → filter test xs ≡ f ∷ []
 only_passes test f [] differ all any passes = absurd any
 only_passes test f (x ∷ xs) differ all (inl here) passes =
@@ -124,13 +125,16 @@ module _ (net : Internet) (up : ℕ → List ℕ) (in_ports : (router : ℕ) →
           eq-eqb (network_of net f).0 (network_of net (record { router = q; port = port })).0 (ap (λ (n : Network). n.0) (sym neighbour.network)) in
           let every : (same_node (port_of net f).node link || same_node link broadcast) ≡ true = elim (cases_Bool (same_node (port_of net f).node link)) [
             | inl e ↦ rw e refl
-            | inr e ↦ absurd (both_ways (same_node (port_of net f).node link) e (subst (λ (l : Node). same_node (port_of net f).node l ≡ true) (sym node) (bytes_same (port_of net f).node.0)))
+            | inr e ↦ absurd (both_ways (same_node (port_of net f).node link) e (subst (λ (l : Node). same_node (port_of net f).node l ≡ true) (sym node)
+                (bytes_same (port_of net f).node.0)))
           ] in
           rw (off, nets, every) refl
 
 module _ (net : Internet) (laws : Layouts) (is : IsInternet net) (differ : NodesDiffer net) (cheap : AreCheap net) (few_routers : length net ≤ 16) (up : ℕ → List ℕ)
-    (in_ports : (router : ℕ) → AllByRecursion (λ j. j < length (ports_of net router)) (up router)) (most_routes most_services : ℕ) (room : HasRoom net most_routes) (to : Address)
-    (ticks : ℕ) (run : Run) (rest : AtRest net laws is differ cheap few_routers up in_ports most_routes most_services room to.network ticks run) (long : most_ticks_gone ≤ ticks) where
+    (in_ports : (router : ℕ) → AllByRecursion (λ j. j < length (ports_of net router)) (up router)) (most_routes most_services : ℕ) (room : HasRoom net most_routes)
+    (to : Address)
+    (ticks : ℕ) (run : Run) (rest : AtRest net laws is differ cheap few_routers up in_ports most_routes most_services room to.network
+    ticks run) (long : most_ticks_gone ≤ ticks) where
   abbrev routers : List Router
   routers = routers_after net most_routes run.histories
 
@@ -158,12 +162,14 @@ module _ (net : Internet) (laws : Layouts) (is : IsInternet net) (differ : Nodes
     it_is_up : (j : ℕ) → is_up (up q) j ≡ true → is_up ups j ≡ true
     it_is_up j on = subst (λ (us : List ℕ). is_up us j ≡ true) (sym endures.ups) on
 
-    module _ (number : ℕ) (here : number < length ports) (on : is_up (up q) number ≡ true) (away : (port_at ports number).network ≢ to.network) (v : Way) (least : within net up in_ports to.network 15 q ≡ Some v)
+    module _ (number : ℕ) (here : number < length ports) (on : is_up (up q) number ≡ true) (away : (port_at ports number).network ≢ to.network) (v : Way)
+        (least : within net up in_ports to.network 15 q ≡ Some v)
         (bytes : List ℕ) (are_bytes : IsBytes bytes) (p : Parts) (is_packet : IsPacket bytes p) (same : p.header.destination ≡ to) (of_host : IsOfHost net p)
         (few_control : p.header.control < 16) where
       other_network : is_local (port_at ports number) p.header.destination.network ≡ false
       other_network =
-          let (place, there, named) = some_port net laws is differ cheap few_routers up in_ports most_routes most_services room to.network 15 q v least (on_or_off net up in_ports to.network q) in
+          let (place, there, named) = some_port net laws is differ cheap few_routers up in_ports most_routes most_services room to.network
+          15 q v least (on_or_off net up in_ports to.network q) in
           let some = (port_is net is place there).some_network in
           let number_is = ap (λ (n : Network). n.0) named in
           let one : (to.network.0 == 0) ≡ false = ne_eqb to.network.0 0 (λ e. omega (arith, e, some, number_is)) in
@@ -196,7 +202,8 @@ module _ (net : Internet) (laws : Layouts) (is : IsInternet net) (differ : Nodes
         passes : why ports ups routes true number bytes ≡ None
         passes =
             ap (judged ports ups routes (port_at ports number) number) read
-            ∙ far_passes ports ups routes (port_at ports number) number p (it_is_up number on) way (of_host.no_echo (record { router = q; port = number }) here) of_host.source far
+            ∙ far_passes ports ups routes (port_at ports number) number p (it_is_up number on) way (of_host.no_echo
+            (record { router = q; port = number }) here) of_host.source far
             few_control (of_host.elsewhere q) routed_so (of_host.short (record { router = q; port = way.port }) leaves)
 
         relays : relayed ports ups routes number p ≡ it ∷ []
@@ -206,7 +213,9 @@ module _ (net : Internet) (laws : Layouts) (is : IsInternet net) (differ : Nodes
             rw (alone, away_from) (ap leaving routed_so)
 
         runs : running history ≡ true
-        runs = runs_where net laws is differ cheap few_routers up in_ports most_routes most_services room to.network ticks long (λ r. 0) (λ r. omega arith) (λ r. None) q number ticks history on endures
+        runs =
+            runs_where net laws is differ cheap few_routers up in_ports most_routes most_services room to.network
+            ticks long (λ r. 0) (λ r. omega arith) (λ r. None) q number ticks history on endures
 
         pub sends_one : (c : Copy) → c.to ≡ record { router = q; port = number } → c.bytes ≡ bytes → forwards routers c ≡ it ∷ []
         unfolding sent_by
@@ -271,7 +280,8 @@ module _ (net : Internet) (laws : Layouts) (is : IsInternet net) (differ : Nodes
         ]
 
         by : (o : Option ℕ) → port_to ports ups to.network ≡ o
-            → (j : ℕ) × (is_up (up q) j ≡ true) × ((port_at ports j).network ≡ to.network) × (way_to ports ups routes to ≡ Some (record { port = j; link = to.node }))
+            → (j : ℕ) × (is_up (up q) j ≡ true) × ((port_at ports j).network ≡ to.network) × (way_to ports ups routes to ≡ Some
+            (record { port = j; link = to.node }))
         by (Some j) e =
             let found = found_with (λ k. is_up ups k ≡ true) (λ k. (port_at ports k).network.0 == to.network.0) ups j (members ups) e in (
               j,
@@ -284,7 +294,8 @@ module _ (net : Internet) (laws : Layouts) (is : IsInternet net) (differ : Nodes
             absurd (found_some (λ k. (port_at ports k).network.0 == to.network.0) ups
             (subst (λ (us : List ℕ). AnyIs (λ k. ((port_at ports k).network.0 == to.network.0) ≡ true) us) (sym endures.ups)
             (any_then (λ k. k ≡ j) (λ k. ((port_at ports k).network.0 == to.network.0) ≡ true)
-            (λ k same. ap (λ i. (port_at ports i).network.0 == to.network.0) same ∙ eq-eqb (port_at ports j).network.0 to.network.0 (ap (λ (n : Network). n.0) named))
+            (λ k same. ap (λ i. (port_at ports i).network.0 == to.network.0) same ∙ eq-eqb (port_at ports j).network.0 to.network.0 (ap (λ
+            (n : Network). n.0) named))
             (up q) (number_any j (up q) on_j))) e)
 
   -- ---- from router to router
@@ -299,7 +310,8 @@ module _ (net : Internet) (laws : Layouts) (is : IsInternet net) (differ : Nodes
       → (port_at (ports_of net q) port).network ≢ to.network → IsBytes bytes → IsPacket bytes p → p.header.destination ≡ to → IsOfHost net p
       → p.header.control + hops < 16 → within net up in_ports to.network 15 q ≡ Some v → v.hops ≡ hops → most_ticks_gone + 60 * hops ≤ ticks
       → Arrives routers to hops number (record { parent = parent; to = record { router = q; port = port }; bytes = bytes })
-  goes zero q port number parent bytes p v here on_port_here away are_bytes is_packet same of_host few_control least none sure = by (on_or_off net up in_ports to.network q)
+  goes zero q port number parent bytes p v here on_port_here away are_bytes is_packet same of_host few_control least none sure =
+      by (on_or_off net up in_ports to.network q)
     where
       by : OnOrOff net up in_ports to.network q → Arrives routers to 0 number (record { parent = parent; to = record { router = q; port = port }; bytes = bytes })
       by (inr off) =
@@ -312,19 +324,22 @@ module _ (net : Internet) (laws : Layouts) (is : IsInternet net) (differ : Nodes
           let out : Outway = record { port = j; link = to.node } in
           let now = at_numbers (λ k. router_now (ports_of net k) most_routes (history_of run.histories k)) (length net) q (router_at [] 0) inside in (
             record { port = j; link = to.node; bytes = packet_bytes (forwarded p) },
-            sends_one q inside port here on_port_here away v least bytes are_bytes p is_packet same of_host (omega (arith, few_control)) out routed (one_up (λ k. k < length (ports_of net q)) (up q) j (in_ports q) on_j) on_j
+            sends_one q inside port here on_port_here away v least bytes are_bytes p is_packet same of_host (omega (arith, few_control)) out routed (one_up
+                (λ k. k < length (ports_of net q)) (up q) j (in_ports q) on_j) on_j
                 (record { parent = parent; to = record { router = q; port = port }; bytes = bytes }) refl refl,
             ap (λ (r : Router). (port_at r.ports j).network) now ∙ named,
             refl,
           )
   goes (suc hops) q port number parent bytes p v here on_port_here away are_bytes is_packet same of_host few_control least some sure =
       by (on_or_off net up in_ports to.network q)
-      (λ f u neighbour on_f elsewhere written read_again is_u hops_u. goes hops f.router f.port (number + 1) (Some number) (packet_bytes (forwarded p)) (forwarded p) u neighbour on_f elsewhere written
+      (λ f u neighbour on_f elsewhere written read_again is_u hops_u. goes hops f.router f.port (number + 1) (Some number) (packet_bytes (forwarded p))
+      (forwarded p) u neighbour on_f elsewhere written
       read_again same (record { for_one = of_host.for_one; source = of_host.source; no_echo = of_host.no_echo; elsewhere = of_host.elsewhere; short = of_host.short })
       (omega (arith, few_control)) is_u hops_u (omega (arith, sure)))
     where
       by : OnOrOff net up in_ports to.network q
-          → ((f : Place) (u : Way) → IsPlace net f → is_up (up f.router) f.port ≡ true → network_of net f ≢ to.network → IsBytes (packet_bytes (forwarded p)) → IsPacket (packet_bytes (forwarded p)) (forwarded p)
+          → ((f : Place) (u : Way) → IsPlace net f → is_up (up f.router) f.port ≡ true → network_of net f ≢ to.network → IsBytes (packet_bytes (forwarded p))
+          → IsPacket (packet_bytes (forwarded p)) (forwarded p)
           → within net up in_ports to.network 15 f.router ≡ Some u → u.hops ≡ hops
           → Arrives routers to hops (number + 1) (record { parent = Some number; to = f; bytes = packet_bytes (forwarded p) }))
           → Arrives routers to (suc hops) number (record { parent = parent; to = record { router = q; port = port }; bytes = bytes })
@@ -334,7 +349,8 @@ module _ (net : Internet) (laws : Layouts) (is : IsInternet net) (differ : Nodes
       by (inr off) deeper =
           let inside = router_there net q port here in
           let enough : most_ticks_gone + 60 * v.hops ≤ ticks = omega (arith, some, sure) in
-          let has = route_is net laws is differ cheap few_routers up in_ports most_routes most_services room to.network ticks run rest long q inside v off least enough in
+          let has = route_is net laws is differ cheap few_routers up in_ports most_routes most_services room to.network
+          ticks run rest long q inside v off least enough in
           let held = by_number net laws is differ cheap few_routers up in_ports most_routes most_services room to.network ticks run rest long q inside ∙ has.held in
           let out : Outway = record { port = has.route.port; link = has.route.node } in
           let routed = way_by_route q inside off has.route held in
@@ -352,7 +368,8 @@ module _ (net : Internet) (laws : Layouts) (is : IsInternet net) (differ : Nodes
                 (delivered n (record { router = q; port = has.route.port }) has.route.node)) (net_after net most_routes run.histories)
                 ∙ ap (map (λ x. record { parent = Some number; to = x; bytes = packet_bytes (forwarded p) })) there,
             deeper has.from has.source.way has.source.neighbour.place has.source.neighbour.on_there
-                (λ named. both_ways (is_on (ports_of net q) to.network) off (port_on (ports_of net q) to.network has.route.port leaves (has.source.neighbour.network ∙ named)))
+                (λ named. both_ways (is_on (ports_of net q) to.network) off (port_on (ports_of net q) to.network has.route.port leaves
+                (has.source.neighbour.network ∙ named)))
                 (written q inside port here on_port_here away v least bytes are_bytes p is_packet same of_host few_now out routed leaves has.source.neighbour.on_here)
                 (read_again q inside port here on_port_here away v least bytes are_bytes p is_packet same of_host few_now out routed leaves has.source.neighbour.on_here)
                 has.source.there (omega (arith, hops_by, some)),

@@ -180,9 +180,6 @@ module _ (net : Internet) (is : IsInternet net) (differ : NodesDiffer net) (chea
         right_now : Right from o
         right_now = record { source = s; same = right_if }
 
-        up_now : nat_le unreachable o.hops ≡ false → way_of o ≡ v
-        up_now near = right_way from o right_now
-
         comes : known after ≡ Some (fresh o) → Same o → Now (known after)
         comes is_o same = record {
           aged = λ h f e right. inl (it_is (λ (x : Held RouteOffer). Fresh f x.age) h (fresh o) (sym is_o ∙ e) (now f));

@@ -86,6 +86,7 @@ pub mod Sourcing
 pub mod Spending
 pub mod Spreading
 pub mod Standing
+pub mod Starting
 pub mod Stationed
 pub mod Tabled
 pub mod Taking

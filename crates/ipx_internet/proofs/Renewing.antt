@@ -71,7 +71,8 @@ module _ {O : Type 0} (rules : Rules O) (total : IsTotalOrder rules.by_key) (hel
         (found.0, held_at rules total held found.0 it offer found.1 found.2 distinct)
 
     judged : is_accepted rules held (Offered offer)
-        ≡ (not (rules.is_down offer) && (rules.same_source it.offer offer || not (rules.same_source it.offer offer) && rules.is_worse it.offer offer && may_replace rules offer held it))
+        ≡ (not (rules.is_down offer) && (rules.same_source it.offer offer || not
+        (rules.same_source it.offer offer) && rules.is_worse it.offer offer && may_replace rules offer held it))
     judged = held-accepted rules total held at_place.0 it offer at_place.1
 
     -- the same source renews it

@@ -39,11 +39,13 @@ pub some_ticks : (o : Option Way) (ticks : ℕ) → ticks_right o ≤ ticks → 
 some_ticks None ticks sure = sure
 some_ticks (Some way) ticks sure = omega (arith, sure)
 
-pub soon_enough : (net : Internet) (up : ℕ → List ℕ) → ((router : ℕ) → AllByRecursion (λ j. j < length (ports_of net router)) (up router)) → (router : ℕ) (network : Network)
+pub soon_enough : (net : Internet) (up : ℕ → List ℕ) → ((router : ℕ) → AllByRecursion (λ j. j < length (ports_of net router)) (up router)) → (router : ℕ)
+    (network : Network)
     → ticks_right (least_route net up router network) ≤ most_ticks_right
 soon_enough net up in_ports router network = by (on_or_off net up in_ports network router) (within net up in_ports network 15 router) refl
   where
-    by : OnOrOff net up in_ports network router → (o : Option Way) → within net up in_ports network 15 router ≡ o → ticks_right (least_route net up router network) ≤ most_ticks_right
+    by : OnOrOff net up in_ports network router → (o : Option Way) → within net up in_ports network 15 router ≡ o → ticks_right
+        (least_route net up router network) ≤ most_ticks_right
     by (inl on) o e = rw on (omega arith)
     by (inr off) None e =
         let none : least_route net up router network ≡ None = rw off e in
@@ -54,7 +56,8 @@ soon_enough net up in_ports router network = by (on_or_off net up in_ports netwo
         subst (λ (o : Option Way). ticks_right o ≤ most_ticks_right) (sym should) (omega (arith, most))
 
 module _ (net : Internet) (laws : Layouts) (is : IsInternet net) (differ : NodesDiffer net) (cheap : AreCheap net) (few_routers : length net ≤ 16) (up : ℕ → List ℕ)
-    (in_ports : (router : ℕ) → AllByRecursion (λ j. j < length (ports_of net router)) (up router)) (most_routes most_services : ℕ) (room : HasRoom net most_routes) (network : Network) where
+    (in_ports : (router : ℕ) → AllByRecursion (λ j. j < length (ports_of net router)) (up router)) (most_routes most_services : ℕ) (room : HasRoom net most_routes)
+    (network : Network) where
   abbrev RestsAt : ℕ → Run → Type 0
   RestsAt = AtRest net laws is differ cheap few_routers up in_ports most_routes most_services room network
 
@@ -94,13 +97,15 @@ module _ (net : Internet) (laws : Layouts) (is : IsInternet net) (differ : Nodes
 
     all_real : AllByRecursion (IsReal net up router) routes
     all_real =
-        at_last route_reading network_order network_total most_routes (map (λ p. p.route_share) (ports_of net router)) (λ r. r.hops) (λ r. refl) (IsReal net up router)
+        at_last route_reading network_order network_total most_routes (map (λ p. p.route_share) (ports_of net router)) (λ r. r.hops) (λ r. refl)
+        (IsReal net up router)
         ticks (route_facts (ports_of net router) history) long (rest.rests.routers router inside).routes
 
     none_of : ((r : RouteOffer) → IsReal net up router r → r.network ≡ network → ⊥) → RouteOf run router ≡ None
     none_of never =
         find_none (λ o. is_eq (network_order o.network network)) routes
-        (all_then (IsReal net up router) (λ r. is_eq (network_order r.network network) ≡ false) (λ r real. by r real (cases_Bool (is_eq (network_order r.network network)))) routes all_real)
+        (all_then (IsReal net up router) (λ r. is_eq (network_order r.network network) ≡ false) (λ r real. by r real (cases_Bool (is_eq
+        (network_order r.network network)))) routes all_real)
       where
         by : (r : RouteOffer) → IsReal net up router r → (is_eq (network_order r.network network) ≡ true) ⊎ (is_eq (network_order r.network network) ≡ false)
             → is_eq (network_order r.network network) ≡ false
@@ -127,7 +132,8 @@ module _ (net : Internet) (laws : Layouts) (is : IsInternet net) (differ : Nodes
       pub source : SourceOf net laws is differ cheap few_routers up in_ports most_routes most_services room network router v route.port from
       pub node : route.node ≡ (port_of net from).node
 
-    pub route_is : (v : Way) → is_on (ports_of net router) network ≡ false → within net up in_ports network 15 router ≡ Some v → most_ticks_gone + 60 * v.hops ≤ ticks
+    pub route_is : (v : Way) → is_on (ports_of net router) network ≡ false → within net up in_ports network 15 router ≡ Some v
+        → most_ticks_gone + 60 * v.hops ≤ ticks
         → HasRoute v
     route_is v off is_v sure =
         let w = wants net laws is differ cheap few_routers up in_ports most_routes most_services room network router v off is_v in
@@ -140,10 +146,14 @@ module _ (net : Internet) (laws : Layouts) (is : IsInternet net) (differ : Nodes
               let way = right_way net is differ cheap few_routers up in_ports most_routes room network router w.v w.off w.least f h.offer right in
               record {
                 route = h.offer;
-                held = found_there net laws is differ cheap few_routers up in_ports most_routes most_services room network router w history h some (ap (λ (r : RouteOffer). r.network) right.same) way;
+                held =
+                    found_there net laws is differ cheap few_routers up in_ports most_routes most_services room network
+                    router w history h some (ap (λ (r : RouteOffer). r.network) right.same) way;
                 way = way ∙ same;
                 from = f;
-                source = subst (λ (y : Way). SourceOf net laws is differ cheap few_routers up in_ports most_routes most_services room network router y h.offer.port f) same right.source;
+                source =
+                    subst (λ (y : Way). SourceOf net laws is differ cheap few_routers up in_ports most_routes most_services room network
+                    router y h.offer.port f) same right.source;
                 node = right_node net is differ cheap few_routers up in_ports most_routes room network router w.v w.off w.least f h.offer right;
               }
           | inr late ↦
@@ -159,7 +169,8 @@ module _ (net : Internet) (laws : Layouts) (is : IsInternet net) (differ : Nodes
     pub table_is : ticks_right (least_route net up router network) ≤ ticks → option_map way_of (route_to routes network.0) ≡ least_route net up router network
     table_is sure = ap (option_map way_of) by_number ∙ by (on_or_off net up in_ports network router) (within net up in_ports network 15 router) refl
       where
-        by : OnOrOff net up in_ports network router → (o : Option Way) → within net up in_ports network 15 router ≡ o → option_map way_of (RouteOf run router) ≡ least_route net up router network
+        by : OnOrOff net up in_ports network router → (o : Option Way) → within net up in_ports network 15 router ≡ o → option_map way_of
+            (RouteOf run router) ≡ least_route net up router network
         by (inl on) o e = ap (option_map way_of) (none_on on) ∙ rw on refl
         by (inr off) None e = ap (option_map way_of) (none_without e) ∙ rw off (sym e)
         by (inr off) (Some v) e =
@@ -170,16 +181,20 @@ module _ (net : Internet) (laws : Layouts) (is : IsInternet net) (differ : Nodes
   -- ---- it stays
 
   stays_by : (ticks : ℕ) (run : Run) (further : List (List Step)) → RestsAt ticks run → AreTicks net most_routes most_services run further
-      → (router : ℕ) (w : Wants net laws is differ cheap few_routers up in_ports most_routes most_services room network router) → most_ticks_gone + 60 * w.v.hops ≤ ticks
+      → (router : ℕ) (w : Wants net laws is differ cheap few_routers up in_ports most_routes most_services room network
+      router) → most_ticks_gone + 60 * w.v.hops ≤ ticks
       → RouteOf (ticked net most_routes most_services run further) router ≡ RouteOf run router
   stays_by ticks run [] rest are router w sure = refl
   stays_by ticks run (steps ∷ further) rest are router w sure =
       let next = run_of net most_routes most_services run steps in
       let long : most_ticks_gone ≤ ticks = omega (arith, sure) in
-      stays_by (suc ticks) next further (tick_rests net laws is differ cheap few_routers up in_ports most_routes most_services room network ticks long run steps rest are.0) are.1 router w (omega (arith, sure))
-      ∙ route_stays net laws is differ cheap few_routers up in_ports most_routes most_services room network ticks long run steps rest are.0 router w (omega (arith, sure))
+      stays_by (suc ticks) next further (tick_rests net laws is differ cheap few_routers up in_ports most_routes most_services room network
+      ticks long run steps rest are.0) are.1 router w (omega (arith, sure))
+      ∙ route_stays net laws is differ cheap few_routers up in_ports most_routes most_services room network
+      ticks long run steps rest are.0 router w (omega (arith, sure))
 
-  rests_after : (ticks : ℕ) (run : Run) (further : List (List Step)) → RestsAt ticks run → most_ticks_gone ≤ ticks → AreTicks net most_routes most_services run further
+  rests_after : (ticks : ℕ) (run : Run) (further : List (List Step)) → RestsAt ticks run → most_ticks_gone ≤ ticks
+      → AreTicks net most_routes most_services run further
       → RestsAt (length further + ticks) (ticked net most_routes most_services run further)
   rests_after ticks run further rest long are = climbs ticks run further rest.rests (λ enough. rest) are (omega (arith, long))
 
@@ -199,7 +214,8 @@ module _ (net : Internet) (laws : Layouts) (is : IsInternet net) (differ : Nodes
           → OnOrOff net up in_ports network router → (o : Option Way) → within net up in_ports network 15 router ≡ o
           → RouteOf (ticked net most_routes most_services run further) router ≡ RouteOf run router
       by later longer long (inl on) o e =
-          none_on (length further + ticks) (ticked net most_routes most_services run further) later longer router inside on ∙ sym (none_on ticks run rest long router inside on)
+          none_on (length further + ticks) (ticked net most_routes most_services run further) later longer router inside on ∙ sym
+          (none_on ticks run rest long router inside on)
       by later longer long (inr off) None e =
           none_without (length further + ticks) (ticked net most_routes most_services run further) later longer router inside e
           ∙ sym (none_without ticks run rest long router inside e)

@@ -49,9 +49,6 @@ same_where_equal x y e = elim (cases_eq x y) [
 pub equal_where_same : (x y : ℕ) → x ≡ y → is_eq (nat_cmp x y) ≡ true
 equal_where_same x y same = ap is_eq (equal_is x y same)
 
-abbrev rank : Way → ℕ × ℕ
-rank way = (way.ticks, way.hops)
-
 -- a way that isn't worse
 pub not_worse : (a b : Way) → is_gt (rank_order (a.ticks, a.hops) (b.ticks, b.hops)) ≡ false → NoWorse a b
 not_worse a b e = elim (cases_lt a.ticks b.ticks) [
@@ -150,7 +147,8 @@ module _ (net : Internet) (up : ℕ → List ℕ) (there_where_up : (router port
           let less : suc (length (filter (of_key x.offer) rest)) ≤ 1 = rw here at few in
           omega (arith, less)
 
-      others : (rest : List (Held RouteOffer)) → length (filter (of_key x.offer) rest) ≤ 0 → AllByRecursion (λ n. n ≢ x.offer.network) (map (λ h. h.offer.network) rest)
+      others : (rest : List (Held RouteOffer)) → length (filter (of_key x.offer) rest) ≤ 0 → AllByRecursion (λ n. n ≢ x.offer.network) (map
+          (λ h. h.offer.network) rest)
       others [] few = tt
       others (y ∷ rest) few = elim (cases_Bool (is_eq (nat_cmp y.offer.network.0 x.offer.network.0))) [
         | inl e ↦ let less : suc (length (filter (of_key x.offer) rest)) ≤ 0 = rw e at few in absurd (omega (arith, less))
@@ -168,7 +166,8 @@ module _ (net : Internet) (up : ℕ → List ℕ) (there_where_up : (router port
       ]
 
   -- fewer than there are networks
-  pub few_held : (router port : ℕ) → port < length (ports_of net router) → (records : List (Held RouteOffer)) → ((o : RouteOffer) → length (filter (of_key o) records) ≤ 1)
+  pub few_held : (router port : ℕ) → port < length (ports_of net router) → (records : List (Held RouteOffer)) → ((o : RouteOffer) → length (filter
+      (of_key o) records) ≤ 1)
       → AllByRecursion (λ h. IsReal net up router h.offer) records → length records < length (networks_of net)
   few_held router port here records distinct all =
       let own = network_of net (record { router = router; port = port }) in
@@ -210,7 +209,8 @@ module _ (net : Internet) (up : ℕ → List ℕ) (there_where_up : (router port
         let most = room.table in
         lt-ltb (length records) most_routes (omega (arith, few, most))
 
-    shares_are : (ps : List Port) → AllByRecursion (λ p. length (networks_of net) ≤ p.route_share) ps → AllByRecursion (λ s. length (networks_of net) ≤ s) (map (λ p. p.route_share) ps)
+    shares_are : (ps : List Port) → AllByRecursion (λ p. length (networks_of net) ≤ p.route_share) ps → AllByRecursion (λ s. length (networks_of net) ≤ s) (map
+        (λ p. p.route_share) ps)
     shares_are [] every = tt
     shares_are (p ∷ ps) every = (every.0, shares_are ps every.1)
 

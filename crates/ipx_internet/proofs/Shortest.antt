@@ -110,7 +110,8 @@ pub best_least : (ways : List (Option Way)) (w : Way) → AnyIs (λ o. o ≡ Som
 best_least [] w any = absurd any
 best_least (None ∷ ways) w (inl here) = nothing here
 best_least (None ∷ ways) w (inr behind) = best_least ways w behind
-best_least (Some a ∷ ways) w (inl here) = (better_of a (best ways), refl, it_is (λ (b : Way). NoWorse (better_of a (best ways)) b) w a here (better_first a (best ways)))
+best_least (Some a ∷ ways) w (inl here) =
+    (better_of a (best ways), refl, it_is (λ (b : Way). NoWorse (better_of a (best ways)) b) w a here (better_first a (best ways)))
 best_least (Some a ∷ ways) w (inr behind) =
     let (v, is, least) = best_least ways w behind in
     (better_of a (best ways), refl, no_worse_then (better_of a (best ways)) v w (better_rest a (best ways) v is) least)
@@ -181,7 +182,8 @@ up_port ports up network e =
     let found = the_one _ up any in
     (found.0, found.1.1, same_number (port_at ports found.0).network network (eqb-true (port_at ports found.0).network.0 network.0 found.1.0))
 
-pub port_up : (ports : List Port) (up : List ℕ) (network : Network) (j : ℕ) → is_up up j ≡ true → (port_at ports j).network ≡ network → is_up_on ports up network ≡ true
+pub port_up : (ports : List Port) (up : List ℕ) (network : Network) (j : ℕ) → is_up up j ≡ true → (port_at ports j).network ≡ network
+    → is_up_on ports up network ≡ true
 port_up ports up network j on same =
     passes_any (λ k. (port_at ports k).network.0 == network.0) up
     (any_then (λ k. (k == j) ≡ true) (λ k. ((port_at ports k).network.0 == network.0) ≡ true)
@@ -234,7 +236,8 @@ module _ (net : Internet) where
   pub all_places : (from : Place) → IsPlace net from → AnyIs (λ p. p ≡ from) (places net)
   unfolding at
   all_places from there =
-      any-flat_map (λ router. router ≡ from.router) (λ p. p ≡ from) (λ router. map (λ port. record { router = router; port = port }) (numbers (length (ports_of net router))))
+      any-flat_map (λ router. router ≡ from.router) (λ p. p ≡ from) (λ router. map (λ port. record { router = router; port = port }) (numbers (length
+      (ports_of net router))))
       (λ router same. any-map (λ port. port ≡ from.port) (λ p. p ≡ from) (λ port. record { router = router; port = port })
       (λ port equal. ap₂ at same equal) (numbers (length (ports_of net router)))
       (number_in (length (ports_of net router)) from.port (subst (λ (r : ℕ). from.port < length (ports_of net r)) (sym same) there)))
@@ -255,7 +258,8 @@ module _ (net : Internet) (up : ℕ → List ℕ) (in_ports : (router : ℕ) →
 
   pub in_neighbours : (router port : ℕ) (from : Place) → IsNeighbour router port from → AnyIs (λ p. p ≡ from) (neighbours net up router)
   in_neighbours router port from is =
-      any-filter (λ p. p ≡ from) (IsBeside router) (λ p same. subst (λ (q : Place). IsBeside router q ≡ true) (sym same) passes) (places net) (all_places net from is.place)
+      any-filter (λ p. p ≡ from) (IsBeside router) (λ p same. subst (λ (q : Place). IsBeside router q ≡ true) (sym same) passes) (places net)
+      (all_places net from is.place)
     where
       passes : (not (from.router == router) && is_up (up from.router) from.port && is_up_on (ports_of net router) (up router) (network_of net from)) ≡ true
       passes =
@@ -359,7 +363,15 @@ module _ (net : Internet) (up : ℕ → List ℕ) (in_ports : (router : ℕ) →
                 → option_map (by_port (cost_of from)) o ≡ Some v → Came hops router v
             by_way port from neighbour None is e = nothing e
             by_way port from neighbour (Some u) is e =
-                record { port = port; from = from; neighbour = neighbour; way = u; there = is; by = it_is (λ (w : Way). w ≡ by_port (cost_of from) u) v (by_port (cost_of from) u) e refl }
+                record {
+                  port = port;
+                  from = from;
+                  neighbour = neighbour;
+                  way = u;
+                  there = is;
+                  by = it_is (λ (w : Way). w ≡ by_port (cost_of from) u) v (by_port
+                      (cost_of from) u) e refl;
+                }
 
     -- and none by a neighbour is better
     pub none_better : (hops router port : ℕ) (from : Place) (u : Way) → IsNeighbour router port from → is_on (ports_of net router) network ≡ false
@@ -456,12 +468,3 @@ module _ (net : Internet) (up : ℕ → List ℕ) (in_ports : (router : ℕ) →
 
     pub enough : (hops router : ℕ) (v : Way) → within (suc hops) router ≡ Some v → v.hops ≤ hops → within hops router ≡ Some v
     enough hops router v e least = enough_by hops router v e least (on_or_off router)
-
-    pub enough_of : (further hops total router : ℕ) (v : Way) → total ≡ further + hops → within total router ≡ Some v → v.hops ≤ hops → within hops router ≡ Some v
-    enough_of zero hops total router v sum e least =
-        let same : total ≡ hops = omega (arith, sum) in
-        subst (λ (n : ℕ). within n router ≡ Some v) same e
-    enough_of (suc further) hops total router v sum e least =
-        let same : total ≡ suc (further + hops) = omega (arith, sum) in
-        enough_of further hops (further + hops) router v refl
-        (enough (further + hops) router v (subst (λ (n : ℕ). within n router ≡ Some v) same e) (omega (arith, least))) least

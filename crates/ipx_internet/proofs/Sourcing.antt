@@ -27,7 +27,8 @@ off_where_wanted ports network e =
 pub told_ticks : (cost : ℕ) (e : RipEntry) → e.ticks + cost < 65535 → (told_at cost e).ticks ≡ e.ticks + cost
 told_ticks cost e less = let yes_less : nat_lt (e.ticks + cost) 65535 ≡ true = lt-ltb (e.ticks + cost) 65535 less in rw yes_less refl
 
-module _ (net : Internet) (is : IsInternet net) (cheap : AreCheap net) (up : ℕ → List ℕ) (in_ports : (router : ℕ) → AllByRecursion (λ j. j < length (ports_of net router)) (up router))
+module _ (net : Internet) (is : IsInternet net) (cheap : AreCheap net) (up : ℕ → List ℕ) (in_ports : (router : ℕ) → AllByRecursion (λ j. j < length
+    (ports_of net router)) (up router))
     (network : Network) where
   abbrev cost_of : Place → ℕ
   cost_of from = (port_of net from).cost
@@ -61,7 +62,8 @@ module _ (net : Internet) (is : IsInternet net) (cheap : AreCheap net) (up : ℕ
     pub there : within net up in_ports network way.hops from.router ≡ Some least
     pub no_worse : NoWorse least way
 
-  neighbour_of : (router : ℕ) (r : RouteOffer) (from : Place) (entry : RipEntry) → IsTaken net up router r from entry → IsNeighbour net up in_ports router r.port from
+  neighbour_of : (router : ℕ) (r : RouteOffer) (from : Place) (entry : RipEntry) → IsTaken net up router r from entry
+      → IsNeighbour net up in_ports router r.port from
   neighbour_of router r from entry taken = record {
     other = λ same. taken.other (sym same);
     place = there_where_up from.router from.port taken.there;
@@ -179,14 +181,16 @@ module _ (net : Internet) (is : IsInternet net) (cheap : AreCheap net) (up : ℕ
         → Source router v r.port real.from
     came_from router r v real e same =
         let short = real.few_hops in
-        let (u, is_u, less) = many_more net up in_ports network (15 - real.way.hops) real.way.hops 15 real.from.router real.least (omega (arith, short)) real.there in
+        let (u, is_u, less) = many_more net up in_ports network (15 - real.way.hops) real.way.hops 15 real.from.router real.least (omega
+        (arith, short)) real.there in
         let equal = nothing_hidden net up in_ports is network few_routers router r.port real.from v real.way u real.neighbour real.off e (same ∙ real.by) is_u
         (no_worse_then u real.least real.way less real.no_worse) in
         record { neighbour = real.neighbour; way = real.way; there = is_u ∙ ap Some equal; by = same ∙ real.by }
 
   -- the neighbour's own way doesn't come by the network between them
   pub elsewhere : (router : ℕ) (v : Way) (port : ℕ) (from : Place) (second_port : ℕ) (second : Place) → is_on (ports_of net router) network ≡ false
-      → within net up in_ports network 15 router ≡ Some v → (one : Source router v port from) → Source from.router one.way second_port second → second_port ≢ from.port
+      → within net up in_ports network 15 router ≡ Some v → (one : Source router v port from) → Source from.router one.way second_port second
+      → second_port ≢ from.port
   elsewhere router v port from second_port second off e one two same = by (cases_eq second.router router)
     where
       here : network_of net (at router port) ≡ network_of net second
@@ -200,7 +204,8 @@ module _ (net : Internet) (is : IsInternet net) (cheap : AreCheap net) (up : ℕ
 
       by : (second.router ≡ router) ⊎ (second.router ≢ router) → ⊥
       by (inl back) =
-          let again : within net up in_ports network 15 router ≡ Some two.way = subst (λ (r : ℕ). within net up in_ports network 15 r ≡ Some two.way) back two.there in
+          let again : within net up in_ports network 15 router ≡ Some two.way = subst (λ
+          (r : ℕ). within net up in_ports network 15 r ≡ Some two.way) back two.there in
           let equal = ap (λ (w : Way). w.hops) (same_some net up in_ports network (within net up in_ports network 15 router) two.way v again e) in
           let hops = h in
           omega (arith, hops, equal)

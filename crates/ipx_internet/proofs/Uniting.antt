@@ -53,7 +53,8 @@ find_any test (y ∷ ys) x e = elim (cases_Bool (test y)) [
 ]
 
 module _ (net : Internet) (laws : Layouts) (is : IsInternet net) (differ : NodesDiffer net) (cheap : AreCheap net) (few_routers : length net ≤ 16) (up : ℕ → List ℕ)
-    (in_ports : (router : ℕ) → AllByRecursion (λ j. j < length (ports_of net router)) (up router)) (most_routes most_services : ℕ) (room : HasRoom net most_routes) (network : Network) where
+    (in_ports : (router : ℕ) → AllByRecursion (λ j. j < length (ports_of net router)) (up router)) (most_routes most_services : ℕ) (room : HasRoom net most_routes)
+    (network : Network) where
   -- ---- a router that should have a route
 
   -- it isn't on the network, and there is a way
@@ -87,7 +88,8 @@ module _ (net : Internet) (laws : Layouts) (is : IsInternet net) (differ : Nodes
       record { v = v; off = off; least = e; wanted = rw (not_zero, not_all, off) refl }
 
   -- ticks aren't too many
-  few_ticks : (hops router : ℕ) (v : Way) → within net up in_ports network hops router ≡ Some v → OnOrOff net up in_ports network router → v.ticks ≤ 4095 * (v.hops + 1)
+  few_ticks : (hops router : ℕ) (v : Way) → within net up in_ports network hops router ≡ Some v → OnOrOff net up in_ports network router → v.ticks ≤ 4095 *
+      (v.hops + 1)
   few_ticks hops router v e (inl on) =
       let there = is_there net up in_ports network hops router v e in
       let (j, on_j, same, way) = own_is (ports_of net router) (up router) network v (sym (own net up in_ports network hops router there on) ∙ e) in
@@ -111,7 +113,8 @@ module _ (net : Internet) (laws : Layouts) (is : IsInternet net) (differ : Nodes
       all_or (λ p. p.cost ≤ 4095) (ports_of net router) j (port_at [] 0) (all_or (AllByRecursion (λ p. p.cost ≤ 4095)) net router [] cheap tt) (omega arith)
 
   -- the tables of a router
-  abbrev pub StateFor : (router : ℕ) → Wants router → (Place → ℕ → Type 0) → (Place → ℕ → Type 0) → Type 0 → (RouteOffer → Type 0) → Option (Held RouteOffer) → Type 0
+  abbrev pub StateFor : (router : ℕ) → Wants router → (Place → ℕ → Type 0) → (Place → ℕ → Type 0) → Type 0 → (RouteOffer → Type 0) → Option (Held RouteOffer)
+      → Type 0
   StateFor router w = StateOf net is differ cheap few_routers up in_ports most_routes room network router w.v w.off w.least w.wanted
 
   abbrev pub known_of : (router : ℕ) → Wants router → List (Fact RouteOffer) → Option (Held RouteOffer)
@@ -139,7 +142,8 @@ module _ (net : Internet) (laws : Layouts) (is : IsInternet net) (differ : Nodes
         found (λ o. is_eq (network_order o.network network)) (routes_held (ports_of net router) most_routes history)
         ∙ ap (option_map (λ x. x.offer))
         (record-in_order route_reading network_order network_total most_routes (map (λ p. p.route_share) (ports_of net router)) network
-        (records net is differ cheap few_routers up in_ports most_routes room network router w.v w.off w.least w.wanted (route_facts (ports_of net router) history)) ∙ some)
+        (records net is differ cheap few_routers up in_ports most_routes room network
+        router w.v w.off w.least w.wanted (route_facts (ports_of net router) history)) ∙ some)
 
     pub in_held : AnyIs (λ r. r ≡ h.offer) all_held
     in_held = find_any (λ o. is_eq (network_order o.network network)) all_held h.offer found_there
@@ -211,7 +215,8 @@ module _ (net : Internet) (laws : Layouts) (is : IsInternet net) (differ : Nodes
 
     abbrev pub StateAt : List Step → List Delivery → (router : ℕ) → Wants router → List (Fact RouteOffer) → Type 0
     StateAt left queue router w facts =
-        StateFor router w (Fresh left queue router w.v) (Late left queue router w.v) (Later left queue router w.v) (Same left queue router w.v) (known_of router w facts)
+        StateFor router w (Fresh left queue router w.v) (Late left queue router w.v) (Later left queue router w.v) (Same left queue router w.v)
+        (known_of router w facts)
 
     -- a router that has been right long enough holds a route of the least way
     pub holds_right : (left : List Step) (queue : List Delivery) (router : ℕ) (w : Wants router) (facts : List (Fact RouteOffer)) → start w.v + 60 ≤ before
@@ -236,7 +241,8 @@ module _ (net : Internet) (laws : Layouts) (is : IsInternet net) (differ : Nodes
     AllReal router routes = AllByRecursion (λ r. is_on (ports_of net router) r.network ≡ false) routes
 
     pub all_words : (from : Place) (entries : List RipEntry)
-        → ((u : Way) → within net up in_ports network 15 from.router ≡ Some u → Settled u → AllByRecursion (IsWord (ports_of net from.router) network u from.port) entries)
+        → ((u : Way) → within net up in_ports network 15 from.router ≡ Some u → Settled u → AllByRecursion (IsWord
+        (ports_of net from.router) network u from.port) entries)
         → AllByRecursion (Word from) entries
     all_words from [] all = tt
     all_words from (e ∷ entries) all = ((λ u is_u settled. (all u is_u settled).0), all_words from entries (λ u is_u settled. (all u is_u settled).1))
@@ -266,7 +272,8 @@ module _ (net : Internet) (laws : Layouts) (is : IsInternet net) (differ : Nodes
 
       pub words_news : (old routes : List RouteOffer) → Knows router u routes → AllReal router old → (j : ℕ)
           → AllByRecursion (IsWord ports network u j) (news ports old routes j)
-      words_news old routes knows real j = news_words ports network u few_for settled.hops old routes knows.has (lasting (on_or_off net up in_ports network router)) j
+      words_news old routes knows real j =
+          news_words ports network u few_for settled.hops old routes knows.has (lasting (on_or_off net up in_ports network router)) j
         where
           lasting : OnOrOff net up in_ports network router
               → AllByRecursion (λ r. r.network ≡ network → find (λ o. is_eq (network_order o.network network)) routes ≡ None → ⊥) old
@@ -281,13 +288,15 @@ module _ (net : Internet) (laws : Layouts) (is : IsInternet net) (differ : Nodes
     pub knows_on : (router : ℕ) (u : Way) (routes : List RouteOffer) → is_on (ports_of net router) network ≡ true → AllReal router routes → Knows router u routes
     knows_on router u routes on real = record {
       has = all_then (λ r. is_on (ports_of net router) r.network ≡ false) (HasWay (ports_of net router) network u)
-          (λ r off named. absurd (both_ways (is_on (ports_of net router) network) (subst (λ (n : Network). is_on (ports_of net router) n ≡ false) named off) on)) routes real;
+          (λ r off named. absurd (both_ways (is_on (ports_of net router) network) (subst (λ (n : Network). is_on
+          (ports_of net router) n ≡ false) named off) on)) routes real;
       there = λ off none. both_ways (is_on (ports_of net router) network) off on;
     }
 
     -- and another one, where it holds a route of its way
     only_one : (xs : List (Held RouteOffer)) (h : Held RouteOffer) → length (filter (λ x. is_eq (network_order x.offer.network network)) xs) ≤ 1
-        → find (λ x. is_eq (network_order x.offer.network network)) xs ≡ Some h → AllByRecursion (λ x. is_eq (network_order x.offer.network network) ≡ true → x ≡ h) xs
+        → find (λ x. is_eq (network_order x.offer.network network)) xs ≡ Some h → AllByRecursion (λ x. is_eq (network_order x.offer.network network) ≡ true
+        → x ≡ h) xs
     only_one [] h few e = tt
     only_one (x ∷ xs) h few e = elim (cases_Bool (is_eq (network_order x.offer.network network))) [
       | inl here ↦
@@ -324,10 +333,12 @@ module _ (net : Internet) (laws : Layouts) (is : IsInternet net) (differ : Nodes
         there = found_there router w history h some named way
 
         distinct : length (filter (λ x. is_eq (network_order x.offer.network network))
-            (records net is differ cheap few_routers up in_ports most_routes room network router w.v w.off w.least w.wanted (route_facts (ports_of net router) history))) ≤ 1
+            (records net is differ cheap few_routers up in_ports most_routes room network
+            router w.v w.off w.least w.wanted (route_facts (ports_of net router) history))) ≤ 1
         distinct =
             subst (λ (n : Network). length (filter (λ x. is_eq (network_order x.offer.network n))
-            (records net is differ cheap few_routers up in_ports most_routes room network router w.v w.off w.least w.wanted (route_facts (ports_of net router) history))) ≤ 1) named
+            (records net is differ cheap few_routers up in_ports most_routes room network
+            router w.v w.off w.least w.wanted (route_facts (ports_of net router) history))) ≤ 1) named
             ((kept (route_rules (ports_of net router) most_routes)
             (rules_total route_reading network_order network_total most_routes (map (λ p. p.route_share) (ports_of net router)))
             (route_facts (ports_of net router) history)).distinct h.offer)
@@ -336,20 +347,24 @@ module _ (net : Internet) (laws : Layouts) (is : IsInternet net) (differ : Nodes
         has =
             all_offers (HasWay (ports_of net router) network w.v) (routes_held (ports_of net router) most_routes history)
             (all_in_order (HasWay (ports_of net router) network w.v) (route_rules (ports_of net router) most_routes).by_key
-            (records net is differ cheap few_routers up in_ports most_routes room network router w.v w.off w.least w.wanted (route_facts (ports_of net router) history))
+            (records net is differ cheap few_routers up in_ports most_routes room network
+            router w.v w.off w.least w.wanted (route_facts (ports_of net router) history))
             (all_then (λ x. is_eq (network_order x.offer.network network) ≡ true → x ≡ h) (λ x. HasWay (ports_of net router) network w.v x.offer)
             (λ x one is_named.
             let equal = one (equal_where_same x.offer.network.0 network.0 (ap (λ (n : Network). n.0) is_named)) in
             ap (λ (y : Held RouteOffer). way_of y.offer) equal ∙ way)
-            (records net is differ cheap few_routers up in_ports most_routes room network router w.v w.off w.least w.wanted (route_facts (ports_of net router) history))
-            (only_one (records net is differ cheap few_routers up in_ports most_routes room network router w.v w.off w.least w.wanted (route_facts (ports_of net router) history))
+            (records net is differ cheap few_routers up in_ports most_routes room network
+            router w.v w.off w.least w.wanted (route_facts (ports_of net router) history))
+            (only_one (records net is differ cheap few_routers up in_ports most_routes room network
+            router w.v w.off w.least w.wanted (route_facts (ports_of net router) history))
             h distinct some)))
 
     -- ---- a neighbour advertises it
 
     module _ (router : ℕ) (w : Wants router) (port : ℕ) (from : Place) (source : SourceOf router w.v port from) where
       not_there : network_of net from ≢ network
-      not_there same = both_ways (is_on (ports_of net router) network) w.off (port_on (ports_of net router) network port source.neighbour.here (source.neighbour.network ∙ same))
+      not_there same =
+          both_ways (is_on (ports_of net router) network) w.off (port_on (ports_of net router) network port source.neighbour.here (source.neighbour.network ∙ same))
 
       -- by its own port on the network
       pub told_own : (routes : List RouteOffer) → is_on (ports_of net from.router) network ≡ true
@@ -376,7 +391,8 @@ module _ (net : Internet) (laws : Layouts) (is : IsInternet net) (differ : Nodes
           let ports = ports_of net from.router in
           let same = same_some net up in_ports network (within net up in_ports network 15 from.router) second.v source.way second.least source.there in
           let named = ap (λ (r : RouteOffer). r.network) right.same in
-          let way = right_way net is differ cheap few_routers up in_ports most_routes room network from.router second.v second.off second.least place h.offer right in
+          let way = right_way net is differ cheap few_routers up in_ports most_routes room network
+          from.router second.v second.off second.least place h.offer right in
           let hops = ap (λ (x : Way). x.hops) (way ∙ same) in
           let here : SourceOf from.router source.way h.offer.port place = subst (λ (x : Way). SourceOf from.router x h.offer.port place) same right.source in
           let apart : (h.offer.port == from.port) ≡ false =

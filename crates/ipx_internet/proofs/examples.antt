@@ -7,6 +7,7 @@ pub mod Leasts
 pub mod Logs
 pub mod Loops
 pub mod Meanwhile
+pub mod Rights
 pub mod Rings
 pub mod Running
 pub mod Segments

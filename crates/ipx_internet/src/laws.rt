@@ -418,16 +418,19 @@ pub fn whatever_waits()
 
 /// The least way over the ports that are up is a way of at most fifteen hops, and no such way is better.
 pub fn least_ways()
-    ensures way { (net : Internet) (histories : List History) (router : ℕ) (network : Network) (way : Way) → least net (ups net histories) router network ≡ Some way
+    ensures way { (net : Internet) (histories : List History) (router : ℕ) (network : Network) (way : Way)
+        → least net (ups net histories) router network ≡ Some way
         → IsWay net (ups net histories) network router way × (way.hops ≤ most_hops) }
-    ensures none_better { (net : Internet) (histories : List History) (router : ℕ) (network : Network) (way : Way) → IsWay net (ups net histories) network router way → way.hops ≤ most_hops
+    ensures none_better { (net : Internet) (histories : List History) (router : ℕ) (network : Network) (way : Way)
+        → IsWay net (ups net histories) network router way → way.hops ≤ most_hops
         → (best : Way) × (least net (ups net histories) router network ≡ Some best) × (is_better way best ≡ false) }
 {}
 
 /// Every table becomes right and stays so, whatever was in it before: after 2,880 ticks and 60 for each hop every router has the route of
 /// the least way to a network, and where there is no way it has none (`tables`). From then on it is the same route, with hops, ticks,
 /// port and neighbour (`stay`). No network takes longer than 3,780 ticks (`soon`). That is said of ticks that begin with nothing that waits;
-/// whatever waits, forged packets too, one tick more is enough (`whatever_waits`).
+/// whatever waits, forged packets too, one tick more is enough (`whatever_waits`). Where every route is of a real way from the first, and
+/// there is no service, the 60 ticks for each hop alone are enough (`sooner`).
 ///
 /// Ways lead over the ports that are up, of routers that run, whichever these are. There are at most 16 routers, and no port costs more than
 /// 4,095 ticks. Every table has room for all networks, and so has the share of every port. Nothing but ticks happens, so ports stay as
@@ -435,7 +438,8 @@ pub fn least_ways()
 pub fn right()
     ensures tables { (net : Internet) (most_routes most_services : ℕ) (histories : List History) (ticks : List (List Step)) (router : ℕ) (network : Network)
         → IsInternet net → NodesDiffer net → length net ≤ most_routers → AreCheap net → HasRoom net most_routes → AreHistories net histories
-        → AreTicks net most_routes most_services (begun histories) ticks → router < length net → ticks_right (least_route net (ups net histories) router network) ≤ length ticks
+        → AreTicks net most_routes most_services (begun histories) ticks → router < length net
+        → ticks_right (least_route net (ups net histories) router network) ≤ length ticks
         → option_map way_of
         (route_to (offers (routes_held (ports_of net router) most_routes (history_of (ticked net most_routes most_services (begun histories) ticks).histories router))) network.0)
         ≡ least_route net (ups net histories) router network }
@@ -450,10 +454,21 @@ pub fn right()
     ensures whatever_waits { (net : Internet) (most_routes most_services : ℕ) (run : Run) (ticks : List (List Step)) (router : ℕ) (network : Network)
         → IsInternet net → NodesDiffer net → length net ≤ most_routers → AreCheap net → HasRoom net most_routes → AreHistories net run.histories
         → AllByRecursion (λ w. IsDelivery net w.delivery) run.waiting
-        → AreTicks net most_routes most_services run ticks → router < length net → ticks_right (least_route net (ups net run.histories) router network) < length ticks
+        → AreTicks net most_routes most_services run ticks → router < length net
+        → ticks_right (least_route net (ups net run.histories) router network) < length ticks
         → option_map way_of
         (route_to (offers (routes_held (ports_of net router) most_routes (history_of (ticked net most_routes most_services run ticks).histories router))) network.0)
         ≡ least_route net (ups net run.histories) router network }
+    ensures sooner { (net : Internet) (most_routes most_services : ℕ) (histories : List History) (ticks : List (List Step)) (router : ℕ) (network : Network)
+        → IsInternet net → NodesDiffer net → length net ≤ most_routers → AreCheap net → HasRoom net most_routes → AreHistories net histories
+        → ((other : ℕ) → other < length net
+        → AllByRecursion (IsReal net (ups net histories) other) (offers (routes_held (ports_of net other) most_routes (history_of histories other))))
+        → ((other : ℕ) → other < length net → services_held (ports_of net other) most_services (history_of histories other) ≡ [])
+        → AreTicks net most_routes most_services (begun histories) ticks → router < length net
+        → ticks_right (least_route net (ups net histories) router network) ≤ most_ticks_gone + length ticks
+        → option_map way_of
+        (route_to (offers (routes_held (ports_of net router) most_routes (history_of (ticked net most_routes most_services (begun histories) ticks).histories router))) network.0)
+        ≡ least_route net (ups net histories) router network }
     ensures soon { (net : Internet) (histories : List History) (router : ℕ) (network : Network) → ticks_right (least_route net (ups net histories) router network) ≤ most_ticks_right }
 {
     ipx_wire::laws::readings();
@@ -471,7 +486,8 @@ pub fn right()
 pub fn arrives()
     ensures goes { (net : Internet) (most_routes most_services : ℕ) (histories : List History) (ticks : List (List Step)) (place : Place) (bytes : List ℕ) (p : Parts) (way : Way)
         → IsInternet net → NodesDiffer net → length net ≤ most_routers → AreCheap net → HasRoom net most_routes → AreHistories net histories
-        → AreTicks net most_routes most_services (begun histories) ticks → IsPlace net place → is_up (ups net histories place.router) place.port ≡ true → IsBytes bytes → IsPacket bytes p → IsOfHost net p
+        → AreTicks net most_routes most_services (begun histories) ticks → IsPlace net place → is_up (ups net histories place.router) place.port ≡ true
+        → IsBytes bytes → IsPacket bytes p → IsOfHost net p
         → least_route net (ups net histories) place.router p.header.destination.network ≡ Some way → ticks_right (Some way) ≤ length ticks
         → p.header.control + way.hops < most_routers
         → Arrives (routers_after net most_routes (ticked net most_routes most_services (begun histories) ticks).histories) p.header.destination way.hops 0

@@ -5,15 +5,15 @@ use Rattle.ipx_internet.specs.Internet.{Internet, ports_of}
 use Rattle.ipx_internet.specs.Least.{Way, least, least_route, networks_of, neighbours}
 use Rattle.ipx_internet.proofs.examples.Words.{network, port_on, at}
 
-abbrev costly : ℕ → ℕ → ℕ → Port
+abbrev pub costly : ℕ → ℕ → ℕ → Port
 costly n k cost = record (port_on n k) { cost = cost }
 
 -- all ports of each router are up
-abbrev all : Internet → ℕ → List ℕ
+abbrev pub all : Internet → ℕ → List ℕ
 all net router = numbers (length (ports_of net router))
 
 -- hops and ticks
-abbrev way : ℕ → ℕ → Option Way
+abbrev pub way : ℕ → ℕ → Option Way
 way hops ticks = Some (record { hops = hops; ticks = ticks })
 
 -- ---- a line: 10h - 0 - 20h - 1 - 30h - 2 - 40h

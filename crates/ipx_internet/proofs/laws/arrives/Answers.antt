@@ -51,12 +51,15 @@ module _ (c : goal.After-packets) (net : Internet) (most_routes most_services : 
       let count : length ticks + 0 ≡ length ticks = omega arith in
       subst (λ (n : ℕ). AtRest net (layouts c) is differ cheap few_routers (ups net histories) (ups_within net histories) most_routes most_services room network n
       (ticked net most_routes most_services (begun histories) ticks)) count
-      (climbs net (layouts c) is differ cheap few_routers (ups net histories) (ups_within net histories) most_routes most_services room network 0 (begun histories) ticks begins
-      (λ enough. at_first net (layouts c) is differ cheap few_routers (ups net histories) (ups_within net histories) most_routes most_services room network 0 (begun histories)
+      (climbs net (layouts c) is differ cheap few_routers (ups net histories) (ups_within net histories) most_routes most_services room network 0
+      (begun histories) ticks begins
+      (λ enough. at_first net (layouts c) is differ cheap few_routers (ups net histories) (ups_within net histories) most_routes most_services room network 0
+      (begun histories)
       (omega arith) begins) passes (omega (arith, long)))
 
 -- a router that should have a route isn't on the network, and has a way
-way_is : (net : Internet) (up : ℕ → List ℕ) (in_ports : (router : ℕ) → AllByRecursion (λ j. j < length (ports_of net router)) (up router)) (router : ℕ) (network : Network) (way : Way) → least_route net up router network ≡ Some way
+way_is : (net : Internet) (up : ℕ → List ℕ) (in_ports : (router : ℕ) → AllByRecursion (λ j. j < length (ports_of net router)) (up router)) (router : ℕ)
+    (network : Network) (way : Way) → least_route net up router network ≡ Some way
     → (is_on (ports_of net router) network ≡ false) × (within net up in_ports network 15 router ≡ Some way)
 way_is net up in_ports router network way e = elim (cases_Bool (is_on (ports_of net router) network)) [
   | inl on ↦ nothing (rw on at e)
@@ -68,7 +71,8 @@ returns-clause-goes c net most_routes most_services histories ticks place bytes 
     let to = p.header.destination in
     let long : most_ticks_gone ≤ length ticks = omega (arith, sure) in
     let has = way_is net (ups net histories) (ups_within net histories) place.router to.network way least in
-    goes net (layouts c) is differ cheap few_routers (ups net histories) (ups_within net histories) most_routes most_services room to (length ticks) (ticked net most_routes most_services (begun histories) ticks)
+    goes net (layouts c) is differ cheap few_routers (ups net histories) (ups_within net histories) most_routes most_services room to (length ticks)
+    (ticked net most_routes most_services (begun histories) ticks)
     (rests c net most_routes most_services histories ticks to.network is differ few_routers cheap room are passes long) long way.hops place.router place.port 0 None bytes p way there on
     (λ same. both_ways (is_on (ports_of net place.router) to.network) has.0 (port_on (ports_of net place.router) to.network place.port there same))
     are_bytes is_packet refl of_host few_control has.1 refl sure

@@ -12,6 +12,7 @@ use Rattle.ipx_internet.proofs.Becoming.{AtRest, at_first}
 use Rattle.ipx_internet.proofs.Clearing.{rests_from}
 use Rattle.ipx_internet.proofs.Replying.{Layouts}
 use Rattle.ipx_internet.proofs.Righting.{some_ticks, soon_enough, ups_within, climbs, table_is, stays, first_ticks, ticked_on}
+use Rattle.ipx_internet.proofs.Starting.{rests_at_once}
 use Rattle.ipx_internet.proofs.Ticking.{quiet_rests}
 use Rattle.ipx_internet.proofs.laws.right.Goals as goal
 
@@ -86,3 +87,14 @@ returns-clause-whatever_waits c net most_routes most_services run (first ∷ tic
     table_is net (layouts c) is differ cheap few_routers (ups net run.histories) (ups_within net run.histories) most_routes most_services room network (length ticks) (ticked net most_routes most_services next ticks)
     (subst (λ (n : ℕ). AtRest net (layouts c) is differ cheap few_routers (ups net run.histories) (ups_within net run.histories) most_routes most_services room network n (ticked net most_routes most_services next ticks)) count
     (climbs net (layouts c) is differ cheap few_routers (ups net run.histories) (ups_within net run.histories) most_routes most_services room network 0 next ticks begins (λ none. at_first net (layouts c) is differ cheap few_routers (ups net run.histories) (ups_within net run.histories) most_routes most_services room network 0 next (omega arith) begins) passes.1 (omega (arith, long)))) long router inside enough
+
+-- as if that many ticks had passed
+pub returns-clause-sooner : goal.returns-clause-sooner
+returns-clause-sooner c net most_routes most_services histories ticks router network is differ few_routers cheap room are real no_service passes inside sure =
+    let begins = rests_at_once net (layouts c) is most_routes most_services histories are real no_service in
+    let enough : ticks_right (least_route net (ups net histories) router network) ≤ length ticks + most_ticks_gone = omega (arith, sure) in
+    table_is net (layouts c) is differ cheap few_routers (ups net histories) (ups_within net histories) most_routes most_services room network (length ticks + most_ticks_gone)
+    (ticked net most_routes most_services (begun histories) ticks)
+    (climbs net (layouts c) is differ cheap few_routers (ups net histories) (ups_within net histories) most_routes most_services room network most_ticks_gone (begun histories) ticks begins
+    (λ none. at_first net (layouts c) is differ cheap few_routers (ups net histories) (ups_within net histories) most_routes most_services room network most_ticks_gone (begun histories) (omega arith) begins) passes
+    (omega arith)) (omega arith) router inside enough
