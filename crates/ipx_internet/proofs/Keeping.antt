@@ -1,6 +1,6 @@
 -- What a table keeps of the routes that neighbours offer for a network: a route as good as the least way stays, but for another one as good,
 -- and comes where a neighbour offers it whose least way, gone on, it is.
-use Rattle.std.proofs.Common.{◌≡◌, ◌≢◌, refl, sym, ap, ap₂, ◌∙◌, subst, ◌⊎◌, ℕ, ◌<◌, ◌≤◌, ◌==◌, nat_eq, nat_le, nat_lt, true, false, List, [], ◌∷◌, length, map, find, Option, None, Some, inl, inr, true≢false, is_eq}
+use Rattle.std.proofs.Common.{◌≡◌, ◌≢◌, refl, sym, ap, ap₂, ◌∙◌, subst, ◌⊎◌, ℕ, ◌<◌, ◌≤◌, ◌==◌, nat_eq, nat_le, true, false, List, [], ◌∷◌, length, map, find, Option, None, Some, inl, inr, true≢false, is_eq}
 use Rattle.std.specs.List.{AllByRecursion}
 use Rattle.std.specs.Cmp.Lexicographic.{pointwise}
 use Rattle.std.specs.Cmp.{IsTotalOrder}
@@ -25,6 +25,7 @@ use Rattle.ipx_internet.specs.Real.{IsReal}
 use Rattle.ipx_internet.proofs.Receivers.{one_port, apart_at, same_place}
 use Rattle.ipx_internet.proofs.Renewing.{admitted, renewed, replaced, not_ended, not_replaced, left_with}
 use Rattle.ipx_internet.proofs.Rooming.{not_worse, worse, has_room, shares, may}
+use Rattle.ipx_internet.proofs.Runs.{router_there}
 use Rattle.ipx_internet.proofs.Shortest.{NoWorse, itself, both_no_worse, same_way, IsNeighbour, within, same_some}
 use Rattle.ipx_internet.proofs.Sourcing.{there_where_up, real_way, none_beats, came_from, Source}
 use Rattle.ipx_internet.proofs.Ways.{nothing, it_is}
@@ -160,8 +161,8 @@ module _ (net : Internet) (is : IsInternet net) (differ : NodesDiffer net) (chea
     there_up : (r port : ℕ) → is_up (up r) port ≡ true → port < length (ports_of net r)
     there_up = there_where_up net is cheap up in_ports network
 
-    has_place : (nat_lt (length records) most_routes) ≡ true
-    has_place = has_room net up there_up most_routes room router o.port neighbour.here records (λ x. distinct x) all
+    inside : router < length net
+    inside = router_there net router o.port neighbour.here
 
     -- the place of a right offer from that port and node is the neighbour
     of_from : (f : Place) → Right f o → f ≡ from
@@ -264,8 +265,9 @@ module _ (net : Internet) (is : IsInternet net) (differ : NodesDiffer net) (chea
           where
             by : (k : Option (Held RouteOffer)) → known records ≡ k → Now (known after)
             by None none =
-                let share = shares net up there_up most_routes room router o.port neighbour.here records (λ x. distinct x) all o in
-                let place = has_place in
+                let none_so = of_offer records ∙ none in
+                let share = shares net up there_up router records (λ x. distinct x) all most_routes room inside o (real_if near) none_so in
+                let place = has_room net up there_up router records (λ x. distinct x) all most_routes room inside o (real_if near) none_so in
                 comes (sym (of_offer after) ∙ admitted rules total records o distinct (of_offer records ∙ none) near (rw (place, share) refl)) (same_if_none none)
             by (Some h) some =
                 let is_known = of_offer records ∙ some in
@@ -274,7 +276,7 @@ module _ (net : Internet) (is : IsInternet net) (differ : NodesDiffer net) (chea
                   | inr other ↦ elim (cases_Bool (is_gt (rank_order (h.offer.ticks, h.offer.hops) (o.ticks, o.hops)))) [
                     | inl is_worse ↦
                         comes (sym (of_offer after) ∙ replaced rules total records o distinct h is_known near other is_worse
-                        (may net up there_up most_routes room router o.port neighbour.here records (λ x. distinct x) all o h)) (same_if_replaced h some is_worse)
+                        (may net up there_up router records (λ x. distinct x) all most_routes room inside o h is_known)) (same_if_replaced h some is_worse)
                     | inr better ↦ stays h some other better (sym (of_offer after) ∙ not_replaced rules total records o distinct h is_known near other better)
                   ]
                 ]

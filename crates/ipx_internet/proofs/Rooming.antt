@@ -1,5 +1,6 @@
--- Where every route is of a real way, there is room: fewer routes are held than there are networks; and which of two routes is worse.
-use Rattle.std.proofs.Common.{◌≡◌, ◌≢◌, refl, sym, ap, ◌∙◌, subst, ℕ, zero, suc, ◌<◌, ◌≤◌, ◌==◌, nat_lt, Bool, true, false, List, [], ◌∷◌, length, map, filter, flat_map, get_or, inl, inr, arith, true≢false, Less, Equal, Greater, is_eq}
+-- Where every route is of a real way, there is room: no more routes are held than there are networks that the router has no port on; and
+-- which of two routes is worse.
+use Rattle.std.proofs.Common.{◌≡◌, ◌≢◌, refl, sym, ap, ◌∙◌, subst, ℕ, zero, suc, ◌<◌, ◌≤◌, ◌==◌, nat_lt, Bool, true, false, not, List, [], ◌∷◌, length, map, filter, find, flat_map, get_or, None, Some, inl, inr, arith, true≢false, Less, Equal, Greater, is_eq}
 use Rattle.std.specs.List.{AllByRecursion, list_any}
 use Rattle.std.specs.Ordering.{nat_cmp, is_gt}
 use Rattle.std.specs.Cmp.{nat_cmp_is}
@@ -16,14 +17,15 @@ use Rattle.ipx_router.specs.Routes.{route_rules, network_order}
 use Rattle.ipx_router.specs.declared.route_offer.RouteOffer.{RouteOffer}
 use Rattle.ipx_internet.specs.Different.{AreDifferent}
 use Rattle.ipx_internet.specs.Internet.{Internet, Place, IsPlace, ports_of, network_of}
-use Rattle.ipx_internet.specs.Least.{Way, is_on, each_once, networks_of, HasRoom}
+use Rattle.ipx_internet.specs.Least.{Way, is_on, each_once, networks_of, others_of, HasRoom}
 use Rattle.ipx_internet.specs.Real.{IsReal, next, farther}
 use Rattle.ipx_internet.proofs.Having.{AnyIs, any-map, any-flat_map, passes_any}
-use Rattle.ipx_internet.proofs.Lists.{all_or, no_more_than}
+use Rattle.ipx_internet.proofs.Lists.{all_at, all_mapped, no_more_than}
 use Rattle.ipx_internet.proofs.Receivers.{same_number}
 use Rattle.ipx_internet.proofs.Runs.{router_there}
-use Rattle.ipx_internet.proofs.Shortest.{NoWorse, port_on}
+use Rattle.ipx_internet.proofs.Shortest.{NoWorse}
 use Rattle.ipx_internet.proofs.Sourcing.{off_where_wanted}
+use Rattle.ipx_internet.proofs.Ways.{it_is, nothing}
 
 -- ---- numbers and ranks in order
 
@@ -117,6 +119,47 @@ named net place there =
     (in_list net place.router [] (λ ports. AnyIs (λ p. (p.network.0 == network.0) ≡ true) ports) (router_there net place.router place.port there)
     (in_list (ports_of net place.router) place.port (port_at [] 0) (λ p. (p.network.0 == network.0) ≡ true) there (eq-eqb network.0 network.0 refl)))))
 
+-- ---- lists that pass a test
+
+-- what passes stays among those that do
+still_passes : {X : Type 0} (test keep : X → Bool) (x : X) → ((y : X) → test y ≡ true → y ≡ x) → keep x ≡ true → (xs : List X) → list_any test xs ≡ true
+    → list_any test (filter keep xs) ≡ true
+still_passes test keep x same kept [] any = any
+still_passes test keep x same kept (y ∷ xs) any = elim (cases_Bool (test y)) [
+  | inl here ↦
+      let stays : keep y ≡ true = ap keep (same y here) ∙ kept in
+      rw stays (or_left (test y) (list_any test (filter keep xs)) here)
+  | inr off ↦
+      let rest = still_passes test keep x same kept xs (rw off at any) in
+      elim (cases_Bool (keep y)) [
+        | inl stays ↦ rw stays (or_right (test y) (list_any test (filter keep xs)) rest)
+        | inr goes ↦ rw goes rest
+      ]
+]
+
+-- a filter that leaves one out keeps fewer
+left_out : {X : Type 0} (test keep : X → Bool) (x : X) (xs : List X) → find test xs ≡ Some x → keep x ≡ false → length (filter keep xs) < length xs
+left_out test keep x [] is_x out = nothing is_x
+left_out test keep x (y ∷ xs) is_x out = elim (cases_Bool (test y)) [
+  | inl here ↦
+      let goes : keep y ≡ false = it_is (λ z. keep z ≡ false) y x (sym (rw here at is_x)) out in
+      let most = length-filter keep xs in
+      rw goes (omega (arith, most))
+  | inr off ↦
+      let rest = left_out test keep x xs (rw off at is_x) out in
+      elim (cases_Bool (keep y)) [
+        | inl stays ↦ rw stays (omega (arith, rest))
+        | inr goes ↦ rw goes (omega (arith, rest))
+      ]
+]
+
+-- ---- numbers of shares
+
+share_of_all : (n capacity : ℕ) (shares : List ℕ) (port : ℕ) → n ≤ capacity → AllByRecursion (λ s. n ≤ s) shares → n ≤ share_of capacity shares port
+share_of_all n capacity [] port most all = most
+share_of_all n capacity (s ∷ shares) zero most all = all.0
+share_of_all n capacity (s ∷ shares) (suc port) most all = share_of_all n capacity shares port most all.1
+
 -- ---- routes of real ways are to such networks
 
 module _ (net : Internet) (up : ℕ → List ℕ) (there_where_up : (router port : ℕ) → is_up (up router) port ≡ true → port < length (ports_of net router)) where
@@ -165,62 +208,84 @@ module _ (net : Internet) (up : ℕ → List ℕ) (there_where_up : (router port
         | inr e ↦ rw e at few
       ]
 
-  -- fewer than there are networks
-  pub few_held : (router port : ℕ) → port < length (ports_of net router) → (records : List (Held RouteOffer)) → ((o : RouteOffer) → length (filter
-      (of_key o) records) ≤ 1)
-      → AllByRecursion (λ h. IsReal net up router h.offer) records → length records < length (networks_of net)
-  few_held router port here records distinct all =
-      let own = network_of net (record { router = router; port = port }) in
-      let networks = map (λ h. h.offer.network) records in
-      let same = length-map records (λ h. h.offer.network) in
-      let most = no_more_than (λ n. n.0) same_number (own ∷ networks) (networks_of net) (apart records all, networks_differ records distinct)
-      (named net (record { router = router; port = port }) here, are_named records all) in
-      omega (arith, same, most)
-    where
-      apart : (rest : List (Held RouteOffer)) → AllByRecursion (λ h. IsReal net up router h.offer) rest
-          → AllByRecursion (λ n. n ≢ network_of net (record { router = router; port = port })) (map (λ h. h.offer.network) rest)
-      apart [] all = tt
-      apart (h ∷ rest) all = (
-        (λ same. both_ways (is_on (ports_of net router) h.offer.network) (real_wanted all.0)
-            (port_on (ports_of net router) h.offer.network port here (sym same))),
-        apart rest all.1,
-      )
+  -- those a router may have a route to
+  is_other : (router : ℕ) {r : RouteOffer} → IsReal net up router r → list_any (λ n. n.0 == r.network.0) (others_of net (ports_of net router)) ≡ true
+  is_other router {r} real =
+      still_passes (λ n. n.0 == r.network.0) (λ n. not (is_on (ports_of net router) n)) r.network
+      (λ n e. same_number n r.network (eqb-true n.0 r.network.0 e)) (let wanted = real_wanted real in rw wanted refl) (networks_of net) (real_named real)
 
-      are_named : (rest : List (Held RouteOffer)) → AllByRecursion (λ h. IsReal net up router h.offer) rest
-          → AllByRecursion (λ n. list_any (λ y. y.0 == n.0) (networks_of net) ≡ true) (map (λ h. h.offer.network) rest)
-      are_named [] all = tt
-      are_named (h ∷ rest) all = (real_named all.0, are_named rest all.1)
+  are_others : (router : ℕ) (records : List (Held RouteOffer)) → AllByRecursion (λ h. IsReal net up router h.offer) records
+      → AllByRecursion (λ n. list_any (λ y. y.0 == n.0) (others_of net (ports_of net router)) ≡ true) (map (λ h. h.offer.network) records)
+  are_others router [] all = tt
+  are_others router (h ∷ records) all = (is_other router all.0, are_others router records all.1)
 
-  -- ---- room and shares
+  module _ (router : ℕ) (records : List (Held RouteOffer)) (distinct : (o : RouteOffer) → length (filter (of_key o) records) ≤ 1)
+      (all : AllByRecursion (λ h. IsReal net up router h.offer) records) where
+    abbrev others : List Network
+    others = others_of net (ports_of net router)
 
-  share_of_all : (n capacity : ℕ) (shares : List ℕ) (port : ℕ) → n ≤ capacity → AllByRecursion (λ s. n ≤ s) shares → n ≤ share_of capacity shares port
-  share_of_all n capacity [] port most all = most
-  share_of_all n capacity (s ∷ shares) zero most all = all.0
-  share_of_all n capacity (s ∷ shares) (suc port) most all = share_of_all n capacity shares port most all.1
+    -- no more than there are such networks
+    few_held : length records ≤ length others
+    few_held =
+        let same = length-map records (λ h. h.offer.network) in
+        let most = no_more_than (λ n. n.0) same_number (map (λ h. h.offer.network) records) others (networks_differ records distinct) (are_others router records all) in
+        omega (arith, same, most)
 
-  module _ (most_routes : ℕ) (room : HasRoom net most_routes) (router port : ℕ) (here : port < length (ports_of net router)) (records : List (Held RouteOffer))
-      (distinct : (o : RouteOffer) → length (filter (of_key o) records) ≤ 1) (all : AllByRecursion (λ h. IsReal net up router h.offer) records) where
-    abbrev ports : List Port
-    ports = ports_of net router
+    -- and fewer, where there is none to one of them
+    fewer_held : (o : RouteOffer) → IsReal net up router o → find (of_key o) records ≡ None → length records < length others
+    fewer_held o real none =
+        let same = length-map records (λ h. h.offer.network) in
+        let most = no_more_than (λ n. n.0) same_number (o.network ∷ map (λ h. h.offer.network) records) others (apart records none, networks_differ records distinct)
+        (is_other router real, are_others router records all) in
+        omega (arith, same, most)
+      where
+        apart : (rest : List (Held RouteOffer)) → find (of_key o) rest ≡ None → AllByRecursion (λ n. n ≢ o.network) (map (λ h. h.offer.network) rest)
+        apart [] none = tt
+        apart (h ∷ rest) none = elim (cases_Bool (is_eq (nat_cmp h.offer.network.0 o.network.0))) [
+          | inl e ↦ nothing (sym (rw e at none))
+          | inr e ↦ (
+            (λ same. both_ways (is_eq (nat_cmp h.offer.network.0 o.network.0)) e
+                (equal_where_same h.offer.network.0 o.network.0 (ap (λ (n : Network). n.0) same))),
+            apart rest (rw e at none),
+          )
+        ]
 
-    pub has_room : nat_lt (length records) most_routes ≡ true
-    has_room =
-        let few = few_held router port here records distinct all in
-        let most = room.table in
-        lt-ltb (length records) most_routes (omega (arith, few, most))
+    -- ---- room and shares
 
-    shares_are : (ps : List Port) → AllByRecursion (λ p. length (networks_of net) ≤ p.route_share) ps → AllByRecursion (λ s. length (networks_of net) ≤ s) (map
-        (λ p. p.route_share) ps)
-    shares_are [] every = tt
-    shares_are (p ∷ ps) every = (every.0, shares_are ps every.1)
+    module _ (most_routes : ℕ) (room : HasRoom net most_routes) (inside : router < length net) where
+      abbrev ports : List Port
+      ports = ports_of net router
 
-    pub shares : (offer : RouteOffer) → has_share (route_rules ports most_routes) offer records ≡ true
-    shares offer =
-        let few = few_held router port here records distinct all in
-        let some = length-filter (λ h. h.offer.port == offer.port) records in
-        let share = share_of_all (length (networks_of net)) most_routes (map (λ p. p.route_share) ports) offer.port room.table
-        (shares_are ports (all_or (AllByRecursion (λ p. length (networks_of net) ≤ p.route_share)) net router [] room.shares tt)) in
-        lt-ltb (count_by (λ r. r.port) offer.port records) (share_of most_routes (map (λ p. p.route_share) ports) offer.port) (omega (arith, few, some, share))
+      table : length others ≤ most_routes
+      table = all_at (λ ps. length (others_of net ps) ≤ most_routes) net router [] room.table inside
 
-    pub may : (offer : RouteOffer) (h : Held RouteOffer) → may_replace (route_rules ports most_routes) offer records h ≡ true
-    may offer h = or_right (h.offer.port == offer.port) (has_share (route_rules ports most_routes) offer records) (shares offer)
+      share : (port : ℕ) → length others ≤ share_of most_routes (map (λ p. p.route_share) ports) port
+      share port =
+          share_of_all (length others) most_routes (map (λ p. p.route_share) ports) port table
+          (all_mapped (λ s. length others ≤ s) (λ p. p.route_share) ports
+          (all_at (λ ps. AllByRecursion (λ p. length (others_of net ps) ≤ p.route_share) ps) net router [] room.shares inside))
+
+      pub has_room : (o : RouteOffer) → IsReal net up router o → find (of_key o) records ≡ None → nat_lt (length records) most_routes ≡ true
+      has_room o real none =
+          let few = fewer_held o real none in
+          let most = table in
+          lt-ltb (length records) most_routes (omega (arith, few, most))
+
+      pub shares : (o : RouteOffer) → IsReal net up router o → find (of_key o) records ≡ None → has_share (route_rules ports most_routes) o records ≡ true
+      shares o real none =
+          let few = fewer_held o real none in
+          let some = length-filter (λ h. h.offer.port == o.port) records in
+          let most = share o.port in
+          lt-ltb (count_by (λ r. r.port) o.port records) (share_of most_routes (map (λ p. p.route_share) ports) o.port) (omega (arith, few, some, most))
+
+      -- the one that it replaces came by the same port, or isn't counted
+      pub may : (o : RouteOffer) (h : Held RouteOffer) → find (of_key o) records ≡ Some h → may_replace (route_rules ports most_routes) o records h ≡ true
+      may o h is_h = elim (cases_Bool (h.offer.port == o.port)) [
+        | inl same ↦ or_left (h.offer.port == o.port) (has_share (route_rules ports most_routes) o records) same
+        | inr off ↦
+            let few = few_held in
+            let some = left_out (of_key o) (λ x. x.offer.port == o.port) h records is_h off in
+            let most = share o.port in
+            or_right (h.offer.port == o.port) (has_share (route_rules ports most_routes) o records)
+            (lt-ltb (count_by (λ r. r.port) o.port records) (share_of most_routes (map (λ p. p.route_share) ports) o.port) (omega (arith, few, some, most)))
+      ]

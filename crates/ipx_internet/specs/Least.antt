@@ -117,10 +117,14 @@ each_once (network ∷ networks) = if is_among network networks then each_once n
 abbrev pub networks_of : Internet → List Network
 networks_of net = each_once (flat_map (λ ports. map (λ p. p.network) ports) net)
 
--- every table has room for all networks, and so has the share of every port
+-- the networks that a router of those ports may have a route to: those on which it has no port
+abbrev pub others_of : Internet → List Port → List Network
+others_of net ports = filter (λ network. not (is_on ports network)) (networks_of net)
+
+-- every router's table has room for all of these, and so has the share of each of its ports
 pub record HasRoom (net : Internet) (most_routes : ℕ) : Type 0 where
-  pub table : length (networks_of net) ≤ most_routes
-  pub shares : AllByRecursion (AllByRecursion (λ p. length (networks_of net) ≤ p.route_share)) net
+  pub table : AllByRecursion (λ ports. length (others_of net ports) ≤ most_routes) net
+  pub shares : AllByRecursion (λ ports. AllByRecursion (λ p. length (others_of net ports) ≤ p.route_share) ports) net
 
 -- the ticks after which a router is right about a network: those after which every route is of a real way, and as many as there are from
 -- one broadcast of all to the next for each hop

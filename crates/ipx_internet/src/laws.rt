@@ -429,12 +429,13 @@ pub fn least_ways()
 /// Every table becomes right and stays so, whatever was in it before: after 2,880 ticks and 60 for each hop every router has the route of
 /// the least way to a network, and where there is no way it has none (`tables`). From then on it is the same route, with hops, ticks,
 /// port and neighbour (`stay`). No network takes longer than 3,780 ticks (`soon`). That is said of ticks that begin with nothing that waits;
-/// whatever waits, forged packets too, one tick more is enough (`whatever_waits`). Where every route is of a real way from the first, and
-/// there is no service, the 60 ticks for each hop alone are enough (`sooner`).
+/// whatever waits, forged packets too, one tick more is enough, 3,781 at most (`whatever_waits`), and from then on too it is the same route
+/// (`whatever_waits_stay`). Where every route is of a real way from the first, there is no service and nothing waits, the 60 ticks for each
+/// hop alone are enough (`sooner`).
 ///
 /// Ways lead over the ports that are up, of routers that run, whichever these are. There are at most 16 routers, and no port costs more than
-/// 4,095 ticks. Every table has room for all networks, and so has the share of every port. Nothing but ticks happens, so ports stay as
-/// they are.
+/// 4,095 ticks. Every table has room for all networks that its router has no port on, and so has the share of every port. Nothing but ticks
+/// happens, so ports stay as they are.
 pub fn right()
     ensures tables { (net : Internet) (most_routes most_services : ℕ) (histories : List History) (ticks : List (List Step)) (router : ℕ) (network : Network)
         → IsInternet net → NodesDiffer net → length net ≤ most_routers → AreCheap net → HasRoom net most_routes → AreHistories net histories
@@ -459,6 +460,15 @@ pub fn right()
         → option_map way_of
         (route_to (offers (routes_held (ports_of net router) most_routes (history_of (ticked net most_routes most_services run ticks).histories router))) network.0)
         ≡ least_route net (ups net run.histories) router network }
+    ensures whatever_waits_stay { (net : Internet) (most_routes most_services : ℕ) (run : Run) (ticks further : List (List Step)) (router : ℕ) (network : Network)
+        → IsInternet net → NodesDiffer net → length net ≤ most_routers → AreCheap net → HasRoom net most_routes → AreHistories net run.histories
+        → AllByRecursion (λ w. IsDelivery net w.delivery) run.waiting
+        → AreTicks net most_routes most_services run (ticks ++ further) → router < length net
+        → ticks_right (least_route net (ups net run.histories) router network) < length ticks
+        → route_to (offers (routes_held (ports_of net router) most_routes
+        (history_of (ticked net most_routes most_services run (ticks ++ further)).histories router))) network.0
+        ≡ route_to (offers (routes_held (ports_of net router) most_routes
+        (history_of (ticked net most_routes most_services run ticks).histories router))) network.0 }
     ensures sooner { (net : Internet) (most_routes most_services : ℕ) (histories : List History) (ticks : List (List Step)) (router : ℕ) (network : Network)
         → IsInternet net → NodesDiffer net → length net ≤ most_routers → AreCheap net → HasRoom net most_routes → AreHistories net histories
         → ((other : ℕ) → other < length net
@@ -477,18 +487,20 @@ pub fn right()
     ipx_router::laws::packets();
 }
 
-/// So packets arrive. After as many ticks a packet of a host for a network, that comes to a port of any router that is up, goes through as many
-/// routers more as the least way of that router has hops, one at a time, and the last one sends it out on that network, for the node that it
-/// is for (`goes`). So each of the first levels of its tree is one reception (`one_each`).
+/// So packets arrive. A packet of a host comes to a port that is up, of a router that has a way to the packet's network; the port isn't on
+/// that network. After 2,880 ticks and 60 for each hop of the router's least way it goes through as many routers more as that way has hops,
+/// one at a time, and the last one sends it out on that network, for the node that it is for (`goes`). Where the router has a port on that
+/// network itself, the way has no hops, and the packet leaves there at once. So each of these levels of its tree is one reception (`one_each`).
 ///
-/// It is for one network, and no port of a router sent it or is where it goes. It is no longer than every port allows. With its transport
-/// control it comes through fewer than 16 routers.
+/// It is for one network. No port of a router sent it or is where it goes, and its source isn't the broadcast node. It is no longer than every
+/// port allows. Its transport control and these hops are together fewer than 16.
 pub fn arrives()
     ensures goes { (net : Internet) (most_routes most_services : ℕ) (histories : List History) (ticks : List (List Step)) (place : Place) (bytes : List ℕ) (p : Parts) (way : Way)
         → IsInternet net → NodesDiffer net → length net ≤ most_routers → AreCheap net → HasRoom net most_routes → AreHistories net histories
         → AreTicks net most_routes most_services (begun histories) ticks → IsPlace net place → is_up (ups net histories place.router) place.port ≡ true
         → IsBytes bytes → IsPacket bytes p → IsOfHost net p
-        → least_route net (ups net histories) place.router p.header.destination.network ≡ Some way → ticks_right (Some way) ≤ length ticks
+        → network_of net place ≢ p.header.destination.network
+        → least net (ups net histories) place.router p.header.destination.network ≡ Some way → ticks_right (Some way) ≤ length ticks
         → p.header.control + way.hops < most_routers
         → Arrives (routers_after net most_routes (ticked net most_routes most_services (begun histories) ticks).histories) p.header.destination way.hops 0
         (root place bytes) }

@@ -50,8 +50,9 @@ one_hop = refl
 pub cheap : AreCheap segment
 cheap = ((omega arith, (omega arith, tt)), ((omega arith, (omega arith, tt)), tt))
 
-pub room : HasRoom segment 8
-room = record { table = omega arith; shares = ((omega arith, (omega arith, tt)), ((omega arith, (omega arith, tt)), tt)) }
+-- of three networks each takes a route to one
+pub room : HasRoom segment 1
+room = record { table = (omega arith, (omega arith, tt)); shares = ((omega arith, (omega arith, tt)), ((omega arith, (omega arith, tt)), tt)) }
 
 -- ports of two routers meet on 20h alone, with different nodes
 pub differ : NodesDiffer segment

@@ -1,10 +1,8 @@
-use Rattle.std.proofs.Common.{◌≡◌, refl, subst, ℕ, suc, ◌+◌, ◌<◌, ◌≤◌, false, List, length, None, Some, arith, inl, inr}
-use Rattle.std.specs.List.{AllByRecursion}
-use Rattle.std.proofs.lemmas.Bool.{cases_Bool, both_ways}
+use Rattle.std.proofs.Common.{◌≡◌, refl, subst, ℕ, suc, ◌+◌, ◌≤◌, List, length, None, arith}
 use Rattle.ipx_wire.specs.declared.network.Network.{Network}
 use Rattle.ipx_router.specs.History.{History}
-use Rattle.ipx_internet.specs.Internet.{Internet, IsInternet, NodesDiffer, ports_of}
-use Rattle.ipx_internet.specs.Least.{Way, is_on, AreCheap, HasRoom, least_route}
+use Rattle.ipx_internet.specs.Internet.{Internet, IsInternet, NodesDiffer}
+use Rattle.ipx_internet.specs.Least.{AreCheap, HasRoom}
 use Rattle.ipx_internet.specs.Run.{Step, AreHistories, begun}
 use Rattle.ipx_internet.specs.Ticks.{AreTicks, ticked, ups, most_ticks_gone}
 use Rattle.ipx_internet.specs.Tree.{tree_to}
@@ -12,9 +10,7 @@ use Rattle.ipx_internet.proofs.Becoming.{AtRest, at_first}
 use Rattle.ipx_internet.proofs.Homing.{goes, one_each}
 use Rattle.ipx_internet.proofs.Replying.{Layouts}
 use Rattle.ipx_internet.proofs.Righting.{ups_within, climbs}
-use Rattle.ipx_internet.proofs.Shortest.{within, port_on}
 use Rattle.ipx_internet.proofs.Ticking.{quiet_rests}
-use Rattle.ipx_internet.proofs.Ways.{nothing}
 use Rattle.ipx_internet.proofs.laws.arrives.Goals as goal
 
 -- the laws of packets and routers
@@ -57,25 +53,14 @@ module _ (c : goal.After-packets) (net : Internet) (most_routes most_services : 
       (begun histories)
       (omega arith) begins) passes (omega (arith, long)))
 
--- a router that should have a route isn't on the network, and has a way
-way_is : (net : Internet) (up : ℕ → List ℕ) (in_ports : (router : ℕ) → AllByRecursion (λ j. j < length (ports_of net router)) (up router)) (router : ℕ)
-    (network : Network) (way : Way) → least_route net up router network ≡ Some way
-    → (is_on (ports_of net router) network ≡ false) × (within net up in_ports network 15 router ≡ Some way)
-way_is net up in_ports router network way e = elim (cases_Bool (is_on (ports_of net router) network)) [
-  | inl on ↦ nothing (rw on at e)
-  | inr off ↦ (off, rw off at e)
-]
-
 pub returns-clause-goes : goal.returns-clause-goes
-returns-clause-goes c net most_routes most_services histories ticks place bytes p way is differ few_routers cheap room are passes there on are_bytes is_packet of_host least sure few_control =
+returns-clause-goes c net most_routes most_services histories ticks place bytes p way is differ few_routers cheap room are passes there on are_bytes is_packet of_host away least sure few_control =
     let to = p.header.destination in
     let long : most_ticks_gone ≤ length ticks = omega (arith, sure) in
-    let has = way_is net (ups net histories) (ups_within net histories) place.router to.network way least in
     goes net (layouts c) is differ cheap few_routers (ups net histories) (ups_within net histories) most_routes most_services room to (length ticks)
     (ticked net most_routes most_services (begun histories) ticks)
     (rests c net most_routes most_services histories ticks to.network is differ few_routers cheap room are passes long) long way.hops place.router place.port 0 None bytes p way there on
-    (λ same. both_ways (is_on (ports_of net place.router) to.network) has.0 (port_on (ports_of net place.router) to.network place.port there same))
-    are_bytes is_packet refl of_host few_control has.1 refl sure
+    away are_bytes is_packet refl of_host few_control least refl sure
 
 pub returns-clause-one_each : goal.returns-clause-one_each
 returns-clause-one_each c routers to hops copy arrives =

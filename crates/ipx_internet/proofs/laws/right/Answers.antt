@@ -1,4 +1,5 @@
 use Rattle.std.proofs.Common.{◌≡◌, refl, sym, subst, ℕ, ◌+◌, ◌≤◌, List, [], ◌∷◌, length, arith}
+use Rattle.std.specs.List.{AllByRecursion}
 use Rattle.ipx_wire.specs.declared.network.Network.{Network}
 use Rattle.ipx_router.specs.Facts.{routes_held, offers}
 use Rattle.ipx_router.specs.History.{History}
@@ -6,6 +7,7 @@ use Rattle.ipx_router.specs.Outgoing.{route_to}
 use Rattle.ipx_internet.specs.Internet.{Internet, IsInternet, NodesDiffer, ports_of}
 use Rattle.ipx_internet.specs.Least.{AreCheap, HasRoom, least_route, ticks_right}
 use Rattle.ipx_internet.specs.Queue.{history_of}
+use Rattle.ipx_internet.specs.Rounds.{IsDelivery}
 use Rattle.ipx_internet.specs.Run.{Step, Run, AreHistories, begun, run_of}
 use Rattle.ipx_internet.specs.Ticks.{AreTicks, ticked, ups, most_ticks_gone}
 use Rattle.ipx_internet.proofs.Becoming.{AtRest, at_first}
@@ -76,17 +78,48 @@ pub returns-clause-soon : goal.returns-clause-soon
 returns-clause-soon c net histories router network = soon_enough net (ups net histories) (ups_within net histories) router network
 
 -- the first tick ends with nothing that waits
+module _ (c : goal.After-packets) (net : Internet) (most_routes most_services : ℕ) (run : Run) (first : List Step) (ticks : List (List Step)) (network : Network)
+    (is : IsInternet net) (differ : NodesDiffer net) (few_routers : length net ≤ 16) (cheap : AreCheap net) (room : HasRoom net most_routes)
+    (are : AreHistories net run.histories) (waits : AllByRecursion (λ w. IsDelivery net w.delivery) run.waiting)
+    (passes : AreTicks net most_routes most_services run (first ∷ ticks)) (long : most_ticks_gone ≤ length ticks) where
+  rests_then : AtRest net (layouts c) is differ cheap few_routers (ups net run.histories) (ups_within net run.histories) most_routes most_services room network (length ticks)
+      (ticked net most_routes most_services (run_of net most_routes most_services run first) ticks)
+  rests_then =
+      let next = run_of net most_routes most_services run first in
+      let begins = rests_from net (layouts c) is most_routes most_services run are waits first [] (passes.0, tt) in
+      let count : length ticks + 0 ≡ length ticks = omega arith in
+      subst (λ (n : ℕ). AtRest net (layouts c) is differ cheap few_routers (ups net run.histories) (ups_within net run.histories) most_routes most_services room network n
+      (ticked net most_routes most_services next ticks)) count
+      (climbs net (layouts c) is differ cheap few_routers (ups net run.histories) (ups_within net run.histories) most_routes most_services room network 0 next ticks begins
+      (λ none. at_first net (layouts c) is differ cheap few_routers (ups net run.histories) (ups_within net run.histories) most_routes most_services room network 0 next
+      (omega arith) begins) passes.1 (omega (arith, long)))
+
 pub returns-clause-whatever_waits : goal.returns-clause-whatever_waits
 returns-clause-whatever_waits c net most_routes most_services run [] router network is differ few_routers cheap room are waits passes inside sure = absurd (omega (arith, sure))
 returns-clause-whatever_waits c net most_routes most_services run (first ∷ ticks) router network is differ few_routers cheap room are waits passes inside sure =
     let next = run_of net most_routes most_services run first in
     let enough : ticks_right (least_route net (ups net run.histories) router network) ≤ length ticks = omega (arith, sure) in
     let long = some_ticks (least_route net (ups net run.histories) router network) (length ticks) enough in
-    let begins = rests_from net (layouts c) is most_routes most_services run are waits first [] (passes.0, tt) in
-    let count : length ticks + 0 ≡ length ticks = omega arith in
-    table_is net (layouts c) is differ cheap few_routers (ups net run.histories) (ups_within net run.histories) most_routes most_services room network (length ticks) (ticked net most_routes most_services next ticks)
-    (subst (λ (n : ℕ). AtRest net (layouts c) is differ cheap few_routers (ups net run.histories) (ups_within net run.histories) most_routes most_services room network n (ticked net most_routes most_services next ticks)) count
-    (climbs net (layouts c) is differ cheap few_routers (ups net run.histories) (ups_within net run.histories) most_routes most_services room network 0 next ticks begins (λ none. at_first net (layouts c) is differ cheap few_routers (ups net run.histories) (ups_within net run.histories) most_routes most_services room network 0 next (omega arith) begins) passes.1 (omega (arith, long)))) long router inside enough
+    table_is net (layouts c) is differ cheap few_routers (ups net run.histories) (ups_within net run.histories) most_routes most_services room network (length ticks)
+    (ticked net most_routes most_services next ticks)
+    (rests_then c net most_routes most_services run first ticks network is differ few_routers cheap room are waits passes long) long router inside enough
+
+pub returns-clause-whatever_waits_stay : goal.returns-clause-whatever_waits_stay
+returns-clause-whatever_waits_stay c net most_routes most_services run [] further router network is differ few_routers cheap room are waits passes inside sure =
+    absurd (omega (arith, sure))
+returns-clause-whatever_waits_stay c net most_routes most_services run (first ∷ ticks) further router network is differ few_routers cheap room are waits passes inside sure =
+    let next = run_of net most_routes most_services run first in
+    let enough : ticks_right (least_route net (ups net run.histories) router network) ≤ length ticks = omega (arith, sure) in
+    let long = some_ticks (least_route net (ups net run.histories) router network) (length ticks) enough in
+    let parts = first_ticks net most_routes most_services next ticks further passes.1 in
+    subst (λ (later : Run).
+    route_to (offers (routes_held (ports_of net router) most_routes (history_of later.histories router))) network.0
+    ≡ route_to (offers (routes_held (ports_of net router) most_routes
+    (history_of (ticked net most_routes most_services next ticks).histories router))) network.0)
+    (sym (ticked_on net most_routes most_services next ticks further))
+    (stays net (layouts c) is differ cheap few_routers (ups net run.histories) (ups_within net run.histories) most_routes most_services room network (length ticks)
+    (ticked net most_routes most_services next ticks) further
+    (rests_then c net most_routes most_services run first ticks network is differ few_routers cheap room are waits (passes.0, parts.0) long) parts.1 router inside enough)
 
 -- as if that many ticks had passed
 pub returns-clause-sooner : goal.returns-clause-sooner
