@@ -9,8 +9,8 @@ use Rattle.ipx_router.specs.Why.{is_propagated, is_own_echo, is_bad_source}
 use Rattle.ipx_internet.specs.Internet.{Internet, Place, IsPlace, ports_of, port_of}
 use Rattle.ipx_internet.specs.Tree.{Router, Copy, router_at, forwards, children}
 
--- a packet of a host for one network, that no port of a router sent, that is for no port of a router, and that is no longer than every
--- port allows
+-- a packet of a host for one network: its source isn't the broadcast node, no port of a router sent it, it is for no port of a router, and
+-- it is no longer than every port allows
 pub record IsOfHost (net : Internet) (p : Parts) : Type 0 where
   pub for_one : is_propagated p.header ≡ false
   pub source : is_bad_source p.header ≡ false

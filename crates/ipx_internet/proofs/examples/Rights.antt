@@ -1,6 +1,7 @@
 -- Two routers on one segment, as of `Waiting`: what the law of right tables asks for holds, and once they were started and what they sent
--- was handed out, both tables have the least ways. And an internet of seventeen routers of which it wouldn't be true.
-use Rattle.std.proofs.Common.{◌≡◌, ◌≢◌, refl, ap, get_or, lit<, ℕ, zero, suc, length, ◌+◌, ◌*◌, ◌<◌, ◌==◌, if◌then◌else◌, List, [], ◌∷◌, map, None, Option, option_map, arith}
+-- was handed out, both tables have the least ways; where it was lost, after 60 ticks, and not after 59. And an internet of seventeen routers of
+-- which the law wouldn't be true.
+use Rattle.std.proofs.Common.{◌≡◌, ◌≢◌, refl, ap, get_or, lit<, ℕ, zero, suc, length, ◌+◌, ◌*◌, ◌<◌, ◌==◌, if◌then◌else◌, List, [], ◌∷◌, ◌++◌, replicate, map, None, Option, option_map, arith}
 use Rattle.ipx_wire.specs.Address.{address_bytes, address_at}
 use Rattle.ipx_wire.specs.Crossed.{network_bytes, network_at}
 use Rattle.ipx_wire.specs.Items.{items}
@@ -11,12 +12,14 @@ use Rattle.ipx_wire.specs.Sap.{sap_of}
 use Rattle.ipx_wire.specs.declared.network.Network.{Network}
 use Rattle.ipx_wire.specs.declared.node.Node.{Node}
 use Rattle.ipx_router.specs.Facts.{routes_held, offers}
+use Rattle.ipx_router.specs.History.{Start}
 use Rattle.ipx_router.specs.Outgoing.{route_to}
 use Rattle.ipx_router.specs.Port.{Port, IsPort, numbers}
 use Rattle.ipx_internet.specs.Internet.{Internet, IsInternet, NodesDiffer, ports_of, port_of}
 use Rattle.ipx_internet.specs.Least.{Way, least, least_route, way_of, ticks_right, AreCheap, HasRoom}
 use Rattle.ipx_internet.specs.Queue.{history_of}
-use Rattle.ipx_internet.specs.Ticks.{ups}
+use Rattle.ipx_internet.specs.Run.{Step, Run, begun}
+use Rattle.ipx_internet.specs.Ticks.{a_tick, ticked, ups}
 use Rattle.ipx_internet.proofs.examples.Leasts.{all, costly, way}
 use Rattle.ipx_internet.proofs.examples.Waiting.{segment, after}
 use Rattle.ipx_internet.proofs.examples.Words.{network, port_on}
@@ -118,6 +121,31 @@ made = record {
   where
     off : (m n : ℕ) → (m ≡ n → ⊥) → network m ≢ network n
     off m n apart e = apart (ap (λ (x : Network). x.0) e)
+
+-- ---- sixty ticks for one hop
+
+-- both were started, and what they sent was lost; then ticks
+abbrev since : List (List Step) → Run
+since ticks = ticked segment 1 1 (begun ((Start ∷ []) ∷ (Start ∷ []) ∷ [])) ticks
+
+-- hops and ticks of the routes to the other's network
+abbrev known_since : List (List Step) → List (Option Way)
+known_since ticks =
+    map (λ router. option_map way_of (route_to (offers (routes_held (ports_of segment router) 1 (history_of (since ticks).histories router)))
+    (if router == 0 then 0x30 else 0x10))) (0 ∷ 1 ∷ [])
+
+abbrev fifty_nine : List (List Step)
+fifty_nine = replicate 59 (a_tick 2 0)
+
+-- 59 ticks are too few, where there is no route at first, so that every route is real
+pub not_yet : known_since fifty_nine ≡ None ∷ None ∷ []
+unfolding header_bytes address_bytes network_bytes packet_of header_at address_at items network_at entry_bytes entry_at rip_of sap_of
+not_yet = refl
+
+-- in the next both advertise
+pub then_right : known_since (fifty_nine ++ a_tick 2 2 ∷ []) ≡ way 1 2 ∷ way 1 2 ∷ []
+unfolding header_bytes address_bytes network_bytes packet_of header_at address_at items network_at entry_bytes entry_at rip_of sap_of
+then_right = refl
 
 -- ---- seventeen routers
 
