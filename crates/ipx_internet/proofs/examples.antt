@@ -4,6 +4,7 @@ pub mod Directed
 pub mod Heavy
 pub mod Horizons
 pub mod Leasts
+pub mod Links
 pub mod Logs
 pub mod Loops
 pub mod Meanwhile
