@@ -431,7 +431,7 @@ pub fn least_ways()
 /// port and neighbour (`stay`). No network takes longer than 3,780 ticks (`soon`). That is said of ticks that begin with nothing that waits;
 /// whatever waits, forged packets too, one tick more is enough, 3,781 at most (`whatever_waits`), and from then on too it is the same route
 /// (`whatever_waits_stay`). Where every route is of a real way from the first, there is no service and nothing waits, the 60 ticks for each
-/// hop alone are enough (`sooner`).
+/// hop alone are enough (`sooner`, `sooner_stay`).
 ///
 /// Ways lead over the ports that are up, of routers that run, whichever these are. There are at most 16 routers, and no port costs more than
 /// 4,095 ticks. Every table has room for all networks that its router has no port on, and so has the share of every port. Nothing but ticks
@@ -479,6 +479,17 @@ pub fn right()
         → option_map way_of
         (route_to (offers (routes_held (ports_of net router) most_routes (history_of (ticked net most_routes most_services (begun histories) ticks).histories router))) network.0)
         ≡ least_route net (ups net histories) router network }
+    ensures sooner_stay { (net : Internet) (most_routes most_services : ℕ) (histories : List History) (ticks further : List (List Step)) (router : ℕ) (network : Network)
+        → IsInternet net → NodesDiffer net → length net ≤ most_routers → AreCheap net → HasRoom net most_routes → AreHistories net histories
+        → ((other : ℕ) → other < length net
+        → AllByRecursion (IsReal net (ups net histories) other) (offers (routes_held (ports_of net other) most_routes (history_of histories other))))
+        → ((other : ℕ) → other < length net → services_held (ports_of net other) most_services (history_of histories other) ≡ [])
+        → AreTicks net most_routes most_services (begun histories) (ticks ++ further) → router < length net
+        → ticks_right (least_route net (ups net histories) router network) ≤ most_ticks_gone + length ticks
+        → route_to (offers (routes_held (ports_of net router) most_routes
+        (history_of (ticked net most_routes most_services (begun histories) (ticks ++ further)).histories router))) network.0
+        ≡ route_to (offers (routes_held (ports_of net router) most_routes
+        (history_of (ticked net most_routes most_services (begun histories) ticks).histories router))) network.0 }
     ensures soon { (net : Internet) (histories : List History) (router : ℕ) (network : Network) → ticks_right (least_route net (ups net histories) router network) ≤ most_ticks_right }
 {
     ipx_wire::laws::readings();

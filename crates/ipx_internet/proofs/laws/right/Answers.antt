@@ -1,12 +1,13 @@
-use Rattle.std.proofs.Common.{◌≡◌, refl, sym, subst, ℕ, ◌+◌, ◌≤◌, List, [], ◌∷◌, length, arith}
+use Rattle.std.proofs.Common.{◌≡◌, refl, sym, subst, ℕ, ◌+◌, ◌<◌, ◌≤◌, List, [], ◌∷◌, length, arith}
 use Rattle.std.specs.List.{AllByRecursion}
 use Rattle.ipx_wire.specs.declared.network.Network.{Network}
-use Rattle.ipx_router.specs.Facts.{routes_held, offers}
+use Rattle.ipx_router.specs.Facts.{routes_held, services_held, offers}
 use Rattle.ipx_router.specs.History.{History}
 use Rattle.ipx_router.specs.Outgoing.{route_to}
 use Rattle.ipx_internet.specs.Internet.{Internet, IsInternet, NodesDiffer, ports_of}
 use Rattle.ipx_internet.specs.Least.{AreCheap, HasRoom, least_route, ticks_right}
 use Rattle.ipx_internet.specs.Queue.{history_of}
+use Rattle.ipx_internet.specs.Real.{IsReal}
 use Rattle.ipx_internet.specs.Rounds.{IsDelivery}
 use Rattle.ipx_internet.specs.Run.{Step, Run, AreHistories, begun, run_of}
 use Rattle.ipx_internet.specs.Ticks.{AreTicks, ticked, ups, most_ticks_gone}
@@ -122,12 +123,38 @@ returns-clause-whatever_waits_stay c net most_routes most_services run (first �
     (rests_then c net most_routes most_services run first ticks network is differ few_routers cheap room are waits (passes.0, parts.0) long) parts.1 router inside enough)
 
 -- as if that many ticks had passed
+module _ (c : goal.After-packets) (net : Internet) (most_routes most_services : ℕ) (histories : List History) (ticks : List (List Step)) (network : Network)
+    (is : IsInternet net) (differ : NodesDiffer net) (few_routers : length net ≤ 16) (cheap : AreCheap net) (room : HasRoom net most_routes)
+    (are : AreHistories net histories)
+    (real : (other : ℕ) → other < length net
+    → AllByRecursion (IsReal net (ups net histories) other) (offers (routes_held (ports_of net other) most_routes (history_of histories other))))
+    (no_service : (other : ℕ) → other < length net → services_held (ports_of net other) most_services (history_of histories other) ≡ [])
+    (passes : AreTicks net most_routes most_services (begun histories) ticks) where
+  rests_sooner : AtRest net (layouts c) is differ cheap few_routers (ups net histories) (ups_within net histories) most_routes most_services room network
+      (length ticks + most_ticks_gone) (ticked net most_routes most_services (begun histories) ticks)
+  rests_sooner =
+      let begins = rests_at_once net (layouts c) is most_routes most_services histories are real no_service in
+      climbs net (layouts c) is differ cheap few_routers (ups net histories) (ups_within net histories) most_routes most_services room network most_ticks_gone
+      (begun histories) ticks begins
+      (λ none. at_first net (layouts c) is differ cheap few_routers (ups net histories) (ups_within net histories) most_routes most_services room network most_ticks_gone
+      (begun histories) (omega arith) begins) passes (omega arith)
+
 pub returns-clause-sooner : goal.returns-clause-sooner
 returns-clause-sooner c net most_routes most_services histories ticks router network is differ few_routers cheap room are real no_service passes inside sure =
-    let begins = rests_at_once net (layouts c) is most_routes most_services histories are real no_service in
     let enough : ticks_right (least_route net (ups net histories) router network) ≤ length ticks + most_ticks_gone = omega (arith, sure) in
     table_is net (layouts c) is differ cheap few_routers (ups net histories) (ups_within net histories) most_routes most_services room network (length ticks + most_ticks_gone)
     (ticked net most_routes most_services (begun histories) ticks)
-    (climbs net (layouts c) is differ cheap few_routers (ups net histories) (ups_within net histories) most_routes most_services room network most_ticks_gone (begun histories) ticks begins
-    (λ none. at_first net (layouts c) is differ cheap few_routers (ups net histories) (ups_within net histories) most_routes most_services room network most_ticks_gone (begun histories) (omega arith) begins) passes
-    (omega arith)) (omega arith) router inside enough
+    (rests_sooner c net most_routes most_services histories ticks network is differ few_routers cheap room are real no_service passes) (omega arith) router inside enough
+
+pub returns-clause-sooner_stay : goal.returns-clause-sooner_stay
+returns-clause-sooner_stay c net most_routes most_services histories ticks further router network is differ few_routers cheap room are real no_service passes inside sure =
+    let enough : ticks_right (least_route net (ups net histories) router network) ≤ length ticks + most_ticks_gone = omega (arith, sure) in
+    let parts = first_ticks net most_routes most_services (begun histories) ticks further passes in
+    subst (λ (run : Run).
+    route_to (offers (routes_held (ports_of net router) most_routes (history_of run.histories router))) network.0
+    ≡ route_to (offers (routes_held (ports_of net router) most_routes
+    (history_of (ticked net most_routes most_services (begun histories) ticks).histories router))) network.0)
+    (sym (ticked_on net most_routes most_services (begun histories) ticks further))
+    (stays net (layouts c) is differ cheap few_routers (ups net histories) (ups_within net histories) most_routes most_services room network (length ticks + most_ticks_gone)
+    (ticked net most_routes most_services (begun histories) ticks) further
+    (rests_sooner c net most_routes most_services histories ticks network is differ few_routers cheap room are real no_service parts.0) parts.1 router inside enough)
