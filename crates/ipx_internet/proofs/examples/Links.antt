@@ -1,6 +1,6 @@
 -- Two routers on one segment, as of `Waiting`, whose tables are right. The segment is lost, and both notice; then it comes back, and the tables
 -- are right at once.
-use Rattle.std.proofs.Common.{◌≡◌, refl, ℕ, [], ◌∷◌, List, length, replicate, map, None, Option, option_map}
+use Rattle.std.proofs.Common.{◌≡◌, refl, ℕ, [], ◌∷◌, length, replicate, None, Option, option_map}
 use Rattle.ipx_wire.specs.Address.{address_bytes, address_at}
 use Rattle.ipx_wire.specs.Crossed.{network_bytes, network_at}
 use Rattle.ipx_wire.specs.Items.{items}
