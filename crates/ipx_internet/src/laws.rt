@@ -429,9 +429,9 @@ pub fn least_ways()
 /// port and neighbour (`stay`). No network takes longer than 3,780 ticks (`soon`). That is said of ticks that begin with nothing that waits;
 /// whatever waits, forged packets too, one tick more is enough (`whatever_waits`).
 ///
-/// Ways lead over the ports that are up, of routers that run, whichever these are. There are at most 16 routers, and no port costs more than
-/// 4,095 ticks. Every table has room for all networks, and so has the share of every port. Nothing but ticks happens, so ports stay as
-/// they are.
+/// Ways lead over the ports that are up, of routers that run, whichever these are. There are at most 16 routers, no port costs more than
+/// 4,095 ticks, and the ports of two routers on one network have different nodes. Every table has room for all networks, and so has the
+/// share of every port. Nothing but ticks happens, so ports stay as they are.
 pub fn right()
     ensures tables { (net : Internet) (most_routes most_services : ℕ) (histories : List History) (ticks : List (List Step)) (router : ℕ) (network : Network)
         → IsInternet net → NodesDiffer net → length net ≤ most_routers → AreCheap net → HasRoom net most_routes → AreHistories net histories
@@ -462,12 +462,13 @@ pub fn right()
     ipx_router::laws::packets();
 }
 
-/// So packets arrive. After as many ticks a packet of a host for a network, that comes to a port of any router that is up, goes through as many
-/// routers more as the least way of that router has hops, one at a time, and the last one sends it out on that network, for the node that it
-/// is for (`goes`). So each of the first levels of its tree is one reception (`one_each`).
+/// So packets arrive. After as many ticks a packet of a host for a network comes to a port that is up, of a router that isn't on that
+/// network and has a way there. It goes through as many routers more as the least way of that router has hops, one at a time. The last one
+/// sends it out on that network, for the node that it is for (`goes`). So each of the first levels of its tree is one reception
+/// (`one_each`).
 ///
-/// It is for one network, and no port of a router sent it or is where it goes. It is no longer than every port allows. With its transport
-/// control it comes through fewer than 16 routers.
+/// It is for one network, its source isn't the broadcast node, and no port of a router sent it or is where it goes. It is no longer than
+/// every port allows. Its transport control and these hops are together fewer than 16.
 pub fn arrives()
     ensures goes { (net : Internet) (most_routes most_services : ℕ) (histories : List History) (ticks : List (List Step)) (place : Place) (bytes : List ℕ) (p : Parts) (way : Way)
         → IsInternet net → NodesDiffer net → length net ≤ most_routers → AreCheap net → HasRoom net most_routes → AreHistories net histories
