@@ -433,9 +433,9 @@ pub fn least_ways()
 /// (`whatever_waits_stay`). Where every route is of a real way from the first, there is no service and nothing waits, the 60 ticks for each
 /// hop alone are enough (`sooner`, `sooner_stay`).
 ///
-/// Ways lead over the ports that are up, of routers that run, whichever these are. There are at most 16 routers, and no port costs more than
-/// 4,095 ticks. Every table has room for all networks that its router has no port on, and so has the share of every port. Nothing but ticks
-/// happens, so ports stay as they are.
+/// Ways lead over the ports that are up, of routers that run, whichever these are. There are at most 16 routers, no port costs more than
+/// 4,095 ticks, and the ports of two routers on one network have different nodes. Every table has room for all networks that its router has
+/// no port on, and so has the share of every port. Nothing but ticks happens, so ports stay as they are.
 pub fn right()
     ensures tables { (net : Internet) (most_routes most_services : ℕ) (histories : List History) (ticks : List (List Step)) (router : ℕ) (network : Network)
         → IsInternet net → NodesDiffer net → length net ≤ most_routers → AreCheap net → HasRoom net most_routes → AreHistories net histories
