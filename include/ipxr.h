@@ -119,7 +119,7 @@ extern "C" {
 #define IPXR_BAD_SAP_NO_ENTRY 1203    /* SAP: no entry */
 #define IPXR_BAD_SAP_TOO_MANY 1204    /* SAP: over 7 entries */
 #define IPXR_NEAREST_REPLY 1300       /* an answer to a query for the nearest service, which routers don't ask */
-#define IPXR_TOO_MANY_ROUTERS 1400    /* came through sixteen routers */
+#define IPXR_TOO_MANY_ROUTERS 1400    /* came through sixteen routers or more */
 #define IPXR_FAR_SIDE 1500            /* for another port of this router */
 #define IPXR_NO_ROUTE 1600            /* for a network to which there is no route */
 #define IPXR_TOO_LONG 1700            /* longer than the outgoing port allows */

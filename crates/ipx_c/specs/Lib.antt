@@ -1,10 +1,18 @@
+-- sizes, and the numbers and structs that cross to C
 pub mod Sizes
 pub mod Codes
 pub mod Values
+-- what a handle owns
 pub mod Holds
+-- events
 pub mod Happens
+-- making
 pub mod Makes
+-- packets out, and clearing
 pub mod Copies
+-- what is read of a router
 pub mod Reads
+-- frames
 pub mod Kinds
+-- words
 pub mod Words

@@ -1,41 +1,56 @@
-pub mod Acted
-pub mod CaptureWord
-pub mod Chosen
-pub mod Continues
-pub mod CrossedText
-pub mod CrossedWord
-pub mod Decoded
-pub mod Ended
-pub mod EventText
-pub mod Fault
-pub mod Instruction
-pub mod InternetMachine
-pub mod InternetStands
-pub mod InternetText
-pub mod KindWord
-pub mod Leads
-pub mod Line
+-- What docs/SCRIPTS.md explains.
+-- a line and its words
 pub mod Lines
-pub mod Machine
-pub mod MachineStands
+pub mod Words
+pub mod Line
+-- ports, routers, and what is wrong with them
 pub mod Making
-pub mod OrderLine
-pub mod Output
-pub mod PacketText
-pub mod Played
-pub mod Playing
 pub mod PortWord
-pub mod RecordText
-pub mod Replayed
+pub mod Fault
+-- what a line asks for
+pub mod Instruction
+pub mod Script
 pub mod Request
+pub mod OrderLine
+-- what is written
+pub mod ServiceWords
+pub mod Output
+pub mod EventText
+pub mod TableText
+pub mod InternetText
+-- what a line does
+pub mod Machine
+pub mod InternetMachine
+-- the text of a script
+pub mod Playing
+pub mod Replayed
+pub mod Simulated
+-- what a run leaves
+pub mod WroteFront
+pub mod Played
+pub mod Continues
+-- the program
+pub mod Chosen
+pub mod Ended
+-- What docs/CAPTURES.md explains.
+-- words
+pub mod KindWord
+pub mod CrossedWord
+pub mod CaptureWord
+-- a packet's lines, and a record's
+pub mod CrossedText
 pub mod RipText
 pub mod SapText
-pub mod Script
-pub mod ServiceWords
+pub mod PacketText
+pub mod RecordText
+-- the text of a capture, and what a run leaves
 pub mod Shown
-pub mod Simulated
+pub mod Decoded
+-- What only types inside the crate say: nobody needs to believe it.
+pub mod Acted
+pub mod Leads
 pub mod Stretch
-pub mod TableText
-pub mod Words
-pub mod WroteFront
+pub mod MachineStands
+pub mod InternetStands
+-- nothing that a public contract says
 pub mod inside

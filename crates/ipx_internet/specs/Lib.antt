@@ -1,27 +1,45 @@
-pub mod Arriving
-pub mod Batches
-pub mod Course
-pub mod Delivery
-pub mod Departure
-pub mod Different
+-- Internet, Delivery
 pub mod Internet
-pub mod InternetWeight
-pub mod Least
-pub mod Listed
+pub mod Delivery
+-- Log
 pub mod Log
-pub mod Meanwhile
-pub mod Moment
-pub mod Most
+-- Course, path
+pub mod Course
+pub mod Different
+-- Queue, Run
 pub mod Queue
-pub mod Real
-pub mod Refused
-pub mod Rounds
 pub mod Run
-pub mod Scales
-pub mod Settled
-pub mod Stations
-pub mod Ticks
-pub mod Traced
+-- Departure
+pub mod Departure
+-- Tree, Most
 pub mod Tree
+pub mod Most
+-- Weight
 pub mod Weight
+-- Rounds
+pub mod Rounds
+-- InternetWeight
+pub mod InternetWeight
+-- Ticks
+pub mod Ticks
+-- Meanwhile
+pub mod Meanwhile
+-- Real
+pub mod Real
+-- Least
+pub mod Least
+-- Arriving
+pub mod Arriving
+-- Moment, Settled, Refused
+pub mod Moment
+pub mod Settled
+pub mod Refused
+-- Traced
+pub mod Traced
+pub mod Listed
+-- what only types inside the crate say: nobody needs to believe it
+pub mod Stations
+pub mod Batches
+pub mod Scales
+-- nothing that a public contract says
 pub mod inside

@@ -1,6 +1,6 @@
 //! Responses: what neighbours offer, and what that changes.
 //! Comes in: the entries of a response, with their port and neighbour, and the table.
-//! Goes out: in the table, what it takes of them; in the outbox, what changed, but not on the port where that came from.
+//! Goes out: in the table, what it takes of them; in the outbox, each record that changed, but not on the port by which it came.
 //! Touches: one of the two tables, and the outbox.
 //! The way: `hear`; `offering` offers the entries, `touched` notes what each touches, `changed` compares, `news` advertises.
 mod changed;

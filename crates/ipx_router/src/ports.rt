@@ -2,6 +2,7 @@
 //! Comes in: the ports of a router, or the values of new ones.
 //! Goes out: the port of a number, the addresses of its processes, which ports are up, whether ports make a router.
 //! Touches: nothing.
+//! `making` judges the ports of a new router, `addresses` has those of its processes, `up_ports` which ports are up.
 pub(crate) mod addresses;
 pub(crate) mod making;
 pub(crate) mod up_ports;

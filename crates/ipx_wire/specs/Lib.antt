@@ -1,20 +1,30 @@
-pub mod Address
-pub mod AddressWord
-pub mod Crossed
-pub mod Digits
-pub mod Ends
-pub mod Forward
-pub mod Header
-pub mod Items
-pub mod Name
-pub mod NameWord
-pub mod Numbers
-pub mod Packet
+-- bytes
 pub mod Piece
+pub mod Items
 pub mod Put
+-- header and packet
+pub mod Numbers
+pub mod Address
+pub mod Header
+pub mod Packet
+-- routing information
 pub mod Rip
-pub mod Sap
+-- service advertising
+pub mod Name
 pub mod SapEntries
+pub mod Sap
+-- propagation
+pub mod Crossed
+-- packets that are sent on
+pub mod Forward
+-- packets of a router's own
 pub mod Write
 pub mod WriteServices
+-- digits and words
+pub mod Digits
+pub mod AddressWord
+pub mod NameWord
+-- the two ends of a run
+pub mod Ends
+-- nothing that a public contract says
 pub mod inside
