@@ -134,8 +134,8 @@ impl<const P: usize, const R: usize, const S: usize> Internet<P, R, S> {
         self.front.len() - self.done + self.back.len()
     }
 
-    /// An event happens to a router, and the deliveries of what it sends wait behind the others. Where there is no such
-    /// router or port, or no memory, nothing happens.
+    /// An event happens to a router, and the deliveries of what it sends wait behind the others. What became of it is
+    /// returned. Where there is no such router or port, or no memory for what the router may send, nothing happens.
     pub fn event(&mut self, router: usize, event: Event<'_>) -> Result<Outcome, InternetFault>
         ensures net { net_at self.new ≡ net_at self.old }
         ensures stands { OnOk result ((q : Queued) → StandsFor R S self.old q → StandsFor R S self.new (queued (net_at self.old) R S q router (happened event.entry))) }
