@@ -100,6 +100,11 @@ pub slot-found : {O : Type 0} (ps : List (O × ℕ)) (held : Bool) (k : ℕ) →
 slot-found ps true k fits = slot-got ps k fits
 slot-found ps false k fits = tt
 
+-- records are younger than the lifetime
+pub young-seen : {O : Type 0} (clock : ℕ) (ps : List (O × ℕ)) → AllByRecursion (λ h. h.age < lifetime) (seen clock ps)
+young-seen clock [] = tt
+young-seen clock (p ∷ ps) = (omega arith, young-seen clock ps)
+
 -- ---- the loop over slots
 
 or_right : (a b : Bool) → (a || b) ≡ (b || a)

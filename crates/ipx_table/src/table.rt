@@ -1,6 +1,6 @@
 //! The table.
 ghost use Rattle.std.specs.Prelude.{◌≡◌, ◌<◌, ◌≤◌, ◌==◌, List, [], ◌∷◌, ◌++◌, length, map, slice_get, option_map, IfSome, false, true};
-ghost use Rattle.std.specs.List.{list_any};
+ghost use Rattle.std.specs.List.{AllByRecursion, list_any};
 ghost use Rattle.std.specs.Ordering.{is_eq};
 ghost use Rattle.ipx_table.specs.Reading.{rules_of, port_of, count_by};
 ghost use Rattle.ipx_table.specs.Shares.{most_shares};
@@ -271,7 +271,8 @@ impl<O: Offer, const CAP: usize> Table<O, CAP> {
 
     /// The records, by key.
     pub fn entries(&self) -> TableEntries<'_, O>
-        ensures { result ≡ self.now.records }
+        ensures value { result ≡ self.now.records }
+        ensures young { AllByRecursion (λ h. h.age < lifetime) result }
     {
         self.records.entries(self.live, self.clock)
     }
