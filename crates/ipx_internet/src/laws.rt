@@ -503,8 +503,9 @@ pub fn right()
 /// one at a time, and the last one sends it out on that network, for the node that it is for (`goes`). Where the router has a port on that
 /// network itself, the way has no hops, and the packet leaves there at once. So each of these levels of its tree is one reception (`one_each`).
 ///
-/// It is for one network. No port of a router sent it or is where it goes, and its source isn't the broadcast node. It is no longer than every
-/// port allows. Its transport control and these hops are together fewer than 16.
+/// It is for one network. No port of a router sent it or is where it goes, and its source isn't the broadcast node. No port of the internet
+/// finds it too long, also none off its way. Its transport control and these hops are together fewer than 16. The rest is asked for as by
+/// `right`, of ticks that begin with nothing that waits.
 pub fn arrives()
     ensures goes { (net : Internet) (most_routes most_services : ℕ) (histories : List History) (ticks : List (List Step)) (place : Place) (bytes : List ℕ) (p : Parts) (way : Way)
         → IsInternet net → NodesDiffer net → length net ≤ most_routers → AreCheap net → HasRoom net most_routes → AreHistories net histories
