@@ -220,8 +220,8 @@ impl Site {
     /// How many bytes the packets have that were sent last.
     fn bytes_sent(&self) -> usize {
         let mut bytes = 0usize;
-        for k in 0..self.outbox.len() {
-            bytes = bytes.wrapping_add(self.outbox.get(k).bytes.len());
+        for sent in self.outbox.iter() {
+            bytes = bytes.wrapping_add(sent.bytes.len());
         }
         bytes
     }

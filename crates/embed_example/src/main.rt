@@ -29,6 +29,8 @@ fn main(rt: HostRuntime) -> Result<(), Stop> {
     ];
     let mut router = Router::<2, 256, 128>::new(&ports)?;
     let mut outbox = Outbox::new(rt.alloc());
+    // Room for any event, where no packet that comes is longer than 1,500 bytes. From here on none takes memory.
+    outbox.reserve(router.most_need(1500))?;
     router.step(Event::Start, &mut outbox)?;
     send(&rt, &mut outbox)?;
     for (port, text) in [(1, ADVERTISEMENT), (0, REQUEST), (0, FAR)] {
@@ -53,8 +55,7 @@ fn main(rt: HostRuntime) -> Result<(), Stop> {
 /// Takes everything out of the outbox: for each packet the port on which it leaves, the node on that port's network that
 /// it goes to next, and its bytes.
 fn send(rt: &HostRuntime, outbox: &mut Outbox) -> io::Result<()> {
-    for k in 0..outbox.len() {
-        let sent = outbox.get(k);
+    for sent in outbox.iter() {
         let (port, next_hop, bytes) = (sent.port, sent.link, Hex(sent.bytes));
         println!(rt; "out {port} {next_hop} {bytes}")?;
     }

@@ -2,6 +2,7 @@
 ghost use Rattle.std.specs.Prelude.{◌≡◌, ◌↔◌, ◌<◌, ◌≤◌, ◌==◌, ◌^◌, true, [], ◌∷◌, ◌++◌, List, length, drop, slice_get, IsOk, IfOk, OnOk, OnErr, IfErr};
 ghost use Rattle.std.specs.List.{AllByRecursion};
 ghost use Rattle.std.specs.Option.{option_map};
+ghost use Rattle.std.specs.Slice.Iter.{iter_rest};
 ghost use Rattle.std.specs.Vec.{vec_len, vec_capacity};
 ghost use Rattle.ipx_router.specs.Happened.{happened};
 ghost use Rattle.ipx_router.specs.History.{IsOnPort};
@@ -29,6 +30,7 @@ use std::alloc::Global;
 use std::fmt;
 use std::marker::Model;
 use std::mem::swap;
+use std::slice::Iter;
 
 /// Whether deliveries are left.
 #[derive(Clone, Copy, Debug, PartialEq, Eq)]
@@ -107,6 +109,13 @@ impl<const P: usize, const R: usize, const S: usize> Internet<P, R, S> {
         ensures { option_map (λ r. r.now) result ≡ slice_get self.now.routers number }
     {
         self.routers.get(number)
+    }
+
+    /// The routers, from number 0 on.
+    pub fn iter(&self) -> Iter<'_, Router<P, R, S>>
+        ensures { iter_rest result ≡ self.now.routers }
+    {
+        self.routers.iter()
     }
 
     /// How many routers there are.

@@ -26,7 +26,9 @@ mod most_deliveries;
 mod scale;
 mod stations;
 mod trace;
+mod trace_iter;
 
 pub use crate::fault::{AddRefused, InternetFault, TraceFault};
 pub use crate::internet::{Internet, Settled};
 pub use crate::trace::{Reception, Trace};
+pub use crate::trace_iter::TraceIter;

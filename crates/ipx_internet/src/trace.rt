@@ -17,6 +17,7 @@ use crate::fault::TraceFault;
 use crate::internet::Internet;
 use crate::listing::Listing;
 use crate::stations::Stations;
+use crate::trace_iter::TraceIter;
 use ipx_router::{Outcome, Router};
 use std::alloc::Global;
 use std::marker::Model;
@@ -78,6 +79,13 @@ impl<'a> Trace<'a> {
             bytes: lent.bytes,
             outcome: self.listing.outcome(k),
         }
+    }
+
+    /// The receptions in their order.
+    pub fn iter(&self) -> TraceIter<'_>
+        ensures { result ≡ self.now }
+    {
+        TraceIter::of(self)
     }
 }
 

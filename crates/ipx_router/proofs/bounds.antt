@@ -6,5 +6,6 @@ pub mod LengthsOfWhatIsSent
 pub mod PacketsOfAPacket
 pub mod PacketsOfEachEvent
 pub mod PacketsOfLocalEvents
+pub mod RoomForEveryEvent
 pub mod RoomIsEnough
 pub mod StaysWithinBounds

@@ -2,6 +2,7 @@
 use Rattle.std.specs.Prelude.{◌≡◌, ℕ, ◌+◌, ◌*◌, ◌≤◌, max, List, [], ◌∷◌, ◌++◌, length}
 use Rattle.std.specs.List.{AllByRecursion}
 use Rattle.ipx_router.specs.Relays.{Sent}
+use Rattle.ipx_router.specs.declared.outbox.Sent.{Sent as Lent}
 
 -- the memory that an outbox has taken, in packets and in bytes of packets
 pub record Memory : Type 0 where
@@ -14,6 +15,10 @@ pub record Contents : Type 0 where
   pub places : ℕ
   pub spare : ℕ
   pub memory : Memory
+
+-- a packet of an outbox, as it is lent
+abbrev pub lent : Lent → Sent
+lent s = record { port = s.port; link = s.link; bytes = s.bytes.now }
 
 -- the bytes of packets, together
 abbrev pub total : List Sent → ℕ

@@ -1,13 +1,13 @@
 //! The calls by which an event is handed to a router, and the room that it needs.
-ghost use Rattle.std.specs.Prelude.{◌≡◌, ℕ, List, [], ◌∷◌, ◌++◌, IsOk, IfOk, OnOk, OnErr};
+ghost use Rattle.std.specs.Prelude.{◌≡◌, ℕ, ◌≤◌, length, List, [], ◌∷◌, ◌++◌, IsOk, IfOk, OnOk, OnErr};
 ghost use Rattle.ipx_table.specs.Shares.{IsSharedBy};
 ghost use Rattle.ipx_router.specs.Bounds.{most_length};
 ghost use Rattle.ipx_router.specs.Facts.{route_facts, route_facts_of, service_facts, service_facts_of};
 ghost use Rattle.ipx_router.specs.Happened.{happened};
-ghost use Rattle.ipx_router.specs.History.{History, IsOnPort, IsOfBytes};
+ghost use Rattle.ipx_router.specs.History.{Event as Happening, Packet, History, IsOnPort, IsOfBytes};
 ghost use Rattle.ipx_router.specs.inside.Following.{Follows, sends_between, outcome_at};
-ghost use Rattle.ipx_router.specs.Needs.{HasRoomFor, TakesRoomFor, packets_needed, bytes_needed};
-ghost use Rattle.ipx_router.specs.Outbox.{Appends, AppendsAtMost, KeepsMemory};
+ghost use Rattle.ipx_router.specs.Needs.{HasRoomFor, TakesRoomFor, IsUpTo, packets_needed, bytes_needed, packets_ever, bytes_ever};
+ghost use Rattle.ipx_router.specs.Outbox.{Contents, HasRoom, Appends, AppendsAtMost, KeepsMemory};
 ghost use Rattle.ipx_router.specs.Outcomes.{outcome};
 ghost use Rattle.ipx_router.specs.Routes.{route_rules};
 ghost use Rattle.ipx_router.specs.Sends.{sends};
@@ -17,7 +17,7 @@ ghost use Rattle.ipx_router.specs.Stands.{State, StandsFor};
 ghost use Rattle.ipx_router.specs.inside.Within.{StaysWithin};
 
 use crate::event::Event;
-use crate::events::need::need_of;
+use crate::events::need::{most_need_of, need_of};
 use crate::outbox::{Need, Outbox};
 use crate::outcome::Outcome;
 use crate::port::proves_bytes;
@@ -37,6 +37,21 @@ impl<const P: usize, const R: usize, const S: usize> Router<P, R, S> {
             self.services.len(),
             *event,
         )
+    }
+
+    /// The room with which no event is refused, as long as no packet that comes is longer than that. An outbox that has it when it
+    /// is empty needs no more memory: its room is there again after each `clear`.
+    pub fn most_need(&self, longest: u16) -> Need
+        ensures packets { result.packets ≡ packets_ever (length self.now.ports) R S }
+        ensures bytes { result.bytes ≡ bytes_ever (length self.now.ports) R S longest }
+        ensures enough { (later : State) (event : Happening) (outbox : Contents) → later.ports ≡ self.now.ports → IsWithinCapacity R S later
+            → IsUpTo longest event → HasRoom outbox result.packets result.bytes → HasRoomFor later event outbox }
+        // A packet is no longer than the bytes that it came in, and never longer than 65,535 bytes.
+        ensures came { (port : ℕ) (bytes : List ℕ) → length bytes ≤ longest → IsUpTo longest (Packet port bytes) }
+        ensures any { longest ≡ 65535 → (event : Happening) → IsOfBytes event → IsUpTo longest event }
+    {
+        ipx_wire::laws::readings();
+        most_need_of(self.ports.len(), R, S, longest)
     }
 
     /// Takes an event of a port that there is: changes the router, and appends what is sent to the outbox, which has the

@@ -22,6 +22,7 @@ mod judging;
 pub mod laws;
 mod learning;
 mod outbox;
+mod outbox_iter;
 mod outcome;
 mod port;
 mod ports;
@@ -35,6 +36,7 @@ mod withdrawing;
 
 pub use crate::event::Event;
 pub use crate::outbox::{Need, Outbox, Sent};
+pub use crate::outbox_iter::OutboxIter;
 pub use crate::outcome::Outcome;
 pub use crate::port::{Port, PortFault};
 pub use crate::ports_fault::PortsFault;

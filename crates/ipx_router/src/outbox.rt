@@ -10,6 +10,7 @@ ghost use Rattle.ipx_router.specs.Outbox.{Memory, HasRoom, Fits, Appends, KeepsM
 ghost use Rattle.ipx_router.specs.Port.{broadcast};
 ghost use Rattle.ipx_router.specs.Relays.{Sent};
 
+use crate::outbox_iter::OutboxIter;
 use ipx_wire::{
     Address, Network, Node, Operation, OutOfMemory, Packet, RipEntry, Service, write_crossed,
     write_forwarded, write_query, write_rip, write_sap,
@@ -129,6 +130,13 @@ impl Outbox {
             link: slot.link,
             bytes: &written[slot.start..slot.start + slot.size],
         }
+    }
+
+    /// The packets, in the order in which they were sent.
+    pub fn iter(&self) -> OutboxIter<'_>
+        ensures { result ≡ self.now.sent }
+    {
+        OutboxIter::of(self)
     }
 
     /// Takes all packets out. Their room is there again, and all the room that was left.

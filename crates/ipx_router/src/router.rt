@@ -1,12 +1,14 @@
 //! The router.
 ghost use Rattle.std.specs.Prelude.{◌≡◌, ◌≤◌, ◌<◌, false, [], length, slice_get, nat_lt, IfOk, IfErr, OnOk, IfSome};
 ghost use Rattle.std.specs.List.{AllByRecursion};
+ghost use Rattle.std.specs.Slice.Iter.{iter_rest};
 ghost use Rattle.ipx_table.specs.Alive.{lifetime};
 ghost use Rattle.ipx_table.specs.Stands.{record_of};
 ghost use Rattle.ipx_router.specs.Numbers.{most_ports};
 ghost use Rattle.ipx_router.specs.RouterOf.{IsNoRouter, made_of, HasPast};
 ghost use Rattle.ipx_router.specs.Port.{IsPort, AreApart, is_up};
 ghost use Rattle.ipx_router.specs.Routes.{network_order};
+ghost use Rattle.ipx_router.specs.Services.{service_order, service_reading};
 ghost use Rattle.ipx_router.specs.Stands.{StandsFor};
 
 use crate::port::Port;
@@ -16,9 +18,10 @@ use crate::ports_fault::PortsFault;
 use crate::route_offer::RouteOffer;
 use crate::service_offer::ServiceOffer;
 use arrayvec::ArrayVec;
-use ipx_table::{Held, Table};
-use ipx_wire::Network;
+use ipx_table::{Held, Table, TableEntries};
+use ipx_wire::{Network, ServiceName};
 use std::marker::Model;
+use std::slice::Iter;
 
 /// A router with at most `P` ports, `R` routes and `S` services.
 #[derive(Debug, Drop)]
@@ -164,6 +167,13 @@ impl<const P: usize, const R: usize, const S: usize> Router<P, R, S> {
         self.ports.get(number).copied()
     }
 
+    /// Its ports, from number 0 on.
+    pub fn iter_ports(&self) -> Iter<'_, Port>
+        ensures { iter_rest result ≡ self.now.ports }
+    {
+        self.ports.as_slice().iter()
+    }
+
     /// How many routes are in its table.
     pub fn routes(&self) -> usize
         ensures value { result ≡ length self.now.routes }
@@ -196,11 +206,35 @@ impl<const P: usize, const R: usize, const S: usize> Router<P, R, S> {
         self.routes.get_at(k)
     }
 
+    /// The routes in its table with their ages, by network.
+    pub fn iter_routes(&self) -> TableEntries<'_, RouteOffer>
+        ensures value { result ≡ self.now.routes }
+        ensures young { AllByRecursion (λ h. h.age < lifetime) result }
+    {
+        self.routes.entries()
+    }
+
+    /// The service of that type and name, with its age, if there is one in the table.
+    pub fn service(&self, kind: u16, name: &ServiceName) -> Option<Held<ServiceOffer>>
+        ensures value { result ≡ record_of service_reading.key service_order (kind, name.now) self.now.services }
+        ensures young { IfSome result (λ h. h.age < lifetime) }
+    {
+        self.services.get(&(kind, *name))
+    }
+
     /// The service with exactly `k` services before it, by type and name; `None` where `k` is `services()` or more.
     pub fn service_at(&self, k: usize) -> Option<Held<ServiceOffer>>
         ensures value { result ≡ slice_get self.now.services k }
         ensures young { IfSome result (λ h. h.age < lifetime) }
     {
         self.services.get_at(k)
+    }
+
+    /// The services in its table with their ages, by type and name.
+    pub fn iter_services(&self) -> TableEntries<'_, ServiceOffer>
+        ensures value { result ≡ self.now.services }
+        ensures young { AllByRecursion (λ h. h.age < lifetime) result }
+    {
+        self.services.entries()
     }
 }

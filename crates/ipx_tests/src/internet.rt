@@ -160,6 +160,24 @@ fn a_packet_goes_round_a_loop_sixteen_times(rt: HostRuntime) -> Result<(), Fail>
 }
 
 #[test]
+fn routers_and_receptions_come_one_by_one(rt: HostRuntime) -> Result<(), Fail> {
+    let internet = looped(rt.alloc())?;
+    let trace = internet.trace(0, 0, &FAR, 17)?;
+    let mut next = 0usize;
+    for it in trace.iter() {
+        same(&rt, (it.parent, it.router), (next.checked_sub(1), next % 2));
+        next = next.wrapping_add(1);
+    }
+    same(&rt, next, 17);
+    let mut routes = 0usize;
+    for router in internet.iter() {
+        routes = routes.wrapping_mul(10).wrapping_add(router.routes());
+    }
+    same(&rt, routes, 11);
+    Ok(())
+}
+
+#[test]
 fn a_limit_below_the_receptions_is_told(rt: HostRuntime) -> Result<(), Fail> {
     let internet = looped(rt.alloc())?;
     for limit in [0, 1, 16] {

@@ -7,7 +7,7 @@ use Rattle.ipx_router.specs.Bounds.{most_length}
 use Rattle.ipx_router.specs.History.{Packet}
 use Rattle.ipx_router.specs.Numbers.{most_own_length}
 
-field_of_header : (bytes : List ℕ) → (header_at bytes).length ≡ length_field bytes
+pub field_of_header : (bytes : List ℕ) → (header_at bytes).length ≡ length_field bytes
 unfolding header_at
 field_of_header bytes = refl
 

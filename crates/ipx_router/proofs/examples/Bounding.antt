@@ -5,6 +5,7 @@ use Rattle.ipx_wire.specs.Header.{header_at}
 use Rattle.ipx_wire.specs.Packet.{packet_of}
 use Rattle.ipx_router.specs.Bounds.{most_packets, most_length}
 use Rattle.ipx_router.specs.History.{Start, Stop, Second, Packet, PortDown, PortUp}
+use Rattle.ipx_router.specs.Needs.{packets_ever, bytes_ever}
 use Rattle.ipx_router.specs.Pages.{pages}
 
 -- pages of fifty, the last one shorter, and none of nothing
@@ -117,3 +118,21 @@ longest_of_a_port_down = refl
 
 pub longest_of_a_port_up : most_length (PortUp 0) ≡ 480
 longest_of_a_port_up = refl
+
+-- enough for every event of two ports with 256 routes and 128 services at most: 25 packets on each port for a second
+pub packets_of_any_event : packets_ever 2 256 128 ≡ 50
+packets_of_any_event = refl
+
+-- and 19 long ones, since a query may be answered with 19 packets
+pub bytes_of_any_event : bytes_ever 2 256 128 1500 ≡ 28500
+bytes_of_any_event = refl
+
+pub bytes_of_short_packets : bytes_ever 2 256 128 576 ≡ 24000
+bytes_of_short_packets = refl
+
+-- a port alone needs most where it comes up, and two ports with small tables where they start
+pub packets_of_one_port : packets_ever 1 50 7 ≡ 4
+packets_of_one_port = refl
+
+pub packets_of_two_ports : packets_ever 2 40 7 ≡ 6
+packets_of_two_ports = refl

@@ -2,6 +2,7 @@
 ghost use Rattle.std.specs.Prelude.{◌≡◌, ◌^◌, ◌<◌, ◌≤◌, ◌*◌};
 ghost use Rattle.ipx_router.specs.Bounds.{most_packets, most_length};
 ghost use Rattle.ipx_router.specs.Happened.{happened};
+ghost use Rattle.ipx_router.specs.Needs.{packets_ever, bytes_ever};
 ghost use Rattle.ipx_router.specs.Numbers.{most_ports};
 
 use crate::advertising::entry_pages::ENTRIES_A_PAGE;
@@ -26,6 +27,28 @@ pub(crate) fn need_of(ports: usize, routes: usize, services: usize, event: Event
     Need {
         packets,
         bytes: packets * length_of(event),
+    }
+}
+
+/// The room with which no event is refused in a router with this many ports and at most this many routes and services,
+/// as long as no packet that comes is longer than that: the most packets that an event sends, and the most bytes of them.
+pub(crate) fn most_need_of(ports: usize, routes: usize, services: usize, longest: u16) -> Need
+    requires some { 1 ≤ ports }
+    requires few { ports ≤ most_ports }
+    requires few_routes { routes < 2 ^ 16 }
+    requires few_services { services < 2 ^ 16 }
+    ensures packets { result.packets ≡ packets_ever ports routes services }
+    ensures bytes { result.bytes ≡ bytes_ever ports routes services longest }
+{
+    let start = packets_of(ports, routes, services, Event::Start);
+    let second = packets_of(ports, routes, services, Event::Second);
+    let up = packets_of(ports, routes, services, Event::PortUp { port: 0 });
+    let bytes = &[];
+    let came = packets_of(ports, routes, services, Event::Packet { port: 0, bytes });
+    let packets = start.max(second).max(up);
+    Need {
+        packets,
+        bytes: (packets * MOST_OWN_LENGTH).max(came * usize::from(longest)),
     }
 }
 

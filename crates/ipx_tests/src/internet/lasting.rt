@@ -98,11 +98,9 @@ fn lifetime(internet: &mut Row) -> Result<(), Fail> {
 
 /// The hops and age of a router's route to network 99.
 fn route(router: &Router<2, 50, 8>) -> Option<(u16, u8)> {
-    for place in 0..router.routes() {
-        if let Some(held) = router.route_at(place) {
-            if held.offer.network == Network(0x99) {
-                return Some((held.offer.hops, held.age));
-            }
+    for held in router.iter_routes() {
+        if held.offer.network == Network(0x99) {
+            return Some((held.offer.hops, held.age));
         }
     }
     None

@@ -1,6 +1,6 @@
 //! The room that an event may take, and packets that are only sent on.
 
-use crate::router::watched::{A, B, Watched, entry, node, on};
+use crate::router::watched::{A, B, Watched, entry, fifty, node, on};
 use crate::same::same;
 use ipx_router::{Event, Need, Outcome};
 use ipx_wire::{Network, Node, Operation, Packet, RipEntry, Socket, write_rip};
@@ -69,5 +69,53 @@ fn relaying_alone_hears_nothing(rt: HostRuntime) -> Result<(), Fail> {
         same(&rt, relayed, outcome);
         same(&rt, watched.sent(0), sent);
     }
+    Ok(())
+}
+
+#[test]
+fn one_room_is_enough_for_every_event(rt: HostRuntime) -> Result<(), Fail> {
+    let mut watched = Watched::started(rt.alloc())?;
+    watched.outbox.clear();
+    let most = watched.router.most_need(1500);
+    // Two pages of routes and two of services on each port; a packet has at most two, each of 1,500 bytes.
+    same(&rt, (most.packets, most.bytes), (8, 3840));
+    same(&rt, watched.router.most_need(65535).bytes, 131_070);
+    watched.outbox.reserve(most)?;
+    for first in [0x100, 0x200, 0x300] {
+        watched.hear(1, B, &fifty(first))?;
+        for _ in 0..60 {
+            watched.second()?;
+            watched.outbox.clear();
+            assert!(rt; watched.outbox.has_room(most));
+        }
+    }
+    same(&rt, watched.router.routes(), 50);
+    Ok(())
+}
+
+#[test]
+fn ports_and_routes_and_packets_come_one_by_one(rt: HostRuntime) -> Result<(), Fail> {
+    let mut watched = Watched::started(rt.alloc())?;
+    watched.hear(1, B, &[entry(0x31, 1, 2), entry(0x30, 1, 2)])?;
+    watched.second()?;
+    let mut routes = 0u32;
+    for held in watched.router.iter_routes() {
+        same(&rt, (held.offer.network.0 & !1, held.age), (0x30, 1));
+        routes = routes.wrapping_mul(256).wrapping_add(held.offer.network.0);
+    }
+    same(&rt, routes, 0x3031);
+    assert!(rt; watched.router.iter_services().next().is_none());
+    let mut networks = 0u32;
+    for port in watched.router.iter_ports() {
+        networks = networks.wrapping_mul(256).wrapping_add(port.network().0);
+    }
+    same(&rt, networks, 0x1020);
+    watched.packet(0, &request())?;
+    let mut sent = 0usize;
+    for packet in &watched.outbox {
+        same(&rt, (packet.port, packet.link), (0, node(A)));
+        sent = sent.wrapping_add(packet.bytes.len());
+    }
+    same(&rt, sent, 56);
     Ok(())
 }
