@@ -124,7 +124,7 @@ fn route(rt: &HostRuntime) -> Result<()> {
     let routes = hex::decode(rt.alloc(), ROUTES)?;
     routers::event(rt, &mut router, &mut outbox, &routes)?;
     routers::outbox(rt, &mut outbox)?;
-    routers::need(rt, &mut router, &mut outbox, Event::Second)?;
+    routers::need(rt, &mut router, &mut outbox)?;
     routers::why(rt, Outcome::Dropped(Why::DownPort))?;
     let services = hex::decode(rt.alloc(), SERVICES)?;
     if router.has_port(1) {

@@ -69,15 +69,10 @@ pub fn outbox(rt: &HostRuntime, outbox: &mut Outbox) -> Result<()> {
 }
 
 /// Room that is made before an event.
-pub fn need(
-    rt: &HostRuntime,
-    router: &mut Small,
-    outbox: &mut Outbox,
-    event: Event<'_>,
-) -> Result<()> {
-    outbox.reserve(router.need(&event))?;
+pub fn need(rt: &HostRuntime, router: &mut Small, outbox: &mut Outbox) -> Result<()> {
+    outbox.reserve(router.need(&Event::Second))?;
     // From here on no memory is taken.
-    let outcome = router.handle(event, outbox);
+    let outcome = router.handle(Event::Second, outbox);
     println!(rt; "{outcome}")?;
     // prints ticked
     Ok(())

@@ -32,9 +32,9 @@ pub struct Sent<'a> {
 /// Room in an outbox.
 ///
 /// ```
-/// outbox.reserve(router.need(&event))?;
+/// outbox.reserve(router.need(&Event::Second))?;
 /// // From here on no memory is taken.
-/// let outcome = router.handle(event, outbox);
+/// let outcome = router.handle(Event::Second, outbox);
 /// println!(rt; "{outcome}")?;
 /// // prints ticked
 /// ```
