@@ -14,6 +14,18 @@ use ipx_wire::{Intake, Source};
 use std::alloc::Global;
 
 /// A capture file that is being read: its header has been, and its records are given one by one.
+///
+/// ```
+/// let mut intake = Intake::new(file);
+/// let mut capture = Capture::from_reader(&mut intake, rt.alloc())?;
+/// for _ in 0..u64::MAX {
+///     let Some(Captured { number, bytes, .. }) = capture.next()? else {
+///         break;
+///     };
+///     println!(rt; "record {number} keeps {} bytes", bytes.len())?;
+/// }
+/// // prints record 1 keeps 2 bytes
+/// ```
 #[derive(Drop)]
 pub struct Capture<'a, S: Source> {
     intake: &'a mut Intake<S>,
@@ -28,6 +40,8 @@ pub struct Capture<'a, S: Source> {
 }
 
 /// A record of a capture.
+///
+/// See the example of [`Capture`].
 #[derive(Clone, Copy, Debug, PartialEq, Eq)]
 pub struct Captured<'c> {
     /// Its number in the file, from 1.

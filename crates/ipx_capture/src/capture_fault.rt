@@ -5,6 +5,16 @@ use std::alloc::AllocError;
 use thiserror::Error;
 
 /// Why a capture can't be read, or not further.
+///
+/// ```
+/// let mut intake = Intake::new(file);
+/// match Capture::from_reader(&mut intake, rt.alloc()) {
+///     Ok(_) => println!(rt; "this is a capture")?,
+///     Err(CaptureFault::Magic) => println!(rt; "this is no capture")?,
+///     Err(fault) => println!(rt; "{fault}")?,
+/// }
+/// // prints this is no capture
+/// ```
 #[derive(Clone, Copy, Debug, PartialEq, Eq, Hash, Error)]
 pub enum CaptureFault {
     /// The file ends inside its header.

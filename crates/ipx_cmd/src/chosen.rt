@@ -13,6 +13,8 @@ use std::alloc::{AllocError, Global};
 use thiserror::Error;
 
 /// What the program can run.
+///
+/// See the example of [`Chosen`].
 #[derive(Clone, Copy, Debug, PartialEq, Eq)]
 pub enum Run {
     /// Plays a script on one router.
@@ -24,6 +26,21 @@ pub enum Run {
 }
 
 /// What the words ask for: what to run, and the file to read in place of standard input, as its name was written.
+///
+/// ```
+/// match choose(rt.alloc(), &["decode", "old.pcap"]) {
+///     Ok(
+///         Chosen {
+///             run: Run::Decode,
+///             file,
+///         },
+///     ) => println!(rt; "shows {:?}", file)?,
+///     Ok(Chosen { run, .. }) => println!(rt; "{run:?}")?,
+///     Err(ChooseFault::Usage) => println!(rt; "no command of the program's")?,
+///     Err(ChooseFault::Memory) => println!(rt; "out of memory")?,
+/// }
+/// // prints shows Some("old.pcap")
+/// ```
 #[derive(Debug, Drop)]
 pub struct Chosen {
     pub run: Run,
@@ -31,6 +48,8 @@ pub struct Chosen {
 }
 
 /// Why the words lead to no run.
+///
+/// See the example of [`Chosen`].
 #[derive(Clone, Copy, Debug, PartialEq, Eq, Error)]
 pub enum ChooseFault {
     /// They are no command of the program's. A request for help or a version is none either.

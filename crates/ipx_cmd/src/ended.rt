@@ -9,6 +9,18 @@ use std::alloc::AllocError;
 use thiserror::Error;
 
 /// The end of a run that read all it was to read and wrote all that it had to say.
+///
+/// ```
+/// let mut intake = Intake::new("port 00000010 000000000001 1 576\n".as_bytes());
+/// let mut outlet = Outlet::new(io::writer(rt));
+/// match replay(rt.alloc(), &mut intake, &mut outlet) {
+///     Ok(Ended::Done) => println!(rt; "a good script")?,
+///     Ok(Ended::BadInput) => println!(rt; "the last line says what is wrong")?,
+///     Err(RunFault::Memory) => println!(rt; "out of memory")?,
+///     Err(fault) => println!(rt; "{fault}")?,
+/// }
+/// // prints a good script
+/// ```
 #[derive(Clone, Copy, Debug, PartialEq, Eq)]
 pub enum Ended {
     /// All of the input was good.
@@ -18,6 +30,8 @@ pub enum Ended {
 }
 
 /// Why a run was given up. What it wrote before is a prefix of its text.
+///
+/// See the example of [`Ended`].
 #[derive(Clone, Copy, Debug, PartialEq, Eq, Error)]
 pub enum RunFault {
     /// The intake failed.

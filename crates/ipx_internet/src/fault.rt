@@ -5,6 +5,15 @@ use std::fmt;
 use thiserror::Error;
 
 /// Why a router isn't added, or an event doesn't happen.
+///
+/// ```
+/// match internet.event(7, Event::Second) {
+///     Ok(outcome) => println!(rt; "{outcome}")?,
+///     Err(InternetFault::NoSuchPort) => println!(rt; "there is no router 7")?,
+///     Err(fault) => println!(rt; "{fault}")?,
+/// }
+/// // prints there is no router 7
+/// ```
 #[derive(Clone, Copy, Debug, PartialEq, Eq, Error)]
 pub enum InternetFault {
     #[error("a port of another router has the same network and node")]
@@ -16,6 +25,8 @@ pub enum InternetFault {
 }
 
 /// Why there is no trace.
+///
+/// See the example of [`Trace`](crate::Trace).
 #[derive(Clone, Copy, Debug, PartialEq, Eq, Error)]
 pub enum TraceFault {
     #[error("no such router or port")]
@@ -27,6 +38,13 @@ pub enum TraceFault {
 }
 
 /// A router that isn't added, handed back, and why.
+///
+/// ```
+/// if let Err(AddRefused { router, fault }) = internet.add(router) {
+///     println!(rt; "{fault}; {} ports come back", router.ports())?;
+/// }
+/// // prints a port of another router has the same network and node; 2 ports come back
+/// ```
 #[derive(Drop)]
 pub struct AddRefused<const P: usize, const R: usize, const S: usize> {
     pub router: Router<P, R, S>,

@@ -33,6 +33,14 @@ use std::mem::swap;
 use std::slice::Iter;
 
 /// Whether deliveries are left.
+///
+/// ```
+/// match internet.settle(100)? {
+///     Settled::Quiet => println!(rt; "all was delivered")?,
+///     Settled::Left(count) => println!(rt; "{count} deliveries wait still")?,
+/// }
+/// // prints all was delivered
+/// ```
 #[derive(Clone, Copy, Debug, PartialEq, Eq)]
 pub enum Settled {
     /// None waits.
@@ -43,6 +51,18 @@ pub enum Settled {
 
 /// Routers with at most `P` ports, `R` routes and `S` services each, and the deliveries of what they sent that wait, first
 /// in first out.
+///
+/// Where `west` and `east` are routers:
+///
+/// ```
+/// let mut internet = Internet::new(rt.alloc());
+/// let first = internet.add(west).map_err(|refused| refused.fault)?;
+/// let second = internet.add(east).map_err(|refused| refused.fault)?;
+/// internet.event(first, Event::Start)?;
+/// internet.event(second, Event::Start)?;
+/// println!(rt; "{} deliveries wait", internet.waiting())?;
+/// // prints 6 deliveries wait
+/// ```
 #[derive(Drop)]
 pub struct Internet<const P: usize, const R: usize, const S: usize> {
     pub(crate) alloc: Global,

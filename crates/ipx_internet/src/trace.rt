@@ -23,6 +23,8 @@ use std::alloc::Global;
 use std::marker::Model;
 
 /// A reception of a packet: by a port of a router, of what the router of the parent sent on.
+///
+/// See the example of [`Trace`].
 #[derive(Clone, Copy, Debug)]
 pub struct Reception<'a> {
     /// The number of the reception whose router sent it on; none of the first.
@@ -34,6 +36,20 @@ pub struct Reception<'a> {
 }
 
 /// The tree of a packet: its receptions, level by level, children in the order of their parents and of delivery.
+///
+/// ```
+/// match internet.trace(0, 0, bytes, 18) {
+///     Ok(trace) => {
+///         for k in 0..trace.len() {
+///             let it = trace.get(k);
+///             println!(rt; "router {}, port {}: {}", it.router, it.port, it.outcome)?;
+///         }
+///     }
+///     Err(TraceFault::Limit) => println!(rt; "over 18 receptions")?,
+///     Err(fault) => println!(rt; "{fault}")?,
+/// }
+/// // prints router 1, port 0: forwarded
+/// ```
 #[derive(Debug, Drop)]
 pub struct Trace<'a> {
     listing: Listing<'a>,

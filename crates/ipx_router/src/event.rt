@@ -1,6 +1,16 @@
 //! What happens to a router.
 
 /// One thing that happens to a router.
+///
+/// ```
+/// router.step(Event::Start, outbox)?;
+/// if router.has_port(1) {
+///     let outcome = router.step(Event::Packet { port: 1, bytes }, outbox)?;
+///     println!(rt; "{outcome}")?;
+/// }
+/// router.step(Event::Second, outbox)?;
+/// // prints learned
+/// ```
 #[derive(Clone, Copy, Debug, PartialEq, Eq)]
 pub enum Event<'a> {
     /// It is started.

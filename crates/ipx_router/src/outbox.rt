@@ -19,6 +19,8 @@ use std::alloc::Global;
 use std::marker::Model;
 
 /// A packet that a router sent, lent from its outbox.
+///
+/// See the example of [`Outbox`].
 #[derive(Clone, Copy, Debug)]
 pub struct Sent<'a> {
     /// The number of the port on which it leaves.
@@ -29,6 +31,14 @@ pub struct Sent<'a> {
 }
 
 /// Room in an outbox.
+///
+/// ```
+/// outbox.reserve(router.need(&Event::Second))?;
+/// // From here on no memory is taken.
+/// let outcome = router.handle(Event::Second, outbox);
+/// println!(rt; "{outcome}")?;
+/// // prints ticked
+/// ```
 #[derive(Clone, Copy, Debug, PartialEq, Eq)]
 pub struct Need {
     pub packets: usize,
@@ -46,6 +56,15 @@ struct Slot {
 }
 
 /// The packets that a router sent, in order, and room for more.
+///
+/// ```
+/// for k in 0..outbox.len() {
+///     let Sent { port, link, bytes } = outbox.get(k);
+///     println!(rt; "port {port}, to {link}: {} bytes", bytes.len())?;
+/// }
+/// outbox.clear();
+/// // prints port 0, to FFFFFFFFFFFF: 40 bytes
+/// ```
 #[derive(Debug, Drop)]
 pub struct Outbox {
     slots: Vec<Slot>,

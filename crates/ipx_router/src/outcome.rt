@@ -6,6 +6,8 @@ use crate::why::Why;
 use std::fmt;
 
 /// What became of an event.
+///
+/// See the example of [`Why`].
 #[derive(Clone, Copy, Debug, PartialEq, Eq, Hash)]
 pub enum Outcome {
     /// The router runs from now on.

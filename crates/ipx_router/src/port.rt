@@ -6,6 +6,8 @@ use std::marker::Model;
 use thiserror::Error;
 
 /// Why values make no port, the first that holds.
+///
+/// See the example of [`Port`].
 #[derive(Clone, Copy, Debug, PartialEq, Eq, Hash, Error)]
 pub enum PortFault {
     /// The longest packet is under 576 bytes.
@@ -23,6 +25,16 @@ pub enum PortFault {
 }
 
 /// A port of a router: the network on which it stands, its node there, its cost, and its limits.
+///
+/// ```
+/// let (network, node) = (Network(0x10), Node([0, 0, 0, 0, 0, 1]));
+/// match Port::new(network, node, 1, 1500) {
+///     Ok(port) => println!(rt; "up to {} bytes on {}", port.longest(), port.network())?,
+///     Err(PortFault::Network) => println!(rt; "no port may have this network")?,
+///     Err(fault) => println!(rt; "{fault}")?,
+/// }
+/// // prints up to 1500 bytes on 00000010
+/// ```
 #[derive(Clone, Copy, Debug, PartialEq, Eq, Hash)]
 pub struct Port {
     network: Network,

@@ -2,6 +2,15 @@
 use thiserror::Error;
 
 /// Why ports make no router, the first that holds.
+///
+/// ```
+/// match Router::<2, 50, 8>::check(ports) {
+///     Ok(()) => println!(rt; "a router can have these ports")?,
+///     Err(PortsFault::SameNetwork) => println!(rt; "a router joins two networks")?,
+///     Err(fault) => println!(rt; "{fault}")?,
+/// }
+/// // prints a router can have these ports
+/// ```
 #[derive(Clone, Copy, Debug, PartialEq, Eq, Hash, Error)]
 pub enum PortsFault {
     /// There is none.

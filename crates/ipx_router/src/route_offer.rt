@@ -6,6 +6,16 @@ use ipx_table::Offer;
 use ipx_wire::{Network, Node, RipEntry};
 
 /// A route as a neighbour advertised it: fewer ticks are better, then fewer hops.
+///
+/// ```
+/// for k in 0..router.routes() {
+///     if let Some(held) = router.route_at(k) {
+///         let route = held.offer;
+///         println!(rt; "network {}: {} ticks", route.network, route.ticks)?;
+///     }
+/// }
+/// // prints network 00000030: 2 ticks
+/// ```
 #[derive(Clone, Copy, Debug, Default, PartialEq, Eq, Hash)]
 pub struct RouteOffer {
     /// The network that it leads to.

@@ -24,6 +24,14 @@ use std::marker::Model;
 use std::slice::Iter;
 
 /// A router with at most `P` ports, `R` routes and `S` services.
+///
+/// ```
+/// let mut router = Router::<2, 50, 8>::new(ports)?;
+/// let mut outbox = Outbox::new(rt.alloc());
+/// let outcome = router.step(Event::Start, &mut outbox)?;
+/// println!(rt; "{outcome}, with {} packets to send", outbox.len())?;
+/// // prints started, with 6 packets to send
+/// ```
 #[derive(Debug, Drop)]
 pub struct Router<const P: usize, const R: usize, const S: usize> {
     pub(crate) ports: ArrayVec<Port, P>,

@@ -7,6 +7,15 @@ use std::fmt;
 
 /// Why a packet was dropped: the first that holds. *Propagated* is type 20 to the broadcast; *near* is
 /// any other packet for network 0 or the port's; *far* is the rest.
+///
+/// ```
+/// match outcome {
+///     Outcome::Dropped(Why::NoRoute) => println!(rt; "nobody advertises that network")?,
+///     Outcome::Dropped(why) => println!(rt; "dropped: {why}")?,
+///     other => println!(rt; "{other}")?,
+/// }
+/// // prints dropped: DownPort
+/// ```
 #[derive(Clone, Copy, Debug, PartialEq, Eq, Hash)]
 pub enum Why {
     /// The router is stopped.

@@ -9,6 +9,43 @@ use std::hint::select_unpredictable;
 /// sought, and counts how often it was asked.
 ///
 /// Its answers, place by place, are any number of `Less`, at most one `Equal`, then `Greater`. They never change.
+///
+/// One of one's own, with `use ipx_table::Asked;` and `use std::cmp::Ordering;` above:
+///
+/// ```
+/// /// Releases in their order: from one on they fail. How many are good, how many fail, and how many were tried.
+/// #[derive(Drop)]
+/// pub struct Releases {
+///     pub good: u8,
+///     pub failing: u8,
+///     pub tried: u64,
+/// }
+///
+/// impl Asked for Releases {
+///     ghost use Rattle.std.specs.Prelude.{false};
+///
+///     ghost answers = { λ r. record { below = r.good; held = false; above = r.failing } };
+///
+///     ghost asks = { λ r. r.tried };
+///
+///     fn len(&self) -> usize {
+///         usize::from(self.good) + usize::from(self.failing)
+///     }
+///
+///     fn ask(&mut self, place: usize) -> Ordering {
+///         self.tried += 1;
+///         if place < usize::from(self.good) {
+///             Ordering::Less
+///         } else {
+///             Ordering::Greater
+///         }
+///     }
+///
+///     fn asks(&self) -> u64 {
+///         self.tried
+///     }
+/// }
+/// ```
 pub trait Asked {
     ghost answers: { Self → Answers };
 
@@ -32,6 +69,19 @@ pub trait Asked {
 }
 
 /// Where the sought key stands, or would stand.
+///
+/// With `Releases`, which the documentation of [`Asked`] shows:
+///
+/// ```
+/// let mut releases = Releases {
+///     good: 70,
+///     failing: 30,
+///     tried: 0,
+/// };
+/// let Found { below, .. } = find(&mut releases);
+/// println!(rt; "release {below} fails first, by {} trials", releases.tried)?;
+/// // prints release 70 fails first, by 7 trials
+/// ```
 #[derive(Clone, Copy, Debug, PartialEq, Eq, Hash)]
 pub struct Found {
     /// How many keys are smaller.

@@ -6,6 +6,17 @@ use crate::offer::Offer;
 use crate::taken::Taken;
 
 /// What a table did with an offer, and the offer of its key before and after.
+///
+/// With `TimeServer`, the type that the documentation of [`Offer`] shows:
+///
+/// ```
+/// let Exchanged { taken, before, .. } = table.exchange(nearer);
+/// match (taken, before) {
+///     (Taken::Replaced, Some(before)) => println!(rt; "{taken}: node {}", before.node)?,
+///     _ => println!(rt; "{taken}")?,
+/// }
+/// // prints replaced: node 000000000001
+/// ```
 #[derive(Clone, Copy, Debug, PartialEq, Eq)]
 pub struct Exchanged<O> {
     /// What became of the offer.

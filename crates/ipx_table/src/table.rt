@@ -29,6 +29,18 @@ const MOST_SHARES: usize = 32;
 /// At most `CAP` offers with their ages, one of a key, and the shares of the ports. A clause sees the list of its records
 /// by key, and the shares. Its offers lie in one slice, by key, which `offers` lends; how their ages are kept, and how `Debug` shows
 /// all this, is no promise.
+///
+/// With `TimeServer`, the type that the documentation of [`Offer`] shows:
+///
+/// ```
+/// let mut table: Table<TimeServer, 8> = Table::new();
+/// table.offer(server);
+/// table.second();
+/// for Held { offer, age } in table.entries() {
+///     println!(rt; "server {}, of age {age}", offer.number)?;
+/// }
+/// // prints server 7, of age 1
+/// ```
 #[derive(Debug, Drop)]
 pub struct Table<O: Offer, const CAP: usize> {
     /// The records of the table, and behind them what ended in place and isn't forgotten yet.

@@ -9,6 +9,8 @@ use crate::held::Held;
 use std::marker::Model;
 
 /// The records of a table that are still to come, by key.
+///
+/// See the example of [`Table`](crate::Table).
 #[derive(Debug, Drop)]
 pub struct TableEntries<'a, O> {
     offers: &'a [O],

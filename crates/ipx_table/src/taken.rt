@@ -5,6 +5,8 @@ ghost use Rattle.ipx_table.specs.TakenWord.{taken_word};
 use std::fmt;
 
 /// What a table did with an offer.
+///
+/// See the example of [`Exchanged`](crate::Exchanged).
 #[derive(Clone, Copy, Debug, PartialEq, Eq, Hash)]
 pub enum Taken {
     /// It was down and of the source of the record, which ended.

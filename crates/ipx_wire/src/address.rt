@@ -8,6 +8,16 @@ use crate::socket::Socket;
 use std::fmt;
 
 /// Where a packet comes from or goes to: a socket on a node of a network.
+///
+/// ```
+/// let address = Address {
+///     network: Network(0x10),
+///     node: Node([0, 0, 0, 0, 0, 0xAA]),
+///     socket: Socket::RIP,
+/// };
+/// println!(rt; "{address}")?;
+/// // prints 00000010.0000000000AA.0453
+/// ```
 #[derive(Clone, Copy, Debug, Default, PartialEq, Eq, Hash)]
 pub struct Address {
     /// The network; 0 is the local one.

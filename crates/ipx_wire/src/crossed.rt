@@ -9,6 +9,8 @@ use std::marker::Model;
 use thiserror::Error;
 
 /// Why data have no list of networks crossed. A reader returns the first fault of this list that holds.
+///
+/// See the example of [`Crossed`].
 #[derive(Clone, Copy, Debug, PartialEq, Eq, Hash, Error)]
 pub enum CrossedFault {
     /// There are fewer than 32 bytes, so no room for eight networks.
@@ -20,6 +22,19 @@ pub enum CrossedFault {
 }
 
 /// The networks that a packet has crossed, at most seven; they are lent from the data that they were read from.
+///
+/// ```
+/// match Crossed::read(packet.header().control, packet.payload()) {
+///     Ok(crossed) => {
+///         for network in crossed.entries() {
+///             println!(rt; "it has crossed {network}")?;
+///         }
+///     }
+///     Err(CrossedFault::Short) => println!(rt; "there is no room for eight networks")?,
+///     Err(CrossedFault::Full) => println!(rt; "it has crossed eight networks")?,
+/// }
+/// // prints it has crossed 00000040
+/// ```
 #[derive(Debug, Drop)]
 pub struct Crossed<'a> {
     count: usize,

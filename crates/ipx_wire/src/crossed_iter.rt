@@ -7,6 +7,8 @@ use crate::network::Network;
 use std::marker::Model;
 
 /// The networks crossed that are still to come, in the order in which they were crossed.
+///
+/// See the example of [`Crossed`].
 #[derive(Debug, Drop)]
 pub struct CrossedIter<'a> {
     count: usize,

@@ -4,6 +4,19 @@ use crate::address::Address;
 use crate::fields::{address_from, put_address, put_u8, put_u16, u16_at};
 
 /// The first thirty bytes of a packet. Each number stands there with its highest byte first.
+///
+/// ```
+/// let header = packet.header();
+/// let answer = Header {
+///     source: header.destination,
+///     destination: header.source,
+///     ..header
+/// };
+/// let mut out = [0; Header::SIZE];
+/// answer.write(&mut out);
+/// println!(rt; "{}", Hex(&out))?;
+/// // prints FFFF00280001000000200000000000BB045300000020FFFFFFFFFFFF0453
+/// ```
 #[derive(Clone, Copy, Debug, PartialEq, Eq, Hash)]
 pub struct Header {
     /// FFFFh where there is none. This crate neither computes nor checks it.

@@ -7,6 +7,12 @@ ghost use Rattle.hex.specs.Hex.{encode_upper, upper_digits};
 use std::fmt;
 
 /// Bytes that are shown as upper-case hexadecimal digits.
+///
+/// ```
+/// let bytes = [0xFF, 0xFF, 0x00, 0x1E];
+/// println!(rt; "{}", Hex(&bytes))?;
+/// // prints FFFF001E
+/// ```
 #[derive(Clone, Copy, Debug)]
 pub struct Hex<'a>(
     /// The bytes, as many as there are.

@@ -13,6 +13,16 @@ pub const MOST_CALLS: u32 = 16_777_216;
 /// A source that is asked a bounded number of times: a reader, as a rule.
 ///
 /// A call that fails in any way, also one that was only interrupted, is a failure: nothing is asked twice.
+///
+/// ```
+/// let mut intake = Intake::new("second 60\n".as_bytes());
+/// let mut piece = [0; 6];
+/// match intake.read(&mut piece) {
+///     Ok(count) => println!(rt; "{count} bytes after {} call", intake.calls())?,
+///     Err(Failed) => println!(rt; "the reader failed, and wasn't asked again")?,
+/// }
+/// // prints 6 bytes after 1 call
+/// ```
 #[derive(Drop)]
 pub struct Intake<S: Source> {
     source: S,

@@ -13,6 +13,14 @@ use std::fmt;
 use std::str::FromStr;
 
 /// The number of a network, written as eight hexadecimal digits; 0 means the local one.
+///
+/// ```
+/// match "0000BEEF".parse::<Network>() {
+///     Ok(network) => println!(rt; "network {network} has the number {}", network.0)?,
+///     Err(NotHex) => println!(rt; "a network has eight hexadecimal digits")?,
+/// }
+/// // prints network 0000BEEF has the number 48879
+/// ```
 #[derive(Clone, Copy, Default, PartialEq, Eq, PartialOrd, Ord, Hash)]
 pub struct Network(
     /// The number, 0 to FFFFFFFFh.

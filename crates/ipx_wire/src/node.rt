@@ -12,6 +12,13 @@ use std::fmt;
 use std::str::FromStr;
 
 /// The six bytes that tell apart the nodes of one network, written as twelve hexadecimal digits.
+///
+/// ```
+/// let node = Node([0, 0, 0, 0, 0, 0xAA]);
+/// let is_read = Node::from_hex("0000000000aa") == Some(node);
+/// println!(rt; "node {node} is read: {is_read}")?;
+/// // prints node 0000000000AA is read: true
+/// ```
 #[derive(Clone, Copy, Default, PartialEq, Eq, PartialOrd, Ord, Hash)]
 pub struct Node(
     /// The bytes, in the order in which a packet has them.

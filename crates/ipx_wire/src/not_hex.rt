@@ -1,6 +1,8 @@
 use thiserror::Error;
 
 /// A text is not exactly as many hexadecimal digits as a network (eight) or a node (twelve) has.
+///
+/// See the example of [`Network`](crate::Network).
 #[derive(Clone, Copy, Debug, PartialEq, Eq, Error)]
 #[error("not the hexadecimal digits of a network or a node")]
 pub struct NotHex;

@@ -5,6 +5,17 @@ use std::alloc::{AllocError, AllocFailed};
 use thiserror::Error;
 
 /// No memory was left for what a call had to make.
+///
+/// A call that makes something returns it, and `?` turns a refusal of the allocator into it:
+///
+/// ```
+/// /// A copy of bytes that were lent.
+/// pub fn copied(alloc: Global, bytes: &[u8]) -> Result<Vec<u8>, OutOfMemory> {
+///     let mut copy = Vec::new(alloc);
+///     copy.extend_from_slice(bytes)?;
+///     Ok(copy)
+/// }
+/// ```
 #[derive(Clone, Copy, Debug, PartialEq, Eq, Error)]
 #[error("memory")]
 pub struct OutOfMemory;

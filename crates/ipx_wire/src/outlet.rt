@@ -11,6 +11,14 @@ use std::marker::Model;
 ///
 /// Its bytes are handed on at each call, none is kept back. A call that fails in any way, also one that was only interrupted, is a
 /// failure: nothing is given twice.
+///
+/// ```
+/// let mut outlet = Outlet::new(io::writer(rt));
+/// if let Err(Failed) = outlet.write(b"quiet\n") {
+///     eprintln!(rt; "the writer failed, and nothing is written twice")?;
+/// }
+/// // prints quiet
+/// ```
 #[derive(Drop)]
 pub struct Outlet<S: Sink> {
     sink: S,

@@ -6,6 +6,8 @@ use std::marker::Model;
 use thiserror::Error;
 
 /// Why bytes are no packet. A reader returns the first fault of this list that holds.
+///
+/// See the example of [`Packet`].
 #[derive(Clone, Copy, Debug, PartialEq, Eq, Hash, Error)]
 pub enum PacketFault {
     /// There are fewer than thirty bytes.
@@ -21,6 +23,18 @@ pub enum PacketFault {
 
 /// A packet whose length has been checked, lent from the bytes that it was read from. Its fields are read where they are
 /// asked for.
+///
+/// ```
+/// match Packet::read(bytes) {
+///     Ok(packet) => {
+///         let Header { source, kind, .. } = packet.header();
+///         println!(rt; "{source} sent a packet of type {kind}")?;
+///     }
+///     Err(PacketFault::Short) => println!(rt; "a header has thirty bytes")?,
+///     Err(fault) => println!(rt; "{fault}")?,
+/// }
+/// // prints 00000020.0000000000BB.0453 sent a packet of type 1
+/// ```
 #[derive(Debug, Drop)]
 pub struct Packet<'a> {
     whole: &'a [u8],

@@ -10,6 +10,8 @@ use std::marker::Model;
 use thiserror::Error;
 
 /// What a routing information packet does.
+///
+/// See the example of [`RipEntry`].
 #[derive(Clone, Copy, Debug, PartialEq, Eq, Hash)]
 pub enum Operation {
     /// Asks a neighbour for routes.
@@ -52,6 +54,8 @@ impl fmt::Display for Operation {
 }
 
 /// Why data are no routing information. A reader returns the first fault of this list that holds.
+///
+/// See the example of [`Rip`].
 #[derive(Clone, Copy, Debug, PartialEq, Eq, Hash, Error)]
 pub enum RipFault {
     /// There are fewer than the two bytes of the operation.
@@ -69,6 +73,20 @@ pub enum RipFault {
 }
 
 /// A network and how far it is, as a neighbour advertises it.
+///
+/// One is advertised, where `from` and `to` are addresses:
+///
+/// ```
+/// let entry = RipEntry {
+///     network: Network(0x30),
+///     hops: 1,
+///     ticks: 2,
+/// };
+/// let mut out = [0; 40];
+/// let size = write_rip(from, to, Operation::Response, &[entry], &mut out);
+/// println!(rt; "{}", Hex(&out[Header::SIZE..size]))?;
+/// // prints 00020000003000010002
+/// ```
 #[derive(Clone, Copy, Debug, Default, PartialEq, Eq, Hash)]
 pub struct RipEntry {
     /// The network; in a request, [`Network::ALL_ROUTES`] asks for every route.
@@ -91,6 +109,19 @@ impl RipEntry {
 }
 
 /// The data of a routing information packet; its entries are lent from the bytes that they were read from.
+///
+/// ```
+/// match Rip::read(data) {
+///     Ok(rip) => {
+///         for RipEntry { network, ticks, .. } in rip.entries() {
+///             println!(rt; "network {network} is {ticks} ticks away")?;
+///         }
+///     }
+///     Err(RipFault::Operation(number)) => println!(rt; "no operation has the number {number}")?,
+///     Err(fault) => println!(rt; "{fault}")?,
+/// }
+/// // prints network 00000030 is 2 ticks away
+/// ```
 #[derive(Debug, Drop)]
 pub struct Rip<'a> {
     operation: Operation,

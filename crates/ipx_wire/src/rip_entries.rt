@@ -6,6 +6,8 @@ use crate::rip::{RipEntry, entry_from};
 use std::marker::Model;
 
 /// The entries of a routing information packet that are still to come, in their order.
+///
+/// See the example of [`Rip`](crate::Rip).
 #[derive(Debug, Drop)]
 pub struct RipEntries<'a> {
     count: usize,

@@ -9,6 +9,8 @@ use thiserror::Error;
 
 /// Why data are no service advertising. A reader returns the first fault that holds: those of the operation before those of
 /// what stands behind it.
+///
+/// See the example of [`Sap`].
 #[derive(Clone, Copy, Debug, PartialEq, Eq, Hash, Error)]
 pub enum SapFault {
     /// There are fewer than the two bytes of the operation, or a query has fewer than four.
@@ -26,6 +28,20 @@ pub enum SapFault {
 }
 
 /// The data of a service advertising packet; entries are lent from the bytes that they were read from.
+///
+/// ```
+/// match Sap::read(data) {
+///     Ok(Sap::Query { kind, .. }) => println!(rt; "who has type {kind:04X}?")?,
+///     Ok(Sap::Response { entries, .. }) => {
+///         for SapEntry { kind, address, .. } in entries.entries() {
+///             println!(rt; "type {kind:04X} is at {address}")?;
+///         }
+///     }
+///     Err(SapFault::Operation(number)) => println!(rt; "no operation has the number {number}")?,
+///     Err(fault) => println!(rt; "{fault}")?,
+/// }
+/// // prints type 0004 is at 00000030.0000000000CC.0451
+/// ```
 #[derive(Debug, Drop)]
 pub enum Sap<'a> {
     /// Asks for services.

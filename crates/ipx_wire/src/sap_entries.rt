@@ -12,6 +12,8 @@ use crate::service_name::ServiceName;
 use std::marker::Model;
 
 /// A service as a response advertises it.
+///
+/// See the example of [`Sap`](crate::Sap).
 #[derive(Clone, Copy, Debug, PartialEq, Eq, Hash)]
 pub struct SapEntry {
     /// The type of the service, 0 to FFFFh.
@@ -33,6 +35,8 @@ impl SapEntry {
 }
 
 /// The entries of a response, lent from the bytes that they were read from.
+///
+/// See the example of [`Sap`](crate::Sap).
 #[derive(Debug, Drop)]
 pub struct SapEntries<'a> {
     count: usize,

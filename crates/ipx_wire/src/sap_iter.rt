@@ -6,6 +6,8 @@ use crate::sap_entries::{SapEntry, entry_from};
 use std::marker::Model;
 
 /// The entries of a response that are still to come, in their order.
+///
+/// See the example of [`Sap`](crate::Sap).
 #[derive(Debug, Drop)]
 pub struct SapIter<'a> {
     count: usize,

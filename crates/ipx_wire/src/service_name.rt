@@ -18,6 +18,14 @@ use std::marker::Model;
 
 /// The name of a service, 1 to 47 bytes without a zero. Names are compared byte by byte, and a
 /// name that begins another is the smaller of the two.
+///
+/// ```
+/// match ServiceName::read(field) {
+///     Some(name) => println!(rt; "{name} has {} bytes", name.bytes().len())?,
+///     None => println!(rt; "a name ends with a zero, and isn't empty")?,
+/// }
+/// // prints ACCOUNTS has 8 bytes
+/// ```
 #[derive(Clone, Copy)]
 pub struct ServiceName {
     field: [u8; 48],

@@ -7,6 +7,8 @@ use std::io::Write;
 ///
 /// Its states serve as those of a [`Source`](crate::Source): code that knows nothing else of a sink can show `given` of it before
 /// and after only by giving exactly once.
+///
+/// See the example of [`Outlet`](crate::Outlet).
 pub trait Sink {
     ghost use Rattle.std.specs.Prelude.{ℕ, List, Option, Result};
     ghost use Rattle.std.specs.Io.{WritesAtMost};

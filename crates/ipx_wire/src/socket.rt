@@ -6,6 +6,13 @@ use crate::hex_text::{put_digits, write_ascii};
 use std::fmt;
 
 /// The number of a process within a node, written as four hexadecimal digits.
+///
+/// ```
+/// let socket = Socket(0x4003);
+/// let is_routers = socket == Socket::RIP || socket == Socket::SAP;
+/// println!(rt; "socket {socket} is a router's: {is_routers}")?;
+/// // prints socket 4003 is a router's: false
+/// ```
 #[derive(Clone, Copy, Default, PartialEq, Eq, PartialOrd, Ord, Hash)]
 pub struct Socket(
     /// The number, 0 to FFFFh.

@@ -7,6 +7,8 @@ use std::io::Read;
 ///
 /// A contract can't count calls. So a source has states, whose numbers it alone knows, and says with `asked` what a call does to
 /// them. Code that knows nothing else of it can show `asked` of a source before and after only by asking exactly once.
+///
+/// See the example of [`Intake`](crate::Intake).
 pub trait Source {
     ghost use Rattle.std.specs.Prelude.{ℕ, List, Option, Result};
     ghost use Rattle.std.specs.Io.{ReadsAtMost};
