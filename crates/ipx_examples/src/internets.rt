@@ -53,8 +53,7 @@ pub fn internet_fault(rt: &HostRuntime, internet: &mut Small) -> Result<()> {
 pub fn trace(rt: &HostRuntime, internet: &Small, bytes: &[u8]) -> Result<()> {
     match internet.trace(0, 0, bytes, 18) {
         Ok(trace) => {
-            for k in 0..trace.len() {
-                let it = trace.get(k);
+            for it in trace.iter() {
                 println!(rt; "router {}, port {}: {}", it.router, it.port, it.outcome)?;
             }
         }

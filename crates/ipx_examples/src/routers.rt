@@ -2,6 +2,7 @@
 
 use anyhow::Result;
 use ipx_router::{Event, Outbox, Outcome, Port, PortFault, PortsFault, Router, Sent, Why};
+use ipx_table::Held;
 use ipx_wire::{Network, Node};
 
 /// The routers of these examples.
@@ -59,8 +60,7 @@ pub fn event(
 
 /// What a router sent, taken out.
 pub fn outbox(rt: &HostRuntime, outbox: &mut Outbox) -> Result<()> {
-    for k in 0..outbox.len() {
-        let Sent { port, link, bytes } = outbox.get(k);
+    for Sent { port, link, bytes } in outbox.iter() {
         println!(rt; "port {port}, to {link}: {} bytes", bytes.len())?;
     }
     outbox.clear();
@@ -91,23 +91,18 @@ pub fn why(rt: &HostRuntime, outcome: Outcome) -> Result<()> {
 
 /// The routes of a router.
 pub fn route_offer(rt: &HostRuntime, router: &Small) -> Result<()> {
-    for k in 0..router.routes() {
-        if let Some(held) = router.route_at(k) {
-            let route = held.offer;
-            println!(rt; "network {}: {} ticks", route.network, route.ticks)?;
-        }
+    for Held { offer: route, age } in router.iter_routes() {
+        println!(rt; "network {}: {} ticks, age {age}", route.network, route.ticks)?;
     }
-    // prints network 00000030: 2 ticks
+    // prints network 00000030: 2 ticks, age 1
     Ok(())
 }
 
 /// The services of a router.
 pub fn service_offer(rt: &HostRuntime, router: &Small) -> Result<()> {
-    for k in 0..router.services() {
-        if let Some(held) = router.service_at(k) {
-            let service = held.offer.service;
-            println!(rt; "{} at {}", service.name, service.address)?;
-        }
+    for Held { offer, .. } in router.iter_services() {
+        let service = offer.service;
+        println!(rt; "{} at {}", service.name, service.address)?;
     }
     // prints ACCOUNTS at 00000030.0000000000CC.0451
     Ok(())

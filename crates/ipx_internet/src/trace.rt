@@ -40,8 +40,7 @@ pub struct Reception<'a> {
 /// ```
 /// match internet.trace(0, 0, bytes, 18) {
 ///     Ok(trace) => {
-///         for k in 0..trace.len() {
-///             let it = trace.get(k);
+///         for it in trace.iter() {
 ///             println!(rt; "router {}, port {}: {}", it.router, it.port, it.outcome)?;
 ///         }
 ///     }

@@ -5,6 +5,8 @@ use crate::trace::{Reception, Trace};
 use std::marker::Model;
 
 /// The receptions of a trace that are still to come, in their order.
+///
+/// See the example of [`Trace`].
 #[derive(Debug, Drop)]
 pub struct TraceIter<'a> {
     trace: &'a Trace<'a>,

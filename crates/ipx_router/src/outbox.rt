@@ -58,8 +58,7 @@ struct Slot {
 /// The packets that a router sent, in order, and room for more.
 ///
 /// ```
-/// for k in 0..outbox.len() {
-///     let Sent { port, link, bytes } = outbox.get(k);
+/// for Sent { port, link, bytes } in outbox.iter() {
 ///     println!(rt; "port {port}, to {link}: {} bytes", bytes.len())?;
 /// }
 /// outbox.clear();

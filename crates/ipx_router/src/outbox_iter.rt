@@ -5,6 +5,8 @@ use crate::outbox::{Outbox, Sent};
 use std::marker::Model;
 
 /// The packets of an outbox that are still to come, in the order in which they were sent.
+///
+/// See the example of [`Outbox`].
 #[derive(Debug, Drop)]
 pub struct OutboxIter<'a> {
     outbox: &'a Outbox,

@@ -8,13 +8,10 @@ use ipx_wire::{Network, Node, RipEntry};
 /// A route as a neighbour advertised it: fewer ticks are better, then fewer hops.
 ///
 /// ```
-/// for k in 0..router.routes() {
-///     if let Some(held) = router.route_at(k) {
-///         let route = held.offer;
-///         println!(rt; "network {}: {} ticks", route.network, route.ticks)?;
-///     }
+/// for Held { offer: route, age } in router.iter_routes() {
+///     println!(rt; "network {}: {} ticks, age {age}", route.network, route.ticks)?;
 /// }
-/// // prints network 00000030: 2 ticks
+/// // prints network 00000030: 2 ticks, age 1
 /// ```
 #[derive(Clone, Copy, Debug, Default, PartialEq, Eq, Hash)]
 pub struct RouteOffer {

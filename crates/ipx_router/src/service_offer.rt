@@ -8,11 +8,9 @@ use ipx_wire::{Node, RipEntry, Service, ServiceName};
 /// A service as a neighbour advertised it: fewer hops are better. It is known by its type and its name.
 ///
 /// ```
-/// for k in 0..router.services() {
-///     if let Some(held) = router.service_at(k) {
-///         let service = held.offer.service;
-///         println!(rt; "{} at {}", service.name, service.address)?;
-///     }
+/// for Held { offer, .. } in router.iter_services() {
+///     let service = offer.service;
+///     println!(rt; "{} at {}", service.name, service.address)?;
 /// }
 /// // prints ACCOUNTS at 00000030.0000000000CC.0451
 /// ```
