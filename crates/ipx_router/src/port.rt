@@ -78,9 +78,6 @@ impl Port {
     /// The least that the longest packet of a port may be, in bytes.
     pub const LEAST_LONGEST: u16 = 576;
 
-    /// The number of the network at hand, whichever it is.
-    const LOCAL_NETWORK: Network = Network(0);
-
     /// A port of a network with a node number there, its cost in ticks, and the bytes of the
     /// longest packet that may leave on it. Its shares limit nothing.
     pub fn new(network: Network, node: Node, cost: u16, longest: u16) -> Result<Port, PortFault>
@@ -94,7 +91,7 @@ impl Port {
         if cost == 0 {
             return Err(PortFault::Cost);
         }
-        if network == Port::LOCAL_NETWORK || network.0 >= Network::DEFAULT_ROUTE.0 {
+        if network == Network::LOCAL || network.0 >= Network::DEFAULT_ROUTE.0 {
             return Err(PortFault::Network);
         }
         if node == Node::BROADCAST {

@@ -60,8 +60,8 @@ impl<'a> Crossed<'a> {
     ghost use Rattle.ipx_wire.specs.Crossed.{IsCrossed, IsNotCrossed, crossed_of, is_among};
     ghost use Rattle.ipx_wire.specs.Numbers.{crossed_places};
 
-    /// How many places the list has.
-    const PLACES: u8 = 8;
+    /// How many places the list has, so the most networks that a packet of type 20 crosses.
+    pub const PLACES: u8 = 8;
 
     /// How many bytes a place takes.
     pub(crate) const PLACE: usize = 4;

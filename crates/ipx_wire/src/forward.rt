@@ -94,7 +94,7 @@ pub fn change_to_crossed(packet: &Packet<'_>, arrived: Network, outgoing: Networ
 {
     packet.bytes();
     let control = packet.header().control;
-    put_u16(bytes, CHECKSUM, 0xFFFF);
+    put_u16(bytes, CHECKSUM, Header::NO_CHECKSUM);
     put_u8(bytes, CONTROL, control + 1);
     put_u32(bytes, NETWORK, outgoing.0);
     let place = Header::SIZE + Crossed::PLACE * usize::from(control);

@@ -19,7 +19,7 @@ use crate::fields::{address_from, put_address, put_u8, put_u16, u16_at};
 /// ```
 #[derive(Clone, Copy, Debug, PartialEq, Eq, Hash)]
 pub struct Header {
-    /// FFFFh where there is none. This crate neither computes nor checks it.
+    /// [`Header::NO_CHECKSUM`], FFFFh, where there is none. This crate neither computes nor checks it.
     pub checksum: u16,
     /// How many bytes header and data have together, 30 to 65,535 in a packet.
     pub length: u16,
@@ -44,6 +44,12 @@ impl Header {
 
     /// The packet type of packets that every router propagates, NetBIOS broadcasts.
     pub const PROPAGATED: u8 = 20;
+
+    /// The checksum of a packet that has none.
+    pub const NO_CHECKSUM: u16 = 0xFFFF;
+
+    /// The most routers that a packet goes through: with this transport control, or a greater one, it isn't forwarded.
+    pub const MOST_ROUTERS: u8 = 16;
 
     /// How many bytes a header has.
     pub const SIZE: usize = 30;

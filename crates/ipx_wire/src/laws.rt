@@ -3,7 +3,7 @@ ghost use Rattle.std.specs.Prelude.{◌≡◌, ◌↔◌, ℕ, ◌+◌, ◌-◌,
 ghost use Rattle.std.specs.List.{AllByRecursion};
 ghost use Rattle.ipx_wire.specs.Address.{IsAddress};
 ghost use Rattle.ipx_wire.specs.Header.{IsHeader, header_bytes};
-ghost use Rattle.ipx_wire.specs.Numbers.{most_entries, most_services};
+ghost use Rattle.ipx_wire.specs.Numbers.{no_checksum, rip_type, sap_type, propagated_type, crossed_places, most_routers, rip_socket, sap_socket, local_network, default_route, all_routes, most_entries, most_services, every_service, unreachable, header_size, entry_size, service_size, node_size, all_ones};
 ghost use Rattle.ipx_wire.specs.Forward.{forwarded, propagated};
 ghost use Rattle.ipx_wire.specs.Write.{packet_bytes, rip_packet, rip_packet_parts, rip_payload, query_packet, query_packet_parts, query_payload};
 ghost use Rattle.ipx_wire.specs.Piece.{IsBytes, piece};
@@ -25,10 +25,12 @@ ghost use Rattle.ipx_wire.specs.declared.sap.SapFault.{SapFault};
 ghost use Rattle.ipx_wire.specs.declared.service.Service.{Service};
 
 use crate::address::Address;
+use crate::crossed::Crossed;
 use crate::header::Header;
 use crate::network::Network;
 use crate::node::Node;
 use crate::rip::{Operation, RipEntry};
+use crate::sap::Sap;
 use crate::sap_entries::SapEntry;
 use crate::service::Service;
 use crate::service_name::ServiceName;
@@ -137,20 +139,26 @@ pub fn name_order()
 
 /// The numbers that the constants stand for.
 pub fn constants()
-    ensures local { Network.LOCAL.0 ≡ 0 }
-    ensures every_node { Node.BROADCAST.0 ≡ replicate 6 0xff }
-    ensures every_route { Network.ALL_ROUTES.0 ≡ 0xffffffff }
-    ensures routing { Socket.RIP.0 ≡ 0x453 }
-    ensures advertising { Socket.SAP.0 ≡ 0x452 }
-    ensures routing_type { Header.RIP ≡ 1 }
-    ensures advertising_type { Header.SAP ≡ 4 }
-    ensures propagated_type { Header.PROPAGATED ≡ 20 }
-    ensures header_size { Header.SIZE ≡ 30 }
-    ensures entry_size { RipEntry.SIZE ≡ 8 }
+    ensures local { Network.LOCAL.0 ≡ local_network }
+    ensures every_node { Node.BROADCAST.0 ≡ replicate node_size all_ones }
+    ensures default_way { Network.DEFAULT_ROUTE.0 ≡ default_route }
+    ensures every_route { Network.ALL_ROUTES.0 ≡ all_routes }
+    ensures routing { Socket.RIP.0 ≡ rip_socket }
+    ensures advertising { Socket.SAP.0 ≡ sap_socket }
+    ensures routing_type { Header.RIP ≡ rip_type }
+    ensures advertising_type { Header.SAP ≡ sap_type }
+    ensures propagated_type { Header.PROPAGATED ≡ propagated_type }
+    ensures no_checksum { Header.NO_CHECKSUM ≡ no_checksum }
+    ensures most_routers { Header.MOST_ROUTERS ≡ most_routers }
+    ensures header_size { Header.SIZE ≡ header_size }
+    ensures crossed_places { Crossed.PLACES ≡ crossed_places }
+    ensures entry_size { RipEntry.SIZE ≡ entry_size }
     ensures most_entries { RipEntry.MOST ≡ most_entries }
+    ensures unreachable { RipEntry.UNREACHABLE ≡ unreachable }
     ensures name_size { ServiceName.SIZE ≡ 48 }
-    ensures service_size { SapEntry.SIZE ≡ 64 }
+    ensures service_size { SapEntry.SIZE ≡ service_size }
     ensures most_services { SapEntry.MOST ≡ most_services }
+    ensures every_service { Sap.EVERY_TYPE ≡ every_service }
 {}
 
 /// What a slice of services holds are services in the ranges of their fields: their type says so, and a call of this says it

@@ -48,7 +48,7 @@ pub enum Sap<'a> {
     Query {
         /// Whether the nearest service alone is asked for.
         nearest: bool,
-        /// The type of the services; FFFFh stands for every type.
+        /// The type of the services; [`Sap::EVERY_TYPE`] stands for every type.
         kind: u16,
     },
     /// Advertises services.
@@ -61,6 +61,9 @@ pub enum Sap<'a> {
 }
 
 impl<'a> Sap<'a> {
+    /// The type that a query has to ask for services of every type.
+    pub const EVERY_TYPE: u16 = 0xFFFF;
+
     /// Reads the data of a packet. Bytes behind the type of a query, and fewer than 64 behind the
     /// last entry of a response, are ignored.
     ///

@@ -64,7 +64,7 @@ pub fn own(kind: u8, from: Address, to: Address, size: u16) -> Header
     ensures { result ≡ own_header kind from to size }
 {
     Header {
-        checksum: 0xFFFF,
+        checksum: Header::NO_CHECKSUM,
         length: 30 + size,
         control: 0,
         kind,

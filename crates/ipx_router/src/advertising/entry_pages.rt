@@ -13,8 +13,8 @@ use crate::ports::addresses::{own_address, port_of};
 use arrayvec::ArrayVec;
 use ipx_wire::{Address, Operation, RipEntry};
 
-/// How many entries a page has.
-pub(crate) const ENTRIES_A_PAGE: usize = 50;
+/// How many entries a page has: as many as a packet may have.
+pub(crate) const ENTRIES_A_PAGE: usize = RipEntry::MOST;
 
 /// Adds an entry of a response to a page; a full page is sent first.
 pub(crate) fn add_entry(

@@ -7,10 +7,7 @@ use crate::advertising::entry_pages::send_page;
 use crate::outbox::Outbox;
 use crate::port::Port;
 use crate::ports::addresses::{every_server, everyone, own_services, port_of};
-use ipx_wire::{Network, Operation, RipEntry};
-
-/// The type in a query for services of every type.
-const EVERY_SERVICE: u16 = 0xFFFF;
+use ipx_wire::{Network, Operation, RipEntry, Sap};
 
 /// The entry of a request for all routes.
 const EVERY_ROUTE: RipEntry = RipEntry {
@@ -48,6 +45,6 @@ pub(crate) fn query_services(outbox: &mut Outbox, ports: &[Port], number: u8)
         own_services(port),
         every_server(port),
         false,
-        EVERY_SERVICE,
+        Sap::EVERY_TYPE,
     );
 }

@@ -10,10 +10,10 @@ use crate::outbox::Outbox;
 use crate::port::Port;
 use crate::ports::addresses::{own_services, port_of};
 use arrayvec::ArrayVec;
-use ipx_wire::{Address, Service};
+use ipx_wire::{Address, SapEntry, Service};
 
-/// How many services a page has.
-pub(crate) const SERVICES_A_PAGE: usize = 7;
+/// How many services a page has: as many as a packet may have.
+pub(crate) const SERVICES_A_PAGE: usize = SapEntry::MOST;
 
 /// Adds a service of a response to a page; a full page is sent first.
 pub(crate) fn add_service(

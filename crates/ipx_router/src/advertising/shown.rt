@@ -4,10 +4,7 @@ ghost use Rattle.std.specs.Option.{option_to_list};
 ghost use Rattle.ipx_router.specs.inside.Shown.{asks_for, is_asked, is_of_kind, service_shown_as, shown_as};
 
 use crate::advertising::items::{dead, dead_service};
-use ipx_wire::{Network, Rip, RipEntry, Service};
-
-/// The type in a query that stands for every type.
-const EVERY_TYPE: u16 = 0xFFFF;
+use ipx_wire::{Network, Rip, RipEntry, Sap, Service};
 
 /// Which routes are sent.
 #[derive(Clone, Copy, Debug)]
@@ -88,5 +85,5 @@ fn asks_for(wanted: RipEntry, entry: RipEntry) -> bool
 pub(crate) fn is_of_kind(kind: u16, service: &Service) -> bool
     ensures { result ≡ is_of_kind kind service.now }
 {
-    kind == EVERY_TYPE || service.kind == kind
+    kind == Sap::EVERY_TYPE || service.kind == kind
 }

@@ -21,12 +21,6 @@ use crate::why::Why;
 use ipx_table::Table;
 use ipx_wire::{Address, Crossed, CrossedFault, Header, Network, Node, Packet};
 
-/// The type of packets that are propagated.
-pub(crate) const PROPAGATED: u8 = 20;
-
-/// A packet leaves with at most this transport control.
-const MOST_ROUTERS: u8 = 16;
-
 /// What is to be done with a packet that passed its checks.
 #[derive(Debug, Drop)]
 pub(crate) enum Passed<'a> {
@@ -109,7 +103,7 @@ fn way_of<const R: usize>(
     ensures cleared { IfOk result (λ way. first_of (far_checks ports.now up.now (offers routes.now.records) header.now) ≡ None) }
     ensures way { IfOk result (IsWay ports.now up.now (offers routes.now.records) header.now) }
 {
-    if header.control >= MOST_ROUTERS {
+    if header.control >= Header::MOST_ROUTERS {
         return Err(Why::TooManyRouters);
     }
     let Some(way) = way_beyond(ports, up, routes, header.destination)? else {
@@ -145,14 +139,14 @@ fn way_beyond<const R: usize>(
 pub(crate) fn is_propagated(header: &Header) -> bool
     ensures { result ≡ is_propagated header.now }
 {
-    header.kind == PROPAGATED && header.destination.node == Node::BROADCAST
+    header.kind == Header::PROPAGATED && header.destination.node == Node::BROADCAST
 }
 
 /// Whether a network number means the port's own network: 0 or its number.
 pub(crate) fn is_local(port: &Port, network: Network) -> bool
     ensures { result ≡ is_local port.now network }
 {
-    network.0 == 0 || network == port.network()
+    network == Network::LOCAL || network == port.network()
 }
 
 /// Whether the packet is for a node that is neither the port's nor the broadcast.

@@ -12,7 +12,7 @@ ghost use Rattle.ipx_router.specs.Numbers.{rip_socket, sap_socket};
 ghost use Rattle.ipx_router.specs.Port.{port_at};
 ghost use Rattle.ipx_router.specs.Why.{checks, first_of, when, is_down_port};
 
-use crate::judging::checks::{PROPAGATED, Passed, check, is_local};
+use crate::judging::checks::{Passed, check, is_local};
 use crate::port::Port;
 use crate::ports::addresses::port_of;
 use crate::ports::up_ports::is_up;
@@ -120,7 +120,7 @@ fn judge_near<'a>(port: &Port, packet: &Packet<'a>) -> Verdict<'a>
     ensures { IsHearing (first_of (process_checks port.now packet.now.header ++ data_why packet.now ∷ [])) packet.now result }
 {
     let header = packet.header();
-    if header.kind == PROPAGATED || !has_process(header.destination.socket) {
+    if header.kind == Header::PROPAGATED || !has_process(header.destination.socket) {
         return Verdict::Dropped(Why::OtherSocket);
     }
     if !is_local(port, header.source.network) {

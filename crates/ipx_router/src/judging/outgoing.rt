@@ -79,7 +79,7 @@ pub(crate) fn network_of(ports: &[Port], number: u8) -> Network
 {
     match ports.get(usize::from(number)) {
         Some(port) => port.network(),
-        None => Network(0),
+        None => Network::LOCAL,
     }
 }
 
