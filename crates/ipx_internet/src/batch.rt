@@ -190,7 +190,7 @@ fn deliver_one(
 }
 
 /// A value of the type of some elements is smaller than memory, where there is one. It is for proofs, and does nothing.
-pub(crate) fn are_sized<T>(items: &[T])
+pub(crate) fn proves_sized<T>(items: &[T])
     requires { 0 < length items.now }
     ensures { FitsInMemory T.row }
 {

@@ -20,10 +20,10 @@ ghost use Rattle.ipx_internet.specs.Tree.{IsRouter};
 ghost use Rattle.ipx_internet.specs.declared.internet.Settled.TheVariants.{Quiet};
 ghost use Rattle.ipx_internet.specs.declared.fault.InternetFault.TheVariants.{Memory};
 
-use crate::batch::{Batch, are_sized};
+use crate::batch::{Batch, proves_sized};
 use crate::fault::{AddRefused, InternetFault};
 use crate::stations::Stations;
-use crate::trace::are_bytes;
+use crate::trace::proves_bytes;
 use ipx_router::{Event, Outcome, Router};
 use ipx_wire::OutOfMemory;
 use std::alloc::Global;
@@ -177,7 +177,7 @@ impl<const P: usize, const R: usize, const S: usize> Internet<P, R, S> {
         if self.routers.is_empty() {
             return Err(InternetFault::NoSuchPort);
         }
-        are_sized(&self.routers);
+        proves_sized(&self.routers);
         if !is_there(&self.routers, router, &event) {
             return Err(InternetFault::NoSuchPort);
         }
@@ -235,10 +235,10 @@ impl<const P: usize, const R: usize, const S: usize> Internet<P, R, S> {
         ensures unchanged { OnErr result (self.new ≡ self.old) }
     {
         crate::laws::weighs();
-        are_sized(&self.routers);
+        proves_sized(&self.routers);
         self.done = turn(&mut self.front, self.done, &mut self.back);
         let coming = self.front.get(self.done);
-        are_bytes(coming.bytes);
+        proves_bytes(coming.bytes);
         let event = Event::Packet {
             port: coming.port,
             bytes: coming.bytes,

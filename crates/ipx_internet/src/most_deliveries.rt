@@ -10,7 +10,7 @@ ghost use Rattle.ipx_internet.specs.Most.{most_ports as ports_at_most};
 ghost use Rattle.ipx_internet.specs.Scales.{saturated, IsScale};
 ghost use Rattle.ipx_internet.specs.inside.Simulated.{net_among};
 
-use crate::batch::{Batch, Coming, are_sized};
+use crate::batch::{Batch, Coming, proves_sized};
 use crate::internet::Internet;
 use crate::scale::{Scale, scale_of};
 use crate::stations::network_of;
@@ -27,7 +27,7 @@ impl<const P: usize, const R: usize, const S: usize> Internet<P, R, S> {
         if self.routers.is_empty() {
             return 0;
         }
-        are_sized(&self.routers);
+        proves_sized(&self.routers);
         let ports = most_ports(&self.routers);
         let on_network = self.stations.most();
         let scale = scale_of(ports, on_network, R, S);

@@ -12,7 +12,7 @@ ghost use Rattle.ipx_internet.specs.Tree.{IsRouter, root, IsTree};
 ghost use Rattle.ipx_internet.specs.Weight.{weight};
 ghost use Rattle.ipx_internet.specs.declared.fault.TraceFault.TheVariants.{NoSuchPort, Limit, Memory};
 
-use crate::batch::are_sized;
+use crate::batch::proves_sized;
 use crate::fault::TraceFault;
 use crate::internet::Internet;
 use crate::listing::Listing;
@@ -128,7 +128,7 @@ impl<const P: usize, const R: usize, const S: usize> Internet<P, R, S> {
             return Err(TraceFault::NoSuchPort);
         }
         self.len();
-        are_sized(&self.routers);
+        proves_sized(&self.routers);
         let listing = list_tree(
             self.alloc,
             &self.routers,
@@ -148,7 +148,7 @@ impl<const P: usize, const R: usize, const S: usize> Internet<P, R, S> {
         if router >= self.routers.len() {
             return false;
         }
-        are_sized(&self.routers);
+        proves_sized(&self.routers);
         is_place(&self.routers, router, port)
     }
 }
@@ -194,7 +194,7 @@ fn list_tree<'a, const P: usize, const R: usize, const S: usize>(
 {
     crate::laws::trees();
     crate::laws::weights();
-    are_bytes(bytes);
+    proves_bytes(bytes);
     let mut listing = Listing::new(alloc, router, port, bytes, limit)?;
     while listing.mark() < listing.len() {
         let at = listing.get(listing.mark()).router;
@@ -204,7 +204,7 @@ fn list_tree<'a, const P: usize, const R: usize, const S: usize>(
 }
 
 /// Bytes are numbers under 256. It is for proofs, and does nothing.
-pub(crate) fn are_bytes(bytes: &[u8])
+pub(crate) fn proves_bytes(bytes: &[u8])
     ensures { IsBytes bytes.now }
 {
     let _ = bytes;

@@ -14,7 +14,7 @@ returns-in_err-listing-clause-refused g c =
     let stations = c.args.stations.now.list in
     let first : Copy = root (record { router = c.args.router; port = c.args.port }) c.args.bytes.now in
     let is : IsTree (routers_of states) first (tree (routers_of states) first) =
-    is_tree states stations first c.trees.ensures.whole c.requires.internet c.requires.tables c.are_bytes.ensures in
+    is_tree states stations first c.trees.ensures.whole c.requires.internet c.requires.tables c.proves_bytes.ensures in
     rw (p.1, p.2) (cut_more c.args.limit 1 (length (tree (routers_of states) first)) _ (root_there states stations first is) c.in_err-listing.ensures.refused)
 
 pub returns-in_err-listing-clause-enough : goal.returns-in_err-listing-clause-enough
@@ -30,14 +30,14 @@ loop-listing-init g c =
     let stations = c.args.stations.now.list in
     let first : Copy = root (record { router = c.args.router; port = c.args.port }) c.args.bytes.now in
     let is : IsTree (routers_of states) first (tree (routers_of states) first) =
-    is_tree states stations first c.trees.ensures.whole c.requires.internet c.requires.tables c.are_bytes.ensures in
+    is_tree states stations first c.trees.ensures.whole c.requires.internet c.requires.tables c.proves_bytes.ensures in
     let made = c.in_ok-listing.ensures in
     let one : length c.in_ok-listing.listing.copies ≡ 1 = ap (λ cs. length cs) made.copies in
     let some = made.few in
     record {
       listed = begins states stations first c.requires.stationed is c.in_ok-listing.listing made.copies made.outcomes c.requires.place;
       few = omega (arith, one, some);
-      bounded = begins_bounded states stations first c.in_ok-listing.listing made.copies made.outcomes c.are_bytes.ensures c.requires.place;
+      bounded = begins_bounded states stations first c.in_ok-listing.listing made.copies made.outcomes c.proves_bytes.ensures c.requires.place;
     }
 
 pub index-requires : goal.index-requires
@@ -46,7 +46,7 @@ index-requires g c =
     let stations = c.args.stations.now.list in
     let first : Copy = root (record { router = c.args.router; port = c.args.port }) c.args.bytes.now in
     let is : IsTree (routers_of states) first (tree (routers_of states) first) =
-    is_tree states stations first c.trees.ensures.whole c.requires.internet c.requires.tables c.are_bytes.ensures in
+    is_tree states stations first c.trees.ensures.whole c.requires.internet c.requires.tables c.proves_bytes.ensures in
     let l = c.loop-listing.listing in
     let listed = c.loop-listing.invariant.listed in
     let marked = c.mark.ensures in
@@ -65,7 +65,7 @@ go_on-requires g c =
     let stations = c.args.stations.now.list in
     let first : Copy = root (record { router = c.args.router; port = c.args.port }) c.args.bytes.now in
     let is : IsTree (routers_of states) first (tree (routers_of states) first) =
-    is_tree states stations first c.trees.ensures.whole c.requires.internet c.requires.tables c.are_bytes.ensures in
+    is_tree states stations first c.trees.ensures.whole c.requires.internet c.requires.tables c.proves_bytes.ensures in
     let l = c.loop-listing.listing in
     let listed = c.loop-listing.invariant.listed in
     let marked = c.mark.ensures in
@@ -86,7 +86,7 @@ returns-in_err-listing-2-clause-refused g c =
     let stations = c.args.stations.now.list in
     let first : Copy = root (record { router = c.args.router; port = c.args.port }) c.args.bytes.now in
     let is : IsTree (routers_of states) first (tree (routers_of states) first) =
-    is_tree states stations first c.trees.ensures.whole c.requires.internet c.requires.tables c.are_bytes.ensures in
+    is_tree states stations first c.trees.ensures.whole c.requires.internet c.requires.tables c.proves_bytes.ensures in
     let l = c.loop-listing.listing in
     let listed = c.loop-listing.invariant.listed in
     let marked = c.mark.ensures in
@@ -106,7 +106,7 @@ returns-in_err-listing-2-clause-enough g c =
     let stations = c.args.stations.now.list in
     let first : Copy = root (record { router = c.args.router; port = c.args.port }) c.args.bytes.now in
     let is : IsTree (routers_of states) first (tree (routers_of states) first) =
-    is_tree states stations first c.trees.ensures.whole c.requires.internet c.requires.tables c.are_bytes.ensures in
+    is_tree states stations first c.trees.ensures.whole c.requires.internet c.requires.tables c.proves_bytes.ensures in
     let l = c.loop-listing.listing in
     let listed = c.loop-listing.invariant.listed in
     let marked = c.mark.ensures in
@@ -128,7 +128,7 @@ loop-listing-smaller g c =
     let stations = c.args.stations.now.list in
     let first : Copy = root (record { router = c.args.router; port = c.args.port }) c.args.bytes.now in
     let is : IsTree (routers_of states) first (tree (routers_of states) first) =
-    is_tree states stations first c.trees.ensures.whole c.requires.internet c.requires.tables c.are_bytes.ensures in
+    is_tree states stations first c.trees.ensures.whole c.requires.internet c.requires.tables c.proves_bytes.ensures in
     let l = c.loop-listing.listing in
     let listed = c.loop-listing.invariant.listed in
     let marked = c.mark.ensures in
@@ -149,7 +149,7 @@ loop-listing-preserved g c =
     let stations = c.args.stations.now.list in
     let first : Copy = root (record { router = c.args.router; port = c.args.port }) c.args.bytes.now in
     let is : IsTree (routers_of states) first (tree (routers_of states) first) =
-    is_tree states stations first c.trees.ensures.whole c.requires.internet c.requires.tables c.are_bytes.ensures in
+    is_tree states stations first c.trees.ensures.whole c.requires.internet c.requires.tables c.proves_bytes.ensures in
     let l = c.loop-listing.listing in
     let listed = c.loop-listing.invariant.listed in
     let marked = c.mark.ensures in
@@ -174,7 +174,7 @@ returns-clause-copies g c =
     let stations = c.args.stations.now.list in
     let first : Copy = root (record { router = c.args.router; port = c.args.port }) c.args.bytes.now in
     let is : IsTree (routers_of states) first (tree (routers_of states) first) =
-    is_tree states stations first c.trees.ensures.whole c.requires.internet c.requires.tables c.are_bytes.ensures in
+    is_tree states stations first c.trees.ensures.whole c.requires.internet c.requires.tables c.proves_bytes.ensures in
     let l = c.loop-listing.listing in
     let marked = c.mark.ensures in
     let counted = c.len.ensures in
@@ -188,7 +188,7 @@ returns-clause-outcomes g c =
     let stations = c.args.stations.now.list in
     let first : Copy = root (record { router = c.args.router; port = c.args.port }) c.args.bytes.now in
     let is : IsTree (routers_of states) first (tree (routers_of states) first) =
-    is_tree states stations first c.trees.ensures.whole c.requires.internet c.requires.tables c.are_bytes.ensures in
+    is_tree states stations first c.trees.ensures.whole c.requires.internet c.requires.tables c.proves_bytes.ensures in
     let l = c.loop-listing.listing in
     let marked = c.mark.ensures in
     let counted = c.len.ensures in
@@ -200,7 +200,7 @@ pub returns-clause-whole : goal.returns-clause-whole
 returns-clause-whole g c =
     let states = c.args.routers.now.items in
     let first : Copy = root (record { router = c.args.router; port = c.args.port }) c.args.bytes.now in
-    is_tree states c.args.stations.now.list first c.trees.ensures.whole c.requires.internet c.requires.tables c.are_bytes.ensures
+    is_tree states c.args.stations.now.list first c.trees.ensures.whole c.requires.internet c.requires.tables c.proves_bytes.ensures
 
 pub returns-clause-few : goal.returns-clause-few
 returns-clause-few g c = c.loop-listing.invariant.few

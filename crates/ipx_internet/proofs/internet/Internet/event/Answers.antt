@@ -11,7 +11,7 @@ use Rattle.ipx_internet.proofs.internet.Internet.event.Goals as goal
 
 pub happen-requires : goal.happen-requires
 happen-requires g c = (
-  c.are_sized.ensures,
+  c.proves_sized.ensures,
   (
     c.self.invariant.sound,
     subst (λ (rs : List State). IsThere (moment rs []) c.args.router (happened c.args.event)) c.deref-2.ensures.value (c.is_there.ensures.0 c.if-not-is_there.false),

@@ -15,7 +15,7 @@ are_sized-requires g c =
     omega (arith, seen, counted, below)
 
 pub is_place-requires : goal.is_place-requires
-is_place-requires g c = c.are_sized.ensures
+is_place-requires g c = c.proves_sized.ensures
 
 pub returns : goal.returns
 returns g c =

@@ -38,7 +38,7 @@ weigh-front-requires g c =
     c.scale_of-scale.ensures (net_among states)
     (c.most_ports-ports.ensures ∙ ap (λ (ss : List State). most_ports (net_among ss)) c.deref-2.ensures.value)
     (c.most-on_network.ensures.exact (net_among states) c.self.invariant.sound.stationed) in
-    (c.are_sized.ensures, subst (λ (ss : List State). IsScale (net_among ss) g.row.R g.row.S c.scale_of-scale.result) (sym c.deref-4.ensures.value) scale)
+    (c.proves_sized.ensures, subst (λ (ss : List State). IsScale (net_among ss) g.row.R g.row.S c.scale_of-scale.result) (sym c.deref-4.ensures.value) scale)
 
 pub weigh-back-requires : goal.weigh-back-requires
 weigh-back-requires g c =
@@ -47,7 +47,7 @@ weigh-back-requires g c =
     c.scale_of-scale.ensures (net_among states)
     (c.most_ports-ports.ensures ∙ ap (λ (ss : List State). most_ports (net_among ss)) c.deref-2.ensures.value)
     (c.most-on_network.ensures.exact (net_among states) c.self.invariant.sound.stationed) in
-    (c.are_sized.ensures, subst (λ (ss : List State). IsScale (net_among ss) g.row.R g.row.S c.scale_of-scale.result) (sym c.deref-5.ensures.value) scale)
+    (c.proves_sized.ensures, subst (λ (ss : List State). IsScale (net_among ss) g.row.R g.row.S c.scale_of-scale.result) (sym c.deref-5.ensures.value) scale)
 
 pub returns-clause-value : goal.returns-clause-value
 returns-clause-value g c =

@@ -16,7 +16,7 @@ pub happen-requires : goal.happen-requires
 happen-requires g c =
     let coming = subst (λ ds. AllByRecursion (IsComing (net_among c.self.inside.routers.items)) ds) (sym c.turn-self-inside.ensures.queue)
     c.self.invariant.coming in (
-      c.are_sized.ensures,
+      c.proves_sized.ensures,
       (
         c.self.invariant.sound,
         it_is_there g.row.R g.row.S c.self.inside.routers.items c.turn-self-inside.new.front.deliveries c.turn-self-inside.new.back.deliveries
@@ -91,4 +91,4 @@ returns-clause-lighter g c =
     c.happen.new.routers.items c.happen.new.back.deliveries c.in_ok-happen.ensures.stands))
     d (drop (done + 1) front ++ back)
     (ap (λ (m : Moment). m.queue) (sym was) ∙ first g.row.R g.row.S routers front back done d c.get-coming.ensures)
-    (record { place = place.1; bytes = c.are_bytes.ensures })
+    (record { place = place.1; bytes = c.proves_bytes.ensures })

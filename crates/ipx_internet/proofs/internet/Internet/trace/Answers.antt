@@ -27,7 +27,7 @@ list_tree-requires g c =
     let place : IsPlace (net_among states) (record { router = c.args.router; port = c.args.port }) =
     subst (λ (ss : List State). IsPlace (net_among ss) (record { router = c.args.router; port = c.args.port })) same
     (c.has_place.ensures.0 c.if-not-has_place.false) in
-    (c.are_sized.ensures, (c.self.invariant.sound.internet, (c.self.invariant.sound.nodes, (tables, (c.self.invariant.sound.stationed, place)))))
+    (c.proves_sized.ensures, (c.self.invariant.sound.internet, (c.self.invariant.sound.nodes, (tables, (c.self.invariant.sound.stationed, place)))))
 
 pub returns-clause-is_tree : goal.returns-clause-is_tree
 returns-clause-is_tree g c =
