@@ -7,8 +7,8 @@ use Rattle.ipx_internet.specs.inside.Simulated.{net_among}
 use Rattle.ipx_internet.proofs.Traced.{has_none}
 use Rattle.ipx_internet.proofs.internet.Internet.has_place.Goals as goal
 
-pub are_sized-requires : goal.are_sized-requires
-are_sized-requires g c =
+pub proves_sized-requires : goal.proves_sized-requires
+proves_sized-requires g c =
     let seen = c.deref.ensures.len in
     let counted = c.len.ensures in
     let below = c.if-router-len.false in

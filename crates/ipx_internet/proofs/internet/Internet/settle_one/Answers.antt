@@ -8,8 +8,8 @@ use Rattle.ipx_internet.proofs.Handing.{first, some_router, it_is_there, left_co
 use Rattle.ipx_internet.proofs.Reckoning.{falls_at}
 use Rattle.ipx_internet.proofs.internet.Internet.settle_one.Goals as goal
 
-pub are_sized-requires : goal.are_sized-requires
-are_sized-requires g c = subst (λ xs. 0 < length xs) (sym c.deref.ensures.value)
+pub proves_sized-requires : goal.proves_sized-requires
+proves_sized-requires g c = subst (λ xs. 0 < length xs) (sym c.deref.ensures.value)
     (some_router c.self.inside.routers.items _ c.self.invariant.coming (subst (λ (m : Moment). 0 < length m.queue) (sym c.self.view_is) c.requires))
 
 pub happen-requires : goal.happen-requires

@@ -12,8 +12,8 @@ use Rattle.ipx_internet.proofs.Tellings.{as_many, each_has_one, told_whole, told
 use Rattle.ipx_internet.proofs.Traced.{some_state}
 use Rattle.ipx_internet.proofs.internet.Internet.trace.Goals as goal
 
-pub are_sized-requires : goal.are_sized-requires
-are_sized-requires g c =
+pub proves_sized-requires : goal.proves_sized-requires
+proves_sized-requires g c =
     let same : c.args.self.now.routers ≡ c.deref.result.now = ap (λ (m : Moment). m.routers) (sym c.self.view_is) ∙ sym c.deref.ensures.value in
     some_state c.deref.result.now c.args.router c.args.port
     (subst (λ (ss : List State). IsPlace (net_among ss) (record { router = c.args.router; port = c.args.port })) same
