@@ -2,6 +2,7 @@
 pub mod CheckGroups
 pub mod Ended
 pub mod EndedSends
+pub mod Envelope
 pub mod Following
 pub mod Judged
 pub mod Owed

@@ -4,11 +4,12 @@
 //! Touches: the outbox. The tables are read item by item and not copied.
 //! `told_routes` and `told_services` have what is advertised, of single `items`; `shown` chooses, `told` puts it into pages.
 mod broadcasts;
-pub(crate) mod entry_pages;
+pub(crate) mod envelope;
 pub(crate) mod introducing;
+pub(crate) mod item;
 pub(crate) mod items;
+pub(crate) mod pages;
 mod requests;
-pub(crate) mod service_pages;
 pub(crate) mod shown;
 pub(crate) mod stopping;
 pub(crate) mod told;

@@ -1,24 +1,16 @@
 -- What ended, page by page: each step of adding it to the page at hand.
-use Rattle.std.proofs.Common.{◌≡◌, sym, ap, subst, ◌∙◌, ℕ, true, false, List, [], ◌∷◌, ◌++◌, Option, ◌≤◌, length, Bool, refl, suc, ◌+◌, drop, arith}
+use Rattle.std.proofs.Common.{◌≡◌, sym, ap, subst, ◌∙◌, ℕ, true, false, List, [], ◌∷◌, ◌++◌, Option, ◌≤◌, length, Bool, Ordering, refl, suc, ◌+◌, drop, arith}
 use Rattle.std.specs.List.{flat_map, prefix_len}
-use Rattle.ipx_wire.specs.declared.address.Address.{Address}
-use Rattle.ipx_wire.specs.declared.rip.Operation.TheVariants.{Response}
-use Rattle.ipx_wire.specs.declared.rip.RipEntry.{RipEntry}
-use Rattle.ipx_wire.specs.declared.service.Service.{Service}
-use Rattle.ipx_router.specs.inside.Ended.{RoutesAscend, ServicesAscend, ended_on, ends_before, service_ended_on, service_ends_before}
-use Rattle.ipx_router.specs.Numbers.{entries_a_page, services_a_page}
+use Rattle.ipx_table.specs.Stands.{Ascends}
+use Rattle.ipx_router.specs.inside.Ended.{AreInOrder, ended_as, ends_before}
 use Rattle.ipx_router.specs.Outbox.{Contents, Fits, Appends}
 use Rattle.ipx_router.specs.inside.Owed.{Pays, owed}
-use Rattle.ipx_router.specs.Port.{Port, port_at, everyone, every_server}
 use Rattle.ipx_router.specs.Relays.{Sent}
-use Rattle.ipx_router.specs.Sends.{entries_sent, rip_broadcast, services_sent, sap_broadcast}
 use Rattle.ipx_router.specs.Sorted.{put_all}
 use Rattle.ipx_router.specs.inside.Sources.{first_then}
-use Rattle.ipx_router.specs.Told.{network_before, name_before}
-use Rattle.ipx_router.specs.declared.route_offer.RouteOffer.{RouteOffer}
-use Rattle.ipx_router.specs.declared.service_offer.ServiceOffer.{ServiceOffer}
+use Rattle.ipx_router.specs.declared.advertising.envelope.Envelope.{Envelope}
 use Rattle.ipx_router.proofs.sending.PageByPage.{pays_rest}
-use Rattle.ipx_router.proofs.ended.EndedRises.{ended_next, waiting_then, ended_services_next, service_waits}
+use Rattle.ipx_router.proofs.ended.EndedRises.{ended_next, waiting_then}
 use Rattle.ipx_router.proofs.sending.OneAfterAnother.{pays_then, still_fits, page_fits}
 
 -- ---- equal lists are owed alike
@@ -68,38 +60,19 @@ module _ {X : Type 0} (n : ℕ) (packet : List X → Sent) (comes_before : X →
       pub last_sent : {c : Contents} → Appends b c (owed n packet page' []) → Appends o c all
       last_sent last = pays_rest (pays_then rest_owed rest) last
 
--- a broadcast is owed from its first page on
-module _ (ports : List Port) (number : ℕ) {to : Address} {page : List RipEntry} (all_nodes : to ≡ everyone (port_at ports number)) (empty : page ≡ []) where
-  abbrev owes : List RipEntry → List Sent
-  owes entries = owed entries_a_page (entries_sent ports number to Response) page entries
+-- items of a port in an envelope of that port are owed from their first page on
+module _ {X : Type 0} (n : ℕ) (packet : Envelope → List X → Sent) (items : ℕ → List X) (to : Envelope) {envelope : Envelope} {page xs : List X}
+    (is : envelope ≡ to) (empty : page ≡ []) (same : xs ≡ items to.port) where
+  begins : owed n (packet to) [] xs ≡ owed n (packet envelope) page (items envelope.port)
+  begins =
+      ap (owed n (packet to) []) same
+      ∙ sym (ap (λ (e : Envelope). owed n (packet e) page (items e.port)) is ∙ ap (λ (p : List X). owed n (packet to) p (items to.port)) empty)
 
-  begins : (entries : List RipEntry) → owes entries ≡ rip_broadcast ports number entries
-  begins entries =
-      ap (λ (t : Address). owed entries_a_page (entries_sent ports number t Response) page entries) all_nodes
-      ∙ ap (λ (p : List RipEntry). owed entries_a_page (entries_sent ports number (everyone (port_at ports number)) Response) p entries) empty
+  pub begun_fits : {o : Contents} → Fits o (owed n (packet to) [] xs) → Fits o (owed n (packet envelope) page (items envelope.port))
+  begun_fits {o} fits = subst (Fits o) begins fits
 
-  pub broadcast_fits : {o : Contents} (xs ys : List RipEntry) → xs ≡ ys → Fits o (rip_broadcast ports number xs) → Fits o (owes ys)
-  broadcast_fits {o} xs ys same fits = subst (Fits o) (ap (rip_broadcast ports number) same ∙ sym (begins ys)) fits
-
-  pub broadcast_pays : {a b : Contents} {ps : List Sent} (xs ys : List RipEntry) → xs ≡ ys → Pays a b (owes ys) ps → Pays a b (rip_broadcast ports number xs) ps
-  broadcast_pays {a} {b} {ps} xs ys same pays =
-      subst (λ (qs : List Sent). Pays a b qs ps) (begins ys ∙ ap (rip_broadcast ports number) (sym same)) pays
-
-module _ (ports : List Port) (number : ℕ) {to : Address} {page : List Service} (all_nodes : to ≡ every_server (port_at ports number)) (empty : page ≡ []) where
-  abbrev owes_services : List Service → List Sent
-  owes_services services = owed services_a_page (services_sent ports number to false) page services
-
-  services_begin : (services : List Service) → owes_services services ≡ sap_broadcast ports number services
-  services_begin services =
-      ap (λ (t : Address). owed services_a_page (services_sent ports number t false) page services) all_nodes
-      ∙ ap (λ (p : List Service). owed services_a_page (services_sent ports number (every_server (port_at ports number)) false) p services) empty
-
-  pub services_fit : {o : Contents} (xs ys : List Service) → xs ≡ ys → Fits o (sap_broadcast ports number xs) → Fits o (owes_services ys)
-  services_fit {o} xs ys same fits = subst (Fits o) (ap (sap_broadcast ports number) same ∙ sym (services_begin ys)) fits
-
-  pub services_pay : {a b : Contents} {ps : List Sent} (xs ys : List Service) → xs ≡ ys → Pays a b (owes_services ys) ps → Pays a b (sap_broadcast ports number xs) ps
-  services_pay {a} {b} {ps} xs ys same pays =
-      subst (λ (qs : List Sent). Pays a b qs ps) (services_begin ys ∙ ap (sap_broadcast ports number) (sym same)) pays
+  pub begun_pays : {a b : Contents} {ps : List Sent} → Pays a b (owed n (packet envelope) page (items envelope.port)) ps → Pays a b (owed n (packet to) [] xs) ps
+  begun_pays {a} {b} {ps} pays = subst (λ (qs : List Sent). Pays a b qs ps) (sym begins) pays
 
 -- ---- what is left behind those that pass a test
 
@@ -115,50 +88,29 @@ module _ {X : Type 0} (p : X → Bool) (x : X) (others left : List X) (first : l
 
 -- ---- the first of what is left
 
--- routes that ended, among entries of which the first waits
-abbrev pub among : ℕ → Option RipEntry → List RipEntry → List RouteOffer → List RipEntry
-among number waiting later left = put_all network_before (first_then waiting later) (flat_map (ended_on number) left)
+module _ {O X : Type 0} (by_key : O → O → Ordering) (comes_before : X → X → Bool) (read : O → X) (port : O → ℕ) (number : ℕ) (waiting : Option X) where
+  -- what ended, among items of which the first waits
+  abbrev pub among : List X → List O → List X
+  among later left = put_all comes_before (first_then waiting later) (flat_map (ended_as port read number) left)
 
-module _ (number : ℕ) (waiting : Option RipEntry) (later : List RipEntry) (route : RouteOffer) (others left : List RouteOffer)
-    (first : left ≡ route ∷ others) (up : RoutesAscend left) where
-  pub others_ascend : RoutesAscend others
-  others_ascend = (subst RoutesAscend first up).1
+  -- what waits, and behind it the others and what ended
+  abbrev pub behind : List X → List O → List X
+  behind later left = first_then waiting (put_all comes_before later (flat_map (ended_as port read number) left))
 
-  pub route_next : ends_before waiting route ≡ true → among number waiting later left ≡ ended_on number route ++ among number waiting later others
-  route_next before = ap (among number waiting later) first ∙ ended_next number waiting later route others (subst RoutesAscend first up) before
+  module _ (order : AreInOrder by_key comes_before read) (later : List X) (offer : O) (others left : List O) (first : left ≡ offer ∷ others)
+      (up : Ascends by_key left) where
+    pub others_ascend : Ascends by_key others
+    others_ascend = (subst (Ascends by_key) first up).1
 
-  pub entry_next : ends_before waiting route ≡ false
-      → among number waiting later left ≡ first_then waiting (put_all network_before later (flat_map (ended_on number) left))
-  entry_next behind =
-      subst (λ (l : List RouteOffer). among number waiting later l ≡ first_then waiting (put_all network_before later (flat_map (ended_on number) l)))
-      (sym first) (waiting_then number waiting later route others (subst RoutesAscend first up) behind)
+    pub offer_next : ends_before comes_before read waiting offer ≡ true → among later left ≡ ended_as port read number offer ++ among later others
+    offer_next before = ap (among later) first ∙ ended_next by_key comes_before read order port number waiting later offer others (subst (Ascends by_key) first up) before
 
--- and where none is left, what waits is next
-pub none_left : (number : ℕ) (waiting : Option RipEntry) (later : List RipEntry) (left : List RouteOffer) → length left ≡ 0
-    → among number waiting later left ≡ first_then waiting (put_all network_before later (flat_map (ended_on number) left))
-none_left number waiting later [] empty = refl
-none_left number waiting later (route ∷ left) empty = absurd (omega (arith, empty))
+    pub item_next : ends_before comes_before read waiting offer ≡ false → among later left ≡ behind later left
+    item_next after =
+        subst (λ (l : List O). among later l ≡ behind later l) (sym first)
+        (waiting_then by_key comes_before read order port number waiting later offer others (subst (Ascends by_key) first up) after)
 
--- services that ended, among those of which the first waits
-abbrev pub among_services : ℕ → Option Service → List Service → List ServiceOffer → List Service
-among_services number waiting later left = put_all name_before (first_then waiting later) (flat_map (service_ended_on number) left)
-
-module _ (number : ℕ) (waiting : Option Service) (later : List Service) (offer : ServiceOffer) (others left : List ServiceOffer)
-    (first : left ≡ offer ∷ others) (up : ServicesAscend left) where
-  pub other_services_ascend : ServicesAscend others
-  other_services_ascend = (subst ServicesAscend first up).1
-
-  pub ended_services_first : service_ends_before waiting offer ≡ true
-      → among_services number waiting later left ≡ service_ended_on number offer ++ among_services number waiting later others
-  ended_services_first before = ap (among_services number waiting later) first ∙ ended_services_next number waiting later offer others (subst ServicesAscend first up) before
-
-  pub service_next : service_ends_before waiting offer ≡ false
-      → among_services number waiting later left ≡ first_then waiting (put_all name_before later (flat_map (service_ended_on number) left))
-  service_next behind =
-      subst (λ (l : List ServiceOffer). among_services number waiting later l ≡ first_then waiting (put_all name_before later (flat_map (service_ended_on number) l)))
-      (sym first) (service_waits number waiting later offer others (subst ServicesAscend first up) behind)
-
-pub no_service_left : (number : ℕ) (waiting : Option Service) (later : List Service) (left : List ServiceOffer) → length left ≡ 0
-    → among_services number waiting later left ≡ first_then waiting (put_all name_before later (flat_map (service_ended_on number) left))
-no_service_left number waiting later [] empty = refl
-no_service_left number waiting later (offer ∷ left) empty = absurd (omega (arith, empty))
+  -- and where none is left, what waits is next
+  pub none_left : (later : List X) (left : List O) → length left ≡ 0 → among later left ≡ behind later left
+  none_left later [] empty = refl
+  none_left later (offer ∷ left) empty = absurd (omega (arith, empty))

@@ -5,14 +5,14 @@ use Rattle.std.proofs.lemmas.Bool.{cases_Bool}
 use Rattle.ipx_table.specs.Stands.{Ascends}
 use Rattle.ipx_wire.specs.declared.rip.RipEntry.{RipEntry}
 use Rattle.ipx_wire.specs.declared.service.Service.{Service}
-use Rattle.ipx_router.specs.inside.Ended.{RoutesAscend, ServicesAscend, ended_on, ends_before, service_ended_on, service_ends_before}
+use Rattle.ipx_router.specs.inside.Ended.{AreInOrder, by_route, by_service, dead_offer, dead_route, ended_as, ends_before}
 use Rattle.ipx_router.specs.Port.{Port, port_at}
-use Rattle.ipx_router.specs.Sorted.{put_all}
+use Rattle.ipx_router.specs.Sorted.{put_all, sorted}
 use Rattle.ipx_router.specs.inside.Sources.{first_then}
 use Rattle.ipx_router.specs.Told.{network_before, name_before, by_network, by_name, told, told_at, direct, learned, told_services, is_service_told, farther, dead, dead_service, entry_of}
 use Rattle.ipx_router.specs.declared.route_offer.RouteOffer.{RouteOffer}
 use Rattle.ipx_router.specs.declared.service_offer.ServiceOffer.{ServiceOffer}
-use Rattle.ipx_router.proofs.tables.ToldRises.{by_route, by_service, network_orders, name_orders, not_greater}
+use Rattle.ipx_router.proofs.tables.ToldRises.{network_orders, name_orders, not_greater}
 use Rattle.ipx_router.proofs.lists.EachElement.{all_then}
 use Rattle.ipx_router.proofs.lists.PutInOrder.{IsOrder, IsFirst, Rises, put_behind, other_first, sorted-rising, sorted-more, rises-sorted}
 
@@ -61,18 +61,47 @@ module _ {O X : Type 0} (by_key : O → O → Ordering) (comes_before : X → X 
             offers (behind_first o offers up.0),
       ))
 
+-- ---- what ended, of either kind
+
+module _ {O X : Type 0} (by_key : O → O → Ordering) (comes_before : X → X → Bool) (read : O → X) (order : AreInOrder by_key comes_before read)
+    (port : O → ℕ) (number : ℕ) where
+  orders : IsOrder comes_before
+  orders = record { one_way = order.one_way; through = order.through }
+
+  abbrev ended_of : List O → List X
+  ended_of offers = flat_map (ended_as port read number) offers
+
+  -- in its order it is as it stands
+  pub sorted-ended : (offers : List O) → Ascends by_key offers → sorted comes_before (ended_of offers) ≡ ended_of offers
+  sorted-ended offers up = sorted-rising comes_before (ended_of offers) (rises-read by_key comes_before orders read order.kept (λ o. port o == number) offers up)
+
+  -- one that comes before what waits is next
+  pub ended_next : (waiting : Option X) (later : List X) (offer : O) (rest : List O) → Ascends by_key (offer ∷ rest)
+      → ends_before comes_before read waiting offer ≡ true
+      → put_all comes_before (first_then waiting later) (ended_of (offer ∷ rest))
+      ≡ ended_as port read number offer ++ put_all comes_before (first_then waiting later) (ended_of rest)
+  ended_next None later offer rest up before =
+      sorted-ended (offer ∷ rest) up ∙ ap (λ (xs : List X). ended_as port read number offer ++ xs) (sym (sorted-ended rest up.1))
+  ended_next (Some waiting) later offer rest up before =
+      goes_first by_key comes_before orders read order.kept (λ o. port o == number) waiting later offer rest up before
+
+  -- where the first one doesn't, what waits is next
+  pub waiting_then : (waiting : Option X) (later : List X) (offer : O) (rest : List O) → Ascends by_key (offer ∷ rest)
+      → ends_before comes_before read waiting offer ≡ false
+      → put_all comes_before (first_then waiting later) (ended_of (offer ∷ rest))
+      ≡ first_then waiting (put_all comes_before later (ended_of (offer ∷ rest)))
+  waiting_then None later offer rest up behind = absurd (true≢false behind)
+  waiting_then (Some waiting) later offer rest up behind =
+      goes_behind by_key comes_before orders read order.kept (λ o. port o == number) waiting later offer rest up behind
+
 -- ---- routes
 
-route_kept : (a b : RouteOffer) → is_lt (by_route a b) ≡ true → network_before (dead (entry_of b)) (dead (entry_of a)) ≡ false
-route_kept a b less = not_greater a.network.0 b.network.0 less
-
-pub rises-ended : (number : ℕ) (ended : List RouteOffer) → RoutesAscend ended → Rises network_before (flat_map (ended_on number) ended)
-rises-ended number = rises-read by_route network_before network_orders (λ r. dead (entry_of r)) route_kept (λ r. r.port == number)
-
--- what ended, in its order, is as it stands
-pub sorted-ended : (number : ℕ) (ended : List RouteOffer) → RoutesAscend ended
-    → by_network (flat_map (ended_on number) ended) ≡ flat_map (ended_on number) ended
-sorted-ended number ended up = sorted-rising network_before (flat_map (ended_on number) ended) (rises-ended number ended up)
+pub routes_in_order : AreInOrder by_route network_before dead_route
+routes_in_order = record {
+  one_way = network_orders.one_way;
+  through = network_orders.through;
+  kept = λ a b less. not_greater a.network.0 b.network.0 less;
+}
 
 -- what is told, in its order with what ended
 pub told_with : (ports : List Port) (up : List ℕ) (routes : List RouteOffer) (number : ℕ) (ended : List RipEntry)
@@ -81,56 +110,17 @@ told_with ports up routes number ended =
     sorted-more network_before (told ports up routes number) ended
     (rises-sorted network_before network_orders (map (told_at (port_at ports number).cost) (direct ports up number ++ learned routes number)))
 
--- one that comes before what waits is next
-pub ended_next : (number : ℕ) (waiting : Option RipEntry) (later : List RipEntry) (route : RouteOffer) (rest : List RouteOffer) → RoutesAscend (route ∷ rest)
-    → ends_before waiting route ≡ true
-    → put_all network_before (first_then waiting later) (flat_map (ended_on number) (route ∷ rest))
-    ≡ ended_on number route ++ put_all network_before (first_then waiting later) (flat_map (ended_on number) rest)
-ended_next number None later route rest up before =
-    sorted-ended number (route ∷ rest) up ∙ ap (λ es. ended_on number route ++ es) (sym (sorted-ended number rest up.1))
-ended_next number (Some waiting) later route rest up before =
-    goes_first by_route network_before network_orders (λ r. dead (entry_of r)) route_kept (λ r. r.port == number) waiting later route rest up before
-
--- where the first one doesn't, what waits is next
-pub waiting_then : (number : ℕ) (waiting : Option RipEntry) (later : List RipEntry) (route : RouteOffer) (rest : List RouteOffer) → RoutesAscend (route ∷ rest)
-    → ends_before waiting route ≡ false
-    → put_all network_before (first_then waiting later) (flat_map (ended_on number) (route ∷ rest))
-    ≡ first_then waiting (put_all network_before later (flat_map (ended_on number) (route ∷ rest)))
-waiting_then number None later route rest up behind = absurd (true≢false behind)
-waiting_then number (Some waiting) later route rest up behind =
-    goes_behind by_route network_before network_orders (λ r. dead (entry_of r)) route_kept (λ r. r.port == number) waiting later route rest up behind
-
 -- ---- services
 
-service_kept : (a b : ServiceOffer) → is_lt (by_service a b) ≡ true → name_before (dead_service b.service) (dead_service a.service) ≡ false
-service_kept a b less = name_orders.one_way (dead_service a.service) (dead_service b.service) less
-
-pub rises-ended_services : (number : ℕ) (ended_services : List ServiceOffer) → ServicesAscend ended_services → Rises name_before (flat_map (service_ended_on number) ended_services)
-rises-ended_services number = rises-read by_service name_before name_orders (λ s. dead_service s.service) service_kept (λ s. s.port == number)
-
-pub sorted-ended_services : (number : ℕ) (ended_services : List ServiceOffer) → ServicesAscend ended_services
-    → by_name (flat_map (service_ended_on number) ended_services) ≡ flat_map (service_ended_on number) ended_services
-sorted-ended_services number ended_services up = sorted-rising name_before (flat_map (service_ended_on number) ended_services) (rises-ended_services number ended_services up)
+pub services_in_order : AreInOrder by_service name_before dead_offer
+services_in_order = record {
+  one_way = name_orders.one_way;
+  through = name_orders.through;
+  kept = λ a b less. name_orders.one_way (dead_offer a) (dead_offer b) less;
+}
 
 pub services_with : (services : List ServiceOffer) (number : ℕ) (ended_services : List Service)
     → by_name (told_services services number ++ ended_services) ≡ put_all name_before (told_services services number) ended_services
 services_with services number ended_services =
     sorted-more name_before (told_services services number) ended_services
     (rises-sorted name_before name_orders (map (λ s. farther s.service) (filter (is_service_told number) services)))
-
-pub ended_services_next : (number : ℕ) (waiting : Option Service) (later : List Service) (offer : ServiceOffer) (rest : List ServiceOffer) → ServicesAscend (offer ∷ rest)
-    → service_ends_before waiting offer ≡ true
-    → put_all name_before (first_then waiting later) (flat_map (service_ended_on number) (offer ∷ rest))
-    ≡ service_ended_on number offer ++ put_all name_before (first_then waiting later) (flat_map (service_ended_on number) rest)
-ended_services_next number None later offer rest up before =
-    sorted-ended_services number (offer ∷ rest) up ∙ ap (λ ss. service_ended_on number offer ++ ss) (sym (sorted-ended_services number rest up.1))
-ended_services_next number (Some waiting) later offer rest up before =
-    goes_first by_service name_before name_orders (λ s. dead_service s.service) service_kept (λ s. s.port == number) waiting later offer rest up before
-
-pub service_waits : (number : ℕ) (waiting : Option Service) (later : List Service) (offer : ServiceOffer) (rest : List ServiceOffer) → ServicesAscend (offer ∷ rest)
-    → service_ends_before waiting offer ≡ false
-    → put_all name_before (first_then waiting later) (flat_map (service_ended_on number) (offer ∷ rest))
-    ≡ first_then waiting (put_all name_before later (flat_map (service_ended_on number) (offer ∷ rest)))
-service_waits number None later offer rest up behind = absurd (true≢false behind)
-service_waits number (Some waiting) later offer rest up behind =
-    goes_behind by_service name_before name_orders (λ s. dead_service s.service) service_kept (λ s. s.port == number) waiting later offer rest up behind

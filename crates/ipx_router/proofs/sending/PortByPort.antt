@@ -1,28 +1,17 @@
 -- What is sent on one port after another, to all nodes of its network.
 use Rattle.std.proofs.Common.{◌≡◌, ap, ◌∙◌, ℕ, zero, suc, ◌<◌, false, List, [], ◌∷◌, ◌++◌, get_or, length, arith}
 use Rattle.std.specs.List.{AllByRecursion}
-use Rattle.ipx_wire.specs.declared.address.Address.{Address}
-use Rattle.ipx_wire.specs.declared.rip.Operation.TheVariants.{Response}
-use Rattle.ipx_wire.specs.declared.rip.RipEntry.{RipEntry}
-use Rattle.ipx_wire.specs.declared.service.Service.{Service}
 use Rattle.ipx_router.specs.Outbox.{Contents, Fits, Appends}
-use Rattle.ipx_router.specs.Port.{Port, port_at, everyone, every_server}
 use Rattle.ipx_router.specs.Relays.{Sent}
-use Rattle.ipx_router.specs.Sends.{rip_sends, rip_broadcast, sap_sends, sap_broadcast}
+use Rattle.ipx_router.specs.inside.Owed.{owed}
+use Rattle.ipx_router.specs.declared.advertising.envelope.Envelope.{Envelope}
 use Rattle.ipx_router.proofs.sending.OneAfterAnother.{fits_front, fits_then, appends_then}
 
--- to all of a port's network
-pub routes_broadcast : (ports : List Port) (number : ℕ) (port : Port) (to : Address) (shown entries : List RipEntry)
-    → port ≡ port_at ports number → to ≡ everyone port → shown ≡ entries → rip_sends ports number to Response shown ≡ rip_broadcast ports number entries
-routes_broadcast ports number port to shown entries p t s =
-    ap (λ (a : Address). rip_sends ports number a Response shown) (t ∙ ap everyone p)
-    ∙ ap (λ (es : List RipEntry). rip_sends ports number (everyone (port_at ports number)) Response es) s
-
-pub services_broadcast : (ports : List Port) (number : ℕ) (port : Port) (to : Address) (shown services : List Service)
-    → port ≡ port_at ports number → to ≡ every_server port → shown ≡ services → sap_sends ports number to false shown ≡ sap_broadcast ports number services
-services_broadcast ports number port to shown services p t s =
-    ap (λ (a : Address). sap_sends ports number a false shown) (t ∙ ap every_server p)
-    ∙ ap (λ (ss : List Service). sap_sends ports number (every_server (port_at ports number)) false ss) s
+-- items of a port in an envelope of that port
+pub in_envelope : {X : Type 0} (n : ℕ) (packet : Envelope → List X → Sent) (items : ℕ → List X) {envelope to : Envelope} {all : List X}
+    → envelope ≡ to → items to.port ≡ all → owed n (packet envelope) [] (items envelope.port) ≡ owed n (packet to) [] all
+in_envelope n packet items {envelope} {to} {all} is same =
+    ap (λ (e : Envelope). owed n (packet e) [] (items e.port)) is ∙ ap (owed n (packet to) []) same
 
 -- what holds of all holds at each place
 pub each_at : {X : Type 0} (P : X → Type 0) (xs : List X) (k : ℕ) (d : X) → AllByRecursion P xs → k < length xs → P (get_or xs k d)

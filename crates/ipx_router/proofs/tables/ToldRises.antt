@@ -7,7 +7,7 @@ use Rattle.ipx_table.specs.Stands.{IsAscending, Ascends}
 use Rattle.ipx_table.specs.declared.held.Held.{Held}
 use Rattle.ipx_table.proofs.Order.{not_both, not_below_through}
 use Rattle.ipx_router.specs.Facts.{offers}
-use Rattle.ipx_router.specs.Routes.{network_order}
+use Rattle.ipx_router.specs.inside.Ended.{by_route, by_service}
 use Rattle.ipx_router.specs.Services.{service_order}
 use Rattle.ipx_router.specs.Told.{network_before, name_before, told_at, entry_of, farther, is_route_told, is_service_told, learned}
 use Rattle.ipx_router.specs.declared.route_offer.RouteOffer.{RouteOffer}
@@ -72,12 +72,6 @@ module _ {O : Type 0} (by_key : O → O → Ordering) where
       behind (y ∷ ys) above = (kept x y above.0, behind ys above.1)
 
 -- ---- what is told of a table
-
-abbrev pub by_route : RouteOffer → RouteOffer → Ordering
-by_route a b = network_order a.network b.network
-
-abbrev pub by_service : ServiceOffer → ServiceOffer → Ordering
-by_service a b = service_order (a.service.kind, a.service.name) (b.service.kind, b.service.name)
 
 -- routes rise as they are told
 pub rises_told : (cost number : ℕ) (routes : List RouteOffer) → Ascends by_route routes → Rises network_before (map (told_at cost) (learned routes number))

@@ -8,7 +8,8 @@ use Rattle.ipx_router.specs.inside.Sources.{waits_before}
 use Rattle.ipx_router.specs.Told.{network_before, told_at, entry_of, is_route_told, learned}
 use Rattle.ipx_router.specs.inside.ToldRoutes.{routes_left}
 use Rattle.ipx_router.specs.declared.route_offer.RouteOffer.{RouteOffer}
-use Rattle.ipx_router.proofs.tables.ToldRises.{by_route, network_orders, ascends-drop, rises_told}
+use Rattle.ipx_router.specs.inside.Ended.{by_route}
+use Rattle.ipx_router.proofs.tables.ToldRises.{network_orders, ascends-drop, rises_told}
 use Rattle.ipx_router.proofs.lists.PutInOrder.{Rises}
 use Rattle.ipx_router.proofs.telling.FromTheFirstChosen.{from_chosen, same_chosen, first_chosen, takes_first, no_more}
 use Rattle.ipx_router.proofs.lists.NextOfTwoSources.{waiting_next, other_next}

@@ -5,7 +5,8 @@ use Rattle.ipx_wire.specs.declared.service.Service.{Service}
 use Rattle.ipx_router.specs.inside.Ended.{ServicesAscend}
 use Rattle.ipx_router.specs.Told.{name_before, by_name, farther, is_service_told, told_services}
 use Rattle.ipx_router.specs.declared.service_offer.ServiceOffer.{ServiceOffer}
-use Rattle.ipx_router.proofs.tables.ToldRises.{by_service, ascends-drop, services_rise}
+use Rattle.ipx_router.specs.inside.Ended.{by_service}
+use Rattle.ipx_router.proofs.tables.ToldRises.{ascends-drop, services_rise}
 use Rattle.ipx_router.proofs.lists.PutInOrder.{sorted-rising}
 use Rattle.ipx_router.proofs.telling.FromTheFirstChosen.{from_chosen, same_chosen, first_chosen, takes_first, no_more}
 

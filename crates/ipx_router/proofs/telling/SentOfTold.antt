@@ -5,17 +5,19 @@ use Rattle.std.proofs.lemmas.Bool.{cases_Bool}
 use Rattle.std.proofs.lemmas.List.Folds.{list_any_at, list_any_more}
 use Rattle.std.proofs.lemmas.Option.{slice_get_within, get_or_from_slice_get}
 use Rattle.ipx_wire.specs.declared.address.Address.{Address}
-use Rattle.ipx_wire.specs.declared.rip.Operation.TheVariants.{Response}
 use Rattle.ipx_wire.specs.declared.rip.RipEntry.{RipEntry}
 use Rattle.ipx_wire.specs.declared.service.Service.{Service}
-use Rattle.ipx_router.specs.Numbers.{all_routes}
-use Rattle.ipx_router.specs.Port.{Port}
-use Rattle.ipx_router.specs.Sends.{asked, nearest_of, of_kind, rip_sends, sap_sends}
+use Rattle.ipx_router.specs.Numbers.{all_routes, services_a_page}
+use Rattle.ipx_router.specs.Port.{Port, port_at, reply_to}
+use Rattle.ipx_router.specs.Sends.{asked, nearest_of, of_kind, sap_sends}
+use Rattle.ipx_router.specs.inside.Envelope.{services_in, services_reply}
+use Rattle.ipx_router.specs.inside.Owed.{owed}
 use Rattle.ipx_router.specs.inside.Shown.{asks_for, is_asked, shown_as, is_of_kind, service_shown_as}
 use Rattle.ipx_router.specs.Told.{dead, dead_service}
-use Rattle.ipx_router.specs.declared.advertising.shown.Shown.{Shown}
+use Rattle.ipx_router.specs.declared.advertising.envelope.Envelope.{Envelope}
 use Rattle.ipx_router.specs.declared.advertising.shown.Shown.TheVariants.{All, Dead, Asked}
 use Rattle.ipx_router.specs.declared.advertising.shown.ShownServices.TheVariants.{All as AllServices, Dead as DeadServices, OfKind}
+use Rattle.ipx_router.proofs.sending.PortByPort.{in_envelope}
 
 -- ---- one more of those that are asked
 
@@ -77,19 +79,20 @@ services_shown_of_kind kind (s ∷ ss) = elim (cases_Bool (is_of_kind kind s)) [
 
 -- ---- answers
 
--- to the same address, what is shown of all that is told is the answer to a request
-pub request_answered : (ports : List Port) (number : ℕ) (to to' : Address) (shown : Shown) (wanted es : List RipEntry) → to' ≡ to
-    → flat_map (shown_as shown) es ≡ asked wanted es
-    → rip_sends ports number to' Response (flat_map (shown_as shown) es) ≡ rip_sends ports number to Response (asked wanted es)
-request_answered ports number to to' shown wanted es same all =
-    ap (λ (a : Address). rip_sends ports number a Response (flat_map (shown_as shown) es)) same
-    ∙ ap (rip_sends ports number to Response) all
+-- in the same envelope, what is shown of all that is told is the answer to a query that isn't for the nearest
+pub query_answered : (ports : List Port) (number : ℕ) (source : Address) (nearest : Bool) (kind : ℕ) (services : ℕ → List Service) {envelope : Envelope}
+    → envelope ≡ services_reply ports number source → nearest ≡ false
+    → owed services_a_page (services_in false envelope) [] (flat_map (service_shown_as (OfKind kind)) (services envelope.port))
+    ≡ sap_sends ports number (reply_to (port_at ports number) source) nearest (if nearest then nearest_of (of_kind kind (services number)) else of_kind kind (services number))
+query_answered ports number source true kind services is e = absurd (true≢false e)
+query_answered ports number source false kind services is e =
+    in_envelope services_a_page (services_in false) (λ j. flat_map (service_shown_as (OfKind kind)) (services j)) is (services_shown_of_kind kind (services number))
 
--- and to a query that isn't for the nearest
-pub query_answered : (ports : List Port) (number : ℕ) (to to' : Address) (nearest : Bool) (kind : ℕ) (ss : List Service) → to' ≡ to → nearest ≡ false
-    → sap_sends ports number to' nearest (flat_map (service_shown_as (OfKind kind)) ss)
-    ≡ sap_sends ports number to nearest (if nearest then nearest_of (of_kind kind ss) else of_kind kind ss)
-query_answered ports number to to' true kind ss same e = absurd (true≢false e)
-query_answered ports number to to' false kind ss same e =
-    ap (λ (a : Address). sap_sends ports number a false (flat_map (service_shown_as (OfKind kind)) ss)) same
-    ∙ ap (sap_sends ports number to false) (services_shown_of_kind kind ss)
+-- and to one that is
+pub nearest_answered : (ports : List Port) (number : ℕ) (source : Address) (nearest : Bool) (kind : ℕ) (services : ℕ → List Service) {envelope : Envelope}
+    → envelope ≡ services_reply ports number source → nearest ≡ true
+    → owed services_a_page (services_in true envelope) [] (nearest_of (of_kind kind (services envelope.port)))
+    ≡ sap_sends ports number (reply_to (port_at ports number) source) nearest (if nearest then nearest_of (of_kind kind (services number)) else of_kind kind (services number))
+nearest_answered ports number source false kind services is e = absurd (true≢false (sym e))
+nearest_answered ports number source true kind services is e =
+    in_envelope services_a_page (services_in true) (λ j. nearest_of (of_kind kind (services j))) is refl

@@ -7,11 +7,11 @@ ghost use Rattle.ipx_router.specs.Outbox.{Fits, Appends};
 ghost use Rattle.ipx_router.specs.Sends.{rip_broadcast, sap_broadcast};
 ghost use Rattle.ipx_router.specs.Told.{told, told_services, dead, dead_service};
 
+use crate::advertising::envelope::Envelope;
 use crate::advertising::shown::{Shown, ShownServices};
 use crate::advertising::told::{advertise_routes, advertise_services};
 use crate::outbox::Outbox;
 use crate::port::Port;
-use crate::ports::addresses::{every_server, everyone, port_of};
 use crate::route_offer::RouteOffer;
 use crate::service_offer::ServiceOffer;
 use ipx_table::Table;
@@ -30,8 +30,8 @@ pub(crate) fn broadcast_routes<const R: usize>(
     requires room { Fits outbox.old (rip_broadcast ports.now number (told ports.now up.now (offers routes.now.records) number)) }
     ensures { Appends outbox.old outbox.new (rip_broadcast ports.now number (told ports.now up.now (offers routes.now.records) number)) }
 {
-    let to = everyone(port_of(ports, number));
-    advertise_routes(outbox, ports, up, routes, number, to, Shown::All);
+    let envelope = Envelope::routes_to_all(ports, number);
+    advertise_routes(outbox, envelope, ports, up, routes, Shown::All);
 }
 
 /// Broadcasts the routes that a port advertises, as unreachable.
@@ -48,8 +48,8 @@ pub(crate) fn withdraw_routes<const R: usize>(
     requires room { Fits outbox.old (rip_broadcast ports.now number (map dead (told ports.now up.now (offers routes.now.records) number))) }
     ensures { Appends outbox.old outbox.new (rip_broadcast ports.now number (map dead (told ports.now up.now (offers routes.now.records) number))) }
 {
-    let to = everyone(port_of(ports, number));
-    advertise_routes(outbox, ports, up, routes, number, to, Shown::Dead);
+    let envelope = Envelope::routes_to_all(ports, number);
+    advertise_routes(outbox, envelope, ports, up, routes, Shown::Dead);
 }
 
 /// Broadcasts the services that a port advertises.
@@ -63,16 +63,8 @@ pub(crate) fn broadcast_services<const S: usize>(
     requires room { Fits outbox.old (sap_broadcast ports.now number (told_services (offers services.now.records) number)) }
     ensures { Appends outbox.old outbox.new (sap_broadcast ports.now number (told_services (offers services.now.records) number)) }
 {
-    let to = every_server(port_of(ports, number));
-    advertise_services(
-        outbox,
-        ports,
-        services,
-        number,
-        to,
-        false,
-        ShownServices::All,
-    );
+    let envelope = Envelope::services_to_all(ports, number);
+    advertise_services(outbox, envelope, services, ShownServices::All);
 }
 
 /// Broadcasts the services that a port advertises, as unreachable.
@@ -86,14 +78,6 @@ pub(crate) fn withdraw_services<const S: usize>(
     requires room { Fits outbox.old (sap_broadcast ports.now number (map dead_service (told_services (offers services.now.records) number))) }
     ensures { Appends outbox.old outbox.new (sap_broadcast ports.now number (map dead_service (told_services (offers services.now.records) number))) }
 {
-    let to = every_server(port_of(ports, number));
-    advertise_services(
-        outbox,
-        ports,
-        services,
-        number,
-        to,
-        false,
-        ShownServices::Dead,
-    );
+    let envelope = Envelope::services_to_all(ports, number);
+    advertise_services(outbox, envelope, services, ShownServices::Dead);
 }

@@ -9,16 +9,17 @@ ghost use Rattle.ipx_router.specs.Sends.{introduction, port_up_on, rip_broadcast
 ghost use Rattle.ipx_router.specs.Told.{told_at, direct_entry};
 
 use crate::advertising::broadcasts::{broadcast_routes, broadcast_services};
-use crate::advertising::entry_pages::send_page;
+use crate::advertising::envelope::Envelope;
+use crate::advertising::item::Item;
 use crate::advertising::items::{direct_entry, told_at};
 use crate::advertising::requests::{query_services, request_routes};
 use crate::outbox::Outbox;
 use crate::port::Port;
-use crate::ports::addresses::{everyone, port_of};
+use crate::ports::addresses::port_of;
 use crate::route_offer::RouteOffer;
 use crate::service_offer::ServiceOffer;
 use ipx_table::Table;
-use ipx_wire::Operation;
+use ipx_wire::RipEntry;
 
 /// Sends what a port that comes up advertises, a request for all routes, and a query for all services.
 pub(crate) fn introduce<const R: usize, const S: usize>(
@@ -66,16 +67,9 @@ fn announce(outbox: &mut Outbox, ports: &[Port], port: u8, number: u8)
     requires room { Fits outbox.old (rip_broadcast ports.now number (told_at (port_at ports.now number).cost (direct_entry ports.now port) ∷ [])) }
     ensures { Appends outbox.old outbox.new (rip_broadcast ports.now number (told_at (port_at ports.now number).cost (direct_entry ports.now port) ∷ [])) }
 {
-    let other = port_of(ports, number);
-    let entry = told_at(other.cost(), direct_entry(ports, port));
-    send_page(
-        outbox,
-        ports,
-        number,
-        everyone(other),
-        Operation::Response,
-        &[entry],
-    );
+    let envelope = Envelope::routes_to_all(ports, number);
+    let entry = told_at(port_of(ports, number).cost(), direct_entry(ports, port));
+    RipEntry::send_page(outbox, envelope, &[entry]);
 }
 
 /// Sends on a port what is sent where one comes up.

@@ -3,10 +3,9 @@ ghost use Rattle.std.specs.Prelude.{◌<◌, length};
 ghost use Rattle.ipx_router.specs.Outbox.{Fits, Appends};
 ghost use Rattle.ipx_router.specs.Sends.{routes_request, services_query};
 
-use crate::advertising::entry_pages::send_page;
 use crate::outbox::Outbox;
 use crate::port::Port;
-use crate::ports::addresses::{every_server, everyone, own_services, port_of};
+use crate::ports::addresses::{every_server, everyone, own_address, own_services, port_of};
 use ipx_wire::{Network, Operation, RipEntry, Sap};
 
 /// The entry of a request for all routes.
@@ -22,12 +21,11 @@ pub(crate) fn request_routes(outbox: &mut Outbox, ports: &[Port], number: u8)
     requires room { Fits outbox.old (routes_request ports.now number) }
     ensures { Appends outbox.old outbox.new (routes_request ports.now number) }
 {
-    let to = everyone(port_of(ports, number));
-    send_page(
-        outbox,
-        ports,
+    let port = port_of(ports, number);
+    outbox.append_rip(
         number,
-        to,
+        own_address(port),
+        everyone(port),
         Operation::Request,
         &[EVERY_ROUTE],
     );

@@ -1,21 +1,20 @@
 //! What a port advertises, from the tables and the ports straight into pages of the outbox: no list of all routes or
 //! services is made.
-ghost use Rattle.std.specs.Prelude.{◌≡◌, ◌<◌, ◌≤◌, List, [], ◌∷◌, ◌++◌, length, take, Some};
+ghost use Rattle.std.specs.Prelude.{◌≡◌, ◌<◌, ◌≤◌, List, [], ◌∷◌, ◌++◌, length, take, false, Some};
 ghost use Rattle.std.specs.List.{AllByRecursion, flat_map};
 ghost use Rattle.std.specs.Option.{option_to_list};
-ghost use Rattle.ipx_wire.specs.declared.rip.Operation.TheVariants.{Response};
-ghost use Rattle.ipx_wire.specs.declared.rip.RipEntry.{RipEntry};
 ghost use Rattle.ipx_wire.specs.declared.service.Service.{Service};
 ghost use Rattle.ipx_router.specs.Facts.{offers};
 ghost use Rattle.ipx_router.specs.Numbers.{entries_a_page, services_a_page, most_ports};
 ghost use Rattle.ipx_router.specs.Outbox.{Fits, Appends};
+ghost use Rattle.ipx_router.specs.inside.Envelope.{entries_in, services_in};
 ghost use Rattle.ipx_router.specs.inside.Owed.{Pays, owed};
-ghost use Rattle.ipx_router.specs.Sends.{rip_sends, sap_sends, services_sent};
 ghost use Rattle.ipx_router.specs.inside.Shown.{service_shown_as, shown_as};
 ghost use Rattle.ipx_router.specs.Told.{told, told_services};
 
-use crate::advertising::entry_pages::{ENTRIES_A_PAGE, send_page};
-use crate::advertising::service_pages::{SERVICES_A_PAGE, add_service, send_service_rest};
+use crate::advertising::envelope::Envelope;
+use crate::advertising::item::Item;
+use crate::advertising::pages::{ENTRIES_A_PAGE, SERVICES_A_PAGE, add_item, send_rest};
 use crate::advertising::shown::{Shown, ShownServices, show, show_service};
 use crate::advertising::told_routes::{ToldRoutes, list_direct};
 use crate::advertising::told_services::ToldServices;
@@ -26,24 +25,24 @@ use crate::route_offer::RouteOffer;
 use crate::service_offer::ServiceOffer;
 use arrayvec::ArrayVec;
 use ipx_table::Table;
-use ipx_wire::{Address, Operation, RipEntry, Service};
+use ipx_wire::{RipEntry, Service};
 
-/// Sends the routes that a port advertises to an address, as they are shown.
+/// Sends the routes that a port advertises, as they are shown, in an envelope of that port.
 pub(crate) fn advertise_routes<const R: usize>(
     outbox: &mut Outbox,
+    envelope: Envelope,
     ports: &[Port],
     up: &[u8],
     table: &Table<RouteOffer, R>,
-    number: u8,
-    to: Address,
     shown: Shown<'_>,
 )
-    requires port { number < length ports.now }
+    requires port { envelope.port < length ports.now }
     requires ports { AllByRecursion (λ j. j < length ports.now) up.now }
     requires few { length up.now ≤ most_ports }
-    requires room { Fits outbox.old (rip_sends ports.now number to Response (flat_map (shown_as shown) (told ports.now up.now (offers table.now.records) number))) }
-    ensures { Appends outbox.old outbox.new (rip_sends ports.now number to Response (flat_map (shown_as shown.entry) (told ports.now up.now (offers table.now.records) number))) }
+    requires room { Fits outbox.old (owed entries_a_page (entries_in envelope) [] (flat_map (shown_as shown) (told ports.now up.now (offers table.now.records) envelope.port))) }
+    ensures { Appends outbox.old outbox.new (owed entries_a_page (entries_in envelope) [] (flat_map (shown_as shown.entry) (told ports.now up.now (offers table.now.records) envelope.port))) }
 {
+    let number = envelope.port;
     let cost = port_of(ports, number).cost();
     let mut direct = ArrayVec::new();
     list_direct(&mut direct, ports, up, number, cost);
@@ -53,7 +52,7 @@ pub(crate) fn advertise_routes<const R: usize>(
     while count == ENTRIES_A_PAGE {
         count = fill(&mut routes, shown, &mut page);
         let (filled, _) = page.split_at(count);
-        send_filled(outbox, ports, number, to, filled);
+        send_filled(outbox, envelope, filled);
     }
 }
 
@@ -82,63 +81,46 @@ fn fill(
 }
 
 /// Sends the entries of a page, where there are any.
-fn send_filled(outbox: &mut Outbox, ports: &[Port], number: u8, to: Address, page: &[RipEntry])
-    requires port { number < length ports.now }
+fn send_filled(outbox: &mut Outbox, envelope: Envelope, page: &[RipEntry])
     requires few { length page.now ≤ entries_a_page }
-    requires room { Fits outbox.old (rip_sends ports.now number to Response page.now) }
-    ensures { Appends outbox.old outbox.new (rip_sends ports.now number to Response page.now) }
+    requires room { Fits outbox.old (owed entries_a_page (entries_in envelope) [] page.now) }
+    ensures { Appends outbox.old outbox.new (owed entries_a_page (entries_in envelope) [] page.now) }
 {
     if !page.is_empty() {
-        send_page(outbox, ports, number, to, Operation::Response, page);
+        RipEntry::send_page(outbox, envelope, page);
     }
 }
 
-/// Sends the services that a port advertises to an address, as they are shown.
+/// Sends the services that a port advertises, as they are shown, in an envelope of that port.
 pub(crate) fn advertise_services<const S: usize>(
     outbox: &mut Outbox,
-    ports: &[Port],
+    envelope: Envelope,
     table: &Table<ServiceOffer, S>,
-    number: u8,
-    to: Address,
-    nearest: bool,
     shown: ShownServices,
 )
-    requires port { number < length ports.now }
-    requires room { Fits outbox.old (sap_sends ports.now number to nearest (flat_map (service_shown_as shown) (told_services (offers table.now.records) number))) }
-    ensures { Appends outbox.old outbox.new (sap_sends ports.now number to nearest (flat_map (service_shown_as shown) (told_services (offers table.now.records) number))) }
+    requires room { Fits outbox.old (owed services_a_page (services_in false envelope) [] (flat_map (service_shown_as shown) (told_services (offers table.now.records) envelope.port))) }
+    ensures { Appends outbox.old outbox.new (owed services_a_page (services_in false envelope) [] (flat_map (service_shown_as shown) (told_services (offers table.now.records) envelope.port))) }
 {
     let mut page = ArrayVec::new();
-    for service in ToldServices::new(table, number) {
-        add_shown_service(
-            outbox,
-            ports,
-            number,
-            to,
-            nearest,
-            &mut page,
-            show_service(shown, service),
-        );
+    for service in ToldServices::new(table, envelope.port) {
+        add_shown_service(outbox, envelope, &mut page, show_service(shown, service));
     }
-    send_service_rest(outbox, ports, number, to, nearest, &page);
+    send_rest(outbox, envelope, &page);
 }
 
 /// Adds a service to a page, if there is one.
 fn add_shown_service(
     outbox: &mut Outbox,
-    ports: &[Port],
-    number: u8,
-    to: Address,
-    nearest: bool,
+    envelope: Envelope,
     page: &mut ArrayVec<Service, SERVICES_A_PAGE>,
     service: Option<Service>,
 )
-    requires port { number < length ports.now }
-    requires room { (s : Service) → service ≡ Some s → services_a_page ≤ length page.old.items → Fits outbox.old (services_sent ports.now number to nearest page.old.items ∷ []) }
+    requires room { (s : Service) → service ≡ Some s → services_a_page ≤ length page.old.items → Fits outbox.old (services_in false envelope page.old.items ∷ []) }
     ensures { (rest : List Service) → Pays outbox.old outbox.new
-        (owed services_a_page (services_sent ports.now number to nearest) page.old.items (option_to_list service ++ rest))
-        (owed services_a_page (services_sent ports.now number to nearest) page.new.items rest) }
+        (owed services_a_page (services_in false envelope) page.old.items (option_to_list service ++ rest))
+        (owed services_a_page (services_in false envelope) page.new.items rest) }
 {
     if let Some(service) = service {
-        add_service(outbox, ports, number, to, nearest, page, service);
+        add_item(outbox, envelope, page, service);
     }
 }

@@ -11,12 +11,12 @@ ghost use Rattle.ipx_router.specs.Sends.{asked, nearest_of, of_kind, rip_sends, 
 ghost use Rattle.ipx_router.specs.inside.Shown.{shown_as};
 ghost use Rattle.ipx_router.specs.Told.{told, told_services};
 
+use crate::advertising::envelope::Envelope;
 use crate::advertising::shown::{Shown, ShownServices};
 use crate::advertising::told::{advertise_routes, advertise_services};
-use crate::answering::nearest::advertise_nearest;
+use crate::answering::nearest::answer_nearest;
 use crate::outbox::Outbox;
 use crate::port::Port;
-use crate::ports::addresses::{port_of, reply_to};
 use crate::route_offer::RouteOffer;
 use crate::service_offer::ServiceOffer;
 use ipx_table::Table;
@@ -40,8 +40,8 @@ pub(crate) fn answer_request<const R: usize>(
     ensures { Appends outbox.old outbox.new (rip_sends ports.now number (reply_to (port_at ports.now number) source) Response
         (asked request.now.entries (told ports.now up.now (offers routes.now.records) number))) }
 {
-    let to = reply_to(port_of(ports, number), source);
-    advertise_routes(outbox, ports, up, routes, number, to, shown_to(request));
+    let envelope = Envelope::routes_reply(ports, number, source);
+    advertise_routes(outbox, envelope, ports, up, routes, shown_to(request));
 }
 
 /// Which routes answer a request: all, where it asks for all, so that no route is compared with its entries.
@@ -72,18 +72,10 @@ pub(crate) fn answer_query<const S: usize>(
     ensures { let found = of_kind kind (told_services (offers services.now.records) number) in
         Appends outbox.old outbox.new (sap_sends ports.now number (reply_to (port_at ports.now number) source) nearest (if nearest then nearest_of found else found)) }
 {
-    let to = reply_to(port_of(ports, number), source);
+    let envelope = Envelope::services_reply(ports, number, source);
     if nearest {
-        advertise_nearest(outbox, ports, services, number, to, kind);
+        answer_nearest(outbox, envelope, services, kind);
     } else {
-        advertise_services(
-            outbox,
-            ports,
-            services,
-            number,
-            to,
-            nearest,
-            ShownServices::OfKind(kind),
-        );
+        advertise_services(outbox, envelope, services, ShownServices::OfKind(kind));
     }
 }

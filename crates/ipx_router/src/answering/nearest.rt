@@ -1,36 +1,35 @@
 //! The answer to a query for the nearest service: one service at most, found in one pass over the table.
-ghost use Rattle.std.specs.Prelude.{◌≡◌, ◌<◌, true, List, ◌∷◌, ◌++◌, length};
+ghost use Rattle.std.specs.Prelude.{◌≡◌, true, List, [], ◌∷◌, ◌++◌};
 ghost use Rattle.std.specs.Option.{option_to_list};
 ghost use Rattle.ipx_wire.specs.declared.service.Service.{Service};
 ghost use Rattle.ipx_router.specs.Facts.{offers};
+ghost use Rattle.ipx_router.specs.Numbers.{services_a_page};
 ghost use Rattle.ipx_router.specs.Outbox.{Fits, Appends};
-ghost use Rattle.ipx_router.specs.Sends.{is_nearer, nearest_of, of_kind, sap_sends};
+ghost use Rattle.ipx_router.specs.Sends.{is_nearer, nearest_of, of_kind};
 ghost use Rattle.ipx_router.specs.Told.{told_services};
+ghost use Rattle.ipx_router.specs.inside.Envelope.{services_in};
+ghost use Rattle.ipx_router.specs.inside.Owed.{owed};
 
-use crate::advertising::service_pages::send_service_page;
+use crate::advertising::envelope::Envelope;
 use crate::advertising::shown::is_of_kind;
 use crate::advertising::told_services::ToldServices;
 use crate::outbox::Outbox;
-use crate::port::Port;
 use crate::service_offer::ServiceOffer;
 use ipx_table::Table;
-use ipx_wire::{Address, Service};
+use ipx_wire::Service;
 
-/// Sends the nearest service of a type that the port advertises to an address, if there is one.
-pub(crate) fn advertise_nearest<const S: usize>(
+/// Sends the nearest service of a type that a port advertises in an envelope of that port, if there is one.
+pub(crate) fn answer_nearest<const S: usize>(
     outbox: &mut Outbox,
-    ports: &[Port],
+    envelope: Envelope,
     table: &Table<ServiceOffer, S>,
-    number: u8,
-    to: Address,
     kind: u16,
 )
-    requires port { number < length ports.now }
-    requires room { Fits outbox.old (sap_sends ports.now number to true (nearest_of (of_kind kind (told_services (offers table.now.records) number)))) }
-    ensures { Appends outbox.old outbox.new (sap_sends ports.now number to true (nearest_of (of_kind kind (told_services (offers table.now.records) number)))) }
+    requires room { Fits outbox.old (owed services_a_page (services_in true envelope) [] (nearest_of (of_kind kind (told_services (offers table.now.records) envelope.port)))) }
+    ensures { Appends outbox.old outbox.new (owed services_a_page (services_in true envelope) [] (nearest_of (of_kind kind (told_services (offers table.now.records) envelope.port)))) }
 {
-    if let Some(service) = nearest_told(table, number, kind) {
-        send_service_page(outbox, ports, number, to, true, &[service]);
+    if let Some(service) = nearest_told(table, envelope.port, kind) {
+        outbox.append_sap(envelope.port, envelope.from, envelope.to, true, &[service]);
     }
 }
 

@@ -5,8 +5,7 @@ ghost use Rattle.ipx_router.specs.Happened.{happened};
 ghost use Rattle.ipx_router.specs.Needs.{packets_ever, bytes_ever};
 ghost use Rattle.ipx_router.specs.Numbers.{most_ports};
 
-use crate::advertising::entry_pages::ENTRIES_A_PAGE;
-use crate::advertising::service_pages::SERVICES_A_PAGE;
+use crate::advertising::pages::{ENTRIES_A_PAGE, SERVICES_A_PAGE};
 use crate::event::Event;
 use crate::outbox::Need;
 use ipx_wire::{Header, Packet, SapEntry};

@@ -12,17 +12,18 @@ ghost use Rattle.ipx_router.specs.Port.{port_at};
 ghost use Rattle.ipx_router.specs.Sends.{rip_broadcast, sap_broadcast};
 ghost use Rattle.ipx_router.specs.inside.Touched.{change_of};
 
-use crate::advertising::entry_pages::{ENTRIES_A_PAGE, send_page};
+use crate::advertising::envelope::Envelope;
+use crate::advertising::item::Item;
 use crate::advertising::items::{dead, dead_service, entry_of, farther, is_reached_on, told_at};
-use crate::advertising::service_pages::{SERVICES_A_PAGE, send_service_page};
+use crate::advertising::pages::{ENTRIES_A_PAGE, SERVICES_A_PAGE};
 use crate::learning::changed::Changed;
 use crate::outbox::Outbox;
 use crate::port::Port;
-use crate::ports::addresses::{every_server, everyone, own_address, own_services, port_of};
+use crate::ports::addresses::port_of;
 use crate::route_offer::RouteOffer;
 use crate::service_offer::ServiceOffer;
 use arrayvec::ArrayVec;
-use ipx_wire::{Address, Operation, RipEntry, Service};
+use ipx_wire::{Address, RipEntry, Service};
 
 /// Advertises changed routes on the ports that are up, in at most a packet each.
 pub(crate) fn advertise_route_changes(
@@ -113,10 +114,9 @@ fn broadcast_page(
     if page.is_empty() {
         return;
     }
-    let port = port_of(ports, number);
-    let to = everyone(port);
-    proves_routes_fit(own_address(port), to, page);
-    send_page(outbox, ports, number, to, Operation::Response, page);
+    let envelope = Envelope::routes_to_all(ports, number);
+    proves_routes_fit(envelope.from, envelope.to, page);
+    RipEntry::send_page(outbox, envelope, page);
 }
 
 /// Broadcasts a page of services on a port, if there is any.
@@ -134,10 +134,9 @@ fn broadcast_service_page(
     if page.is_empty() {
         return;
     }
-    let port = port_of(ports, number);
-    let to = every_server(port);
-    proves_services_fit(own_services(port), to, page);
-    send_service_page(outbox, ports, number, to, false, page);
+    let envelope = Envelope::services_to_all(ports, number);
+    proves_services_fit(envelope.from, envelope.to, page);
+    Service::send_page(outbox, envelope, page);
 }
 
 /// A page of entries makes no packet that is longer than an own one may be.

@@ -17,8 +17,7 @@ use crate::outbox::Outbox;
 use crate::port::Port;
 use crate::route_offer::RouteOffer;
 use crate::service_offer::ServiceOffer;
-use crate::withdrawing::ended_routes::{advertise_ended, advertise_ended_with};
-use crate::withdrawing::ended_services::advertise_ended_services;
+use crate::withdrawing::ended::{advertise_ended, advertise_ended_services, advertise_ended_with};
 use crate::withdrawing::periodic::{broadcast_routes_with_ended, broadcast_services_with_ended};
 use ipx_table::Table;
 

@@ -8,19 +8,19 @@ ghost use Rattle.ipx_router.specs.Outbox.{Fits, Appends};
 ghost use Rattle.ipx_router.specs.Sends.{rip_broadcast, sap_broadcast};
 ghost use Rattle.ipx_router.specs.Told.{by_name, by_network, told, told_services};
 
-use crate::advertising::entry_pages::{add_entry, send_rest};
-use crate::advertising::service_pages::{add_service, send_service_rest};
+use crate::advertising::envelope::Envelope;
+use crate::advertising::pages::{ENTRIES_A_PAGE, SERVICES_A_PAGE, add_item, send_rest};
 use crate::advertising::told_routes::{ToldRoutes, list_direct};
 use crate::advertising::told_services::ToldServices;
 use crate::outbox::Outbox;
 use crate::port::Port;
-use crate::ports::addresses::{every_server, everyone, port_of};
+use crate::ports::addresses::port_of;
 use crate::route_offer::RouteOffer;
 use crate::service_offer::ServiceOffer;
-use crate::withdrawing::ended_routes::add_ended_before;
-use crate::withdrawing::ended_services::add_ended_services_before;
+use crate::withdrawing::ended::add_ended_before;
 use arrayvec::ArrayVec;
 use ipx_table::Table;
+use ipx_wire::{RipEntry, Service};
 
 /// Advertises on a port all routes, and among them those that ended.
 pub(crate) fn broadcast_routes_with_ended<const R: usize>(
@@ -40,19 +40,18 @@ pub(crate) fn broadcast_routes_with_ended<const R: usize>(
     ensures { Appends outbox.old outbox.new (rip_broadcast ports.now number
         (by_network (told ports.now up.now (offers table.now.records) number ++ flat_map (ended_on number) ended.now))) }
 {
-    let port = port_of(ports, number);
-    let to = everyone(port);
-    let cost = port.cost();
+    let envelope = Envelope::routes_to_all(ports, number);
+    let cost = port_of(ports, number).cost();
     let mut direct = ArrayVec::new();
     list_direct(&mut direct, ports, up, number, cost);
-    let mut page = ArrayVec::new();
+    let mut page: ArrayVec<RipEntry, ENTRIES_A_PAGE> = ArrayVec::new();
     let mut rest = ended;
     for entry in ToldRoutes::new(&direct, table, number, cost) {
-        rest = add_ended_before(outbox, ports, number, to, &mut page, rest, Some(entry));
-        add_entry(outbox, ports, number, to, &mut page, entry);
+        rest = add_ended_before(outbox, envelope, &mut page, rest, Some(&entry));
+        add_item(outbox, envelope, &mut page, entry);
     }
-    let _rest = add_ended_before(outbox, ports, number, to, &mut page, rest, None);
-    send_rest(outbox, ports, number, to, &page);
+    let _rest = add_ended_before(outbox, envelope, &mut page, rest, None);
+    send_rest(outbox, envelope, &page);
 }
 
 /// Advertises on a port all services, and among them those that ended.
@@ -70,21 +69,13 @@ pub(crate) fn broadcast_services_with_ended<const S: usize>(
     ensures { Appends outbox.old outbox.new (sap_broadcast ports.now number
         (by_name (told_services (offers table.now.records) number ++ flat_map (service_ended_on number) ended_services.now))) }
 {
-    let to = every_server(port_of(ports, number));
-    let mut page = ArrayVec::new();
+    let envelope = Envelope::services_to_all(ports, number);
+    let mut page: ArrayVec<Service, SERVICES_A_PAGE> = ArrayVec::new();
     let mut rest = ended_services;
     for service in ToldServices::new(table, number) {
-        rest = add_ended_services_before(
-            outbox,
-            ports,
-            number,
-            to,
-            &mut page,
-            rest,
-            Some(&service),
-        );
-        add_service(outbox, ports, number, to, false, &mut page, service);
+        rest = add_ended_before(outbox, envelope, &mut page, rest, Some(&service));
+        add_item(outbox, envelope, &mut page, service);
     }
-    let _rest = add_ended_services_before(outbox, ports, number, to, &mut page, rest, None);
-    send_service_rest(outbox, ports, number, to, false, &page);
+    let _rest = add_ended_before(outbox, envelope, &mut page, rest, None);
+    send_rest(outbox, envelope, &page);
 }

@@ -1,11 +1,11 @@
-use Rattle.std.proofs.Common.{sym, ap, ◌∙◌, List, ◌++◌, arith}
+use Rattle.std.proofs.Common.{sym, ap, ◌∙◌, List, [], ◌++◌, arith}
 use Rattle.std.specs.List.{flat_map}
-use Rattle.ipx_wire.specs.declared.rip.Operation.TheVariants.{Response}
 use Rattle.ipx_wire.specs.declared.rip.RipEntry.{RipEntry}
 use Rattle.ipx_router.specs.Facts.{offers}
 use Rattle.ipx_router.specs.Numbers.{entries_a_page}
 use Rattle.ipx_router.specs.Port.{Port}
-use Rattle.ipx_router.specs.Sends.{entries_sent, rip_sends}
+use Rattle.ipx_router.specs.inside.Envelope.{entries_in}
+use Rattle.ipx_router.specs.inside.Owed.{owed}
 use Rattle.ipx_router.specs.inside.Shown.{shown_as}
 use Rattle.ipx_router.specs.Told.{told}
 use Rattle.ipx_router.proofs.sending.PagesFilledFirst.{filled_fits, filled_pays}
@@ -19,10 +19,10 @@ loop-count-init g c =
     let routes = offers a.table.now.records in
     let whole =
     c.new-routes.ensures
-    ∙ told_placed c.cost-cost.result a.ports.now a.up.now routes a.number c.deref.result.now
+    ∙ told_placed c.cost-cost.result a.ports.now a.up.now routes a.envelope.port c.deref.result.now
     (c.cost-cost.ensures ∙ ap (λ (p : Port). p.cost) c.port_of.ensures) (c.deref.ensures.0 ∙ c.list_direct.ensures)
     in (
-      pays_same a.outbox.now (ap (λ (es : List RipEntry). rip_sends a.ports.now a.number a.to Response (flat_map (shown_as a.shown) es)) (sym whole)),
+      pays_same a.outbox.now (ap (λ (es : List RipEntry). owed entries_a_page (entries_in a.envelope) [] (flat_map (shown_as a.shown) es)) (sym whole)),
       omega arith,
       λ less. absurd (omega (arith, less)),
       omega arith,
@@ -31,8 +31,8 @@ loop-count-init g c =
 pub send_filled-requires-clause-room : goal.send_filled-requires-clause-room
 send_filled-requires-clause-room g c =
     let a = c.args in
-    filled_fits entries_a_page (entries_sent a.ports.now a.number a.to Response) (omega arith)
-    (flat_map (shown_as a.shown) (told a.ports.now a.up.now (offers a.table.now.records) a.number))
+    filled_fits entries_a_page (entries_in a.envelope) (omega arith)
+    (flat_map (shown_as a.shown) (told a.ports.now a.up.now (offers a.table.now.records) a.envelope.port))
     (flat_map (shown_as a.shown) c.loop-count.routes) c.split_at.result.0.now (flat_map (shown_as a.shown) c.fill-count.new.routes)
     (c.fill-count.ensures.entries ∙ ap (λ (page : List RipEntry). page ++ flat_map (shown_as a.shown) c.fill-count.new.routes) (sym c.split_at.ensures.front))
     (omega (arith, c.split_at.ensures.front_len, c.fill-count.ensures.few))
@@ -42,8 +42,8 @@ send_filled-requires-clause-room g c =
 pub loop-count-preserved : goal.loop-count-preserved
 loop-count-preserved g c =
     let a = c.args in (
-      filled_pays entries_a_page (entries_sent a.ports.now a.number a.to Response) (omega arith)
-          (flat_map (shown_as a.shown) (told a.ports.now a.up.now (offers a.table.now.records) a.number))
+      filled_pays entries_a_page (entries_in a.envelope) (omega arith)
+          (flat_map (shown_as a.shown) (told a.ports.now a.up.now (offers a.table.now.records) a.envelope.port))
           (flat_map (shown_as a.shown) c.loop-count.routes) c.split_at.result.0.now (flat_map (shown_as a.shown) c.fill-count.new.routes)
           (c.fill-count.ensures.entries ∙ ap (λ (page : List RipEntry). page ++ flat_map (shown_as a.shown) c.fill-count.new.routes) (sym c.split_at.ensures.front))
           (omega (arith, c.split_at.ensures.front_len, c.fill-count.ensures.few))

@@ -1,10 +1,9 @@
 use Rattle.std.proofs.Common.{◌≡◌, ◌+◌, ◌<◌, ◌≤◌, [], length}
 use Rattle.std.specs.List.{flat_map}
-use Rattle.ipx_wire.specs.declared.rip.Operation.TheVariants.{Response}
 use Rattle.ipx_router.specs.Facts.{offers}
 use Rattle.ipx_router.specs.Numbers.{entries_a_page}
-use Rattle.ipx_router.specs.inside.Owed.{Pays}
-use Rattle.ipx_router.specs.Sends.{rip_sends}
+use Rattle.ipx_router.specs.inside.Owed.{Pays, owed}
+use Rattle.ipx_router.specs.inside.Envelope.{entries_in}
 use Rattle.ipx_router.specs.inside.Shown.{shown_as}
 use Rattle.ipx_router.specs.Told.{told}
 use Rattle.ipx_router.proofs.advertising.told.advertise_routes.Given as goal
@@ -12,8 +11,8 @@ use Rattle.ipx_router.proofs.advertising.told.advertise_routes.Given as goal
 abbrev pub invariant-loop-count : goal.invariant-loop-count
 invariant-loop-count g l =
     Pays l.initial.outbox l.outbox
-    (rip_sends l.ports l.number l.to Response (flat_map (shown_as l.shown) (told l.ports l.up (offers l.table.records) l.number)))
-    (rip_sends l.ports l.number l.to Response (flat_map (shown_as l.shown) l.routes))
+    (owed entries_a_page (entries_in l.envelope) [] (flat_map (shown_as l.shown) (told l.ports l.up (offers l.table.records) l.envelope.port)))
+    (owed entries_a_page (entries_in l.envelope) [] (flat_map (shown_as l.shown) l.routes))
     × (l.count ≤ entries_a_page)
     × (l.count < entries_a_page → flat_map (shown_as l.shown) l.routes ≡ [])
     × (length l.page ≡ entries_a_page)

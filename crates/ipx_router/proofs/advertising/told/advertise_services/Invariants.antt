@@ -1,7 +1,8 @@
+use Rattle.std.proofs.Common.{false}
 use Rattle.ipx_router.specs.Facts.{offers}
 use Rattle.ipx_router.specs.Numbers.{services_a_page}
 use Rattle.ipx_router.specs.inside.Owed.{Pays}
-use Rattle.ipx_router.specs.Sends.{services_sent}
+use Rattle.ipx_router.specs.inside.Envelope.{services_in}
 use Rattle.ipx_router.specs.inside.Shown.{service_shown_as}
 use Rattle.ipx_router.specs.Told.{told_services}
 use Rattle.ipx_router.proofs.sending.PageByPage.{owed_all, owed_of}
@@ -9,9 +10,9 @@ use Rattle.ipx_router.proofs.advertising.told.advertise_services.Given as goal
 
 abbrev pub invariant-loop-service : goal.invariant-loop-service
 invariant-loop-service g l =
-    let packet = services_sent l.ports l.number l.to l.nearest in
+    let packet = services_in false l.envelope in
     ((goal.iterator-loop-service g).can_next l.service-iterator)
     × ((goal.iterator-loop-service g).is_finite l.service-iterator)
     × Pays l.initial.outbox l.outbox
-    (owed_all services_a_page packet (service_shown_as l.shown) (told_services (offers l.table.records) l.number))
+    (owed_all services_a_page packet (service_shown_as l.shown) (told_services (offers l.table.records) l.envelope.port))
     (owed_of services_a_page packet (service_shown_as l.shown) l.page.items l.service-iterator)

@@ -1,30 +1,36 @@
-use Rattle.std.proofs.Common.{rules, List, sym, ap, subst, ◌∙◌}
-use Rattle.std.specs.List.{flat_map}
+use Rattle.std.proofs.Common.{rules, sym, subst}
 use Rattle.ipx_router.specs.Facts.{offers}
 use Rattle.ipx_router.specs.Outbox.{Fits, Appends}
-use Rattle.ipx_router.specs.Port.{Port, port_at, reply_to}
-use Rattle.ipx_router.specs.Relays.{Sent}
-use Rattle.ipx_router.specs.Sends.{sap_sends}
-use Rattle.ipx_router.specs.inside.Shown.{service_shown_as}
 use Rattle.ipx_router.specs.Told.{told_services}
-use Rattle.ipx_router.specs.declared.advertising.shown.ShownServices.TheVariants.{OfKind}
-use Rattle.ipx_router.proofs.telling.SentOfTold.{query_answered}
+use Rattle.ipx_router.proofs.telling.SentOfTold.{nearest_answered, query_answered}
 use Rattle.ipx_router.proofs.answering.answers.answer_query.Goals as goal
+
+pub answer_nearest-requires : goal.answer_nearest-requires
+answer_nearest-requires g c =
+    let a = c.args in
+    let room = subst (Fits a.outbox.now)
+    (sym (nearest_answered a.ports.now a.number a.source a.nearest a.kind (told_services (offers a.services.now.records)) c.services_reply-envelope.ensures c.if-nearest.true))
+    c.requires.room in
+    search (rules, room)
+
+pub returns-then-nearest : goal.returns-then-nearest
+returns-then-nearest g c =
+    let a = c.args in
+    subst (Appends a.outbox.now c.answer_nearest.new.outbox)
+    (nearest_answered a.ports.now a.number a.source a.nearest a.kind (told_services (offers a.services.now.records)) c.services_reply-envelope.ensures c.if-nearest.true)
+    c.answer_nearest.ensures
 
 pub advertise_services-requires : goal.advertise_services-requires
 advertise_services-requires g c =
-    let all = told_services (offers c.args.services.now.records) c.args.number in
-    let room : Fits c.args.outbox.now (sap_sends c.args.ports.now c.args.number c.reply_to-to.result c.args.nearest (flat_map (service_shown_as (OfKind c.args.kind)) all)) =
-    subst (λ (ps : List Sent). Fits c.args.outbox.now ps)
-    (sym (query_answered c.args.ports.now c.args.number (reply_to (port_at c.args.ports.now c.args.number) c.args.source) c.reply_to-to.result c.args.nearest c.args.kind all
-    (c.reply_to-to.ensures ∙ ap (λ (p : Port). reply_to p c.args.source) c.port_of.ensures) c.if-nearest.false))
+    let a = c.args in
+    let room = subst (Fits a.outbox.now)
+    (sym (query_answered a.ports.now a.number a.source a.nearest a.kind (told_services (offers a.services.now.records)) c.services_reply-envelope.ensures c.if-nearest.false))
     c.requires.room in
     search (rules, room)
 
 pub returns-else-nearest : goal.returns-else-nearest
 returns-else-nearest g c =
-    let all = told_services (offers c.args.services.now.records) c.args.number in
-    subst (λ (ps : List Sent). Appends c.args.outbox.now c.advertise_services.new.outbox ps)
-    (query_answered c.args.ports.now c.args.number (reply_to (port_at c.args.ports.now c.args.number) c.args.source) c.reply_to-to.result c.args.nearest c.args.kind all
-    (c.reply_to-to.ensures ∙ ap (λ (p : Port). reply_to p c.args.source) c.port_of.ensures) c.if-nearest.false)
+    let a = c.args in
+    subst (Appends a.outbox.now c.advertise_services.new.outbox)
+    (query_answered a.ports.now a.number a.source a.nearest a.kind (told_services (offers a.services.now.records)) c.services_reply-envelope.ensures c.if-nearest.false)
     c.advertise_services.ensures

@@ -1,16 +1,15 @@
-use Rattle.std.proofs.Common.{◌≡◌, sym, ap, ◌∙◌, [], ◌++◌, List, arith}
+use Rattle.std.proofs.Common.{ℕ, ◌≡◌, sym, ap, ◌∙◌, [], ◌++◌, List, arith}
 use Rattle.std.specs.List.{flat_map}
-use Rattle.ipx_wire.specs.declared.rip.Operation.TheVariants.{Response}
 use Rattle.ipx_wire.specs.declared.rip.RipEntry.{RipEntry}
+use Rattle.ipx_router.specs.inside.Envelope.{entries_in, routes_to_all}
 use Rattle.ipx_router.specs.inside.Ended.{ended_on}
 use Rattle.ipx_router.specs.Facts.{offers}
 use Rattle.ipx_router.specs.Numbers.{entries_a_page}
-use Rattle.ipx_router.specs.Port.{Port, everyone}
-use Rattle.ipx_router.specs.Sends.{entries_sent}
+use Rattle.ipx_router.specs.Port.{Port}
 use Rattle.ipx_router.specs.Sorted.{put_all}
 use Rattle.ipx_router.specs.Told.{by_network, network_before, told}
-use Rattle.ipx_router.proofs.ended.EndedRises.{told_with}
-use Rattle.ipx_router.proofs.ended.EndedPageByPage.{broadcast_pays, item_fits, item_page_fits, item_pays, rest_fits, last_fits, last_sent}
+use Rattle.ipx_router.proofs.ended.EndedRises.{routes_in_order, told_with}
+use Rattle.ipx_router.proofs.ended.EndedPageByPage.{begun_pays, item_fits, item_page_fits, item_pays, rest_fits, last_fits, last_sent}
 use Rattle.ipx_router.proofs.sending.OneAfterAnother.{pays_none}
 use Rattle.ipx_router.proofs.telling.NetworksAmongRoutes.{told_placed}
 use Rattle.ipx_router.proofs.withdrawing.periodic.broadcast_routes_with_ended.Goals as goal
@@ -25,38 +24,61 @@ loop-entry-init g c =
     c.into_iter-entry-iterator.ensures.into_iter_gives
     ∙ c.new-entry-items.ensures
     ∙ told_placed c.cost-cost.result a.ports.now a.up.now routes a.number c.deref.result.now
-    (c.cost-cost.ensures ∙ ap (λ (p : Port). p.cost) c.port_of-port.ensures) (c.deref.ensures.0 ∙ c.list_direct.ensures) in
+    (c.cost-cost.ensures ∙ ap (λ (p : Port). p.cost) c.port_of.ensures) (c.deref.ensures.0 ∙ c.list_direct.ensures) in
     record {
       goes = tt;
       ends = tt;
-      pays = broadcast_pays a.ports.now a.number (c.everyone-to.ensures ∙ ap everyone c.port_of-port.ensures) c.new-page.ensures
-          (by_network (all ++ ended)) (put_all network_before c.into_iter-entry-iterator.result ended)
+      pays = begun_pays entries_a_page entries_in (λ (j : ℕ). put_all network_before c.into_iter-entry-iterator.result (flat_map (ended_on j) a.ended.now)) (routes_to_all a.ports.now a.number) c.routes_to_all-envelope.ensures c.new-page.ensures
           (told_with a.ports.now a.up.now routes a.number ended ∙ ap (λ (es : List RipEntry). put_all network_before es ended) (sym whole))
           (pays_none a.outbox.now _);
       ascends = c.requires.ascends;
     }
 
-pub add_ended_before-rest-requires-clause-room : goal.add_ended_before-rest-requires-clause-room
-add_ended_before-rest-requires-clause-room g c =
+pub add_ended_before-rest-requires : goal.add_ended_before-rest-requires
+add_ended_before-rest-requires g c =
     let a = c.args in
     let l = c.loop-entry in
     let left = c.next.new.self in (
-      left,
-      item_fits entries_a_page (entries_sent a.ports.now a.number c.everyone-to.result Response) network_before
-          l.page.items l.entry-iterator (flat_map (ended_on a.number) l.rest.now) l.invariant.pays
-          c.in-Some.entry left c.in-Some.ensures.steps c.requires.room,
+      omega arith,
+      (
+        omega arith,
+        (
+          omega arith,
+          (
+            routes_in_order,
+            (
+              c.loop-entry.invariant.ascends,
+              (
+                left,
+                item_fits entries_a_page (entries_in c.routes_to_all-envelope.result) network_before
+                    l.page.items l.entry-iterator (flat_map (ended_on c.routes_to_all-envelope.result.port) l.rest.now) l.invariant.pays
+                    c.in-Some.entry left c.in-Some.ensures.steps c.requires.room,
+              ),
+            ),
+          ),
+        ),
+      ),
     )
 
-pub add_entry-requires-clause-room : goal.add_entry-requires-clause-room
-add_entry-requires-clause-room g c full =
+pub add_item-requires : goal.add_item-requires
+add_item-requires g c =
     let a = c.args in
     let l = c.loop-entry in
     let left = c.next.new.self in
-    let added = c.add_ended_before-rest in
-    item_page_fits entries_a_page (entries_sent a.ports.now a.number c.everyone-to.result Response) network_before
-    l.page.items l.entry-iterator (flat_map (ended_on a.number) l.rest.now) l.invariant.pays
-    c.in-Some.entry left c.in-Some.ensures.steps
-    added.new.page.items (flat_map (ended_on a.number) added.result.now) (added.ensures.pays left) (omega arith) c.requires.room full
+    let added = c.add_ended_before-rest in (
+      omega arith,
+      (
+        omega arith,
+        (
+          omega arith,
+          λ full.
+              item_page_fits entries_a_page (entries_in c.routes_to_all-envelope.result) network_before
+              l.page.items l.entry-iterator (flat_map (ended_on c.routes_to_all-envelope.result.port) l.rest.now) l.invariant.pays
+              c.in-Some.entry left c.in-Some.ensures.steps
+              added.new.page.items (flat_map (ended_on c.routes_to_all-envelope.result.port) added.result.now) (added.ensures.pays left) (omega arith) c.requires.room full,
+        ),
+      ),
+    )
 
 pub loop-entry-preserved : goal.loop-entry-preserved
 loop-entry-preserved g c =
@@ -64,39 +86,59 @@ loop-entry-preserved g c =
     let l = c.loop-entry in
     let left = c.next.new.self in
     let added = c.add_ended_before-rest in
-    let rest = flat_map (ended_on a.number) added.result.now in
+    let rest = flat_map (ended_on c.routes_to_all-envelope.result.port) added.result.now in
     record {
       goes = tt;
       ends = tt;
-      pays = item_pays entries_a_page (entries_sent a.ports.now a.number c.everyone-to.result Response) network_before
-          l.page.items l.entry-iterator (flat_map (ended_on a.number) l.rest.now) l.invariant.pays
+      pays = item_pays entries_a_page (entries_in c.routes_to_all-envelope.result) network_before
+          l.page.items l.entry-iterator (flat_map (ended_on c.routes_to_all-envelope.result.port) l.rest.now) l.invariant.pays
           c.in-Some.entry left c.in-Some.ensures.steps
-          added.new.page.items rest (added.ensures.pays left) c.add_entry.new.page.items (c.add_entry.ensures (put_all network_before left rest));
+          added.new.page.items rest (added.ensures.pays left) c.add_item.new.page.items (c.add_item.ensures (put_all network_before left rest));
       ascends = added.ensures.ascends;
     }
 
-pub add_ended_before-rest-requires-2-clause-room : goal.add_ended_before-rest-requires-2-clause-room
-add_ended_before-rest-requires-2-clause-room g c =
+pub add_ended_before-rest-requires-2 : goal.add_ended_before-rest-requires-2
+add_ended_before-rest-requires-2 g c =
     let a = c.args in
     let l = c.loop-entry in (
-      [],
-      rest_fits entries_a_page (entries_sent a.ports.now a.number c.everyone-to.result Response) network_before
-          l.page.items l.entry-iterator (flat_map (ended_on a.number) l.rest.now) l.invariant.pays
-          c.in-None.ensures.steps.0 c.requires.room,
+      omega arith,
+      (
+        omega arith,
+        (
+          omega arith,
+          (
+            routes_in_order,
+            (
+              c.loop-entry.invariant.ascends,
+              (
+                [],
+                rest_fits entries_a_page (entries_in c.routes_to_all-envelope.result) network_before
+                    l.page.items l.entry-iterator (flat_map (ended_on c.routes_to_all-envelope.result.port) l.rest.now) l.invariant.pays
+                    c.in-None.ensures.steps.0 c.requires.room,
+              ),
+            ),
+          ),
+        ),
+      ),
     )
 
-pub send_rest-requires-clause-room : goal.send_rest-requires-clause-room
-send_rest-requires-clause-room g c =
+pub send_rest-requires : goal.send_rest-requires
+send_rest-requires g c =
     let a = c.args in
-    let l = c.loop-entry in
-    last_fits entries_a_page (entries_sent a.ports.now a.number c.everyone-to.result Response) network_before
-    l.page.items l.entry-iterator (flat_map (ended_on a.number) l.rest.now) l.invariant.pays
-    c.in-None.ensures.steps.0 c.add_ended_before-rest-2.new.page.items (c.add_ended_before-rest-2.ensures.pays []) c.requires.room
+    let l = c.loop-entry in (
+      omega arith,
+      (
+        omega arith,
+        last_fits entries_a_page (entries_in c.routes_to_all-envelope.result) network_before
+            l.page.items l.entry-iterator (flat_map (ended_on c.routes_to_all-envelope.result.port) l.rest.now) l.invariant.pays
+            c.in-None.ensures.steps.0 c.add_ended_before-rest-2.new.page.items (c.add_ended_before-rest-2.ensures.pays []) c.requires.room,
+      ),
+    )
 
 pub returns : goal.returns
 returns g c =
     let a = c.args in
     let l = c.loop-entry in
-    last_sent entries_a_page (entries_sent a.ports.now a.number c.everyone-to.result Response) network_before
-    l.page.items l.entry-iterator (flat_map (ended_on a.number) l.rest.now) l.invariant.pays
+    last_sent entries_a_page (entries_in c.routes_to_all-envelope.result) network_before
+    l.page.items l.entry-iterator (flat_map (ended_on c.routes_to_all-envelope.result.port) l.rest.now) l.invariant.pays
     c.in-None.ensures.steps.0 c.add_ended_before-rest-2.new.page.items (c.add_ended_before-rest-2.ensures.pays []) c.send_rest.ensures
