@@ -15,7 +15,7 @@ ghost use Rattle.ipx_router.specs.inside.Touched.{change_of};
 use crate::advertising::entry_pages::{ENTRIES_A_PAGE, send_page};
 use crate::advertising::items::{dead, dead_service, entry_of, farther, is_reached_on, told_at};
 use crate::advertising::service_pages::{SERVICES_A_PAGE, send_service_page};
-use crate::learning::changed::Changed;
+use crate::learning::touched::Touched;
 use crate::outbox::Outbox;
 use crate::port::Port;
 use crate::ports::addresses::{every_server, everyone, own_address, own_services, port_of};
@@ -29,7 +29,7 @@ pub(crate) fn advertise_route_changes(
     outbox: &mut Outbox,
     ports: &[Port],
     up: &[u8],
-    changes: &[Changed<RouteOffer>],
+    changes: &[Touched<RouteOffer>],
 )
     requires ports { AllByRecursion (λ j. j < length ports.now) up.now }
     requires few { length changes.now ≤ entries_a_page }
@@ -49,7 +49,7 @@ pub(crate) fn advertise_service_changes(
     outbox: &mut Outbox,
     ports: &[Port],
     up: &[u8],
-    changes: &[Changed<ServiceOffer>],
+    changes: &[Touched<ServiceOffer>],
 )
     requires ports { AllByRecursion (λ j. j < length ports.now) up.now }
     requires few { length changes.now ≤ services_a_page }
@@ -69,7 +69,7 @@ fn advertise_routes_on(
     outbox: &mut Outbox,
     ports: &[Port],
     number: u8,
-    changes: &[Changed<RouteOffer>],
+    changes: &[Touched<RouteOffer>],
 )
     requires port { number < length ports.now }
     requires few { length changes.now ≤ entries_a_page }
@@ -86,7 +86,7 @@ fn advertise_services_on(
     outbox: &mut Outbox,
     ports: &[Port],
     number: u8,
-    changes: &[Changed<ServiceOffer>],
+    changes: &[Touched<ServiceOffer>],
 )
     requires port { number < length ports.now }
     requires few { length changes.now ≤ services_a_page }
@@ -161,7 +161,7 @@ fn proves_services_fit(from: Address, to: Address, page: &[Service])
 fn news_routes(
     ports: &[Port],
     number: u8,
-    changes: &[Changed<RouteOffer>],
+    changes: &[Touched<RouteOffer>],
 ) -> ArrayVec<RipEntry, ENTRIES_A_PAGE>
     requires port { number < length ports.now }
     requires few { length changes.now ≤ entries_a_page }
@@ -177,7 +177,7 @@ fn news_routes(
 /// Changed services as a port advertises them, by type and name.
 fn news_services(
     number: u8,
-    changes: &[Changed<ServiceOffer>],
+    changes: &[Touched<ServiceOffer>],
 ) -> ArrayVec<Service, SERVICES_A_PAGE>
     requires few { length changes.now ≤ services_a_page }
     ensures { result.items ≡ flat_map (service_told number) (map change_of changes.now) }
@@ -190,7 +190,7 @@ fn news_services(
 }
 
 /// A changed route as a port advertises it: as it is now or, where it ended, as unreachable.
-fn news_route(ports: &[Port], number: u8, change: &Changed<RouteOffer>) -> Option<RipEntry>
+fn news_route(ports: &[Port], number: u8, change: &Touched<RouteOffer>) -> Option<RipEntry>
     requires { number < length ports.now }
     ensures { option_to_list result ≡ route_told ports.now number (change_of change.now) }
 {
@@ -202,7 +202,7 @@ fn news_route(ports: &[Port], number: u8, change: &Changed<RouteOffer>) -> Optio
 }
 
 /// A changed service as a port advertises it: as it is now or, where it ended, as unreachable at the address that it had.
-fn news_service(number: u8, change: &Changed<ServiceOffer>) -> Option<Service>
+fn news_service(number: u8, change: &Touched<ServiceOffer>) -> Option<Service>
     ensures { option_to_list result ≡ service_told number (change_of change.now) }
 {
     if let Some(offer) = change.after {
