@@ -1,6 +1,5 @@
 -- What an event changes of a table, as it is noted and compared, and how the changes are advertised.
 pub mod ChangesFitFields
-pub mod ComparedOneByOne
 pub mod DiffersByOneFact
 pub mod EqualOffersAreOne
 pub mod KeysThatDiffer

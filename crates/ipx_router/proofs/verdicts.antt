@@ -4,5 +4,4 @@ pub mod EffectOfWhatCame
 pub mod FoundIsDefined
 pub mod HeardIsAsLayoutsAllow
 pub mod HeardPassesAllChecks
-pub mod SendsByVerdict
 pub mod SentOnPassesChecks

@@ -1,7 +1,6 @@
 -- The numbers that mean something to a router, each under one name.
 use Rattle.std.specs.Prelude.{ℕ, ◌+◌, ◌*◌}
 use Rattle.ipx_wire.specs.Numbers.{most_entries, most_services}
-
 -- ---- numbers of the standard, with those of packets as they stand there
 
 pub use Rattle.ipx_wire.specs.Numbers.{propagated_type, most_routers, rip_socket, sap_socket, local_network, default_route, all_routes}

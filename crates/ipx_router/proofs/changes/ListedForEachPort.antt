@@ -156,10 +156,10 @@ below_max : (a b c : ℕ) → a ≤ b → a ≤ max b c
 below_max a b c below = omega (arith, below)
 
 -- it is enough for one packet a port
-pub hear_room : {o : Contents} (ports routes services number : ℕ) (bytes : List ℕ) (up : List ℕ) → length up ≤ ports
+pub learn_room : {o : Contents} (ports routes services number : ℕ) (bytes : List ℕ) (up : List ℕ) → length up ≤ ports
     → HasRoom o (most_packets ports routes services (Packet number bytes)) (most_packets ports routes services (Packet number bytes) * most_length (Packet number bytes))
     → HasRoom o (length up) (length up * most_own_length)
-hear_room ports routes services number bytes up few room =
+learn_room ports routes services number bytes up few room =
     let packets = most_packets ports routes services (Packet number bytes) in
     let longest = most_length (Packet number bytes) in
     let fewer = below_max (length up) ports (max (route_sheets ports routes) (service_sheets services)) few in

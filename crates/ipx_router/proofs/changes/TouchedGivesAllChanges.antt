@@ -5,14 +5,14 @@ use Rattle.std.specs.Cmp.{IsTotalOrder}
 use Rattle.std.proofs.lemmas.Bool.{cases_Bool}
 use Rattle.ipx_table.specs.Stands.{Ascends}
 use Rattle.ipx_router.specs.Changes.{Change, offer_of, same_or_none, put_key, put_keys, change_at, differs, changes}
-use Rattle.ipx_router.specs.inside.Touched.{Touches, touched_key, is_touched, noted_change, changes_noted}
+use Rattle.ipx_router.specs.inside.Touched.{Touches, touched_key, is_touched, change_of, changes_noted}
 use Rattle.ipx_router.specs.declared.learning.touched.Touched.{Touched}
 use Rattle.ipx_router.proofs.lists.EachElement.{all_then, all-map, all_passed}
 use Rattle.ipx_router.proofs.changes.KeysThatDiffer.{Rises, rises-puts, neither, alike}
 use Rattle.ipx_router.proofs.changes.NotedInPlace.{offer_alike}
 use Rattle.ipx_router.proofs.lists.KeysInLists.{any_same, any-put, eq_sym, alike_right, is_in, ascends-filter, in-filter, same_members}
 
-filter-of_map : {X Y : Type 0} (p : Y → Bool) (f : X → Y) (xs : List X) → filter p (map f xs) ≡ map f (filter (λ x. p (f x)) xs)
+pub filter-of_map : {X Y : Type 0} (p : Y → Bool) (f : X → Y) (xs : List X) → filter p (map f xs) ≡ map f (filter (λ x. p (f x)) xs)
 filter-of_map p f [] = refl
 filter-of_map p f (x ∷ xs) = elim (cases_Bool (p (f x))) [
   | inl e ↦ rw e (ap (λ ys. f x ∷ ys) (filter-of_map p f xs))
@@ -143,11 +143,11 @@ module _ {O K : Type 0} (key_of : O → K) (order : K → K → Ordering) (same 
 
       -- what was recorded is what the keys had before and have now
       since : (ts : List (Touched O)) → AllByRecursion (λ t. t.before ≡ offer_of key_of order same (key_of t.offer) before) ts
-          → AllByRecursion (λ t. t.after ≡ offer_of key_of order same (key_of t.offer) now) ts → map noted_change ts ≡ map at (keys_of ts)
+          → AllByRecursion (λ t. t.after ≡ offer_of key_of order same (key_of t.offer) now) ts → map change_of ts ≡ map at (keys_of ts)
       since [] recorded current = refl
       since (t ∷ ts) recorded current =
-          ap (λ o. record { before = o; after = t.after } ∷ map noted_change ts) recorded.0
-          ∙ ap (λ o. record { before = offer_of key_of order same (key_of t.offer) before; after = o } ∷ map noted_change ts) current.0
+          ap (λ o. record { before = o; after = t.after } ∷ map change_of ts) recorded.0
+          ∙ ap (λ o. record { before = offer_of key_of order same (key_of t.offer) before; after = o } ∷ map change_of ts) current.0
           ∙ ap (λ cs. at (key_of t.offer) ∷ cs) (since ts recorded.1 current.1)
 
       -- comparing what was touched gives all that changed

@@ -5,6 +5,7 @@ use Rattle.std.specs.List.Sorted.{IsStrictlyIncreasing}
 use Rattle.std.proofs.lemmas.Bool.{cases_Bool}
 use Rattle.ipx_wire.specs.Packet.{Parts, packet_of}
 use Rattle.ipx_router.specs.Checks.{relay_checks}
+use Rattle.ipx_router.specs.inside.Judged.{packet_why}
 use Rattle.ipx_router.specs.Packets.{IsRelayed}
 use Rattle.ipx_router.specs.Port.{Port, port_at, is_local}
 use Rattle.ipx_router.specs.Relay.{relay_why, relay_sends}
@@ -15,7 +16,7 @@ use Rattle.ipx_router.specs.declared.why.Why.{Why}
 use Rattle.ipx_router.specs.declared.why.Why.TheVariants.{DownPort}
 use Rattle.ipx_router.proofs.verdicts.ChecksOfEachKind.{first_behind, is_far-parts, when_propagated, when_far, all_propagated, all_far}
 use Rattle.ipx_router.proofs.tables.HeldWasOffered.{nothing}
-use Rattle.ipx_router.proofs.verdicts.FoundIsDefined.{packet_why, refused_too, why_read}
+use Rattle.ipx_router.proofs.verdicts.FoundIsDefined.{refused_too, why_read}
 
 -- where no check of a list holds, none of its parts does
 parts_none : (a b : List (Option Why)) → first_of (a ++ b) ≡ None → (first_of a ≡ None) × (first_of b ≡ None)

@@ -11,8 +11,8 @@ use Rattle.ipx_wire.specs.Rip.{RipParts}
 use Rattle.ipx_wire.specs.Write.{packet_bytes}
 use Rattle.ipx_wire.specs.declared.address.Address.{Address}
 use Rattle.ipx_wire.specs.declared.network.Network.{Network}
-use Rattle.ipx_wire.specs.declared.packet.PacketFault.{PacketFault}
 use Rattle.ipx_wire.specs.declared.node.Node.{Node}
+use Rattle.ipx_wire.specs.declared.packet.PacketFault.{PacketFault}
 use Rattle.ipx_wire.specs.declared.rip.Operation.TheVariants.{Request, Response}
 use Rattle.ipx_wire.specs.declared.sap.Sap.TheVariants.{Query, Response as SapResponse}
 use Rattle.ipx_wire.specs.declared.sap_entries.SapEntry.{SapEntry}
@@ -20,7 +20,6 @@ use Rattle.ipx_router.specs.Facts.{routes_heard, routes_offered, services_heard,
 use Rattle.ipx_router.specs.inside.Following.{Follows, holding_of, sends_between, outcome_at}
 use Rattle.ipx_router.specs.Heard.{Heard, HeardRip, HeardSap, heard}
 use Rattle.ipx_router.specs.History.{Packet}
-use Rattle.ipx_router.specs.inside.Judged.{IsVerdict}
 use Rattle.ipx_router.specs.Outcomes.{heard_outcome}
 use Rattle.ipx_router.specs.Outgoing.{Way}
 use Rattle.ipx_router.specs.Port.{Port, port_at, is_local, reply_to}
@@ -32,7 +31,6 @@ use Rattle.ipx_router.specs.Services.{service_rules}
 use Rattle.ipx_router.specs.Stands.{State}
 use Rattle.ipx_router.specs.Told.{told, told_services}
 use Rattle.ipx_router.specs.Why.{is_propagated, is_far}
-use Rattle.ipx_router.specs.declared.judging.judge.Verdict.{Verdict}
 use Rattle.ipx_router.specs.declared.outcome.Outcome.{Outcome}
 use Rattle.ipx_router.specs.declared.outcome.Outcome.TheVariants.{Dropped, Propagated, Forwarded}
 use Rattle.ipx_router.specs.declared.route_offer.RouteOffer.{RouteOffer}
@@ -199,11 +197,3 @@ module _ (s : State) (number : ℕ) (bytes : List ℕ) (ports : List Port) (up :
       let far = on.1 in
       let narrow : is_propagated p.header ≡ false = not-true (is_propagated p.header) (and_parts (not (is_propagated p.header)) (not (is_local (port_at s.ports number) p.header.destination.network)) far).0 in
       onward_becomes s number bytes p on.0 ∙ ap (λ (b : Bool). if b then Propagated else Forwarded) narrow
-
--- ---- the verdict, over what the judge is given
-
-pub judged_as : (s : State) (number : ℕ) (bytes : List ℕ) (ports : List Port) (up : List ℕ) (v : Verdict) → ports ≡ s.ports → up ≡ s.up
-    → IsVerdict ports up (offers s.routes) s.running number bytes v → IsVerdict s.ports s.up (offers s.routes) s.running number bytes v
-judged_as s number bytes ports up v p u is =
-    subst (λ (ps : List Port). IsVerdict ps s.up (offers s.routes) s.running number bytes v) p
-    (subst (λ (us : List ℕ). IsVerdict ports us (offers s.routes) s.running number bytes v) u is)

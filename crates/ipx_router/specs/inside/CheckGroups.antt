@@ -15,8 +15,8 @@ use Rattle.ipx_router.specs.Numbers.{propagated_type, most_routers}
 use Rattle.ipx_router.specs.Outgoing.{Way, way_to, is_own_port}
 use Rattle.ipx_router.specs.Port.{Port, broadcast, port_at, same_node, is_local}
 use Rattle.ipx_router.specs.Why.{is_propagated, is_near, is_far, is_for_rip, is_for_sap, is_own_echo, is_bad_source, is_nearest_response, when}
-use Rattle.ipx_router.specs.declared.judging.checks.Passed.{Passed}
-use Rattle.ipx_router.specs.declared.judging.checks.Passed.TheVariants.{Propagate, Forward, Near}
+use Rattle.ipx_router.specs.declared.judging.checks.Onward.{Onward}
+use Rattle.ipx_router.specs.declared.judging.checks.Onward.TheVariants.{Propagate, Forward}
 use Rattle.ipx_router.specs.declared.route_offer.RouteOffer.{RouteOffer}
 use Rattle.ipx_router.specs.declared.why.Why.{Why}
 use Rattle.ipx_router.specs.declared.why.Why.TheVariants.{OwnEcho, BadSource, CrossedShort, CrossedFull, CrossedSeen, OtherSocket, NotNeighbour, BadRip, BadSap, NearestReply, TooManyRouters, FarSide, NoRoute, TooLong}
@@ -74,8 +74,8 @@ pub record IsWay (ports : List Port) (up : List ℕ) (routes : List RouteOffer) 
   pub way : way_to ports up routes h.destination ≡ Some w
   pub few : h.control < most_routers
 
--- what is to be done with a packet that passed
-abbrev pub IsPassed : List Port → List ℕ → List RouteOffer → Port → Parts → Passed → Type 0
-IsPassed ports up routes port p (Propagate networks) = (is_propagated p.header ≡ true) × IsListed p networks
-IsPassed ports up routes port p (Forward out link) = (is_far port p.header ≡ true) × IsWay ports up routes p.header (record { port = out; link = link })
-IsPassed ports up routes port p Near = is_near port p.header ≡ true
+-- how a packet that passed goes on; without that it stays on its network
+abbrev pub GoesAs : List Port → List ℕ → List RouteOffer → Port → Parts → Option Onward → Type 0
+GoesAs ports up routes port p (Some (Propagate networks)) = (is_propagated p.header ≡ true) × IsListed p networks
+GoesAs ports up routes port p (Some (Forward out link)) = (is_far port p.header ≡ true) × IsWay ports up routes p.header (record { port = out; link = link })
+GoesAs ports up routes port p None = is_near port p.header ≡ true

@@ -6,16 +6,11 @@ use Rattle.std.specs.Ordering.{is_eq}
 use Rattle.std.specs.declared.cmp.Ordering.{Ordering}
 use Rattle.ipx_table.specs.Stands.{Ascends}
 use Rattle.ipx_router.specs.Changes.{Change, differs}
-use Rattle.ipx_router.specs.declared.learning.changed.Changed.{Changed}
 use Rattle.ipx_router.specs.declared.learning.touched.Touched.{Touched}
 
--- a change, as the router lists it
-abbrev pub change_of : {O : Type 0} → Changed O → Change O
-change_of changed = record { before = changed.before; after = changed.after }
-
 -- what a key had before and has now
-abbrev pub noted_change : {O : Type 0} → Touched O → Change O
-noted_change touched = record { before = touched.before; after = touched.after }
+abbrev pub change_of : {O : Type 0} → Touched O → Change O
+change_of touched = record { before = touched.before; after = touched.after }
 
 -- offers that compare as equal are one
 abbrev pub IsExact : {O : Type 0} → (O → O → Bool) → Type 0
@@ -43,4 +38,4 @@ module _ {O K : Type 0} (key_of : O → K) (order : K → K → Ordering) where
 
   -- what changed of all that was touched
   abbrev pub changes_noted : (O → O → Bool) → List (Touched O) → List (Change O)
-  changes_noted same all = filter (differs key_of order same) (map noted_change all)
+  changes_noted same all = filter (differs key_of order same) (map change_of all)

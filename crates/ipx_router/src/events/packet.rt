@@ -1,5 +1,5 @@
 //! What a router does with a packet that comes on a port.
-ghost use Rattle.std.specs.Prelude.{◌≡◌, ◌<◌, Bool, length};
+ghost use Rattle.std.specs.Prelude.{◌≡◌, ◌<◌, Bool, length, IfOk, IfErr};
 ghost use Rattle.ipx_wire.specs.declared.rip.Operation.TheVariants.{Request, Response};
 ghost use Rattle.ipx_wire.specs.declared.sap.Sap.TheVariants.{Query, Response as SapResponse};
 ghost use Rattle.ipx_router.specs.Facts.{offers};
@@ -9,16 +9,18 @@ ghost use Rattle.ipx_router.specs.History.{Packet as Came};
 ghost use Rattle.ipx_router.specs.inside.Judged.{IsVerdict};
 ghost use Rattle.ipx_router.specs.Needs.{HasRoomFor};
 ghost use Rattle.ipx_router.specs.Outbox.{Appends};
-ghost use Rattle.ipx_router.specs.inside.Received.{IsPassed, IsHeard, IsSentOn, IsSentOnTo};
+ghost use Rattle.ipx_router.specs.inside.Received.{IsPassed, IsDropped, IsHeard, IsSentOn, IsSentOnTo};
 
 use crate::answering::answers::{answer_query, answer_request};
 use crate::forwarding::propagation::propagate;
+use crate::judging::checks::Onward;
 use crate::judging::judge::{Verdict, judge};
-use crate::learning::hear::{hear_routes, hear_services};
+use crate::learning::responses::{learn_routes, learn_services};
 use crate::outbox::Outbox;
 use crate::outcome::Outcome;
 use crate::port::proves_bytes;
 use crate::router::Router;
+use crate::why::Why;
 use ipx_wire::{Address, Crossed, Node, Operation, Packet, Rip, Sap, SapEntries};
 
 impl<const P: usize, const R: usize, const S: usize> Router<P, R, S> {
@@ -31,8 +33,7 @@ impl<const P: usize, const R: usize, const S: usize> Router<P, R, S> {
         ensures outcome { result ≡ outcome_at self.old (Came port bytes.now) }
     {
         match self.judge(port, bytes) {
-            Verdict::Dropped(why) => Outcome::Dropped(why),
-            Verdict::Rip { source, rip } => match rip.operation() {
+            Ok(Verdict::Rip { source, rip }) => match rip.operation() {
                 Operation::Response => {
                     self.learn_routes(port, bytes, source, &rip, outbox);
                     Outcome::Learned
@@ -42,7 +43,7 @@ impl<const P: usize, const R: usize, const S: usize> Router<P, R, S> {
                     Outcome::Answered
                 }
             },
-            Verdict::Sap { source, sap } => match sap {
+            Ok(Verdict::Sap { source, sap }) => match sap {
                 Sap::Response { entries, .. } => {
                     self.learn_services(port, bytes, source, &entries, outbox);
                     Outcome::Learned
@@ -52,25 +53,25 @@ impl<const P: usize, const R: usize, const S: usize> Router<P, R, S> {
                     Outcome::Answered
                 }
             },
-            Verdict::Propagate { packet, crossed } => {
-                self.propagate(port, bytes, &packet, &crossed, outbox);
-                Outcome::Propagated
-            }
-            Verdict::Forward {
-                packet,
-                port: out,
-                link,
-            } => {
-                self.forward(port, bytes, &packet, out, link, outbox);
-                Outcome::Forwarded
-            }
+            Ok(Verdict::Goes { packet, onward }) => match onward {
+                Onward::Propagate(crossed) => {
+                    self.propagate(port, bytes, &packet, &crossed, outbox);
+                    Outcome::Propagated
+                }
+                Onward::Forward { port: out, link } => {
+                    self.forward(port, bytes, &packet, out, link, outbox);
+                    Outcome::Forwarded
+                }
+            },
+            Err(why) => Outcome::Dropped(why),
         }
     }
 
     /// What is to be done with bytes that came on a port.
-    fn judge<'a>(&self, port: u8, bytes: &'a [u8]) -> Verdict<'a>
+    fn judge<'a>(&self, port: u8, bytes: &'a [u8]) -> Result<Verdict<'a>, Why>
         requires { port < length self.now.ports }
-        ensures { IsVerdict self.now.ports self.now.up (offers self.now.routes) self.now.running port bytes.entry.now result }
+        ensures refused { IfErr result (IsDropped self.now port bytes.entry.now) }
+        ensures verdict { IfOk result (IsVerdict self.now.ports self.now.up (offers self.now.routes) self.now.running port bytes.entry.now) }
     {
         judge(
             &self.ports,
@@ -102,7 +103,7 @@ impl<const P: usize, const R: usize, const S: usize> Router<P, R, S> {
         ensures sends { Appends outbox.old outbox.new (sends_between self.old self.new (Came port bytes.now)) }
     {
         proves_bytes(bytes);
-        hear_routes(
+        learn_routes(
             &mut self.routes,
             &self.ports,
             &self.up,
@@ -131,7 +132,7 @@ impl<const P: usize, const R: usize, const S: usize> Router<P, R, S> {
         ensures sends { Appends outbox.old outbox.new (sends_between self.old self.new (Came port bytes.now)) }
     {
         proves_bytes(bytes);
-        hear_services(
+        learn_services(
             &mut self.services,
             &self.ports,
             &self.up,

@@ -1,6 +1,6 @@
 //! Packets that a router is only asked to send on: judged as they are, and sent where they leave.
 ghost use Rattle.std.specs.Prelude.{◌≡◌, ◌*◌, ◌<◌, ◌≤◌, true, length, IfOk, IfErr, Some, None};
-ghost use Rattle.ipx_router.specs.inside.CheckGroups.{IsPassed};
+ghost use Rattle.ipx_router.specs.inside.CheckGroups.{GoesAs};
 ghost use Rattle.ipx_router.specs.Facts.{offers};
 ghost use Rattle.ipx_router.specs.Numbers.{most_ports};
 ghost use Rattle.ipx_router.specs.Outbox.{HasRoom, Appends, AppendsAtMost};
@@ -9,7 +9,7 @@ ghost use Rattle.ipx_router.specs.Relay.{relay_why, relay_outcome, relay_sends, 
 ghost use Rattle.ipx_router.specs.Relays.{relayed};
 
 use crate::forwarding::propagation::propagate;
-use crate::judging::checks::{Passed, check};
+use crate::judging::checks::{Onward, check};
 use crate::outbox::{Need, Outbox, proves_lengths};
 use crate::outcome::Outcome;
 use crate::port::Port;
@@ -55,12 +55,12 @@ pub(crate) fn relay<const R: usize>(
         return Outcome::Dropped(Why::NotRunning);
     }
     match pass(ports, up, routes, number, packet) {
-        Ok(passed) => send_on(outbox, ports, up, routes, number, packet, passed),
+        Ok(onward) => send_on(outbox, ports, up, routes, number, packet, onward),
         Err(why) => Outcome::Dropped(why),
     }
 }
 
-/// What is to be done with a packet that came on a port, or why it is dropped; a port that is down drops what nothing else
+/// How a packet that came on a port goes on, if it does, or why it is dropped; a port that is down drops what nothing else
 /// does.
 fn pass<'a, const R: usize>(
     ports: &[Port],
@@ -68,22 +68,22 @@ fn pass<'a, const R: usize>(
     routes: &Table<RouteOffer, R>,
     number: u8,
     packet: &Packet<'a>,
-) -> Result<Passed<'a>, Why>
+) -> Result<Option<Onward<'a>>, Why>
     requires { number < length ports.now }
     ensures refused { IfErr result (λ why. relay_why ports.now up.now (offers routes.now.records) true number packet.now ≡ Some why) }
-    ensures cleared { IfOk result (λ passed. relay_why ports.now up.now (offers routes.now.records) true number packet.now ≡ None) }
-    ensures passed { IfOk result (IsPassed ports.now up.now (offers routes.now.records) (port_at ports.now number) packet.now) }
-    ensures up { IfOk result (λ passed. is_up up.now number ≡ true) }
+    ensures cleared { IfOk result (λ onward. relay_why ports.now up.now (offers routes.now.records) true number packet.now ≡ None) }
+    ensures onward { IfOk result (GoesAs ports.now up.now (offers routes.now.records) (port_at ports.now number) packet.now) }
+    ensures up { IfOk result (λ onward. is_up up.now number ≡ true) }
 {
-    let passed = check(ports, up, routes, &port_of(ports, number), packet)?;
+    let onward = check(ports, up, routes, &port_of(ports, number), packet)?;
     if is_up(up, number) {
-        Ok(passed)
+        Ok(onward)
     } else {
         Err(Why::DownPort)
     }
 }
 
-/// Sends on a packet that passed its checks. `routes` are those that they asked.
+/// Sends on a packet that passed its checks, if it goes on. `routes` are those that they asked.
 fn send_on<const R: usize>(
     outbox: &mut Outbox,
     ports: &[Port],
@@ -91,9 +91,9 @@ fn send_on<const R: usize>(
     routes: &Table<RouteOffer, R>,
     number: u8,
     packet: &Packet<'_>,
-    passed: Passed<'_>,
+    onward: Option<Onward<'_>>,
 ) -> Outcome
-    requires passed { IsPassed ports.now up.now (offers routes.now.records) (port_at ports.now number) packet.now passed }
+    requires onward { GoesAs ports.now up.now (offers routes.now.records) (port_at ports.now number) packet.now onward }
     requires up { is_up up.now number ≡ true }
     requires few { length up.now ≤ length ports.now }
     requires room { HasRoom outbox.old (relay_places ports.now) (relay_places ports.now * packet.now.header.length) }
@@ -102,15 +102,15 @@ fn send_on<const R: usize>(
     ensures bounds { AppendsAtMost (relay_places ports.now) packet.now.header.length outbox.old.sent outbox.new.sent }
 {
     proves_lengths(packet);
-    match passed {
-        Passed::Propagate(crossed) => {
+    match onward {
+        Some(Onward::Propagate(crossed)) => {
             propagate(outbox, ports, up, number, packet, &crossed);
             Outcome::Propagated
         }
-        Passed::Forward { port, link } => {
+        Some(Onward::Forward { port, link }) => {
             outbox.append_forwarded(port, link, packet);
             Outcome::Forwarded
         }
-        Passed::Near => Outcome::Local,
+        None => Outcome::Local,
     }
 }

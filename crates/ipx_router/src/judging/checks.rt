@@ -6,7 +6,7 @@
 //! no way to its network; it is longer than the port allows on which it would leave.
 ghost use Rattle.std.specs.Prelude.{◌≡◌, true, false, IfOk, IfErr, None, Some};
 ghost use Rattle.ipx_router.specs.Checks.{relay_checks};
-ghost use Rattle.ipx_router.specs.inside.CheckGroups.{source_checks, propagated_checks, is_for_other, far_checks, IsListed, IsWay, IsPassed};
+ghost use Rattle.ipx_router.specs.inside.CheckGroups.{source_checks, propagated_checks, is_for_other, far_checks, IsListed, IsWay, GoesAs};
 ghost use Rattle.ipx_router.specs.Facts.{offers};
 ghost use Rattle.ipx_router.specs.Outgoing.{way_to, is_own_port};
 ghost use Rattle.ipx_router.specs.Port.{is_local};
@@ -21,44 +21,42 @@ use crate::why::Why;
 use ipx_table::Table;
 use ipx_wire::{Address, Crossed, CrossedFault, Header, Network, Node, Packet};
 
-/// What is to be done with a packet that passed its checks.
+/// How a packet goes on to other networks.
 #[derive(Debug, Drop)]
-pub(crate) enum Passed<'a> {
-    /// It goes to every other network, but for those that it has crossed.
+pub(crate) enum Onward<'a> {
+    /// To every other one, but for those that it has crossed.
     Propagate(Crossed<'a>),
-    /// It goes towards its network, by that port to that node.
+    /// Towards its own, by that port to that node.
     Forward { port: u8, link: Node },
-    /// It stays on this network.
-    Near,
 }
 
-/// What is to be done with a packet that came on a port, or why it is dropped.
+/// How a packet that came on a port goes on, if it doesn't stay on that network; or why it is dropped.
 pub(crate) fn check<'a, const R: usize>(
     ports: &[Port],
     up: &[u8],
     routes: &Table<RouteOffer, R>,
     port: &Port,
     packet: &Packet<'a>,
-) -> Result<Passed<'a>, Why>
+) -> Result<Option<Onward<'a>>, Why>
     ensures refused { IfErr result (λ why. first_of (relay_checks ports.now up.now (offers routes.now.records) port.now packet.now) ≡ Some why) }
-    ensures cleared { IfOk result (λ passed. first_of (relay_checks ports.now up.now (offers routes.now.records) port.now packet.now) ≡ None) }
-    ensures passed { IfOk result (IsPassed ports.now up.now (offers routes.now.records) port.now packet.now) }
+    ensures cleared { IfOk result (λ onward. first_of (relay_checks ports.now up.now (offers routes.now.records) port.now packet.now) ≡ None) }
+    ensures onward { IfOk result (GoesAs ports.now up.now (offers routes.now.records) port.now packet.now) }
 {
     let header = packet.header();
     if let Some(why) = source_why(port, &header) {
         return Err(why);
     }
     if is_propagated(&header) {
-        return Ok(Passed::Propagate(networks_crossed(port, packet)?));
+        return Ok(Some(Onward::Propagate(networks_crossed(port, packet)?)));
     }
     if !is_local(port, header.destination.network) {
         let Way { port, link } = way_of(ports, up, routes, &header)?;
-        return Ok(Passed::Forward { port, link });
+        return Ok(Some(Onward::Forward { port, link }));
     }
     if is_for_other(port, &header) {
         return Err(Why::Elsewhere);
     }
-    Ok(Passed::Near)
+    Ok(None)
 }
 
 /// Why any packet is dropped, whatever it is for.

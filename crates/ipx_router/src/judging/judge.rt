@@ -1,31 +1,29 @@
-//! What a router makes of the bytes that come on a port.
+//! The verdict on bytes that came on a port: heard, sent on, or dropped.
 //!
 //! Eighteen checks are made in this order, and the first that holds decides: the router is stopped; the bytes are no packet;
 //! the checks of a packet, which are also made of one that is only to be sent on; of a near packet, it is of type
 //! 20 or for a socket without a process, its source is on another network, its data are no routing information or no
 //! service advertising, or they answer a query for the nearest service; and last, the port on which it came is down.
-ghost use Rattle.std.specs.Prelude.{◌≡◌, ◌==◌, ◌||◌, ◌<◌, ◌∷◌, ◌++◌, [], length};
+ghost use Rattle.std.specs.Prelude.{◌≡◌, ◌==◌, ◌||◌, ◌<◌, ◌∷◌, ◌++◌, [], length, None, Some, IfOk, IfErr};
 ghost use Rattle.ipx_router.specs.inside.CheckGroups.{process_checks, data_why};
 ghost use Rattle.ipx_router.specs.Facts.{offers};
-ghost use Rattle.ipx_router.specs.inside.Judged.{IsVerdict, IsFound, IsHearing, is_dropped};
+ghost use Rattle.ipx_router.specs.inside.Judged.{IsVerdict, IsFound, IsHearing, packet_why};
 ghost use Rattle.ipx_router.specs.Numbers.{rip_socket, sap_socket};
 ghost use Rattle.ipx_router.specs.Port.{port_at};
-ghost use Rattle.ipx_router.specs.Why.{checks, first_of, when, is_down_port};
+ghost use Rattle.ipx_router.specs.Why.{why, checks, first_of};
 
-use crate::judging::checks::{Passed, check, is_local};
+use crate::judging::checks::{Onward, check, is_local};
 use crate::port::Port;
 use crate::ports::addresses::port_of;
 use crate::ports::up_ports::is_up;
 use crate::route_offer::RouteOffer;
 use crate::why::Why;
 use ipx_table::Table;
-use ipx_wire::{Address, Crossed, Header, Node, Packet, Rip, Sap, Socket};
+use ipx_wire::{Address, Header, Packet, Rip, Sap, Socket};
 
-/// What is to be done with what came.
+/// What is to be done with what came and isn't dropped.
 #[derive(Debug, Drop)]
 pub(crate) enum Verdict<'a> {
-    /// It is dropped.
-    Dropped(Why),
     /// Routing information was heard.
     Rip {
         source: Address,
@@ -36,28 +34,14 @@ pub(crate) enum Verdict<'a> {
         source: Address,
         sap: Sap<'a>,
     },
-    /// A packet goes to every other network, but for those that it has crossed.
-    Propagate {
+    /// A packet goes on to other networks.
+    Goes {
         packet: Packet<'a>,
-        crossed: Crossed<'a>,
-    },
-    /// A packet goes towards its network, by that port to that node.
-    Forward {
-        packet: Packet<'a>,
-        port: u8,
-        link: Node,
+        onward: Onward<'a>,
     },
 }
 
-impl<'a> Verdict<'a> {
-    fn is_dropped(&self) -> bool
-        ensures { result ≡ is_dropped self.now }
-    {
-        matches!(self, Verdict::Dropped(_))
-    }
-}
-
-/// What is to be done with bytes that came on a port.
+/// What is to be done with bytes that came on a port, or why they are dropped.
 pub(crate) fn judge<'a, const R: usize>(
     ports: &[Port],
     up: &[u8],
@@ -65,16 +49,17 @@ pub(crate) fn judge<'a, const R: usize>(
     running: bool,
     number: u8,
     bytes: &'a [u8],
-) -> Verdict<'a>
+) -> Result<Verdict<'a>, Why>
     requires { number < length ports.now }
-    ensures { IsVerdict ports.now up.now (offers routes.now.records) running number bytes.entry.now result }
+    ensures refused { IfErr result (λ reason. why ports.now up.now (offers routes.now.records) running number bytes.entry.now ≡ Some reason) }
+    ensures verdict { IfOk result (IsVerdict ports.now up.now (offers routes.now.records) running number bytes.entry.now) }
 {
     if !running {
-        return Verdict::Dropped(Why::NotRunning);
+        return Err(Why::NotRunning);
     }
     match Packet::read(bytes) {
         Ok(packet) => judge_packet(ports, up, routes, number, packet),
-        Err(fault) => Verdict::Dropped(Why::Malformed(fault)),
+        Err(fault) => Err(Why::Malformed(fault)),
     }
 }
 
@@ -85,16 +70,18 @@ fn judge_packet<'a, const R: usize>(
     routes: &Table<RouteOffer, R>,
     number: u8,
     packet: Packet<'a>,
-) -> Verdict<'a>
+) -> Result<Verdict<'a>, Why>
     requires { number < length ports.now }
-    ensures { IsFound (first_of (checks ports.now up.now (offers routes.now.records) (port_at ports.now number) packet.entry ++ when (is_down_port up.now number) Why.DownPort ∷ []))
-        ports.now up.now (offers routes.now.records) (port_at ports.now number) packet.entry result }
+    ensures refused { IfErr result (λ reason. packet_why ports.now up.now (offers routes.now.records) number packet.entry ≡ Some reason) }
+    ensures cleared { IfOk result (λ verdict. packet_why ports.now up.now (offers routes.now.records) number packet.entry ≡ None) }
+    ensures found { IfOk result (IsFound ports.now up.now (offers routes.now.records) (port_at ports.now number) packet.entry) }
 {
-    let verdict = judge_on_port(ports, up, routes, &port_of(ports, number), packet);
-    if verdict.is_dropped() || is_up(up, number) {
-        return verdict;
+    let verdict = judge_on_port(ports, up, routes, &port_of(ports, number), packet)?;
+    if is_up(up, number) {
+        Ok(verdict)
+    } else {
+        Err(Why::DownPort)
     }
-    Verdict::Dropped(Why::DownPort)
 }
 
 /// What is to be done with a packet that came on a port that is up.
@@ -104,34 +91,39 @@ fn judge_on_port<'a, const R: usize>(
     routes: &Table<RouteOffer, R>,
     port: &Port,
     packet: Packet<'a>,
-) -> Verdict<'a>
-    ensures { IsFound (first_of (checks ports.now up.now (offers routes.now.records) port.now packet.entry)) ports.now up.now (offers routes.now.records) port.now packet.entry result }
+) -> Result<Verdict<'a>, Why>
+    ensures refused { IfErr result (λ reason. first_of (checks ports.now up.now (offers routes.now.records) port.now packet.entry) ≡ Some reason) }
+    ensures cleared { IfOk result (λ verdict. first_of (checks ports.now up.now (offers routes.now.records) port.now packet.entry) ≡ None) }
+    ensures found { IfOk result (IsFound ports.now up.now (offers routes.now.records) port.now packet.entry) }
 {
     match check(ports, up, routes, port, &packet) {
-        Ok(Passed::Propagate(crossed)) => Verdict::Propagate { packet, crossed },
-        Ok(Passed::Forward { port, link }) => Verdict::Forward { packet, port, link },
-        Ok(Passed::Near) => judge_near(port, &packet),
-        Err(why) => Verdict::Dropped(why),
+        Ok(Some(onward)) => Ok(Verdict::Goes { packet, onward }),
+        Ok(None) => judge_near(port, &packet),
+        Err(why) => Err(why),
     }
 }
 
 /// What is to be done with a near packet for the port's node or for all nodes.
-fn judge_near<'a>(port: &Port, packet: &Packet<'a>) -> Verdict<'a>
-    ensures { IsHearing (first_of (process_checks port.now packet.now.header ++ data_why packet.now ∷ [])) packet.now result }
+fn judge_near<'a>(port: &Port, packet: &Packet<'a>) -> Result<Verdict<'a>, Why>
+    ensures refused { IfErr result (λ reason. first_of (process_checks port.now packet.now.header ++ data_why packet.now ∷ []) ≡ Some reason) }
+    ensures cleared { IfOk result (λ verdict. first_of (process_checks port.now packet.now.header ++ data_why packet.now ∷ []) ≡ None) }
+    ensures hearing { IfOk result (IsHearing packet.now) }
 {
     let header = packet.header();
     if header.kind == Header::PROPAGATED || !has_process(header.destination.socket) {
-        return Verdict::Dropped(Why::OtherSocket);
+        return Err(Why::OtherSocket);
     }
     if !is_local(port, header.source.network) {
-        return Verdict::Dropped(Why::NotNeighbour);
+        return Err(Why::NotNeighbour);
     }
     hear(packet)
 }
 
 /// What a packet says to the process that it is for.
-fn hear<'a>(packet: &Packet<'a>) -> Verdict<'a>
-    ensures { IsHearing (data_why packet.now) packet.now result }
+fn hear<'a>(packet: &Packet<'a>) -> Result<Verdict<'a>, Why>
+    ensures refused { IfErr result (λ reason. data_why packet.now ≡ Some reason) }
+    ensures cleared { IfOk result (λ verdict. data_why packet.now ≡ None) }
+    ensures hearing { IfOk result (IsHearing packet.now) }
 {
     let Header {
         source,
@@ -140,14 +132,14 @@ fn hear<'a>(packet: &Packet<'a>) -> Verdict<'a>
     } = packet.header();
     if destination.socket == Socket::RIP {
         return match Rip::read(packet.payload()) {
-            Ok(rip) => Verdict::Rip { source, rip },
-            Err(fault) => Verdict::Dropped(Why::BadRip(fault)),
+            Ok(rip) => Ok(Verdict::Rip { source, rip }),
+            Err(fault) => Err(Why::BadRip(fault)),
         };
     }
     match Sap::read(packet.payload()) {
-        Ok(Sap::Response { nearest: true, .. }) => Verdict::Dropped(Why::NearestReply),
-        Ok(sap) => Verdict::Sap { source, sap },
-        Err(fault) => Verdict::Dropped(Why::BadSap(fault)),
+        Ok(Sap::Response { nearest: true, .. }) => Err(Why::NearestReply),
+        Ok(sap) => Ok(Verdict::Sap { source, sap }),
+        Err(fault) => Err(Why::BadSap(fault)),
     }
 }
 

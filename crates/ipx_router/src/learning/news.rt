@@ -16,7 +16,7 @@ use crate::advertising::envelope::Envelope;
 use crate::advertising::item::Item;
 use crate::advertising::items::{dead, dead_service, entry_of, farther, is_reached_on, told_at};
 use crate::advertising::pages::{ENTRIES_A_PAGE, SERVICES_A_PAGE};
-use crate::learning::changed::Changed;
+use crate::learning::touched::Touched;
 use crate::outbox::Outbox;
 use crate::port::Port;
 use crate::ports::addresses::port_of;
@@ -30,7 +30,7 @@ pub(crate) fn advertise_route_changes(
     outbox: &mut Outbox,
     ports: &[Port],
     up: &[u8],
-    changes: &[Changed<RouteOffer>],
+    changes: &[Touched<RouteOffer>],
 )
     requires ports { AllByRecursion (λ j. j < length ports.now) up.now }
     requires few { length changes.now ≤ entries_a_page }
@@ -50,7 +50,7 @@ pub(crate) fn advertise_service_changes(
     outbox: &mut Outbox,
     ports: &[Port],
     up: &[u8],
-    changes: &[Changed<ServiceOffer>],
+    changes: &[Touched<ServiceOffer>],
 )
     requires ports { AllByRecursion (λ j. j < length ports.now) up.now }
     requires few { length changes.now ≤ services_a_page }
@@ -70,7 +70,7 @@ fn advertise_routes_on(
     outbox: &mut Outbox,
     ports: &[Port],
     number: u8,
-    changes: &[Changed<RouteOffer>],
+    changes: &[Touched<RouteOffer>],
 )
     requires port { number < length ports.now }
     requires few { length changes.now ≤ entries_a_page }
@@ -87,7 +87,7 @@ fn advertise_services_on(
     outbox: &mut Outbox,
     ports: &[Port],
     number: u8,
-    changes: &[Changed<ServiceOffer>],
+    changes: &[Touched<ServiceOffer>],
 )
     requires port { number < length ports.now }
     requires few { length changes.now ≤ services_a_page }
@@ -160,7 +160,7 @@ fn proves_services_fit(from: Address, to: Address, page: &[Service])
 fn news_routes(
     ports: &[Port],
     number: u8,
-    changes: &[Changed<RouteOffer>],
+    changes: &[Touched<RouteOffer>],
 ) -> ArrayVec<RipEntry, ENTRIES_A_PAGE>
     requires port { number < length ports.now }
     requires few { length changes.now ≤ entries_a_page }
@@ -176,7 +176,7 @@ fn news_routes(
 /// Changed services as a port advertises them, by type and name.
 fn news_services(
     number: u8,
-    changes: &[Changed<ServiceOffer>],
+    changes: &[Touched<ServiceOffer>],
 ) -> ArrayVec<Service, SERVICES_A_PAGE>
     requires few { length changes.now ≤ services_a_page }
     ensures { result.items ≡ flat_map (service_told number) (map change_of changes.now) }
@@ -189,7 +189,7 @@ fn news_services(
 }
 
 /// A changed route as a port advertises it: as it is now or, where it ended, as unreachable.
-fn news_route(ports: &[Port], number: u8, change: &Changed<RouteOffer>) -> Option<RipEntry>
+fn news_route(ports: &[Port], number: u8, change: &Touched<RouteOffer>) -> Option<RipEntry>
     requires { number < length ports.now }
     ensures { option_to_list result ≡ route_told ports.now number (change_of change.now) }
 {
@@ -201,7 +201,7 @@ fn news_route(ports: &[Port], number: u8, change: &Changed<RouteOffer>) -> Optio
 }
 
 /// A changed service as a port advertises it: as it is now or, where it ended, as unreachable at the address that it had.
-fn news_service(number: u8, change: &Changed<ServiceOffer>) -> Option<Service>
+fn news_service(number: u8, change: &Touched<ServiceOffer>) -> Option<Service>
     ensures { option_to_list result ≡ service_told number (change_of change.now) }
 {
     if let Some(offer) = change.after {

@@ -1,16 +1,30 @@
-use Rattle.std.proofs.Common.{subst}
+use Rattle.std.proofs.Common.{◌≡◌, subst, ℕ, List, Some, IfOk, IfErr}
 use Rattle.ipx_router.specs.Facts.{offers}
 use Rattle.ipx_router.specs.inside.Judged.{IsVerdict}
+use Rattle.ipx_router.specs.Port.{Port}
 use Rattle.ipx_router.specs.Stands.{State}
-use Rattle.ipx_router.proofs.verdicts.EffectOfWhatCame.{judged_as}
+use Rattle.ipx_router.specs.Why.{why}
 use Rattle.ipx_router.proofs.histories.StateAfterEachEvent.{state_of}
 use Rattle.ipx_router.proofs.router.Router.judge.Goals as goal
 
-pub returns : goal.returns
-returns g c =
+pub returns-clause-refused : goal.returns-clause-refused
+returns-clause-refused g c =
     let i = c.self.inside in
     let s = state_of i.ports.items i.running i.up.items i.seconds i.routes.records i.services.records in
     let n = c.args.port in
     let b = c.args.bytes.now in
-    subst (λ (x : State). IsVerdict x.ports x.up (offers x.routes) x.running n b c.judge.result) c.self.view_is
-    (judged_as s n b c.deref.result.now c.deref-2.result.now c.judge.result c.deref.ensures.0 c.deref-2.ensures.0 c.judge.ensures)
+    subst (λ (x : State). IfErr c.judge.result (λ reason. why x.ports x.up (offers x.routes) x.running n b ≡ Some reason)) c.self.view_is
+    (subst (λ (ps : List Port). IfErr c.judge.result (λ reason. why ps s.up (offers s.routes) s.running n b ≡ Some reason)) c.deref.ensures.0
+    (subst (λ (us : List ℕ). IfErr c.judge.result (λ reason. why c.deref.result.now us (offers s.routes) s.running n b ≡ Some reason)) c.deref-2.ensures.0
+    c.judge.ensures.refused))
+
+pub returns-clause-verdict : goal.returns-clause-verdict
+returns-clause-verdict g c =
+    let i = c.self.inside in
+    let s = state_of i.ports.items i.running i.up.items i.seconds i.routes.records i.services.records in
+    let n = c.args.port in
+    let b = c.args.bytes.now in
+    subst (λ (x : State). IfOk c.judge.result (IsVerdict x.ports x.up (offers x.routes) x.running n b)) c.self.view_is
+    (subst (λ (ps : List Port). IfOk c.judge.result (IsVerdict ps s.up (offers s.routes) s.running n b)) c.deref.ensures.0
+    (subst (λ (us : List ℕ). IfOk c.judge.result (IsVerdict c.deref.result.now us (offers s.routes) s.running n b)) c.deref-2.ensures.0
+    c.judge.ensures.verdict))

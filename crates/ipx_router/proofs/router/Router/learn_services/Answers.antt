@@ -11,15 +11,15 @@ use Rattle.ipx_router.specs.Outbox.{HasRoom, Appends}
 use Rattle.ipx_router.specs.inside.Received.{IsPassed, IsHeard}
 use Rattle.ipx_router.specs.Relays.{Sent}
 use Rattle.ipx_router.specs.Stands.{State}
-use Rattle.ipx_router.proofs.changes.ListedForEachPort.{hear_room}
+use Rattle.ipx_router.proofs.changes.ListedForEachPort.{learn_room}
 use Rattle.ipx_router.proofs.verdicts.EffectOfWhatCame.{sap_follows, sap_sent}
 use Rattle.ipx_router.proofs.bounds.RoomIsEnough.{next_router}
 use Rattle.ipx_router.proofs.histories.RouterOneEventMore.{ups_within, ups_fit}
 use Rattle.ipx_router.proofs.histories.StateAfterEachEvent.{state_of}
 use Rattle.ipx_router.proofs.router.Router.learn_services.Goals as goal
 
-pub hear_services-requires : goal.hear_services-requires
-hear_services-requires g c =
+pub learn_services-requires : goal.learn_services-requires
+learn_services-requires g c =
     let i = c.self.inside in
     let s = state_of i.ports.items i.running i.up.items i.seconds i.routes.records i.services.records in
     let n = c.args.port in
@@ -28,7 +28,7 @@ hear_services-requires g c =
     let shares : i.services.shares ≡ map (λ p. p.service_share) c.deref.result.now = rw c.deref.ensures.0 c.self.invariant.services_shared in
     let all : AllByRecursion (λ j. j < length c.deref.result.now) c.deref-2.result.now = rw (c.deref.ensures.0, c.deref-2.ensures.0) (ups_within g.row.R g.row.S s i.routes.shares i.services.shares c.self.invariant) in
     let room : HasRoom c.args.outbox.now (length c.deref-2.result.now) (length c.deref-2.result.now * most_own_length) =
-    rw c.deref-2.ensures.0 (hear_room (length s.ports) (length s.routes) (length s.services) n b s.up (ups_fit g.row.R g.row.S s i.routes.shares i.services.shares c.self.invariant) need) in
+    rw c.deref-2.ensures.0 (learn_room (length s.ports) (length s.routes) (length s.services) n b s.up (ups_fit g.row.R g.row.S s i.routes.shares i.services.shares c.self.invariant) need) in
     search (rules, shares, all, room)
 
 pub invariant_of-self : goal.invariant_of-self
@@ -40,9 +40,9 @@ invariant_of-self g c =
     let passes : IsPassed s n b = subst (λ (v : State). IsPassed v n b) (sym c.self.view_is) c.requires.passes in
     let is : IsHeard s n b (HeardSap c.args.source (SapResponse c.requires.heard.0 c.args.entries.now)) = subst (λ (v : State). IsHeard v n b (HeardSap c.args.source (SapResponse c.requires.heard.0 c.args.entries.now))) (sym c.self.view_is) c.requires.heard.1 in
     let within : n < length s.ports = rw (ap (λ (v : State). length v.ports) c.self.view_is) c.requires.port in
-    let step = sap_follows g.row.R g.row.S s n b c.deref.result.now c.deref-2.result.now c.deref.ensures.0 c.deref-2.ensures.0 c.args.source passes c.requires.heard.0 c.args.entries.now is c.hear_services.new.table.records c.hear_services.ensures.stands in
-    next_router g.row.R g.row.S s i.routes.shares i.services.shares c.self.invariant (state_of s.ports s.running s.up s.seconds s.routes c.hear_services.new.table.records) (Packet n b) within c.proves_bytes.ensures step
-    i.routes.shares c.hear_services.new.table.shares refl c.hear_services.ensures.shares c.self.invariant.minute
+    let step = sap_follows g.row.R g.row.S s n b c.deref.result.now c.deref-2.result.now c.deref.ensures.0 c.deref-2.ensures.0 c.args.source passes c.requires.heard.0 c.args.entries.now is c.learn_services.new.table.records c.learn_services.ensures.stands in
+    next_router g.row.R g.row.S s i.routes.shares i.services.shares c.self.invariant (state_of s.ports s.running s.up s.seconds s.routes c.learn_services.new.table.records) (Packet n b) within c.proves_bytes.ensures step
+    i.routes.shares c.learn_services.new.table.shares refl c.learn_services.ensures.shares c.self.invariant.minute
 
 pub returns-clause-follows : goal.returns-clause-follows
 returns-clause-follows g c =
@@ -52,8 +52,8 @@ returns-clause-follows g c =
     let b = c.args.bytes.now in
     let passes : IsPassed s n b = subst (λ (v : State). IsPassed v n b) (sym c.self.view_is) c.requires.passes in
     let is : IsHeard s n b (HeardSap c.args.source (SapResponse c.requires.heard.0 c.args.entries.now)) = subst (λ (v : State). IsHeard v n b (HeardSap c.args.source (SapResponse c.requires.heard.0 c.args.entries.now))) (sym c.self.view_is) c.requires.heard.1 in
-    let step = sap_follows g.row.R g.row.S s n b c.deref.result.now c.deref-2.result.now c.deref.ensures.0 c.deref-2.ensures.0 c.args.source passes c.requires.heard.0 c.args.entries.now is c.hear_services.new.table.records c.hear_services.ensures.stands in
-    subst (λ (v : State). Follows g.row.R g.row.S v (state_of s.ports s.running s.up s.seconds s.routes c.hear_services.new.table.records) (Packet n b)) c.self.view_is step
+    let step = sap_follows g.row.R g.row.S s n b c.deref.result.now c.deref-2.result.now c.deref.ensures.0 c.deref-2.ensures.0 c.args.source passes c.requires.heard.0 c.args.entries.now is c.learn_services.new.table.records c.learn_services.ensures.stands in
+    subst (λ (v : State). Follows g.row.R g.row.S v (state_of s.ports s.running s.up s.seconds s.routes c.learn_services.new.table.records) (Packet n b)) c.self.view_is step
 
 pub returns-clause-sends : goal.returns-clause-sends
 returns-clause-sends g c =
@@ -63,6 +63,6 @@ returns-clause-sends g c =
     let b = c.args.bytes.now in
     let passes : IsPassed s n b = subst (λ (v : State). IsPassed v n b) (sym c.self.view_is) c.requires.passes in
     let is : IsHeard s n b (HeardSap c.args.source (SapResponse c.requires.heard.0 c.args.entries.now)) = subst (λ (v : State). IsHeard v n b (HeardSap c.args.source (SapResponse c.requires.heard.0 c.args.entries.now))) (sym c.self.view_is) c.requires.heard.1 in
-    let sent = sap_sent g.row.R g.row.S s n b c.deref.result.now c.deref-2.result.now c.deref.ensures.0 c.deref-2.ensures.0 c.args.source passes c.requires.heard.0 c.args.entries.now is c.hear_services.new.table.records in
-    subst (λ (v : State). Appends c.args.outbox.now c.hear_services.new.outbox (sends_between v (state_of s.ports s.running s.up s.seconds s.routes c.hear_services.new.table.records) (Packet n b))) c.self.view_is
-    (subst (λ (ps : List Sent). Appends c.args.outbox.now c.hear_services.new.outbox ps) sent (c.hear_services.ensures.sent (offers i.routes.records)))
+    let sent = sap_sent g.row.R g.row.S s n b c.deref.result.now c.deref-2.result.now c.deref.ensures.0 c.deref-2.ensures.0 c.args.source passes c.requires.heard.0 c.args.entries.now is c.learn_services.new.table.records in
+    subst (λ (v : State). Appends c.args.outbox.now c.learn_services.new.outbox (sends_between v (state_of s.ports s.running s.up s.seconds s.routes c.learn_services.new.table.records) (Packet n b))) c.self.view_is
+    (subst (λ (ps : List Sent). Appends c.args.outbox.now c.learn_services.new.outbox ps) sent (c.learn_services.ensures.sent (offers i.routes.records)))

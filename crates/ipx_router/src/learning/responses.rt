@@ -1,4 +1,4 @@
-//! Hears a response: its entries are offers to a table, and what they change of it is advertised at once.
+//! Learns what a response offers: its entries are offers to a table, and what they change of it is advertised at once.
 ghost use Rattle.std.specs.Prelude.{◌≡◌, ◌*◌, ◌<◌, List, ◌++◌, length, map};
 ghost use Rattle.std.specs.List.{AllByRecursion, flat_map};
 ghost use Rattle.ipx_table.specs.Facts.{Fact};
@@ -10,7 +10,7 @@ ghost use Rattle.ipx_router.specs.Routes.{route_rules};
 ghost use Rattle.ipx_router.specs.Sends.{news_on};
 ghost use Rattle.ipx_router.specs.Services.{service_rules};
 
-use crate::learning::changed::{changed_routes, changed_services};
+use crate::learning::changed::{keep_changed_routes, keep_changed_services};
 use crate::learning::news::{advertise_route_changes, advertise_service_changes};
 use crate::learning::offering::{offer_routes, offer_services};
 use crate::outbox::Outbox;
@@ -20,8 +20,8 @@ use crate::service_offer::ServiceOffer;
 use ipx_table::Table;
 use ipx_wire::{Node, Rip, SapEntries};
 
-/// Hears a response of routing information from a neighbour on a port. The services stay as they are.
-pub(crate) fn hear_routes<const R: usize>(
+/// Learns from a response of routing information of a neighbour on a port. The services stay as they are.
+pub(crate) fn learn_routes<const R: usize>(
     table: &mut Table<RouteOffer, R>,
     ports: &[Port],
     up: &[u8],
@@ -40,16 +40,16 @@ pub(crate) fn hear_routes<const R: usize>(
         (record { up = up.now; routes = offers table.old.records; services = services })
         (record { up = up.now; routes = offers table.new.records; services = services })) up.now) }
 {
-    let touched = offer_routes(table, ports, number, node, rip);
+    let mut touched = offer_routes(table, ports, number, node, rip);
     if touched.is_empty() {
         return;
     }
-    let changes = changed_routes(&touched);
-    advertise_route_changes(outbox, ports, up, &changes);
+    keep_changed_routes(&mut touched);
+    advertise_route_changes(outbox, ports, up, &touched);
 }
 
-/// Hears a response of service advertising from a neighbour on a port. The routes stay as they are.
-pub(crate) fn hear_services<const S: usize>(
+/// Learns from a response of service advertising of a neighbour on a port. The routes stay as they are.
+pub(crate) fn learn_services<const S: usize>(
     table: &mut Table<ServiceOffer, S>,
     ports: &[Port],
     up: &[u8],
@@ -68,10 +68,10 @@ pub(crate) fn hear_services<const S: usize>(
         (record { up = up.now; routes = routes; services = offers table.old.records })
         (record { up = up.now; routes = routes; services = offers table.new.records })) up.now) }
 {
-    let touched = offer_services(table, number, node, entries);
+    let mut touched = offer_services(table, number, node, entries);
     if touched.is_empty() {
         return;
     }
-    let changes = changed_services(&touched);
-    advertise_service_changes(outbox, ports, up, &changes);
+    keep_changed_services(&mut touched);
+    advertise_service_changes(outbox, ports, up, &touched);
 }

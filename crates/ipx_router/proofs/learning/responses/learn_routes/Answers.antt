@@ -7,13 +7,13 @@ use Rattle.ipx_router.specs.inside.Touched.{change_of}
 use Rattle.ipx_router.proofs.changes.ListedForEachPort.{no_items, no_route_change, route_news}
 use Rattle.ipx_router.proofs.ended.SentIsOfEnded.{none_each}
 use Rattle.ipx_router.proofs.sending.OneAfterAnother.{appends_none}
-use Rattle.ipx_router.proofs.learning.hear.hear_routes.Goals as goal
+use Rattle.ipx_router.proofs.learning.responses.learn_routes.Goals as goal
 
 pub returns-clause-sent : goal.returns-clause-sent
 returns-clause-sent g c = λ services.
     let before = offers c.args.table.now.records in
     let after = offers c.offer_routes-touched.new.table.records in
-    let changed = ap (map change_of) c.deref.ensures.0 ∙ c.changed_routes-changes.ensures before after c.offer_routes-touched.ensures.touches in
+    let changed = ap (map change_of) c.deref.ensures.0 ∙ c.keep_changed_routes.ensures before after c.offer_routes-touched.ensures.touches in
     subst (λ (ps : List Sent). Appends c.args.outbox.now c.advertise_route_changes.new.outbox ps)
     (route_news c.args.ports.now c.args.up.now before after services (map change_of c.deref.result.now) changed) c.advertise_route_changes.ensures
 

@@ -3,11 +3,11 @@ use Rattle.ipx_wire.specs.Name.{same_name}
 use Rattle.ipx_router.specs.News.{same_service}
 use Rattle.ipx_router.specs.Port.{same_node}
 use Rattle.ipx_router.proofs.changes.TouchedGivesAllChanges.{field_by_field}
-use Rattle.ipx_router.proofs.learning.changed.changed_services.Goals as goal
+use Rattle.ipx_router.proofs.learning.changed.keep_changed_services.Goals as goal
 
 pub returns : goal.returns
 returns c = λ before now touches.
-    c.changes.ensures same_service
+    c.keep_changes.ensures same_service
     (λ a b.
     let from = a.service.address in
     let to = b.service.address in

@@ -7,13 +7,13 @@ use Rattle.ipx_router.specs.inside.Touched.{change_of}
 use Rattle.ipx_router.proofs.changes.ListedForEachPort.{no_items, no_service_change, service_news}
 use Rattle.ipx_router.proofs.ended.SentIsOfEnded.{none_each}
 use Rattle.ipx_router.proofs.sending.OneAfterAnother.{appends_none}
-use Rattle.ipx_router.proofs.learning.hear.hear_services.Goals as goal
+use Rattle.ipx_router.proofs.learning.responses.learn_services.Goals as goal
 
 pub returns-clause-sent : goal.returns-clause-sent
 returns-clause-sent g c = λ routes.
     let before = offers c.args.table.now.records in
     let after = offers c.offer_services-touched.new.table.records in
-    let changed = ap (map change_of) c.deref.ensures.0 ∙ c.changed_services-changes.ensures before after c.offer_services-touched.ensures.touches in
+    let changed = ap (map change_of) c.deref.ensures.0 ∙ c.keep_changed_services.ensures before after c.offer_services-touched.ensures.touches in
     subst (λ (ps : List Sent). Appends c.args.outbox.now c.advertise_service_changes.new.outbox ps)
     (service_news c.args.ports.now c.args.up.now routes before after (map change_of c.deref.result.now) changed) c.advertise_service_changes.ensures
 
