@@ -1,3 +1,4 @@
+pub mod Announces
 pub mod Arriving
 pub mod Batches
 pub mod Course
