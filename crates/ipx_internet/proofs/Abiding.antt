@@ -1,5 +1,5 @@
 -- What a router has and hears while anything happens: what is fine, or so old that it soon ends.
-use Rattle.std.proofs.Common.{◌≡◌, ◌≢◌, refl, sym, subst, ◌⊎◌, ℕ, ◌*◌, ◌<◌, ◌≤◌, true, List, [], ◌∷◌, ◌++◌, map, Option, Some, None, IfSome, inl, inr, arith, true≢false}
+use Rattle.std.proofs.Common.{◌≡◌, ◌≢◌, refl, sym, subst, ◌⊎◌, ℕ, ◌+◌, ◌*◌, ◌<◌, ◌≤◌, true, List, [], ◌∷◌, ◌++◌, map, Option, Some, None, IfSome, inl, inr, arith, true≢false}
 use Rattle.std.specs.List.{AllByRecursion}
 use Rattle.ipx_table.specs.Facts.{Fact}
 use Rattle.ipx_wire.specs.declared.address.Address.{Address}
@@ -18,12 +18,14 @@ use Rattle.ipx_router.specs.Numbers.{unreachable, rip_socket, sap_socket}
 use Rattle.ipx_router.specs.Port.{Port, is_up}
 use Rattle.ipx_router.specs.Routes.{route_reading, network_order}
 use Rattle.ipx_router.specs.Services.{service_reading, service_order}
+use Rattle.ipx_router.specs.Told.{farther}
 use Rattle.ipx_router.specs.declared.route_offer.RouteOffer.{RouteOffer}
 use Rattle.ipx_router.specs.declared.service_offer.ServiceOffer.{ServiceOffer}
 use Rattle.ipx_router.proofs.bounds.PacketsOfEachEvent.{network_total, service_total}
 use Rattle.ipx_router.proofs.histories.OneEventMore.{none_up}
 use Rattle.ipx_router.proofs.tables.OffersOfAMessage.{facts_from-more}
 use Rattle.ipx_router.proofs.tables.HeldCameByPortsUp.{held_routes_up, held_services_up}
+use Rattle.ipx_internet.specs.Announces.{service_of}
 use Rattle.ipx_internet.specs.Meanwhile.{message_of}
 use Rattle.ipx_internet.proofs.Aging.{Aged, IsOldOffer, passed, at_first, after_event}
 use Rattle.ipx_internet.proofs.Leaving.{OffersOf}
@@ -40,24 +42,38 @@ none_by port_of up xs none all = all_then (λ o. is_up up (port_of o) ≡ true) 
         let none_on : is_up [] (port_of o) ≡ true = subst (λ (us : List ℕ). is_up us (port_of o) ≡ true) none on in
         true≢false (sym none_on)
 
-module _ (IsFine : Network → Type 0) (IsServed : ℕ × List ℕ → Type 0) where
+-- a service, as it was said with so many hops
+abbrev pub said_with : ℕ → Service → Service
+said_with hops s = record s { hops = hops }
+
+module _ (IsFine : Network → Type 0) (IsServed : Service → Type 0) where
+  -- a service is fine that is served so, or was nearer
+  abbrev pub IsFineService : Service → Type 0
+  IsFineService s = (hops : ℕ) × (hops ≤ s.hops) × IsServed (said_with hops s)
+
+  -- one hop farther too
+  pub farther_fine : (s : Service) → IsFineService s → IsFineService (farther s)
+  farther_fine s fine =
+      let less = fine.1 in
+      (fine.0, omega (arith, less), fine.2)
+
   -- ---- what is said, when so many ticks have begun: of what is reached, what is fine, or was told soon enough
 
   abbrev pub RouteSaid : ℕ → RipEntry → Type 0
   RouteSaid begun e = e.hops < unreachable → IsFine e.network ⊎ (begun ≤ 180 * e.hops)
 
   abbrev pub ServiceSaid : ℕ → Service → Type 0
-  ServiceSaid begun s = s.hops < unreachable → IsServed (s.kind, s.name) ⊎ (begun ≤ 180 * s.hops)
+  ServiceSaid begun s = s.hops < unreachable → IsFineService s ⊎ (begun ≤ 180 * s.hops)
 
   abbrev pub EntrySaid : ℕ → SapEntry → Type 0
-  EntrySaid begun e = e.hops < unreachable → (name : List ℕ) → e.name ≡ Some name → IsServed (e.kind, name) ⊎ (begun ≤ 180 * e.hops)
+  EntrySaid begun e = e.hops < unreachable → (name : List ℕ) → e.name ≡ Some name → IsFineService (service_of e name) ⊎ (begun ≤ 180 * e.hops)
 
   -- every network, and every service
   abbrev pub AllFine : Type 0
   AllFine = (network : Network) → IsFine network
 
   abbrev pub AllServed : Type 0
-  AllServed = (key : ℕ × List ℕ) → IsServed key
+  AllServed = (s : Service) → IsServed s
 
   -- a request isn't answered to the process of SAP, unless it does no harm there
   abbrev pub RipSaid : ℕ → Address → Operation → List RipEntry → Type 0
@@ -85,7 +101,7 @@ module _ (IsFine : Network → Type 0) (IsServed : ℕ × List ℕ → Type 0) w
     FineRoute r = IsFine r.network
 
     abbrev pub FineService : ServiceOffer → Type 0
-    FineService s = IsServed (s.service.kind, s.service.name)
+    FineService s = IsFineService s.service
 
     abbrev pub RoutesAged : ℕ → List (Fact RouteOffer) → Type 0
     RoutesAged = Aged route_reading network_order network_total most_routes (map (λ p. p.route_share) ports) (λ r. r.hops) (λ r. refl) FineRoute

@@ -9,6 +9,7 @@ use Rattle.ipx_wire.specs.declared.rip.Operation.{Operation}
 use Rattle.ipx_wire.specs.declared.rip.Operation.TheVariants.{Request, Response}
 use Rattle.ipx_wire.specs.declared.rip.RipEntry.{RipEntry}
 use Rattle.ipx_wire.specs.declared.sap.Sap.TheVariants.{Query, Response as SapResponse}
+use Rattle.ipx_wire.specs.declared.service.Service.{Service}
 use Rattle.ipx_router.specs.Facts.{route_facts, service_facts, routes_held, services_held, offers}
 use Rattle.ipx_router.specs.Heard.{Heard, HeardRip, HeardSap}
 use Rattle.ipx_router.specs.History.{History}
@@ -21,7 +22,7 @@ use Rattle.ipx_internet.specs.Meanwhile.{AreWithout, IsWithoutRoute, AsksElsewhe
 use Rattle.ipx_internet.specs.Queue.{history_of}
 use Rattle.ipx_internet.specs.Run.{Step, AreHistories, Run, stepped, run_of}
 use Rattle.ipx_internet.specs.Ticks.{ticked, most_ticks_gone, ups, networks_up, IsGone}
-use Rattle.ipx_internet.proofs.Abiding.{RouteSaid, EntrySaid, RipSaid, Said}
+use Rattle.ipx_internet.proofs.Abiding.{IsFineService, RouteSaid, EntrySaid, RipSaid, Said}
 use Rattle.ipx_internet.proofs.Aging.{at_last}
 use Rattle.ipx_internet.proofs.Gone.{among_ups}
 use Rattle.ipx_internet.proofs.Lists.{all_of, all_then}
@@ -34,6 +35,20 @@ each_then : (net : Internet) (most_routes most_services : ℕ) (P Q : Run → Li
 each_then net most_routes most_services P Q step run [] each = tt
 each_then net most_routes most_services P Q step run (steps ∷ ticks) each =
     (step run steps each.0, each_then net most_routes most_services P Q step (run_of net most_routes most_services run steps) ticks each.1)
+
+-- every network is one that may be there, before and after every step
+abbrev pub EveryNetwork : Network → Type 0
+EveryNetwork n = Unit {0}
+
+module _ (IsServed : Service → Type 0) (net : Internet) (laws : Layouts) (is : IsInternet net) (most_routes most_services : ℕ) where
+  always_so : (run : Run) (steps : List Step) → AlwaysStays EveryNetwork IsServed net laws is most_routes most_services run steps
+  always_so run [] = λ at number on. tt
+  always_so run (step ∷ steps) = ((λ at number on. tt), always_so (stepped net most_routes most_services run step) steps)
+
+  pub each_always : (run : Run) (ticks : List (List Step))
+      → EachTick net most_routes most_services (AlwaysStays EveryNetwork IsServed net laws is most_routes most_services) run ticks
+  each_always run [] = tt
+  each_always run (steps ∷ ticks) = (always_so run steps, each_always (run_of net most_routes most_services run steps) ticks)
 
 module _ (net : Internet) (laws : Layouts) (is : IsInternet net) (most_routes most_services : ℕ) (first : Run) (are : AreHistories net first.histories)
     (quiet : first.waiting ≡ []) (ticks : List (List Step)) (busy : EachTick net most_routes most_services (IsBusyTick net most_routes most_services) first ticks)
@@ -50,18 +65,18 @@ module _ (net : Internet) (laws : Layouts) (is : IsInternet net) (most_routes mo
     abbrev IsOther : Network → Type 0
     IsOther n = n ≢ network
 
-    abbrev Any : ℕ × List ℕ → Type 0
-    Any key = Unit {0}
+    abbrev Any : Service → Type 0
+    Any s = Unit {0}
 
     no_route_said : (begun : ℕ) (source : Address) (operation : Operation) (entries : List RipEntry) → AreWithout network operation entries
         → RipSaid IsOther Any begun source operation entries
     no_route_said begun source Response entries without = all_then _ (RouteSaid IsOther Any begun) (λ e other near. inl (other near)) entries without
-    no_route_said begun source Request entries without = inr (λ key. tt)
+    no_route_said begun source Request entries without = inr (λ s. tt)
 
     routeless : (begun : ℕ) (m : Heard) → IsWithoutRoute network m → Said IsOther Any begun m
     routeless begun (HeardRip source rip) without = no_route_said begun source rip.operation rip.entries without
     routeless begun (HeardSap source (Query nearest kind)) without = inl without
-    routeless begun (HeardSap source (SapResponse nearest entries)) without = all_of (EntrySaid IsOther Any begun) (λ e near name same. inl tt) entries
+    routeless begun (HeardSap source (SapResponse nearest entries)) without = all_of (EntrySaid IsOther Any begun) (λ e near name same. inl (e.hops, omega arith, tt)) entries
 
     gone_stays : (now : List History) → IsGone net now network → Stays IsOther Any net laws is most_routes most_services now
     gone_stays now gone at number on same =
@@ -87,36 +102,27 @@ module _ (net : Internet) (laws : Layouts) (is : IsInternet net) (most_routes mo
   -- ---- services
 
   module _ (key : ℕ × List ℕ) where
-    abbrev Every : Network → Type 0
-    Every n = Unit {0}
-
-    abbrev IsOtherKey : ℕ × List ℕ → Type 0
-    IsOtherKey k = k ≢ key
+    abbrev IsOtherKey : Service → Type 0
+    IsOtherKey s = (s.kind, s.name) ≢ key
 
     asks_elsewhere : (begun : ℕ) (source : Address) (operation : Operation) (entries : List RipEntry) → AsksElsewhere source operation
-        → RipSaid Every IsOtherKey begun source operation entries
-    asks_elsewhere begun source Response entries elsewhere = all_of (RouteSaid Every IsOtherKey begun) (λ e near. inl tt) entries
+        → RipSaid EveryNetwork IsOtherKey begun source operation entries
+    asks_elsewhere begun source Response entries elsewhere = all_of (RouteSaid EveryNetwork IsOtherKey begun) (λ e near. inl tt) entries
     asks_elsewhere begun source Request entries elsewhere = inl elsewhere
 
-    serviceless : (begun : ℕ) (m : Heard) → IsWithoutService key m → Said Every IsOtherKey begun m
+    serviceless : (begun : ℕ) (m : Heard) → IsWithoutService key m → Said EveryNetwork IsOtherKey begun m
     serviceless begun (HeardRip source rip) without = asks_elsewhere begun source rip.operation rip.entries without
     serviceless begun (HeardSap source (Query nearest kind)) without = inr (λ n. tt)
     serviceless begun (HeardSap source (SapResponse nearest entries)) without =
-        all_then _ (EntrySaid Every IsOtherKey begun) (λ e other near name same. inl (other near name same)) entries without
-
-    anyhow : (run : Run) (steps : List Step) → AlwaysStays Every IsOtherKey net laws is most_routes most_services run steps
-    anyhow run [] = λ at number on. tt
-    anyhow run (step ∷ steps) = ((λ at number on. tt), anyhow (stepped net most_routes most_services run step) steps)
-
-    anyhow_each : (run : Run) (rest : List (List Step)) → EachTick net most_routes most_services (AlwaysStays Every IsOtherKey net laws is most_routes most_services) run rest
-    anyhow_each run [] = tt
-    anyhow_each run (steps ∷ rest) = (anyhow run steps, anyhow_each (run_of net most_routes most_services run steps) rest)
+        all_then _ (EntrySaid EveryNetwork IsOtherKey begun) (λ e other near name same. inl (e.hops, omega arith, other near name same)) entries without
 
     pub no_such_service : AllByRecursion (AllByRecursion (SaysOnly (IsWithoutService key))) ticks
         → AllByRecursion (λ s. (s.service.kind, s.service.name) ≢ key) (offers (services_held ports most_services past))
     no_such_service says =
-        let rests = ticks_rest Every IsOtherKey net laws is most_routes most_services (IsWithoutService key) serviceless 0 first ticks
-        (quiet_rests Every IsOtherKey net laws is most_routes most_services first are quiet) busy (anyhow_each first ticks) says in
-        at_last service_reading service_order service_total most_services (map (λ p. p.service_share) ports) (λ s. s.service.hops) (λ s. refl)
-        (λ s. (s.service.kind, s.service.name) ≢ key)
-        (length ticks + 0) (service_facts ports past) (omega (arith, long)) (rests.routers router within).services
+        let rests = ticks_rest EveryNetwork IsOtherKey net laws is most_routes most_services (IsWithoutService key) serviceless 0 first ticks
+        (quiet_rests EveryNetwork IsOtherKey net laws is most_routes most_services first are quiet) busy (each_always IsOtherKey net laws is most_routes most_services first ticks) says in
+        all_then (λ s. IsFineService EveryNetwork IsOtherKey s.service) (λ s. (s.service.kind, s.service.name) ≢ key) (λ s fine. fine.2)
+        (offers (services_held ports most_services past))
+        (at_last service_reading service_order service_total most_services (map (λ p. p.service_share) ports) (λ s. s.service.hops) (λ s. refl)
+        (λ s. IsFineService EveryNetwork IsOtherKey s.service)
+        (length ticks + 0) (service_facts ports past) (omega (arith, long)) (rests.routers router within).services)

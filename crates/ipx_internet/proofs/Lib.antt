@@ -4,6 +4,7 @@ pub mod Adding
 pub mod Advancing
 pub mod Aging
 pub mod Announced
+pub mod Announcing
 pub mod Asking
 pub mod Batched
 pub mod Becoming

@@ -5,6 +5,7 @@ use Rattle.std.specs.List.{AllByRecursion}
 use Rattle.std.proofs.lemmas.Bool.{cases_eq, eq-eqb}
 use Rattle.ipx_wire.specs.Piece.{IsBytes}
 use Rattle.ipx_wire.specs.declared.network.Network.{Network}
+use Rattle.ipx_wire.specs.declared.service.Service.{Service}
 use Rattle.ipx_router.specs.Heard.{Heard}
 use Rattle.ipx_router.specs.History.{Event, History, Start, Stop, Second, Packet, PortDown, PortUp, IsOnPort, IsOfBytes, is_second, ports_up}
 use Rattle.ipx_router.specs.Port.{Port, port_at, is_up}
@@ -63,7 +64,7 @@ each_so P histories router event listed other here elsewhere = elim (cases_eq ot
       subst (λ (h : History). P other h) (sym stays) (elsewhere off)
 ]
 
-module _ (IsFine : Network → Type 0) (IsServed : ℕ × List ℕ → Type 0) (net : Internet) (laws : Layouts) (is : IsInternet net) (most_routes most_services : ℕ) where
+module _ (IsFine : Network → Type 0) (IsServed : Service → Type 0) (net : Internet) (laws : Layouts) (is : IsInternet net) (most_routes most_services : ℕ) where
   -- the networks of the ports that are up are fine, now, and before and after each of some steps
   abbrev pub Stays : List History → Type 0
   Stays histories = (router number : ℕ) → is_up (ups net histories router) number ≡ true → IsFine (port_at (ports_of net router) number).network

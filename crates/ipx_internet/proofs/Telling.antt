@@ -27,8 +27,9 @@ use Rattle.ipx_router.specs.Why.{is_for_rip}
 use Rattle.ipx_router.proofs.bytes.FieldsAreBytes.{IsPlace as IsPlaced, rip_are_bytes, query_are_bytes, parts_bytes}
 use Rattle.ipx_router.proofs.sending.OwnPacketsAreValid.{Writable}
 use Rattle.ipx_router.proofs.bytes.LawsOfLayouts.{alone}
+use Rattle.ipx_internet.specs.Announces.{service_of}
 use Rattle.ipx_internet.specs.Meanwhile.{message_in}
-use Rattle.ipx_internet.proofs.Abiding.{RouteSaid, ServiceSaid, EntrySaid, RipSaid, Said, Tells, AllFine, AllServed}
+use Rattle.ipx_internet.proofs.Abiding.{IsFineService, RouteSaid, ServiceSaid, EntrySaid, RipSaid, Said, Tells, AllFine, AllServed}
 use Rattle.ipx_internet.proofs.Lists.{all_of, all_then, all-append, all_mapped}
 use Rattle.ipx_internet.proofs.Messages.{of_packet, for_rip, for_sap, message_heard}
 use Rattle.ipx_internet.proofs.Paging.{IsRipPage, IsSapPage, Tellable, Answers, rip_answers, sap_answers, IsAnswering, answering, own_is, services_is, everyone_is, every_server_is, rip_pages, sap_pages}
@@ -36,7 +37,7 @@ use Rattle.ipx_internet.proofs.Replying.{Layouts}
 use Rattle.ipx_internet.proofs.Saying.{page_heard, services_heard_of}
 use Rattle.ipx_internet.proofs.Ways.{nothing, it_is}
 
-module _ (IsFine : Network → Type 0) (IsServed : ℕ × List ℕ → Type 0) (begun : ℕ) where
+module _ (IsFine : Network → Type 0) (IsServed : Service → Type 0) (begun : ℕ) where
   abbrev pub Entry : RipEntry → Type 0
   Entry = RouteSaid IsFine IsServed begun
 
@@ -59,7 +60,7 @@ module _ (IsFine : Network → Type 0) (IsServed : ℕ × List ℕ → Type 0) (
         absurd (it_is IsAnswering (HeardSap p.header.source (Query nearest kind)) m (sym e) (answering p answers m heard))
     read_as_services all (Ok (SapResponse nearest entries)) e =
         it_is Message m (HeardSap p.header.source (SapResponse nearest entries)) e
-        (all_of (EntrySaid IsFine IsServed begun) (λ x near name is. inl (all (x.kind, name))) entries)
+        (all_of (EntrySaid IsFine IsServed begun) (λ x near name is. inl (x.hops, omega arith, all (service_of x name))) entries)
 
     read_as_routes : AllFine IsFine IsServed → (r : Result RipParts RipFault)
         → elim r [ Ok rip ↦ Some (HeardRip p.header.source rip) | Err fault ↦ None ] ≡ Some m → Message m
@@ -105,9 +106,10 @@ module _ (IsFine : Network → Type 0) (IsServed : ℕ × List ℕ → Type 0) (
             (all_then Named (λ s. EntrySaid IsFine IsServed begun (sap_entry s)) (λ s said near name same. named s name same (said near)) page.page page.each))
       ]
     where
-      named : (s : Service) (name : List ℕ) → Some s.name ≡ Some name → IsServed (s.kind, s.name) ⊎ (begun ≤ 180 * s.hops)
-          → IsServed (s.kind, name) ⊎ (begun ≤ 180 * s.hops)
-      named s name same said = it_is (λ (n : List ℕ). IsServed (s.kind, n) ⊎ (begun ≤ 180 * s.hops)) name s.name same said
+      named : (s : Service) (name : List ℕ) → Some s.name ≡ Some name → IsFineService IsFine IsServed s ⊎ (begun ≤ 180 * s.hops)
+          → IsFineService IsFine IsServed (service_of (sap_entry s) name) ⊎ (begun ≤ 180 * s.hops)
+      named s name same said =
+          it_is (λ (n : List ℕ). IsFineService IsFine IsServed (service_of (sap_entry s) n) ⊎ (begun ≤ 180 * s.hops)) name s.name same said
 
       by : (p : Parts) → Answers p.payload → heard_in p ≡ Some m → to.socket.0 ≡ rip_socket
           → elim (rip_of p.payload) [ Ok rip ↦ Some (HeardRip p.header.source rip) | Err fault ↦ None ] ≡ Some m

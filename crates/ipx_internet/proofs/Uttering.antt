@@ -33,7 +33,7 @@ use Rattle.ipx_router.proofs.sending.OwnPacketsAreValid.{Writable, reply_is}
 use Rattle.ipx_router.proofs.port_values.PortOfEachNumber.{port-all, ports_up-within, members, one_up}
 use Rattle.ipx_router.proofs.tables.HeldWasOffered.{source_of}
 use Rattle.ipx_router.proofs.telling.ToldFitsFields.{told_at_fits, direct_fits, dead_fits, down_fits, told_fits, told_services_fit}
-use Rattle.ipx_internet.proofs.Abiding.{RipSaid, Said, EventTells, FineRoute, FineService, Abides}
+use Rattle.ipx_internet.proofs.Abiding.{IsFineService, farther_fine, RipSaid, Said, EventTells, FineRoute, FineService, Abides}
 use Rattle.ipx_internet.proofs.Aging.{IsOldHeld, passed, old_held}
 use Rattle.ipx_internet.proofs.Announced.{told_all, news_told, told_services_all, news_services_told}
 use Rattle.ipx_internet.proofs.Lists.{all_then, all-append, all-map, all-filter, all-flat_map}
@@ -70,7 +70,7 @@ nearest_all P (service ∷ services) all = by (nearest_of services) (nearest_all
       | inr e ↦ rw e (all.0, tt)
     ]
 
-module _ (IsFine : Network → Type 0) (IsServed : ℕ × List ℕ → Type 0) (begun : ℕ) (ports : List Port) (most_routes most_services : ℕ) where
+module _ (IsFine : Network → Type 0) (IsServed : Service → Type 0) (begun : ℕ) (ports : List Port) (most_routes most_services : ℕ) where
   abbrev E : RipEntry → Type 0
   E = Entry IsFine IsServed begun
 
@@ -123,9 +123,9 @@ module _ (IsFine : Network → Type 0) (IsServed : ℕ × List ℕ → Type 0) (
     service_said : (s : ServiceOffer) → ServiceHeld s → N (farther s.service)
     service_said s held near = by held.0
       where
-        by : IsServed (s.service.kind, s.service.name) ⊎ (had ≤ 180 * s.service.hops + 179)
-            → IsServed (s.service.kind, s.service.name) ⊎ (begun ≤ 180 * (s.service.hops + 1))
-        by (inl fine) = inl fine
+        by : IsFineService IsFine IsServed s.service ⊎ (had ≤ 180 * s.service.hops + 179)
+            → IsFineService IsFine IsServed (farther s.service) ⊎ (begun ≤ 180 * (s.service.hops + 1))
+        by (inl fine) = inl (farther_fine IsFine IsServed s.service fine)
         by (inr old) = inr (omega (arith, old, soon))
 
     services_said : (services : List ServiceOffer) → AllByRecursion ServiceHeld services → (j : ℕ) → AllByRecursion N (told_services services j)

@@ -24,6 +24,8 @@ pub mod InternetWeight
 pub mod Ticks
 -- Meanwhile
 pub mod Meanwhile
+-- Announces
+pub mod Announces
 -- Real
 pub mod Real
 -- Least

@@ -19,6 +19,7 @@ ghost use Rattle.ipx_router.specs.Port.{Port, is_up};
 ghost use Rattle.ipx_router.specs.Relays.{Sent};
 ghost use Rattle.ipx_router.specs.Sends.{sends};
 ghost use Rattle.ipx_router.specs.Why.{is_propagated};
+ghost use Rattle.ipx_internet.specs.Announces.{IsAnnounced, AsksApart};
 ghost use Rattle.ipx_internet.specs.Arriving.{IsOfHost, Arrives};
 ghost use Rattle.ipx_internet.specs.Course.{IsInCourse, IsPath, visited};
 ghost use Rattle.ipx_internet.specs.Delivery.{delivered};
@@ -338,6 +339,33 @@ pub fn gone_meanwhile()
         → router < length net → AllByRecursion (AllByRecursion (SaysOnly (IsWithoutService key))) ticks
         → AllByRecursion (λ s. (s.service.kind, s.service.name) ≢ key)
         (offers (services_held (ports_of net router) most_services (history_of (ticked net most_routes most_services (begun histories) ticks).histories router))) }
+{
+    ipx_wire::laws::readings();
+    ipx_wire::laws::service_readings();
+    ipx_wire::laws::reread();
+    ipx_router::laws::packets();
+}
+
+/// Every service that a router has was announced by a host: after 2,880 ticks it is one that a packet of a host said in them, with type, name
+/// and address as it said, and with no fewer hops, whatever was in the tables before and whatever else happens meanwhile.
+///
+/// So a server that is switched off is forgotten everywhere, and one that moves is no longer looked for where it was. Nothing waits when the
+/// ticks begin; where anything does, forged packets too, it is so of the ticks after one more (`whatever_waits`). In a tick each router has one
+/// second, everything else happens in any order, and in the end nothing waits. A host may ask what it likes, but a request for routes is not
+/// sent from the socket of SAP.
+pub fn announced()
+    ensures services { (net : Internet) (most_routes most_services : ℕ) (histories : List History) (ticks : List (List Step)) (router : ℕ)
+        → IsInternet net → AreHistories net histories
+        → EachTick net most_routes most_services (IsBusyTick net most_routes most_services) (begun histories) ticks → most_ticks_gone ≤ length ticks
+        → router < length net → AllByRecursion (AllByRecursion (SaysOnly AsksApart)) ticks
+        → AllByRecursion (λ s. IsAnnounced ticks s.service)
+        (offers (services_held (ports_of net router) most_services (history_of (ticked net most_routes most_services (begun histories) ticks).histories router))) }
+    ensures whatever_waits { (net : Internet) (most_routes most_services : ℕ) (run : Run) (first : List Step) (ticks : List (List Step)) (router : ℕ)
+        → IsInternet net → AreHistories net run.histories → AllByRecursion (λ w. IsDelivery net w.delivery) run.waiting
+        → EachTick net most_routes most_services (IsBusyTick net most_routes most_services) run (first ∷ ticks) → most_ticks_gone ≤ length ticks
+        → router < length net → AllByRecursion (AllByRecursion (SaysOnly AsksApart)) ticks
+        → AllByRecursion (λ s. IsAnnounced ticks s.service)
+        (offers (services_held (ports_of net router) most_services (history_of (ticked net most_routes most_services run (first ∷ ticks)).histories router))) }
 {
     ipx_wire::laws::readings();
     ipx_wire::laws::service_readings();
