@@ -1,4 +1,4 @@
-use Rattle.std.proofs.Common.{◌≡◌, ◌∙◌, sym, ap, subst, ℕ, List, ◌++◌, ◌+◌, ◌*◌, ◌≤◌, length, max}
+use Rattle.std.proofs.Common.{◌∙◌, sym, ap, subst, ℕ, List, ◌++◌, ◌+◌, ◌*◌, ◌≤◌, length, max}
 use Rattle.ipx_router.specs.Happened.{happened}
 use Rattle.ipx_router.specs.Needs.{packets_needed, bytes_needed}
 use Rattle.ipx_router.specs.Outbox.{Memory, HasRoom, TakesRoom, total}
