@@ -2,7 +2,8 @@
 //! Comes in: ports, tables, and to whom it goes.
 //! Goes out: packets of at most fifty entries or seven services, in the order of their keys.
 //! Touches: the outbox. The tables are read item by item and not copied.
-//! `told_routes` and `told_services` have what is advertised, of single `items`; `shown` chooses, `told` puts it into pages.
+//! `told_routes` and `told_services` have what is advertised, of single `items`; `shown` chooses how, `told` sends it. Of either kind of
+//! `item`, `pages` puts a list into packets, all in one `envelope`.
 mod broadcasts;
 pub(crate) mod envelope;
 pub(crate) mod introducing;

@@ -9,7 +9,7 @@ use Rattle.ipx_router.specs.inside.Ended.{AreInOrder, by_route, by_service, dead
 use Rattle.ipx_router.specs.Port.{Port, port_at}
 use Rattle.ipx_router.specs.Sorted.{put_all, sorted}
 use Rattle.ipx_router.specs.inside.Sources.{first_then}
-use Rattle.ipx_router.specs.Told.{network_before, name_before, by_network, by_name, told, told_at, direct, learned, told_services, is_service_told, farther, dead, dead_service, entry_of}
+use Rattle.ipx_router.specs.Told.{network_before, name_before, by_network, by_name, told, told_at, direct, learned, told_services, is_service_told, farther}
 use Rattle.ipx_router.specs.declared.route_offer.RouteOffer.{RouteOffer}
 use Rattle.ipx_router.specs.declared.service_offer.ServiceOffer.{ServiceOffer}
 use Rattle.ipx_router.proofs.tables.ToldRises.{network_orders, name_orders, not_greater}

@@ -1,5 +1,5 @@
 -- What is sent on one port after another, to all nodes of its network.
-use Rattle.std.proofs.Common.{◌≡◌, ap, ◌∙◌, ℕ, zero, suc, ◌<◌, false, List, [], ◌∷◌, ◌++◌, get_or, length, arith}
+use Rattle.std.proofs.Common.{◌≡◌, ap, ◌∙◌, ℕ, zero, suc, ◌<◌, List, [], ◌∷◌, ◌++◌, get_or, length, arith}
 use Rattle.std.specs.List.{AllByRecursion}
 use Rattle.ipx_router.specs.Outbox.{Contents, Fits, Appends}
 use Rattle.ipx_router.specs.Relays.{Sent}

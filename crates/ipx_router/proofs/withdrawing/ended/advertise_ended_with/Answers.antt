@@ -1,4 +1,4 @@
-use Rattle.std.proofs.Common.{ℕ, refl, ap, ◌∙◌, [], ◌∷◌, None, arith}
+use Rattle.std.proofs.Common.{ℕ, refl, [], ◌∷◌, None, arith}
 use Rattle.std.specs.List.{flat_map}
 use Rattle.ipx_router.specs.inside.Envelope.{entries_in, routes_to_all}
 use Rattle.ipx_router.specs.inside.Ended.{by_route, dead_route, ended_on}

@@ -1,7 +1,5 @@
-use Rattle.std.proofs.Common.{sym, ap, ◌∙◌, subst, rules, Bool, if◌then◌else◌}
-use Rattle.std.specs.List.{flat_map}
+use Rattle.std.proofs.Common.{sym, subst, rules}
 use Rattle.ipx_router.specs.inside.Ended.{RoutesAscend, ServicesAscend}
-use Rattle.ipx_router.specs.inside.EndedSends.{all_sends}
 use Rattle.ipx_router.specs.Facts.{offers}
 use Rattle.ipx_router.specs.Outbox.{Fits, Appends}
 use Rattle.ipx_router.proofs.ended.SentIsOfEnded.{all_as}

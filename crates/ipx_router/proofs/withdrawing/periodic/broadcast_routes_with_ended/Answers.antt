@@ -1,4 +1,4 @@
-use Rattle.std.proofs.Common.{ℕ, ◌≡◌, sym, ap, ◌∙◌, [], ◌++◌, List, arith}
+use Rattle.std.proofs.Common.{ℕ, ◌≡◌, sym, ap, ◌∙◌, [], List, arith}
 use Rattle.std.specs.List.{flat_map}
 use Rattle.ipx_wire.specs.declared.rip.RipEntry.{RipEntry}
 use Rattle.ipx_router.specs.inside.Envelope.{entries_in, routes_to_all}
@@ -7,7 +7,7 @@ use Rattle.ipx_router.specs.Facts.{offers}
 use Rattle.ipx_router.specs.Numbers.{entries_a_page}
 use Rattle.ipx_router.specs.Port.{Port}
 use Rattle.ipx_router.specs.Sorted.{put_all}
-use Rattle.ipx_router.specs.Told.{by_network, network_before, told}
+use Rattle.ipx_router.specs.Told.{network_before, told}
 use Rattle.ipx_router.proofs.ended.EndedRises.{routes_in_order, told_with}
 use Rattle.ipx_router.proofs.ended.EndedPageByPage.{begun_pays, item_fits, item_page_fits, item_pays, rest_fits, last_fits, last_sent}
 use Rattle.ipx_router.proofs.sending.OneAfterAnother.{pays_none}

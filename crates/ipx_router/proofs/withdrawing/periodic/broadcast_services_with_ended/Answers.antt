@@ -1,4 +1,4 @@
-use Rattle.std.proofs.Common.{ℕ, false, sym, ap, ◌∙◌, [], ◌++◌, List, arith}
+use Rattle.std.proofs.Common.{ℕ, false, sym, ap, ◌∙◌, [], List, arith}
 use Rattle.std.specs.List.{flat_map}
 use Rattle.ipx_wire.specs.declared.service.Service.{Service}
 use Rattle.ipx_router.specs.inside.Envelope.{services_in, services_to_all}
@@ -6,7 +6,7 @@ use Rattle.ipx_router.specs.inside.Ended.{service_ended_on}
 use Rattle.ipx_router.specs.Facts.{offers}
 use Rattle.ipx_router.specs.Numbers.{services_a_page}
 use Rattle.ipx_router.specs.Sorted.{put_all}
-use Rattle.ipx_router.specs.Told.{by_name, name_before, told_services}
+use Rattle.ipx_router.specs.Told.{name_before, told_services}
 use Rattle.ipx_router.proofs.ended.EndedRises.{services_in_order, services_with}
 use Rattle.ipx_router.proofs.ended.EndedPageByPage.{begun_pays, item_fits, item_page_fits, item_pays, rest_fits, last_fits, last_sent}
 use Rattle.ipx_router.proofs.sending.OneAfterAnother.{pays_none}
