@@ -6,6 +6,7 @@ pub mod Ends
 pub mod Forward
 pub mod Header
 pub mod Items
+pub mod Measure
 pub mod Name
 pub mod NameWord
 pub mod Numbers
