@@ -106,6 +106,6 @@ fn network_at<const P: usize, const R: usize, const S: usize>(
 {
     match routers.get(router) {
         Some(router) => network_of(router, port),
-        None => Network(0),
+        None => Network::LOCAL,
     }
 }

@@ -10,25 +10,12 @@ ghost use Rattle.ipx_internet.specs.InternetWeight.{most_hearers, weight_in_reac
 ghost use Rattle.ipx_internet.specs.Most.{most_of, most_ports, most_on_network};
 ghost use Rattle.ipx_internet.specs.Scales.{saturated, IsScale};
 
-use ipx_wire::{Header, Network, Node, Operation, Packet, Rip, RipEntry, Sap, SapEntries, Socket};
-
-/// Packets of this type to all nodes are propagated.
-const PROPAGATED: u8 = 20;
-
-/// The most networks that a propagated packet crosses.
-const MOST_CROSSED: u8 = 8;
-
-/// The most routers that a packet goes through.
-const MOST_ROUTERS: u8 = 16;
-
-/// The most entries that a page of routes has.
-const ENTRIES_A_PAGE: u128 = 50;
-
-/// The most services that a page of them has.
-const SERVICES_A_PAGE: usize = 7;
+use ipx_wire::{
+    Crossed, Header, Network, Node, Operation, Packet, Rip, RipEntry, Sap, SapEntries, SapEntry, Socket,
+};
 
 /// This many entries of routes are as long as one of services.
-const ENTRIES_A_SERVICE: usize = 8;
+const ENTRIES_A_SERVICE: usize = SapEntry::SIZE / RipEntry::SIZE;
 
 /// What the weights of an internet are made of.
 #[derive(Clone, Copy, Debug)]
@@ -58,7 +45,7 @@ pub(crate) fn scale_of(ports: usize, on_network: usize, routes: usize, services:
     let entries = routes.saturating_add(others);
     let all = routes as u128 + others as u128;
     let misread = (all / ENTRIES_A_SERVICE as u128) as usize;
-    let pages = all.div_ceil(ENTRIES_A_PAGE) as usize;
+    let pages = all.div_ceil(RipEntry::MOST as u128) as usize;
     Scale {
         hearers,
         receivers: neighbours.max(1),
@@ -99,14 +86,14 @@ impl Scale {
     {
         let header = packet.header();
         if is_propagated(&header) {
-            let times = usize::from(MOST_CROSSED.saturating_sub(header.control));
+            let times = usize::from(Crossed::PLACES.saturating_sub(header.control));
             return tree(times, self.hearers);
         }
         let said = self.said(packet);
         if is_local(network, header.destination.network) {
             return said;
         }
-        let routers = usize::from(MOST_ROUTERS.saturating_sub(header.control));
+        let routers = usize::from(Header::MOST_ROUTERS.saturating_sub(header.control));
         self.receivers.saturating_mul(said).saturating_add(routers)
     }
 
@@ -116,7 +103,7 @@ impl Scale {
     {
         let header = packet.header();
         let asker = header.source.socket;
-        if header.kind == PROPAGATED {
+        if header.kind == Header::PROPAGATED {
             return 1;
         }
         if header.destination.socket == Socket::RIP {
@@ -223,9 +210,9 @@ impl Scale {
         if nearest {
             return 2;
         }
-        let packets = self.services.div_ceil(SERVICES_A_PAGE).saturating_add(1);
+        let packets = self.services.div_ceil(SapEntry::MOST).saturating_add(1);
         if asker == Socket::RIP {
-            let short = self.services.min(SERVICES_A_PAGE - 1);
+            let short = self.services.min(SapEntry::MOST - 1);
             let read = (short * ENTRIES_A_SERVICE).saturating_mul(self.entry(0));
             return read.saturating_add(packets);
         }
@@ -241,14 +228,14 @@ impl Scale {
 fn is_propagated(header: &Header) -> bool
     ensures { result ≡ is_propagated header.now }
 {
-    header.kind == PROPAGATED && header.destination.node == Node::BROADCAST
+    header.kind == Header::PROPAGATED && header.destination.node == Node::BROADCAST
 }
 
 /// Whether a number means a port's own network.
 fn is_local(own: Network, network: Network) -> bool
     ensures { result ≡ ((network.0 == local_network) || (network.0 == own.0)) }
 {
-    network == Network(0) || network == own
+    network == Network::LOCAL || network == own
 }
 
 /// How many routers may take what is this many hops away, one behind the other.

@@ -160,7 +160,7 @@ pub(crate) fn network_of<const P: usize, const R: usize, const S: usize>(
 {
     match router.port(usize::from(port)) {
         Some(port) => port.network(),
-        None => Network(0),
+        None => Network::LOCAL,
     }
 }
 

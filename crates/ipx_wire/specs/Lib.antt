@@ -15,6 +15,8 @@ pub mod SapEntries
 pub mod Sap
 -- propagation
 pub mod Crossed
+-- the numbers behind a fault
+pub mod Measure
 -- packets that are sent on
 pub mod Forward
 -- packets of a router's own

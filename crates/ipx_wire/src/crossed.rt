@@ -67,7 +67,7 @@ impl<'a> Crossed<'a> {
     pub(crate) const PLACE: usize = 4;
 
     /// How many bytes the list takes.
-    const SIZE: usize = 32;
+    pub(crate) const SIZE: usize = 32;
 
     /// Reads the networks crossed at the beginning of a packet's data; `control` is its transport control.
     ///

@@ -10,6 +10,7 @@
 //!   once a call, and a bounded number of times; an outlet gives once a call.
 //! - Lists of entries ([`Rip`], [`SapEntries`]) have `len`, `get(k)`, `entry(k)` for a `k` that is known to be below
 //!   `len`, and `entries`; the networks crossed ([`Crossed`]) alike, with `get(k)` for such a `k`.
+//! - A fault says what is wrong; `measure` beside each reader tells the numbers of the same bytes, for a log ([`Measure`]).
 //! - Numbers, addresses, names and operations are told as bytes or words that can't fail (`digits`, `word`, `put_word`), and have
 //!   `Display` and a `Debug` of the same.
 //!
@@ -27,6 +28,7 @@ mod header;
 mod hex_text;
 mod intake;
 pub mod laws;
+mod measure;
 mod name_word;
 mod network;
 mod node;
@@ -55,6 +57,7 @@ pub use crate::forward::{change_to_crossed, change_to_forwarded, write_crossed, 
 pub use crate::header::Header;
 pub use crate::hex_text::{Hex, put_digits};
 pub use crate::intake::{Intake, MOST_CALLS};
+pub use crate::measure::Measure;
 pub use crate::network::Network;
 pub use crate::node::Node;
 pub use crate::not_hex::NotHex;
