@@ -63,6 +63,7 @@ fn read(rt: &HostRuntime) -> Result<()> {
     let (from, to) = (at(0xBB), at(0xFF));
     let bytes = hex::decode(rt.alloc(), ROUTES)?;
     packets::packet(rt, &bytes)?;
+    packets::measure(rt, &[0xFF; 34])?;
     let packet = Packet::read(&bytes)?;
     packets::header(rt, &packet)?;
     routes::rip(rt, packet.payload())?;

@@ -48,7 +48,7 @@ impl Offer for TimeServer {
 
 /// A table, and an offer in it.
 pub fn table(rt: &HostRuntime, server: TimeServer) -> Result<()> {
-    let mut table: Table<TimeServer, 8> = Table::new();
+    let mut table = Table::<TimeServer, 8>::new();
     table.offer(server);
     table.second();
     for Held { offer, age } in table.entries() {

@@ -17,6 +17,15 @@ pub fn packet(rt: &HostRuntime, bytes: &[u8]) -> Result<()> {
     Ok(())
 }
 
+/// Why bytes are no packet, with the numbers.
+pub fn measure(rt: &HostRuntime, bytes: &[u8]) -> Result<()> {
+    if let Err(fault) = Packet::read(bytes) {
+        println!(rt; "{fault}: {}", Packet::measure(bytes))?;
+    }
+    // prints a length beyond the last byte: 34 bytes came, and 65535 are counted
+    Ok(())
+}
+
 /// A header, turned round and written.
 pub fn header(rt: &HostRuntime, packet: &Packet<'_>) -> Result<()> {
     let header = packet.header();

@@ -7,7 +7,7 @@ pub mod Following
 pub mod Judged
 pub mod Owed
 pub mod Received
-pub mod Shown
+pub mod Selection
 pub mod Sources
 pub mod ToldRoutes
 pub mod Touched

@@ -2,7 +2,7 @@
 //! Comes in: ports, tables, and to whom it goes.
 //! Goes out: packets of at most fifty entries or seven services, in the order of their keys.
 //! Touches: the outbox. The tables are read item by item and not copied.
-//! `told_routes` and `told_services` have what is advertised, of single `items`; `shown` chooses how, `told` sends it. Of either kind of
+//! `told_routes` and `told_services` have what is advertised, of single `items`; `selection` chooses how, `told` sends it. Of either kind of
 //! `item`, `pages` puts a list into packets, all in one `envelope`.
 mod broadcasts;
 pub(crate) mod envelope;
@@ -11,7 +11,7 @@ pub(crate) mod item;
 pub(crate) mod items;
 pub(crate) mod pages;
 mod requests;
-pub(crate) mod shown;
+pub(crate) mod selection;
 pub(crate) mod stopping;
 pub(crate) mod told;
 pub(crate) mod told_routes;

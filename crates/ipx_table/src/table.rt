@@ -33,7 +33,7 @@ const MOST_SHARES: usize = 32;
 /// With `TimeServer`, the type that the documentation of [`Offer`] shows:
 ///
 /// ```
-/// let mut table: Table<TimeServer, 8> = Table::new();
+/// let mut table = Table::<TimeServer, 8>::new();
 /// table.offer(server);
 /// table.second();
 /// for Held { offer, age } in table.entries() {

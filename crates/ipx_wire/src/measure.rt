@@ -13,6 +13,13 @@ use std::fmt;
 
 /// What bytes say of themselves, and how many of them came. A reader's fault tells what is wrong with them; this tells the numbers that make
 /// it wrong.
+///
+/// ```
+/// if let Err(fault) = Packet::read(bytes) {
+///     println!(rt; "{fault}: {}", Packet::measure(bytes))?;
+/// }
+/// // prints a length beyond the last byte: 34 bytes came, and 65535 are counted
+/// ```
 #[derive(Clone, Copy, Debug, PartialEq, Eq, Hash)]
 pub enum Measure {
     /// There are too few bytes for what every packet has, or every operation.

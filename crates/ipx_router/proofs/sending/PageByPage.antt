@@ -11,10 +11,10 @@ use Rattle.ipx_router.proofs.sending.OneAfterAnother.{pays_none, appends_then, p
 pub pays_rest : {a b c : Contents} {ps qs : List Sent} → Pays a b ps qs → Appends b c qs → Appends a c ps
 pays_rest {a} {b} {c} pays rest = subst (Appends a c) (sym pays.whole) (appends_then pays.appends rest)
 
-module _ {X : Type 0} (n : ℕ) (packet : List X → Sent) (shown : X → List X) where
-  -- what is owed of a page that is begun and of items that are left, as they are shown
+module _ {X : Type 0} (n : ℕ) (packet : List X → Sent) (selection : X → List X) where
+  -- what is owed of a page that is begun and of items that are left, as they are selected
   abbrev pub owed_of : List X → List X → List Sent
-  owed_of page left = owed n packet page (flat_map shown left)
+  owed_of page left = owed n packet page (flat_map selection left)
 
   -- of all that was to be sent
   module _ (all : List X) where
@@ -28,23 +28,23 @@ module _ {X : Type 0} (n : ℕ) (packet : List X → Sent) (shown : X → List X
         (subst (λ (l : List X). Pays a a owed_all (owed_of [] l)) (sym whole) (pays_none a owed_all))
 
     -- an item was yielded, and is sent as that, or not at all
-    module _ (page left later : List X) (x : X) (sent : Option X) (yielded : left ≡ x ∷ later) (seen : option_to_list sent ≡ shown x) where
-      owed_next : owed_of page left ≡ owed n packet page (option_to_list sent ++ flat_map shown later)
-      owed_next = ap (owed_of page) yielded ∙ ap (λ (l : List X). owed n packet page (l ++ flat_map shown later)) (sym seen)
+    module _ (page left later : List X) (x : X) (sent : Option X) (yielded : left ≡ x ∷ later) (seen : option_to_list sent ≡ selection x) where
+      owed_next : owed_of page left ≡ owed n packet page (option_to_list sent ++ flat_map selection later)
+      owed_next = ap (owed_of page) yielded ∙ ap (λ (l : List X). owed n packet page (l ++ flat_map selection later)) (sym seen)
 
       -- the packets that this took
       pub owed_step : {a b c : Contents} (page' : List X) → Pays a b owed_all (owed_of page left)
           → ((more : List X) → Pays b c (owed n packet page (option_to_list sent ++ more)) (owed n packet page' more))
           → Pays a c owed_all (owed_of page' later)
       owed_step {a} {b} {c} page' before step =
-          pays_then before (subst (λ (ps : List Sent). Pays b c ps (owed_of page' later)) (sym owed_next) (step (flat_map shown later)))
+          pays_then before (subst (λ (ps : List Sent). Pays b c ps (owed_of page' later)) (sym owed_next) (step (flat_map selection later)))
 
       -- there is room for the page, if it is full
       pub owed_fits : {a b : Contents} → 1 ≤ n → Fits a owed_all → Pays a b owed_all (owed_of page left)
           → (e : X) → sent ≡ Some e → n ≤ length page → Fits b (packet page ∷ [])
       owed_fits {a} {b} some fits before e is full =
-          page_fits n packet page e (flat_map shown later) some full
-          (subst (Fits b) (owed_next ∙ ap (λ (o : Option X). owed n packet page (option_to_list o ++ flat_map shown later)) is) (still_fits fits before))
+          page_fits n packet page e (flat_map selection later) some full
+          (subst (Fits b) (owed_next ∙ ap (λ (o : Option X). owed n packet page (option_to_list o ++ flat_map selection later)) is) (still_fits fits before))
 
     -- nothing was left: the last page is owed
     module _ (page left : List X) (none : left ≡ []) where

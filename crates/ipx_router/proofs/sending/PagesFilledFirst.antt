@@ -63,19 +63,19 @@ module _ {X : Type 0} (n : ℕ) (packet : List X → Sent) (some : 1 ≤ n) wher
 
 -- ---- a page is filled from a source, with what is sent of the items that it yields
 
-module _ {X Y : Type 0} (shown : X → List Y) (page : List Y) (count : ℕ) (all left later : List X) (x : X) (yielded : left ≡ x ∷ later)
-    (before : flat_map shown all ≡ take count page ++ flat_map shown left) where
-  yields : flat_map shown all ≡ take count page ++ (shown x ++ flat_map shown later)
-  yields = before ∙ ap (λ l. take count page ++ flat_map shown l) yielded
+module _ {X Y : Type 0} (selection : X → List Y) (page : List Y) (count : ℕ) (all left later : List X) (x : X) (yielded : left ≡ x ∷ later)
+    (before : flat_map selection all ≡ take count page ++ flat_map selection left) where
+  yields : flat_map selection all ≡ take count page ++ (selection x ++ flat_map selection later)
+  yields = before ∙ ap (λ l. take count page ++ flat_map selection l) yielded
 
   -- an item that is sent
-  pub one_filled : (y : Y) → y ∷ [] ≡ shown x → count < length page → flat_map shown all ≡ take (count + 1) (slice_set page count y) ++ flat_map shown later
+  pub one_filled : (y : Y) → y ∷ [] ≡ selection x → count < length page → flat_map selection all ≡ take (count + 1) (slice_set page count y) ++ flat_map selection later
   one_filled y seen room =
       yields
-      ∙ ap (λ ys. take count page ++ (ys ++ flat_map shown later)) (sym seen)
-      ∙ sym (append_assoc (take count page) (y ∷ []) (flat_map shown later))
-      ∙ sym (ap (λ ys. ys ++ flat_map shown later) (take_more_set page count y room))
+      ∙ ap (λ ys. take count page ++ (ys ++ flat_map selection later)) (sym seen)
+      ∙ sym (append_assoc (take count page) (y ∷ []) (flat_map selection later))
+      ∙ sym (ap (λ ys. ys ++ flat_map selection later) (take_more_set page count y room))
 
   -- an item that isn't
-  pub none_filled : [] ≡ shown x → flat_map shown all ≡ take count page ++ flat_map shown later
-  none_filled seen = yields ∙ ap (λ ys. take count page ++ (ys ++ flat_map shown later)) (sym seen)
+  pub none_filled : [] ≡ selection x → flat_map selection all ≡ take count page ++ flat_map selection later
+  none_filled seen = yields ∙ ap (λ ys. take count page ++ (ys ++ flat_map selection later)) (sym seen)

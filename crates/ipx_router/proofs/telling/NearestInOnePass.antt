@@ -8,7 +8,7 @@ use Rattle.ipx_table.proofs.Order.{not_both, not_below_through}
 use Rattle.ipx_wire.specs.Name.{name_order}
 use Rattle.ipx_wire.specs.declared.service.Service.{Service}
 use Rattle.ipx_router.specs.Sends.{is_nearer, nearest_of, of_kind}
-use Rattle.ipx_router.specs.inside.Shown.{is_of_kind}
+use Rattle.ipx_router.specs.inside.Selection.{is_of_kind}
 use Rattle.ipx_router.proofs.lists.PutInOrder.{IsOrder}
 
 -- ---- what is nearer is an order

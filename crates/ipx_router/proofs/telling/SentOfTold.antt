@@ -12,11 +12,11 @@ use Rattle.ipx_router.specs.Port.{Port, port_at, reply_to}
 use Rattle.ipx_router.specs.Sends.{asked, nearest_of, of_kind, sap_sends}
 use Rattle.ipx_router.specs.inside.Envelope.{services_in, services_reply}
 use Rattle.ipx_router.specs.inside.Owed.{owed}
-use Rattle.ipx_router.specs.inside.Shown.{asks_for, is_asked, shown_as, is_of_kind, service_shown_as}
+use Rattle.ipx_router.specs.inside.Selection.{asks_for, is_asked, selected_by, is_of_kind, service_selected_by}
 use Rattle.ipx_router.specs.Told.{dead, dead_service}
 use Rattle.ipx_router.specs.declared.advertising.envelope.Envelope.{Envelope}
-use Rattle.ipx_router.specs.declared.advertising.shown.Shown.TheVariants.{All, Dead, Asked}
-use Rattle.ipx_router.specs.declared.advertising.shown.ShownServices.TheVariants.{All as AllServices, Dead as DeadServices, OfKind}
+use Rattle.ipx_router.specs.declared.advertising.selection.Selection.TheVariants.{All, Dead, Asked}
+use Rattle.ipx_router.specs.declared.advertising.selection.ServiceSelection.TheVariants.{All as AllServices, Dead as DeadServices, OfKind}
 use Rattle.ipx_router.proofs.sending.PortByPort.{in_envelope}
 
 -- ---- one more of those that are asked
@@ -32,19 +32,19 @@ module _ {X : Type 0} (p : X → Bool) (xs : List X) (k : ℕ) (x : X) (at : sli
 
 -- ---- routes
 
-pub shown_all : (es : List RipEntry) → flat_map (shown_as All) es ≡ es
-shown_all [] = refl
-shown_all (e ∷ es) = ap (λ (l : List RipEntry). e ∷ l) (shown_all es)
+pub selected_all : (es : List RipEntry) → flat_map (selected_by All) es ≡ es
+selected_all [] = refl
+selected_all (e ∷ es) = ap (λ (l : List RipEntry). e ∷ l) (selected_all es)
 
-pub shown_dead : (es : List RipEntry) → flat_map (shown_as Dead) es ≡ map dead es
-shown_dead [] = refl
-shown_dead (e ∷ es) = ap (λ (l : List RipEntry). dead e ∷ l) (shown_dead es)
+pub selected_dead : (es : List RipEntry) → flat_map (selected_by Dead) es ≡ map dead es
+selected_dead [] = refl
+selected_dead (e ∷ es) = ap (λ (l : List RipEntry). dead e ∷ l) (selected_dead es)
 
-pub shown_asked : (rip : _) (es : List RipEntry) → flat_map (shown_as (Asked rip)) es ≡ asked rip.now.entries es
-shown_asked rip [] = refl
-shown_asked rip (e ∷ es) = elim (cases_Bool (is_asked rip.now.entries e)) [
-  | inl wanted ↦ rw wanted (ap (λ (l : List RipEntry). e ∷ l) (shown_asked rip es))
-  | inr other ↦ rw other (shown_asked rip es)
+pub selected_asked : (rip : _) (es : List RipEntry) → flat_map (selected_by (Asked rip)) es ≡ asked rip.now.entries es
+selected_asked rip [] = refl
+selected_asked rip (e ∷ es) = elim (cases_Bool (is_asked rip.now.entries e)) [
+  | inl wanted ↦ rw wanted (ap (λ (l : List RipEntry). e ∷ l) (selected_asked rip es))
+  | inr other ↦ rw other (selected_asked rip es)
 ]
 
 -- an entry that asks for all asks for each
@@ -55,38 +55,38 @@ asked_all wanted k w at all (e ∷ es) =
     let here : asks_for w e ≡ true = rw all refl in
     rw (passes_there (λ x. asks_for x e) wanted k w at here) (ap (λ (l : List RipEntry). e ∷ l) (asked_all wanted k w at all es))
 
--- so all is shown
-pub shown_to_all : (wanted : List RipEntry) (k : ℕ) (w : RipEntry) → slice_get wanted k ≡ Some w → w.network.0 ≡ all_routes
-    → (es : List RipEntry) → flat_map (shown_as All) es ≡ asked wanted es
-shown_to_all wanted k w at all es = shown_all es ∙ sym (asked_all wanted k w at all es)
+-- so all is selected
+pub selected_for_all : (wanted : List RipEntry) (k : ℕ) (w : RipEntry) → slice_get wanted k ≡ Some w → w.network.0 ≡ all_routes
+    → (es : List RipEntry) → flat_map (selected_by All) es ≡ asked wanted es
+selected_for_all wanted k w at all es = selected_all es ∙ sym (asked_all wanted k w at all es)
 
 -- ---- services
 
-pub services_shown_all : (ss : List Service) → flat_map (service_shown_as AllServices) ss ≡ ss
-services_shown_all [] = refl
-services_shown_all (s ∷ ss) = ap (λ (l : List Service). s ∷ l) (services_shown_all ss)
+pub services_selected_all : (ss : List Service) → flat_map (service_selected_by AllServices) ss ≡ ss
+services_selected_all [] = refl
+services_selected_all (s ∷ ss) = ap (λ (l : List Service). s ∷ l) (services_selected_all ss)
 
-pub services_shown_dead : (ss : List Service) → flat_map (service_shown_as DeadServices) ss ≡ map dead_service ss
-services_shown_dead [] = refl
-services_shown_dead (s ∷ ss) = ap (λ (l : List Service). dead_service s ∷ l) (services_shown_dead ss)
+pub services_selected_dead : (ss : List Service) → flat_map (service_selected_by DeadServices) ss ≡ map dead_service ss
+services_selected_dead [] = refl
+services_selected_dead (s ∷ ss) = ap (λ (l : List Service). dead_service s ∷ l) (services_selected_dead ss)
 
-pub services_shown_of_kind : (kind : ℕ) (ss : List Service) → flat_map (service_shown_as (OfKind kind)) ss ≡ of_kind kind ss
-services_shown_of_kind kind [] = refl
-services_shown_of_kind kind (s ∷ ss) = elim (cases_Bool (is_of_kind kind s)) [
-  | inl wanted ↦ rw wanted (ap (λ (l : List Service). s ∷ l) (services_shown_of_kind kind ss))
-  | inr other ↦ rw other (services_shown_of_kind kind ss)
+pub services_selected_of_kind : (kind : ℕ) (ss : List Service) → flat_map (service_selected_by (OfKind kind)) ss ≡ of_kind kind ss
+services_selected_of_kind kind [] = refl
+services_selected_of_kind kind (s ∷ ss) = elim (cases_Bool (is_of_kind kind s)) [
+  | inl wanted ↦ rw wanted (ap (λ (l : List Service). s ∷ l) (services_selected_of_kind kind ss))
+  | inr other ↦ rw other (services_selected_of_kind kind ss)
 ]
 
 -- ---- answers
 
--- in the same envelope, what is shown of all that is told is the answer to a query that isn't for the nearest
+-- in the same envelope, what is selected of all that is told is the answer to a query that isn't for the nearest
 pub query_answered : (ports : List Port) (number : ℕ) (source : Address) (nearest : Bool) (kind : ℕ) (services : ℕ → List Service) {envelope : Envelope}
     → envelope ≡ services_reply ports number source → nearest ≡ false
-    → owed services_a_page (services_in false envelope) [] (flat_map (service_shown_as (OfKind kind)) (services envelope.port))
+    → owed services_a_page (services_in false envelope) [] (flat_map (service_selected_by (OfKind kind)) (services envelope.port))
     ≡ sap_sends ports number (reply_to (port_at ports number) source) nearest (if nearest then nearest_of (of_kind kind (services number)) else of_kind kind (services number))
 query_answered ports number source true kind services is e = absurd (true≢false e)
 query_answered ports number source false kind services is e =
-    in_envelope services_a_page (services_in false) (λ j. flat_map (service_shown_as (OfKind kind)) (services j)) is (services_shown_of_kind kind (services number))
+    in_envelope services_a_page (services_in false) (λ j. flat_map (service_selected_by (OfKind kind)) (services j)) is (services_selected_of_kind kind (services number))
 
 -- and to one that is
 pub nearest_answered : (ports : List Port) (number : ℕ) (source : Address) (nearest : Bool) (kind : ℕ) (services : ℕ → List Service) {envelope : Envelope}

@@ -8,7 +8,7 @@ ghost use Rattle.ipx_router.specs.Sends.{rip_broadcast, sap_broadcast};
 ghost use Rattle.ipx_router.specs.Told.{told, told_services, dead, dead_service};
 
 use crate::advertising::envelope::Envelope;
-use crate::advertising::shown::{Shown, ShownServices};
+use crate::advertising::selection::{Selection, ServiceSelection};
 use crate::advertising::told::{advertise_routes, advertise_services};
 use crate::outbox::Outbox;
 use crate::port::Port;
@@ -31,7 +31,7 @@ pub(crate) fn broadcast_routes<const R: usize>(
     ensures { Appends outbox.old outbox.new (rip_broadcast ports.now number (told ports.now up.now (offers routes.now.records) number)) }
 {
     let envelope = Envelope::routes_to_all(ports, number);
-    advertise_routes(outbox, envelope, ports, up, routes, Shown::All);
+    advertise_routes(outbox, envelope, ports, up, routes, Selection::All);
 }
 
 /// Broadcasts the routes that a port advertises, as unreachable.
@@ -49,7 +49,7 @@ pub(crate) fn withdraw_routes<const R: usize>(
     ensures { Appends outbox.old outbox.new (rip_broadcast ports.now number (map dead (told ports.now up.now (offers routes.now.records) number))) }
 {
     let envelope = Envelope::routes_to_all(ports, number);
-    advertise_routes(outbox, envelope, ports, up, routes, Shown::Dead);
+    advertise_routes(outbox, envelope, ports, up, routes, Selection::Dead);
 }
 
 /// Broadcasts the services that a port advertises.
@@ -64,7 +64,7 @@ pub(crate) fn broadcast_services<const S: usize>(
     ensures { Appends outbox.old outbox.new (sap_broadcast ports.now number (told_services (offers services.now.records) number)) }
 {
     let envelope = Envelope::services_to_all(ports, number);
-    advertise_services(outbox, envelope, services, ShownServices::All);
+    advertise_services(outbox, envelope, services, ServiceSelection::All);
 }
 
 /// Broadcasts the services that a port advertises, as unreachable.
@@ -79,5 +79,5 @@ pub(crate) fn withdraw_services<const S: usize>(
     ensures { Appends outbox.old outbox.new (sap_broadcast ports.now number (map dead_service (told_services (offers services.now.records) number))) }
 {
     let envelope = Envelope::services_to_all(ports, number);
-    advertise_services(outbox, envelope, services, ShownServices::Dead);
+    advertise_services(outbox, envelope, services, ServiceSelection::Dead);
 }

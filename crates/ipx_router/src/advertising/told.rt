@@ -9,13 +9,13 @@ ghost use Rattle.ipx_router.specs.Numbers.{entries_a_page, services_a_page, most
 ghost use Rattle.ipx_router.specs.Outbox.{Fits, Appends};
 ghost use Rattle.ipx_router.specs.inside.Envelope.{entries_in, services_in};
 ghost use Rattle.ipx_router.specs.inside.Owed.{Pays, owed};
-ghost use Rattle.ipx_router.specs.inside.Shown.{service_shown_as, shown_as};
+ghost use Rattle.ipx_router.specs.inside.Selection.{service_selected_by, selected_by};
 ghost use Rattle.ipx_router.specs.Told.{told, told_services};
 
 use crate::advertising::envelope::Envelope;
 use crate::advertising::item::Item;
 use crate::advertising::pages::{ENTRIES_A_PAGE, SERVICES_A_PAGE, add_item, send_rest};
-use crate::advertising::shown::{Shown, ShownServices, show, show_service};
+use crate::advertising::selection::{Selection, ServiceSelection, select, select_service};
 use crate::advertising::told_routes::{ToldRoutes, list_direct};
 use crate::advertising::told_services::ToldServices;
 use crate::outbox::Outbox;
@@ -27,20 +27,20 @@ use arrayvec::ArrayVec;
 use ipx_table::Table;
 use ipx_wire::{RipEntry, Service};
 
-/// Sends the routes that a port advertises, as they are shown, in an envelope of that port.
+/// Sends the routes that a port advertises, as they are selected, in an envelope of that port.
 pub(crate) fn advertise_routes<const R: usize>(
     outbox: &mut Outbox,
     envelope: Envelope,
     ports: &[Port],
     up: &[u8],
     table: &Table<RouteOffer, R>,
-    shown: Shown<'_>,
+    selection: Selection<'_>,
 )
     requires port { envelope.port < length ports.now }
     requires ports { AllByRecursion (λ j. j < length ports.now) up.now }
     requires few { length up.now ≤ most_ports }
-    requires room { Fits outbox.old (owed entries_a_page (entries_in envelope) [] (flat_map (shown_as shown) (told ports.now up.now (offers table.now.records) envelope.port))) }
-    ensures { Appends outbox.old outbox.new (owed entries_a_page (entries_in envelope) [] (flat_map (shown_as shown.entry) (told ports.now up.now (offers table.now.records) envelope.port))) }
+    requires room { Fits outbox.old (owed entries_a_page (entries_in envelope) [] (flat_map (selected_by selection) (told ports.now up.now (offers table.now.records) envelope.port))) }
+    ensures { Appends outbox.old outbox.new (owed entries_a_page (entries_in envelope) [] (flat_map (selected_by selection.entry) (told ports.now up.now (offers table.now.records) envelope.port))) }
 {
     let number = envelope.port;
     let cost = port_of(ports, number).cost();
@@ -50,7 +50,7 @@ pub(crate) fn advertise_routes<const R: usize>(
     let mut page = [RipEntry::default(); ENTRIES_A_PAGE];
     let mut count = ENTRIES_A_PAGE;
     while count == ENTRIES_A_PAGE {
-        count = fill(&mut routes, shown, &mut page);
+        count = fill(&mut routes, selection, &mut page);
         let (filled, _) = page.split_at(count);
         send_filled(outbox, envelope, filled);
     }
@@ -60,19 +60,19 @@ pub(crate) fn advertise_routes<const R: usize>(
 /// The count is a variable of its own, so it stays in a register.
 fn fill(
     routes: &mut ToldRoutes<'_>,
-    shown: Shown<'_>,
+    selection: Selection<'_>,
     page: &mut [RipEntry; ENTRIES_A_PAGE],
 ) -> usize
     ensures few { result ≤ entries_a_page }
-    ensures entries { flat_map (shown_as shown.entry) routes.old ≡ take result page.new ++ flat_map (shown_as shown.entry) routes.new }
-    ensures last { result < entries_a_page → flat_map (shown_as shown.entry) routes.new ≡ [] }
+    ensures entries { flat_map (selected_by selection.entry) routes.old ≡ take result page.new ++ flat_map (selected_by selection.entry) routes.new }
+    ensures last { result < entries_a_page → flat_map (selected_by selection.entry) routes.new ≡ [] }
 {
     let mut count = 0;
     while count < ENTRIES_A_PAGE {
         let Some(entry) = routes.next() else {
             return count;
         };
-        if let Some(entry) = show(shown, entry) {
+        if let Some(entry) = select(selection, entry) {
             page[count] = entry;
             count += 1;
         }
@@ -91,25 +91,30 @@ fn send_filled(outbox: &mut Outbox, envelope: Envelope, page: &[RipEntry])
     }
 }
 
-/// Sends the services that a port advertises, as they are shown, in an envelope of that port.
+/// Sends the services that a port advertises, as they are selected, in an envelope of that port.
 pub(crate) fn advertise_services<const S: usize>(
     outbox: &mut Outbox,
     envelope: Envelope,
     table: &Table<ServiceOffer, S>,
-    shown: ShownServices,
+    selection: ServiceSelection,
 )
-    requires room { Fits outbox.old (owed services_a_page (services_in false envelope) [] (flat_map (service_shown_as shown) (told_services (offers table.now.records) envelope.port))) }
-    ensures { Appends outbox.old outbox.new (owed services_a_page (services_in false envelope) [] (flat_map (service_shown_as shown) (told_services (offers table.now.records) envelope.port))) }
+    requires room { Fits outbox.old (owed services_a_page (services_in false envelope) [] (flat_map (service_selected_by selection) (told_services (offers table.now.records) envelope.port))) }
+    ensures { Appends outbox.old outbox.new (owed services_a_page (services_in false envelope) [] (flat_map (service_selected_by selection) (told_services (offers table.now.records) envelope.port))) }
 {
     let mut page = ArrayVec::new();
     for service in ToldServices::new(table, envelope.port) {
-        add_shown_service(outbox, envelope, &mut page, show_service(shown, service));
+        add_selected_service(
+            outbox,
+            envelope,
+            &mut page,
+            select_service(selection, service),
+        );
     }
     send_rest(outbox, envelope, &page);
 }
 
 /// Adds a service to a page, if there is one.
-fn add_shown_service(
+fn add_selected_service(
     outbox: &mut Outbox,
     envelope: Envelope,
     page: &mut ArrayVec<Service, SERVICES_A_PAGE>,

@@ -8,11 +8,11 @@ ghost use Rattle.ipx_router.specs.Numbers.{most_ports};
 ghost use Rattle.ipx_router.specs.Outbox.{Fits, Appends};
 ghost use Rattle.ipx_router.specs.Port.{port_at, reply_to};
 ghost use Rattle.ipx_router.specs.Sends.{asked, nearest_of, of_kind, rip_sends, sap_sends};
-ghost use Rattle.ipx_router.specs.inside.Shown.{shown_as};
+ghost use Rattle.ipx_router.specs.inside.Selection.{selected_by};
 ghost use Rattle.ipx_router.specs.Told.{told, told_services};
 
 use crate::advertising::envelope::Envelope;
-use crate::advertising::shown::{Shown, ShownServices};
+use crate::advertising::selection::{Selection, ServiceSelection};
 use crate::advertising::told::{advertise_routes, advertise_services};
 use crate::answering::nearest::answer_nearest;
 use crate::outbox::Outbox;
@@ -41,19 +41,19 @@ pub(crate) fn answer_request<const R: usize>(
         (asked request.now.entries (told ports.now up.now (offers routes.now.records) number))) }
 {
     let envelope = Envelope::routes_reply(ports, number, source);
-    advertise_routes(outbox, envelope, ports, up, routes, shown_to(request));
+    advertise_routes(outbox, envelope, ports, up, routes, selection_to(request));
 }
 
 /// Which routes answer a request: all, where it asks for all, so that no route is compared with its entries.
-fn shown_to<'a>(request: &'a Rip<'a>) -> Shown<'a>
-    ensures { (entries : List RipEntry) → flat_map (shown_as result) entries ≡ asked request.now.entries entries }
+fn selection_to<'a>(request: &'a Rip<'a>) -> Selection<'a>
+    ensures { (entries : List RipEntry) → flat_map (selected_by result) entries ≡ asked request.now.entries entries }
 {
     for k in 0..request.len() {
         if request.entry(k).network.0 == Network::ALL_ROUTES.0 {
-            return Shown::All;
+            return Selection::All;
         }
     }
-    Shown::Asked(request)
+    Selection::Asked(request)
 }
 
 /// Sends the services of a type to the one that asked, or the nearest of them.
@@ -76,6 +76,6 @@ pub(crate) fn answer_query<const S: usize>(
     if nearest {
         answer_nearest(outbox, envelope, services, kind);
     } else {
-        advertise_services(outbox, envelope, services, ShownServices::OfKind(kind));
+        advertise_services(outbox, envelope, services, ServiceSelection::OfKind(kind));
     }
 }

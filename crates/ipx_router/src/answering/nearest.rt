@@ -11,7 +11,7 @@ ghost use Rattle.ipx_router.specs.inside.Envelope.{services_in};
 ghost use Rattle.ipx_router.specs.inside.Owed.{owed};
 
 use crate::advertising::envelope::Envelope;
-use crate::advertising::shown::is_of_kind;
+use crate::advertising::selection::is_of_kind;
 use crate::advertising::told_services::ToldServices;
 use crate::outbox::Outbox;
 use crate::service_offer::ServiceOffer;

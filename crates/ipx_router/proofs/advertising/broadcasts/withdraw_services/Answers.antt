@@ -4,26 +4,26 @@ use Rattle.ipx_router.specs.Facts.{offers}
 use Rattle.ipx_router.specs.Numbers.{services_a_page}
 use Rattle.ipx_router.specs.Outbox.{Fits, Appends}
 use Rattle.ipx_router.specs.inside.Envelope.{services_in}
-use Rattle.ipx_router.specs.inside.Shown.{service_shown_as}
+use Rattle.ipx_router.specs.inside.Selection.{service_selected_by}
 use Rattle.ipx_router.specs.Told.{told_services}
 use Rattle.ipx_router.specs.declared.advertising.envelope.Envelope.{Envelope}
-use Rattle.ipx_router.specs.declared.advertising.shown.ShownServices.TheVariants.{Dead}
+use Rattle.ipx_router.specs.declared.advertising.selection.ServiceSelection.TheVariants.{Dead}
 use Rattle.ipx_router.proofs.sending.PortByPort.{in_envelope}
-use Rattle.ipx_router.proofs.telling.SentOfTold.{services_shown_dead}
+use Rattle.ipx_router.proofs.telling.SentOfTold.{services_selected_dead}
 use Rattle.ipx_router.proofs.advertising.broadcasts.withdraw_services.Goals as goal
 
 pub advertise_services-requires : goal.advertise_services-requires
 advertise_services-requires g c =
     let port = ap (λ (e : Envelope). e.port) c.services_to_all-envelope.ensures in
     let room = subst (Fits c.args.outbox.now)
-    (sym (in_envelope services_a_page (services_in false) (λ (j : ℕ). flat_map (service_shown_as Dead) (told_services (offers c.args.services.now.records) j)) c.services_to_all-envelope.ensures
-    (services_shown_dead (told_services (offers c.args.services.now.records) c.args.number))))
+    (sym (in_envelope services_a_page (services_in false) (λ (j : ℕ). flat_map (service_selected_by Dead) (told_services (offers c.args.services.now.records) j)) c.services_to_all-envelope.ensures
+    (services_selected_dead (told_services (offers c.args.services.now.records) c.args.number))))
     c.requires.room in
     search (rules, port, room)
 
 pub returns : goal.returns
 returns g c =
     subst (Appends c.args.outbox.now c.advertise_services.new.outbox)
-    (in_envelope services_a_page (services_in false) (λ (j : ℕ). flat_map (service_shown_as Dead) (told_services (offers c.args.services.now.records) j)) c.services_to_all-envelope.ensures
-    (services_shown_dead (told_services (offers c.args.services.now.records) c.args.number)))
+    (in_envelope services_a_page (services_in false) (λ (j : ℕ). flat_map (service_selected_by Dead) (told_services (offers c.args.services.now.records) j)) c.services_to_all-envelope.ensures
+    (services_selected_dead (told_services (offers c.args.services.now.records) c.args.number)))
     c.advertise_services.ensures

@@ -4,7 +4,7 @@ use Rattle.ipx_router.specs.Facts.{offers}
 use Rattle.ipx_router.specs.Numbers.{entries_a_page}
 use Rattle.ipx_router.specs.Outbox.{Fits, Appends}
 use Rattle.ipx_router.specs.inside.Envelope.{entries_in}
-use Rattle.ipx_router.specs.inside.Shown.{shown_as}
+use Rattle.ipx_router.specs.inside.Selection.{selected_by}
 use Rattle.ipx_router.specs.Told.{told}
 use Rattle.ipx_router.specs.declared.advertising.envelope.Envelope.{Envelope}
 use Rattle.ipx_router.proofs.sending.PortByPort.{in_envelope}
@@ -14,14 +14,14 @@ pub advertise_routes-requires : goal.advertise_routes-requires
 advertise_routes-requires g c =
     let port = ap (λ (e : Envelope). e.port) c.routes_reply-envelope.ensures in
     let room = subst (Fits c.args.outbox.now)
-    (sym (in_envelope entries_a_page entries_in (λ (j : ℕ). flat_map (shown_as c.shown_to.result) (told c.args.ports.now c.args.up.now (offers c.args.routes.now.records) j))
-    c.routes_reply-envelope.ensures (c.shown_to.ensures (told c.args.ports.now c.args.up.now (offers c.args.routes.now.records) c.args.number))))
+    (sym (in_envelope entries_a_page entries_in (λ (j : ℕ). flat_map (selected_by c.selection_to.result) (told c.args.ports.now c.args.up.now (offers c.args.routes.now.records) j))
+    c.routes_reply-envelope.ensures (c.selection_to.ensures (told c.args.ports.now c.args.up.now (offers c.args.routes.now.records) c.args.number))))
     c.requires.room in
     search (rules, port, room)
 
 pub returns : goal.returns
 returns g c =
     subst (Appends c.args.outbox.now c.advertise_routes.new.outbox)
-    (in_envelope entries_a_page entries_in (λ (j : ℕ). flat_map (shown_as c.shown_to.result) (told c.args.ports.now c.args.up.now (offers c.args.routes.now.records) j))
-    c.routes_reply-envelope.ensures (c.shown_to.ensures (told c.args.ports.now c.args.up.now (offers c.args.routes.now.records) c.args.number)))
+    (in_envelope entries_a_page entries_in (λ (j : ℕ). flat_map (selected_by c.selection_to.result) (told c.args.ports.now c.args.up.now (offers c.args.routes.now.records) j))
+    c.routes_reply-envelope.ensures (c.selection_to.ensures (told c.args.ports.now c.args.up.now (offers c.args.routes.now.records) c.args.number)))
     c.advertise_routes.ensures

@@ -1,7 +1,7 @@
 use Rattle.std.proofs.Common.{sym, ◌∙◌}
-use Rattle.ipx_router.specs.inside.Shown.{asks_for}
+use Rattle.ipx_router.specs.inside.Selection.{asks_for}
 use Rattle.ipx_router.proofs.telling.SentOfTold.{passes_there, none_passes_yet}
-use Rattle.ipx_router.proofs.advertising.shown.is_asked.Goals as goal
+use Rattle.ipx_router.proofs.advertising.selection.is_asked.Goals as goal
 
 pub returns-then-asks_for : goal.returns-then-asks_for
 returns-then-asks_for c =

@@ -5,10 +5,10 @@ use Rattle.ipx_wire.specs.declared.rip.RipEntry.{RipEntry}
 use Rattle.ipx_wire.specs.declared.service.Service.{Service}
 use Rattle.ipx_router.specs.Numbers.{all_routes, every_service}
 use Rattle.ipx_router.specs.Told.{dead, dead_service}
-use Rattle.ipx_router.specs.declared.advertising.shown.Shown.{Shown}
-use Rattle.ipx_router.specs.declared.advertising.shown.Shown.TheVariants.{All, Dead, Asked}
-use Rattle.ipx_router.specs.declared.advertising.shown.ShownServices.{ShownServices}
-use Rattle.ipx_router.specs.declared.advertising.shown.ShownServices.TheVariants.{All as AllServices, Dead as DeadServices, OfKind}
+use Rattle.ipx_router.specs.declared.advertising.selection.Selection.{Selection}
+use Rattle.ipx_router.specs.declared.advertising.selection.Selection.TheVariants.{All, Dead, Asked}
+use Rattle.ipx_router.specs.declared.advertising.selection.ServiceSelection.{ServiceSelection}
+use Rattle.ipx_router.specs.declared.advertising.selection.ServiceSelection.TheVariants.{All as AllServices, Dead as DeadServices, OfKind}
 
 -- an entry of a request asks for that entry: for all, or for its network
 abbrev pub asks_for : RipEntry → RipEntry → Bool
@@ -19,17 +19,17 @@ abbrev pub is_asked : List RipEntry → RipEntry → Bool
 is_asked wanted e = list_any (λ w. asks_for w e) wanted
 
 -- the entry as it is sent, if it is
-abbrev pub shown_as : Shown → RipEntry → List RipEntry
-shown_as All e = e ∷ []
-shown_as Dead e = dead e ∷ []
-shown_as (Asked rip) e = if is_asked rip.now.entries e then e ∷ [] else []
+abbrev pub selected_by : Selection → RipEntry → List RipEntry
+selected_by All e = e ∷ []
+selected_by Dead e = dead e ∷ []
+selected_by (Asked rip) e = if is_asked rip.now.entries e then e ∷ [] else []
 
 -- a query for the type asks for the service
 abbrev pub is_of_kind : ℕ → Service → Bool
 is_of_kind kind s = (kind == every_service) || (s.kind == kind)
 
 -- the service as it is sent, if it is
-abbrev pub service_shown_as : ShownServices → Service → List Service
-service_shown_as AllServices s = s ∷ []
-service_shown_as DeadServices s = dead_service s ∷ []
-service_shown_as (OfKind kind) s = if is_of_kind kind s then s ∷ [] else []
+abbrev pub service_selected_by : ServiceSelection → Service → List Service
+service_selected_by AllServices s = s ∷ []
+service_selected_by DeadServices s = dead_service s ∷ []
+service_selected_by (OfKind kind) s = if is_of_kind kind s then s ∷ [] else []

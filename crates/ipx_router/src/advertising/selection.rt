@@ -1,14 +1,14 @@
 //! Which of the routes and services that a port advertises are sent, and how.
 ghost use Rattle.std.specs.Prelude.{◌≡◌};
 ghost use Rattle.std.specs.Option.{option_to_list};
-ghost use Rattle.ipx_router.specs.inside.Shown.{asks_for, is_asked, is_of_kind, service_shown_as, shown_as};
+ghost use Rattle.ipx_router.specs.inside.Selection.{asks_for, is_asked, is_of_kind, service_selected_by, selected_by};
 
 use crate::advertising::items::{dead, dead_service};
 use ipx_wire::{Network, Rip, RipEntry, Sap, Service};
 
 /// Which routes are sent.
 #[derive(Clone, Copy, Debug)]
-pub(crate) enum Shown<'a> {
+pub(crate) enum Selection<'a> {
     /// All.
     All,
     /// All, as unreachable.
@@ -19,7 +19,7 @@ pub(crate) enum Shown<'a> {
 
 /// Which services are sent.
 #[derive(Clone, Copy, Debug)]
-pub(crate) enum ShownServices {
+pub(crate) enum ServiceSelection {
     /// All.
     All,
     /// All, as unreachable.
@@ -29,13 +29,13 @@ pub(crate) enum ShownServices {
 }
 
 /// The entry as it is sent; `None` where it isn't.
-pub(crate) fn show(shown: Shown<'_>, entry: RipEntry) -> Option<RipEntry>
-    ensures { option_to_list result ≡ shown_as shown.entry entry }
+pub(crate) fn select(selection: Selection<'_>, entry: RipEntry) -> Option<RipEntry>
+    ensures { option_to_list result ≡ selected_by selection.entry entry }
 {
-    match shown {
-        Shown::All => Some(entry),
-        Shown::Dead => Some(dead(entry)),
-        Shown::Asked(request) => {
+    match selection {
+        Selection::All => Some(entry),
+        Selection::Dead => Some(dead(entry)),
+        Selection::Asked(request) => {
             if is_asked(request, entry) {
                 Some(entry)
             } else {
@@ -46,13 +46,13 @@ pub(crate) fn show(shown: Shown<'_>, entry: RipEntry) -> Option<RipEntry>
 }
 
 /// The service as it is sent; `None` where it isn't.
-pub(crate) fn show_service(shown: ShownServices, service: Service) -> Option<Service>
-    ensures { option_to_list result ≡ service_shown_as shown service }
+pub(crate) fn select_service(selection: ServiceSelection, service: Service) -> Option<Service>
+    ensures { option_to_list result ≡ service_selected_by selection service }
 {
-    match shown {
-        ShownServices::All => Some(service),
-        ShownServices::Dead => Some(dead_service(service)),
-        ShownServices::OfKind(kind) => {
+    match selection {
+        ServiceSelection::All => Some(service),
+        ServiceSelection::Dead => Some(dead_service(service)),
+        ServiceSelection::OfKind(kind) => {
             if is_of_kind(kind, &service) {
                 Some(service)
             } else {
