@@ -13,6 +13,7 @@ pub mod Rights
 pub mod Rings
 pub mod Running
 pub mod Segments
+pub mod Servers
 pub mod Settled
 pub mod Ticks
 pub mod Waiting
