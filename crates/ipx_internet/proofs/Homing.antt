@@ -22,11 +22,11 @@ use Rattle.ipx_router.specs.declared.why.Why.{Why}
 use Rattle.ipx_router.proofs.verdicts.SentOnPassesChecks.{judged, far_passes}
 use Rattle.ipx_router.proofs.port_values.PortOfEachNumber.{members, one_up}
 use Rattle.ipx_router.proofs.bytes.SentIsBytes.{relayed_bytes}
-use Rattle.ipx_internet.specs.Arriving.{IsOfHost, Arrives}
+use Rattle.ipx_internet.specs.Arriving.{IsOfHost, IsAllowed, IsShort, Arrives}
 use Rattle.ipx_internet.specs.Delivery.{receives, delivered}
 use Rattle.ipx_internet.specs.Different.{AreDifferent}
 use Rattle.ipx_internet.specs.Internet.{Internet, Place, IsInternet, NodesDiffer, IsPlace, ports_of, port_of, network_of, places}
-use Rattle.ipx_internet.specs.Least.{Way, is_on, AreCheap, HasRoom}
+use Rattle.ipx_internet.specs.Least.{Way, is_on, by_port, way_by, ways_within, least as least_of, neighbours, AreCheap, HasRoom}
 use Rattle.ipx_internet.specs.Queue.{history_of}
 use Rattle.ipx_internet.specs.Run.{Run}
 use Rattle.ipx_internet.specs.Ticks.{most_ticks_gone}
@@ -35,17 +35,18 @@ use Rattle.ipx_internet.specs.Tree.{Router, Copy, router_now, net_of, router_at,
 use Rattle.ipx_internet.proofs.Advancing.{runs_where}
 use Rattle.ipx_internet.proofs.Becoming.{AtRest, find_none}
 use Rattle.ipx_internet.proofs.Enduring.{Endures}
-use Rattle.ipx_internet.proofs.Having.{number_any, found_with, found_some, AnyIs, any_then}
+use Rattle.ipx_internet.proofs.Having.{number_any, found_with, found_some, AnyIs, any_then, any_and_all, the_one}
 use Rattle.ipx_internet.proofs.Keeping.{same_bytes, bytes_same}
 use Rattle.ipx_internet.proofs.Listening.{nodes_apart}
-use Rattle.ipx_internet.proofs.Lists.{all_then}
+use Rattle.ipx_internet.proofs.Lists.{all_then, holds_of}
 use Rattle.ipx_internet.proofs.Now.{numbers_front, joint}
 use Rattle.ipx_internet.proofs.Places.{places_within, places_differ}
 use Rattle.ipx_internet.proofs.Receivers.{port_is, same_number, same_place, receives_is}
 use Rattle.ipx_internet.proofs.Replying.{Layouts}
 use Rattle.ipx_internet.proofs.Righting.{route_is, by_number}
 use Rattle.ipx_internet.proofs.Runs.{router_there}
-use Rattle.ipx_internet.proofs.Shortest.{IsNeighbour, within, own, own_is, on_or_off, OnOrOff, came, is_there, at_numbers, port_on, all_places}
+use Rattle.ipx_internet.proofs.Sourcing.{Source}
+use Rattle.ipx_internet.proofs.Shortest.{IsNeighbour, within, own, own_is, on_or_off, OnOrOff, came, is_there, at_numbers, port_on, all_places, in_neighbours}
 use Rattle.ipx_internet.proofs.Uniting.{some_port}
 
 -- ---- lists
@@ -74,6 +75,12 @@ only_passes test f (x ∷ xs) differ all (inr behind) passes = elim (cases_Bool 
     never [] apart any same = any
     never (y ∷ ys) apart (inl here) same = apart.0 (here ∙ sym same)
     never (y ∷ ys) apart (inr rest) same = never ys apart.1 rest same
+
+-- what holds of all of a list holds of one of it
+at_one : {X : Type 0} (A : X → Type 0) (x : X) (xs : List X) → AnyIs (λ y. y ≡ x) xs → AllByRecursion A xs → A x
+at_one A x xs any all =
+    let (y, (same, holds)) = the_one (λ y. (y ≡ x) × A y) xs (any_and_all (λ y. y ≡ x) A xs any all) in
+    subst A same holds
 
 -- ---- routers as they are
 
@@ -189,7 +196,8 @@ module _ (net : Internet) (laws : Layouts) (is : IsInternet net) (differ : Nodes
       abbrev leaving : Option Outway → List Sent
       leaving o = elim o [ Some out ↦ record { port = out.port; link = out.link; bytes = packet_bytes (forwarded p) } ∷ [] | None ↦ [] ]
 
-      module _ (way : Outway) (routed : way_to ports ups routes to ≡ Some way) (leaves : way.port < length ports) (leaves_up : is_up (up q) way.port ≡ true) where
+      module _ (way : Outway) (routed : way_to ports ups routes to ≡ Some way) (leaves : way.port < length ports) (leaves_up : is_up (up q) way.port ≡ true)
+          (short : p.header.length ≤ (port_at ports way.port).longest) where
         abbrev it : Sent
         it = record { port = way.port; link = way.link; bytes = packet_bytes (forwarded p) }
 
@@ -204,7 +212,7 @@ module _ (net : Internet) (laws : Layouts) (is : IsInternet net) (differ : Nodes
             ap (judged ports ups routes (port_at ports number) number) read
             ∙ far_passes ports ups routes (port_at ports number) number p (it_is_up number on) way (of_host.no_echo
             (record { router = q; port = number }) here) of_host.source far
-            few_control (of_host.elsewhere q) routed_so (of_host.short (record { router = q; port = way.port }) leaves)
+            few_control (of_host.elsewhere q) routed_so short
 
         relays : relayed ports ups routes number p ≡ it ∷ []
         relays =
@@ -240,7 +248,7 @@ module _ (net : Internet) (laws : Layouts) (is : IsInternet net) (differ : Nodes
                 leaves_up = it_is_up way.port leaves_up;
                 no_echo = of_host.no_echo (record { router = q; port = number }) here;
                 source = of_host.source;
-                short = of_host.short (record { router = q; port = way.port }) leaves;
+                short = short;
               };
               written = refl;
             }))
@@ -298,6 +306,26 @@ module _ (net : Internet) (laws : Layouts) (is : IsInternet net) (differ : Nodes
             (n : Network). n.0) named))
             (up q) (number_any j (up q) on_j))) e)
 
+  -- ---- the ports on the way
+
+  abbrev Allowed : ℕ → ℕ → Network → Type 0
+  Allowed size q network = IsAllowed net up size q network
+
+  allowed_at : (size q j : ℕ) (network : Network) → Allowed size q network → is_up (up q) j ≡ true → (port_at (ports_of net q) j).network ≡ network
+      → size ≤ (port_at (ports_of net q) j).longest
+  allowed_at size q j network all on =
+      holds_of (λ k. (port_at (ports_of net q) k).network ≡ network → size ≤ (port_at (ports_of net q) k).longest) j (up q) all on
+
+  allowed_by : (size hops q port : ℕ) (v : Way) (from : Place) → Source net is cheap up in_ports to.network q v port from
+      → within net up in_ports to.network 15 q ≡ Some v → IsShort net up size to.network (suc hops) q
+      → Allowed size q (network_of net from) × IsShort net up size to.network hops from.router
+  allowed_by size hops q port v from source least short =
+      let gone_on : way_by net (ways_within net up 15 to.network) from ≡ least_of net up q to.network =
+      ap (option_map (by_port (port_of net from).cost)) source.there ∙ ap Some (sym source.by) ∙ sym least in
+      at_one (λ f. way_by net (ways_within net up 15 to.network) f ≡ least_of net up q to.network
+      → Allowed size q (network_of net f) × IsShort net up size to.network hops f.router)
+      from (neighbours net up q) (in_neighbours net up in_ports q port from source.neighbour) short gone_on
+
   -- ---- from router to router
 
   no_hop_on : (q : ℕ) (v : Way) → within net up in_ports to.network 15 q ≡ Some v → is_on (ports_of net q) to.network ≡ true → v.hops ≡ 0
@@ -308,9 +336,10 @@ module _ (net : Internet) (laws : Layouts) (is : IsInternet net) (differ : Nodes
 
   pub goes : (hops q port number : ℕ) (parent : Option ℕ) (bytes : List ℕ) (p : Parts) (v : Way) → port < length (ports_of net q) → is_up (up q) port ≡ true
       → (port_at (ports_of net q) port).network ≢ to.network → IsBytes bytes → IsPacket bytes p → p.header.destination ≡ to → IsOfHost net p
-      → p.header.control + hops < 16 → within net up in_ports to.network 15 q ≡ Some v → v.hops ≡ hops → most_ticks_gone + 60 * hops ≤ ticks
+      → IsShort net up p.header.length to.network hops q → p.header.control + hops < 16 → within net up in_ports to.network 15 q ≡ Some v → v.hops ≡ hops
+      → most_ticks_gone + 60 * hops ≤ ticks
       → Arrives routers to hops number (record { parent = parent; to = record { router = q; port = port }; bytes = bytes })
-  goes zero q port number parent bytes p v here on_port_here away are_bytes is_packet same of_host few_control least none sure =
+  goes zero q port number parent bytes p v here on_port_here away are_bytes is_packet same of_host short few_control least none sure =
       by (on_or_off net up in_ports to.network q)
     where
       by : OnOrOff net up in_ports to.network q → Arrives routers to 0 number (record { parent = parent; to = record { router = q; port = port }; bytes = bytes })
@@ -326,21 +355,21 @@ module _ (net : Internet) (laws : Layouts) (is : IsInternet net) (differ : Nodes
             record { port = j; link = to.node; bytes = packet_bytes (forwarded p) },
             sends_one q inside port here on_port_here away v least bytes are_bytes p is_packet same of_host (omega (arith, few_control)) out routed (one_up
                 (λ k. k < length (ports_of net q)) (up q) j (in_ports q) on_j) on_j
-                (record { parent = parent; to = record { router = q; port = port }; bytes = bytes }) refl refl,
+                (allowed_at p.header.length q j to.network short on_j named) (record { parent = parent; to = record { router = q; port = port }; bytes = bytes }) refl refl,
             ap (λ (r : Router). (port_at r.ports j).network) now ∙ named,
             refl,
           )
-  goes (suc hops) q port number parent bytes p v here on_port_here away are_bytes is_packet same of_host few_control least some sure =
+  goes (suc hops) q port number parent bytes p v here on_port_here away are_bytes is_packet same of_host short few_control least some sure =
       by (on_or_off net up in_ports to.network q)
-      (λ f u neighbour on_f elsewhere written read_again is_u hops_u. goes hops f.router f.port (number + 1) (Some number) (packet_bytes (forwarded p))
+      (λ f u neighbour on_f elsewhere written read_again short_on is_u hops_u. goes hops f.router f.port (number + 1) (Some number) (packet_bytes (forwarded p))
       (forwarded p) u neighbour on_f elsewhere written
-      read_again same (record { for_one = of_host.for_one; source = of_host.source; no_echo = of_host.no_echo; elsewhere = of_host.elsewhere; short = of_host.short })
-      (omega (arith, few_control)) is_u hops_u (omega (arith, sure)))
+      read_again same (record { for_one = of_host.for_one; source = of_host.source; no_echo = of_host.no_echo; elsewhere = of_host.elsewhere })
+      short_on (omega (arith, few_control)) is_u hops_u (omega (arith, sure)))
     where
       by : OnOrOff net up in_ports to.network q
           → ((f : Place) (u : Way) → IsPlace net f → is_up (up f.router) f.port ≡ true → network_of net f ≢ to.network → IsBytes (packet_bytes (forwarded p))
           → IsPacket (packet_bytes (forwarded p)) (forwarded p)
-          → within net up in_ports to.network 15 f.router ≡ Some u → u.hops ≡ hops
+          → IsShort net up p.header.length to.network hops f.router → within net up in_ports to.network 15 f.router ≡ Some u → u.hops ≡ hops
           → Arrives routers to hops (number + 1) (record { parent = Some number; to = f; bytes = packet_bytes (forwarded p) }))
           → Arrives routers to (suc hops) number (record { parent = parent; to = record { router = q; port = port }; bytes = bytes })
       by (inl on) deeper =
@@ -355,10 +384,12 @@ module _ (net : Internet) (laws : Layouts) (is : IsInternet net) (differ : Nodes
           let out : Outway = record { port = has.route.port; link = has.route.node } in
           let routed = way_by_route q inside off has.route held in
           let leaves = has.source.neighbour.here in
+          let allowed = allowed_by p.header.length hops q has.route.port v has.from has.source least short in
+          let fits = allowed_at p.header.length q has.route.port (network_of net has.from) allowed.0 has.source.neighbour.on_here has.source.neighbour.network in
           let few_now : p.header.control < 16 = omega (arith, few_control) in
           let c : Copy = record { parent = parent; to = record { router = q; port = port }; bytes = bytes } in
           let it : Sent = record { port = has.route.port; link = has.route.node; bytes = packet_bytes (forwarded p) } in
-          let one = sends_one q inside port here on_port_here away v least bytes are_bytes p is_packet same of_host few_now out routed leaves has.source.neighbour.on_here c refl refl in
+          let one = sends_one q inside port here on_port_here away v least bytes are_bytes p is_packet same of_host few_now out routed leaves has.source.neighbour.on_here fits c refl refl in
           let there = delivered_one net up in_ports is differ q has.route.port has.from has.route.node has.source.neighbour has.node in
           let next : Copy = record { parent = Some number; to = has.from; bytes = packet_bytes (forwarded p) } in
           let hops_by = ap (λ (w : Way). w.hops) has.source.by in (
@@ -370,9 +401,9 @@ module _ (net : Internet) (laws : Layouts) (is : IsInternet net) (differ : Nodes
             deeper has.from has.source.way has.source.neighbour.place has.source.neighbour.on_there
                 (λ named. both_ways (is_on (ports_of net q) to.network) off (port_on (ports_of net q) to.network has.route.port leaves
                 (has.source.neighbour.network ∙ named)))
-                (written q inside port here on_port_here away v least bytes are_bytes p is_packet same of_host few_now out routed leaves has.source.neighbour.on_here)
-                (read_again q inside port here on_port_here away v least bytes are_bytes p is_packet same of_host few_now out routed leaves has.source.neighbour.on_here)
-                has.source.there (omega (arith, hops_by, some)),
+                (written q inside port here on_port_here away v least bytes are_bytes p is_packet same of_host few_now out routed leaves has.source.neighbour.on_here fits)
+                (read_again q inside port here on_port_here away v least bytes are_bytes p is_packet same of_host few_now out routed leaves has.source.neighbour.on_here fits)
+                allowed.1 has.source.there (omega (arith, hops_by, some)),
           )
 
 -- ---- its tree

@@ -19,7 +19,7 @@ ghost use Rattle.ipx_router.specs.Port.{Port, is_up};
 ghost use Rattle.ipx_router.specs.Relays.{Sent};
 ghost use Rattle.ipx_router.specs.Sends.{sends};
 ghost use Rattle.ipx_router.specs.Why.{is_propagated};
-ghost use Rattle.ipx_internet.specs.Arriving.{IsOfHost, Arrives};
+ghost use Rattle.ipx_internet.specs.Arriving.{IsOfHost, IsShort, Arrives};
 ghost use Rattle.ipx_internet.specs.Course.{IsInCourse, IsPath, visited};
 ghost use Rattle.ipx_internet.specs.Delivery.{delivered};
 ghost use Rattle.ipx_internet.specs.Departure.{ObservesHorizon, departures, handed, deliveries_from};
@@ -503,9 +503,9 @@ pub fn right()
 /// one at a time, and the last one sends it out on that network, for the node that it is for (`goes`). Where the router has a port on that
 /// network itself, the way has no hops, and the packet leaves there at once. So each of these levels of its tree is one reception (`one_each`).
 ///
-/// It is for one network. No port of a router sent it or is where it goes, and its source isn't the broadcast node. No port of the internet
-/// finds it too long, also none off its way. Its transport control and these hops are together fewer than 16. The rest is asked for as by
-/// `right`, of ticks that begin with nothing that waits.
+/// It is for one network. No port of a router sent it or is where it goes, and its source isn't the broadcast node. No port by which one of
+/// that router's least ways leads finds it too long. Its transport control and these hops are together fewer than 16. The rest is asked for
+/// as by `right`, of ticks that begin with nothing that waits.
 pub fn arrives()
     ensures goes { (net : Internet) (most_routes most_services : ℕ) (histories : List History) (ticks : List (List Step)) (place : Place) (bytes : List ℕ) (p : Parts) (way : Way)
         → IsInternet net → NodesDiffer net → length net ≤ most_routers → AreCheap net → HasRoom net most_routes → AreHistories net histories
@@ -513,6 +513,7 @@ pub fn arrives()
         → IsBytes bytes → IsPacket bytes p → IsOfHost net p
         → network_of net place ≢ p.header.destination.network
         → least net (ups net histories) place.router p.header.destination.network ≡ Some way → ticks_right (Some way) ≤ length ticks
+        → IsShort net (ups net histories) p.header.length p.header.destination.network way.hops place.router
         → p.header.control + way.hops < most_routers
         → Arrives (routers_after net most_routes (ticked net most_routes most_services (begun histories) ticks).histories) p.header.destination way.hops 0
         (root place bytes) }

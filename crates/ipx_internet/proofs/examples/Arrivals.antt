@@ -1,5 +1,6 @@
--- Two routers on one segment, as of `Segments`: packets that arrive, and one that a router leaves to the network on which it came.
-use Rattle.std.proofs.Common.{◌≡◌, refl, ℕ, List, [], ◌∷◌}
+-- Two routers on one segment, as of `Segments`: packets that arrive, and one that a router leaves to the network on which it came. And in an
+-- internet whose least way leads round, how long a packet may be: a narrow port off the way counts for nothing.
+use Rattle.std.proofs.Common.{◌≡◌, refl, ap, ℕ, ◌≤◌, List, [], ◌∷◌, Option, None, Some, arith}
 use Rattle.ipx_wire.specs.Address.{address_bytes, address_at}
 use Rattle.ipx_wire.specs.Crossed.{network_bytes, network_at}
 use Rattle.ipx_wire.specs.Items.{items}
@@ -8,8 +9,13 @@ use Rattle.ipx_wire.specs.Packet.{packet_of}
 use Rattle.ipx_wire.specs.Rip.{rip_of}
 use Rattle.ipx_wire.specs.Sap.{sap_of}
 use Rattle.ipx_wire.specs.declared.address.Address.{Address}
-use Rattle.ipx_internet.specs.Arriving.{Arrives}
+use Rattle.ipx_wire.specs.declared.network.Network.{Network}
+use Rattle.ipx_router.specs.Port.{Port}
+use Rattle.ipx_internet.specs.Arriving.{IsShort, Arrives}
+use Rattle.ipx_internet.specs.Internet.{Internet}
+use Rattle.ipx_internet.specs.Least.{Way}
 use Rattle.ipx_internet.specs.Tree.{Router, Copy, root, forwards}
+use Rattle.ipx_internet.proofs.examples.Leasts.{all, costly}
 use Rattle.ipx_internet.proofs.examples.Words.{network, node, port_on, route, running, plain, at, copy}
 
 abbrev segment : List Router
@@ -38,3 +44,42 @@ by_one_more =
 pub near : forwards segment (received 0x10) ≡ []
 unfolding header_bytes address_bytes network_bytes packet_of header_at address_at items network_at rip_of sap_of
 near = refl
+
+-- ---- how long it may be: 0 - 13h - 2 - 32h - 1 - 50h is the least way of router 0, beside a dear and narrow link 0 - 12h - 1
+
+abbrev narrow : ℕ → ℕ → Port
+narrow n k = record (port_on n k) { longest = 100 }
+
+abbrev beside : Internet
+beside = (narrow 0x12 1 ∷ port_on 0x13 2 ∷ []) ∷ (costly 0x12 3 9 ∷ port_on 0x32 4 ∷ port_on 0x50 5 ∷ []) ∷ (port_on 0x13 6 ∷ port_on 0x32 7 ∷ []) ∷ []
+
+hops_of : Option Way → ℕ
+hops_of o = elim o [ None ↦ 0 | Some way ↦ way.hops ]
+
+number_of : Network → ℕ
+number_of n = n.0
+
+-- each port on the way allows 576 bytes
+pub fits : IsShort beside (all beside) 576 (network 0x50) 2 0
+unfolding hops_of number_of
+fits =
+    (λ e. let other : 1 ≡ 2 = ap hops_of e in absurd (omega (arith, other)), (λ e. (here, rest), tt))
+  where
+    here : (network 0x12 ≡ network 0x13 → 576 ≤ 100) × ((network 0x13 ≡ network 0x13 → 576 ≤ 576) × Unit {0})
+    here = (λ e. let other : 0x12 ≡ 0x13 = ap number_of e in absurd (omega (arith, other)), (λ e. omega arith, tt))
+
+    last : IsShort beside (all beside) 576 (network 0x50) 0 1
+    last =
+        (λ e. let other : 0x12 ≡ 0x50 = ap number_of e in absurd (omega (arith, other)),
+        (λ e. let other : 0x32 ≡ 0x50 = ap number_of e in absurd (omega (arith, other)), (λ e. omega arith, tt)))
+
+    rest : IsShort beside (all beside) 576 (network 0x50) 1 2
+    rest =
+        (λ e. let other : 3 ≡ 1 = ap hops_of e in absurd (omega (arith, other)),
+        (λ e. ((λ e. omega arith, (λ e. omega arith, tt)), last), tt))
+
+-- and none of them more
+pub too_long : IsShort beside (all beside) 577 (network 0x50) 2 0 → ⊥
+too_long short =
+    let longest : 577 ≤ 576 = (short.1.0 refl).0.1.0 refl in
+    omega (arith, longest)

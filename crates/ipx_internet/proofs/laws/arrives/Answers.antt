@@ -54,13 +54,13 @@ module _ (c : goal.After-packets) (net : Internet) (most_routes most_services : 
       (omega arith) begins) passes (omega (arith, long)))
 
 pub returns-clause-goes : goal.returns-clause-goes
-returns-clause-goes c net most_routes most_services histories ticks place bytes p way is differ few_routers cheap room are passes there on are_bytes is_packet of_host away least sure few_control =
+returns-clause-goes c net most_routes most_services histories ticks place bytes p way is differ few_routers cheap room are passes there on are_bytes is_packet of_host away least sure short few_control =
     let to = p.header.destination in
     let long : most_ticks_gone ≤ length ticks = omega (arith, sure) in
     goes net (layouts c) is differ cheap few_routers (ups net histories) (ups_within net histories) most_routes most_services room to (length ticks)
     (ticked net most_routes most_services (begun histories) ticks)
     (rests c net most_routes most_services histories ticks to.network is differ few_routers cheap room are passes long) long way.hops place.router place.port 0 None bytes p way there on
-    away are_bytes is_packet refl of_host few_control least refl sure
+    away are_bytes is_packet refl of_host short few_control least refl sure
 
 pub returns-clause-one_each : goal.returns-clause-one_each
 returns-clause-one_each c routers to hops copy arrives =
