@@ -338,11 +338,11 @@ module _ (net : Internet) (laws : Layouts) (is : IsInternet net) (differ : Nodes
       → (port_at (ports_of net q) port).network ≢ to.network → IsBytes bytes → IsPacket bytes p → p.header.destination ≡ to → IsOfHost net p
       → IsShort net up p.header.length to.network hops q → p.header.control + hops < 16 → within net up in_ports to.network 15 q ≡ Some v → v.hops ≡ hops
       → most_ticks_gone + 60 * hops ≤ ticks
-      → Arrives routers to hops number (record { parent = parent; to = record { router = q; port = port }; bytes = bytes })
+      → Arrives routers to p.header.control hops number (record { parent = parent; to = record { router = q; port = port }; bytes = bytes })
   goes zero q port number parent bytes p v here on_port_here away are_bytes is_packet same of_host short few_control least none sure =
       by (on_or_off net up in_ports to.network q)
     where
-      by : OnOrOff net up in_ports to.network q → Arrives routers to 0 number (record { parent = parent; to = record { router = q; port = port }; bytes = bytes })
+      by : OnOrOff net up in_ports to.network q → Arrives routers to p.header.control 0 number (record { parent = parent; to = record { router = q; port = port }; bytes = bytes })
       by (inr off) =
           let c = came net up in_ports to.network 14 q v off least in
           let h = ap (λ (w : Way). w.hops) c.by in
@@ -353,9 +353,11 @@ module _ (net : Internet) (laws : Layouts) (is : IsInternet net) (differ : Nodes
           let out : Outway = record { port = j; link = to.node } in
           let now = at_numbers (λ k. router_now (ports_of net k) most_routes (history_of run.histories k)) (length net) q (router_at [] 0) inside in (
             record { port = j; link = to.node; bytes = packet_bytes (forwarded p) },
+            (p, is_packet, refl, omega (arith, few_control)),
             sends_one q inside port here on_port_here away v least bytes are_bytes p is_packet same of_host (omega (arith, few_control)) out routed (one_up
                 (λ k. k < length (ports_of net q)) (up q) j (in_ports q) on_j) on_j
                 (allowed_at p.header.length q j to.network short on_j named) (record { parent = parent; to = record { router = q; port = port }; bytes = bytes }) refl refl,
+            ap (λ (r : Router). is_up r.up j) now ∙ it_is_up q inside j on_j,
             ap (λ (r : Router). (port_at r.ports j).network) now ∙ named,
             refl,
           )
@@ -370,8 +372,8 @@ module _ (net : Internet) (laws : Layouts) (is : IsInternet net) (differ : Nodes
           → ((f : Place) (u : Way) → IsPlace net f → is_up (up f.router) f.port ≡ true → network_of net f ≢ to.network → IsBytes (packet_bytes (forwarded p))
           → IsPacket (packet_bytes (forwarded p)) (forwarded p)
           → IsShort net up p.header.length to.network hops f.router → within net up in_ports to.network 15 f.router ≡ Some u → u.hops ≡ hops
-          → Arrives routers to hops (number + 1) (record { parent = Some number; to = f; bytes = packet_bytes (forwarded p) }))
-          → Arrives routers to (suc hops) number (record { parent = parent; to = record { router = q; port = port }; bytes = bytes })
+          → Arrives routers to (p.header.control + 1) hops (number + 1) (record { parent = Some number; to = f; bytes = packet_bytes (forwarded p) }))
+          → Arrives routers to p.header.control (suc hops) number (record { parent = parent; to = record { router = q; port = port }; bytes = bytes })
       by (inl on) deeper =
           let none = no_hop_on q v least on in
           absurd (omega (arith, none, some))
@@ -394,6 +396,7 @@ module _ (net : Internet) (laws : Layouts) (is : IsInternet net) (differ : Nodes
           let next : Copy = record { parent = Some number; to = has.from; bytes = packet_bytes (forwarded p) } in
           let hops_by = ap (λ (w : Way). w.hops) has.source.by in (
             next,
+            (p, is_packet, refl, few_now),
             ap (flat_map (receivers routers number c)) one ∙ append-nil (receivers routers number c it)
                 ∙ ap (λ (n : Internet). map (λ x. record { parent = Some number; to = x; bytes = packet_bytes (forwarded p) })
                 (delivered n (record { router = q; port = has.route.port }) has.route.node)) (net_after net most_routes run.histories)
@@ -408,10 +411,10 @@ module _ (net : Internet) (laws : Layouts) (is : IsInternet net) (differ : Nodes
 
 -- ---- its tree
 
-pub one_each : (all : List Router) (to : Address) (hops number : ℕ) (c : Copy) → Arrives all to hops number c
+pub one_each : (all : List Router) (to : Address) (control hops number : ℕ) (c : Copy) → Arrives all to control hops number c
     → length (joined (levels all (suc hops) number (c ∷ []))) ≡ suc hops
-one_each all to zero number c arrives = refl
-one_each all to (suc hops) number c arrives =
+one_each all to control zero number c arrives = refl
+one_each all to control (suc hops) number c arrives =
     let next = arrives.0 in
-    let rest = one_each all to hops (number + 1) next arrives.2 in
-    ap (λ cs. suc (length (joined (levels all (suc hops) (number + 1) (cs ++ []))))) arrives.1 ∙ ap suc rest
+    let rest = one_each all to (control + 1) hops (number + 1) next arrives.3 in
+    ap (λ cs. suc (length (joined (levels all (suc hops) (number + 1) (cs ++ []))))) arrives.2 ∙ ap suc rest

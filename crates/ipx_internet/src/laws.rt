@@ -502,6 +502,7 @@ pub fn right()
 /// that network. After 2,880 ticks and 60 for each hop of the router's least way it goes through as many routers more as that way has hops,
 /// one at a time, and the last one sends it out on that network, for the node that it is for (`goes`). Where the router has a port on that
 /// network itself, the way has no hops, and the packet leaves there at once. So each of these levels of its tree is one reception (`one_each`).
+/// Each of them is of a packet whose transport control is one more than before, and stays below 16.
 ///
 /// It is for one network. No port of a router sent it or is where it goes, and its source isn't the broadcast node. No port by which one of
 /// that router's least ways leads finds it too long. Its transport control and these hops are together fewer than 16. The rest is asked for
@@ -515,9 +516,9 @@ pub fn arrives()
         → least net (ups net histories) place.router p.header.destination.network ≡ Some way → ticks_right (Some way) ≤ length ticks
         → IsShort net (ups net histories) p.header.length p.header.destination.network way.hops place.router
         → p.header.control + way.hops < most_routers
-        → Arrives (routers_after net most_routes (ticked net most_routes most_services (begun histories) ticks).histories) p.header.destination way.hops 0
+        → Arrives (routers_after net most_routes (ticked net most_routes most_services (begun histories) ticks).histories) p.header.destination p.header.control way.hops 0
         (root place bytes) }
-    ensures one_each { (routers : List Router) (to : Address) (hops : ℕ) (c : Copy) → Arrives routers to hops 0 c → length (tree_to routers (hops + 1) c) ≡ hops + 1 }
+    ensures one_each { (routers : List Router) (to : Address) (control hops : ℕ) (c : Copy) → Arrives routers to control hops 0 c → length (tree_to routers (hops + 1) c) ≡ hops + 1 }
 {
     ipx_wire::laws::readings();
     ipx_wire::laws::service_readings();

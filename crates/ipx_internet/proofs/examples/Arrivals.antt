@@ -30,12 +30,12 @@ abbrev received : ℕ → Copy
 received n = root (at 0 0) (plain 0 n (node 0xCC))
 
 -- the router has a port on 20h: the packet leaves there
-pub at_once : Arrives segment (to 0x20) 0 0 (received 0x20)
+pub at_once : Arrives segment (to 0x20) 0 0 0 (received 0x20)
 unfolding header_bytes address_bytes network_bytes packet_of header_at address_at items network_at rip_of sap_of
 at_once = (record { port = 1; link = node 0xCC; bytes = plain 1 0x20 (node 0xCC) }, refl, refl, refl)
 
 -- to 30h it goes by the second router
-pub by_one_more : Arrives segment (to 0x30) 1 0 (received 0x30)
+pub by_one_more : Arrives segment (to 0x30) 0 1 0 (received 0x30)
 unfolding header_bytes address_bytes network_bytes packet_of header_at address_at items network_at rip_of sap_of
 by_one_more =
     (copy 0 (at 1 0) (plain 1 0x30 (node 0xCC)), refl, (record { port = 1; link = node 0xCC; bytes = plain 2 0x30 (node 0xCC) }, refl, refl, refl))

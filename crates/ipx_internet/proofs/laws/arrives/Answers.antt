@@ -63,6 +63,6 @@ returns-clause-goes c net most_routes most_services histories ticks place bytes 
     away are_bytes is_packet refl of_host short few_control least refl sure
 
 pub returns-clause-one_each : goal.returns-clause-one_each
-returns-clause-one_each c routers to hops copy arrives =
+returns-clause-one_each c routers to control hops copy arrives =
     let same : suc hops ≡ hops + 1 = omega arith in
-    subst (λ (n : ℕ). length (tree_to routers n copy) ≡ n) same (one_each routers to hops 0 copy arrives)
+    subst (λ (n : ℕ). length (tree_to routers n copy) ≡ n) same (one_each routers to control hops 0 copy arrives)
