@@ -1,5 +1,5 @@
 -- A packet of a host, once the tables are right: from router to router by their least ways, and out on its network.
-use Rattle.std.proofs.Common.{◌≡◌, ◌≢◌, refl, sym, ap, ap₂, ◌∙◌, subst, ℕ, zero, suc, ◌+◌, ◌*◌, ◌<◌, ◌≤◌, ◌==◌, ◌||◌, Bool, true, false, List, [], ◌∷◌, ◌++◌, length, map, filter, flat_map, Option, None, Some, option_map, Result, Ok, Err, inl, inr, arith, append-nil, if◌then◌else◌}
+use Rattle.std.proofs.Common.{◌≡◌, ◌≢◌, refl, sym, ap, ap₂, ◌∙◌, subst, ℕ, zero, suc, ◌+◌, ◌*◌, ◌<◌, ◌≤◌, ◌==◌, ◌&&◌, ◌||◌, Bool, true, false, List, [], ◌∷◌, ◌++◌, length, map, filter, flat_map, Option, None, Some, option_map, Result, Ok, Err, inl, inr, arith, append-nil, if◌then◌else◌}
 use Rattle.std.specs.List.{AllByRecursion}
 use Rattle.std.proofs.lemmas.Bool.{cases_Bool, cases_eq, or_cases, ne_eqb, eq-eqb, eqb-true, both_ways}
 use Rattle.ipx_wire.specs.Forward.{forwarded}
@@ -13,7 +13,7 @@ use Rattle.ipx_wire.specs.declared.packet.PacketFault.{PacketFault}
 use Rattle.ipx_router.specs.Facts.{routes_held, offers}
 use Rattle.ipx_router.specs.History.{History, running, ports_up}
 use Rattle.ipx_router.specs.Numbers.{default_route}
-use Rattle.ipx_router.specs.Outgoing.{Way as Outway, port_to, route_to, serving, way_to}
+use Rattle.ipx_router.specs.Outgoing.{Way as Outway, is_own_port, port_to, route_to, serving, way_to}
 use Rattle.ipx_router.specs.Port.{Port, broadcast, port_at, numbers, is_up, is_local, same_node, takes_no_route}
 use Rattle.ipx_router.specs.Relays.{Sent, relayed}
 use Rattle.ipx_router.specs.Why.{why, is_far}
@@ -31,7 +31,7 @@ use Rattle.ipx_internet.specs.Queue.{history_of}
 use Rattle.ipx_internet.specs.Run.{Run}
 use Rattle.ipx_internet.specs.Ticks.{most_ticks_gone}
 use Rattle.ipx_internet.specs.Traced.{routers_after}
-use Rattle.ipx_internet.specs.Tree.{Router, Copy, router_now, net_of, router_at, sent_on, forwards, receivers, levels, joined}
+use Rattle.ipx_internet.specs.Tree.{Router, Copy, router_now, net_of, router_at, sent_on, forwards, receivers, children, levels, joined}
 use Rattle.ipx_internet.proofs.Advancing.{runs_where}
 use Rattle.ipx_internet.proofs.Becoming.{AtRest, find_none}
 use Rattle.ipx_internet.proofs.Enduring.{Endures}
@@ -47,6 +47,7 @@ use Rattle.ipx_internet.proofs.Righting.{route_is, by_number}
 use Rattle.ipx_internet.proofs.Runs.{router_there}
 use Rattle.ipx_internet.proofs.Sourcing.{Source}
 use Rattle.ipx_internet.proofs.Shortest.{IsNeighbour, within, own, own_is, on_or_off, OnOrOff, came, is_there, at_numbers, port_on, all_places, in_neighbours}
+use Rattle.ipx_internet.proofs.Spreading.{ports_same}
 use Rattle.ipx_internet.proofs.Uniting.{some_port}
 
 -- ---- lists
@@ -75,6 +76,11 @@ only_passes test f (x ∷ xs) differ all (inr behind) passes = elim (cases_Bool 
     never [] apart any same = any
     never (y ∷ ys) apart (inl here) same = apart.0 (here ∙ sym same)
     never (y ∷ ys) apart (inr rest) same = never ys apart.1 rest same
+
+-- where none passes, a filter keeps nothing
+none_pass : {X : Type 0} (test : X → Bool) (xs : List X) → AllByRecursion (λ x. test x ≡ false) xs → filter test xs ≡ []
+none_pass test [] all = refl
+none_pass test (x ∷ xs) all = let e = all.0 in rw e (none_pass test xs all.1)
 
 -- what holds of all of a list holds of one of it
 at_one : {X : Type 0} (A : X → Type 0) (x : X) (xs : List X) → AnyIs (λ y. y ≡ x) xs → AllByRecursion A xs → A x
@@ -409,6 +415,48 @@ module _ (net : Internet) (laws : Layouts) (is : IsInternet net) (differ : Nodes
                 allowed.1 has.source.there (omega (arith, hops_by, some)),
           )
 
+-- ---- nobody behind the last router
+
+own_port : (ports : List Port) (j : ℕ) (to : Address) → j < length ports → (port_at ports j).network ≡ to.network
+    → same_node (port_at ports j).node to.node ≡ true → is_own_port ports to ≡ true
+own_port [] j to less nets node = absurd (omega (arith, less))
+own_port (p ∷ ports) zero to less nets node =
+    let number : (p.network.0 == to.network.0) ≡ true = eq-eqb p.network.0 to.network.0 (ap (λ (n : Network). n.0) nets) in
+    let same : same_node p.node to.node ≡ true = node in
+    rw (number, same) refl
+own_port (p ∷ ports) (suc j) to less nets node = elim (cases_Bool ((p.network.0 == to.network.0) && same_node p.node to.node)) [
+  | inl e ↦ rw e refl
+  | inr e ↦ rw e (own_port ports j to (omega (arith, less)) nets node)
+]
+
+-- no port receives what is for one node, which is no port's
+nobody : (net : Internet) (to : Address) → ((router : ℕ) → is_own_port (ports_of net router) to ≡ false) → to.node ≢ broadcast → (from : Place)
+    → network_of net from ≡ to.network → delivered net from to.node ≡ []
+nobody net to elsewhere one from named =
+    none_pass (receives net from to.node) (places net)
+    (all_then (IsPlace net) (λ x. receives net from to.node x ≡ false) off (places net) (places_within net))
+  where
+    off : (x : Place) → IsPlace net x → receives net from to.node x ≡ false
+    off x there = elim (cases_Bool (receives net from to.node x)) [
+      | inr e ↦ e
+      | inl e ↦
+          let got = receives_is net from to.node x e in
+          let node : same_node (port_of net x).node to.node ≡ true = elim (or_cases (same_node (port_of net x).node to.node) (same_node to.node broadcast) got.node) [
+            | inl same ↦ same
+            | inr all ↦ absurd (both_ways (same_node to.node broadcast) (nodes_apart to.node broadcast one) all)
+          ] in
+          absurd (both_ways (is_own_port (ports_of net x.router) to) (elsewhere x.router)
+          (own_port (ports_of net x.router) x.port to there (got.network ∙ named) node))
+    ]
+
+abbrev Nobody : Internet → Address → Type 0
+Nobody net to = (from : Place) → network_of net from ≡ to.network → delivered net from to.node ≡ []
+
+pub nobody_after : (net : Internet) (most_routes : ℕ) (histories : List History) (p : Parts) → IsOfHost net p → p.header.destination.node ≢ broadcast
+    → Nobody (net_of (routers_after net most_routes histories)) p.header.destination
+nobody_after net most_routes histories p of_host one =
+    subst (λ (n : Internet). Nobody n p.header.destination) (sym (net_after net most_routes histories)) (nobody net p.header.destination of_host.elsewhere one)
+
 -- ---- its tree
 
 pub one_each : (all : List Router) (to : Address) (control hops number : ℕ) (c : Copy) → Arrives all to control hops number c
@@ -418,3 +466,23 @@ one_each all to control (suc hops) number c arrives =
     let next = arrives.0 in
     let rest = one_each all to (control + 1) hops (number + 1) next arrives.3 in
     ap (λ cs. suc (length (joined (levels all (suc hops) (number + 1) (cs ++ []))))) arrives.2 ∙ ap suc rest
+
+-- where nobody receives what leaves at last, there is nothing behind
+pub ends : (all : List Router) (to : Address) → Nobody (net_of all) to → (control hops number : ℕ) (c : Copy) → Arrives all to control hops number c
+    → joined (levels all (suc (suc hops)) number (c ∷ [])) ≡ joined (levels all (suc hops) number (c ∷ []))
+ends all to nobody control zero number c arrives =
+    let (s, through, one, on, named, node) = arrives in
+    let from : Place = record { router = c.to.router; port = s.port } in
+    let copy : Place → Copy = λ x. record { parent = Some number; to = x; bytes = s.bytes } in
+    let there : network_of (net_of all) from ≡ to.network =
+    ap (λ (ports : List Port). (port_at ports s.port).network) (ports_same all c.to.router) ∙ named in
+    let none : receivers all number c s ≡ [] =
+    ap (λ (link : Node). map copy (delivered (net_of all) from link)) node ∙ ap (map copy) (nobody from there) in
+    let childless : children all number c ≡ [] = ap (flat_map (receivers all number c)) one ∙ append-nil (receivers all number c s) ∙ none in
+    ap (λ (cs : List Copy). c ∷ ((cs ++ []) ++ [])) childless
+ends all to nobody control (suc hops) number c arrives =
+    let (next, through, one, further) = arrives in
+    let rest = ends all to nobody (control + 1) hops (number + 1) next further in
+    ap (λ (cs : List Copy). c ∷ joined (levels all (suc (suc hops)) (number + 1) (cs ++ []))) one
+    ∙ ap (λ (cs : List Copy). c ∷ cs) rest
+    ∙ sym (ap (λ (cs : List Copy). c ∷ joined (levels all (suc hops) (number + 1) (cs ++ []))) one)

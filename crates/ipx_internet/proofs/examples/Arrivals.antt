@@ -1,6 +1,6 @@
 -- Two routers on one segment, as of `Segments`: packets that arrive, and one that a router leaves to the network on which it came. And in an
 -- internet whose least way leads round, how long a packet may be: a narrow port off the way counts for nothing.
-use Rattle.std.proofs.Common.{◌≡◌, refl, ap, ℕ, ◌≤◌, List, [], ◌∷◌, Option, None, Some, arith}
+use Rattle.std.proofs.Common.{◌≡◌, refl, ap, lit<, ℕ, ◌<◌, ◌≤◌, List, [], ◌∷◌, Option, None, Some, arith}
 use Rattle.ipx_wire.specs.Address.{address_bytes, address_at}
 use Rattle.ipx_wire.specs.Crossed.{network_bytes, network_at}
 use Rattle.ipx_wire.specs.Items.{items}
@@ -11,12 +11,12 @@ use Rattle.ipx_wire.specs.Sap.{sap_of}
 use Rattle.ipx_wire.specs.declared.address.Address.{Address}
 use Rattle.ipx_wire.specs.declared.network.Network.{Network}
 use Rattle.ipx_router.specs.Port.{Port}
-use Rattle.ipx_internet.specs.Arriving.{IsShort, Arrives}
+use Rattle.ipx_internet.specs.Arriving.{IsShort, CameThrough, Arrives}
 use Rattle.ipx_internet.specs.Internet.{Internet}
 use Rattle.ipx_internet.specs.Least.{Way}
-use Rattle.ipx_internet.specs.Tree.{Router, Copy, root, forwards}
+use Rattle.ipx_internet.specs.Tree.{Router, Copy, IsTree, root, forwards, tree_to}
 use Rattle.ipx_internet.proofs.examples.Leasts.{all, costly}
-use Rattle.ipx_internet.proofs.examples.Words.{network, node, port_on, route, running, plain, at, copy}
+use Rattle.ipx_internet.proofs.examples.Words.{network, node, port_on, route, running, plain_parts, plain, at, copy}
 
 abbrev segment : List Router
 segment =
@@ -29,16 +29,40 @@ to n = record { network = network n; node = node 0xCC; socket = record { 0 = 0x4
 abbrev received : ℕ → Copy
 received n = root (at 0 0) (plain 0 n (node 0xCC))
 
+-- it came through as many routers as its transport control says
+came : (control n : ℕ) → control < 16 → n < 256 → CameThrough control (plain control n (node 0xCC))
+unfolding header_bytes address_bytes
+came control n few small =
+    (plain_parts control n (node 0xCC), record {
+      header = record {
+        checksum = lit< tt;
+        length = lit< tt;
+        control = omega (arith, few);
+        kind = lit< tt;
+        destination = record { network = omega (arith, small); node = refl; socket = lit< tt };
+        source = record { network = lit< tt; node = refl; socket = lit< tt };
+      };
+      padding = [];
+      layout = refl;
+      counted = refl;
+    }, refl, few)
+
 -- the router has a port on 20h: the packet leaves there
 pub at_once : Arrives segment (to 0x20) 0 0 0 (received 0x20)
 unfolding header_bytes address_bytes network_bytes packet_of header_at address_at items network_at rip_of sap_of
-at_once = (record { port = 1; link = node 0xCC; bytes = plain 1 0x20 (node 0xCC) }, refl, refl, refl)
+at_once = (record { port = 1; link = node 0xCC; bytes = plain 1 0x20 (node 0xCC) }, came 0 0x20 (lit< tt) (lit< tt), refl, refl, refl, refl)
 
 -- to 30h it goes by the second router
 pub by_one_more : Arrives segment (to 0x30) 0 1 0 (received 0x30)
 unfolding header_bytes address_bytes network_bytes packet_of header_at address_at items network_at rip_of sap_of
 by_one_more =
-    (copy 0 (at 1 0) (plain 1 0x30 (node 0xCC)), refl, (record { port = 1; link = node 0xCC; bytes = plain 2 0x30 (node 0xCC) }, refl, refl, refl))
+    (copy 0 (at 1 0) (plain 1 0x30 (node 0xCC)), came 0 0x30 (lit< tt) (lit< tt), refl,
+    (record { port = 1; link = node 0xCC; bytes = plain 2 0x30 (node 0xCC) }, came 1 0x30 (lit< tt) (lit< tt), refl, refl, refl, refl))
+
+-- and these two receptions are its tree
+pub whole : IsTree segment (received 0x30) (tree_to segment 2 (received 0x30))
+unfolding header_bytes address_bytes network_bytes packet_of header_at address_at items network_at rip_of sap_of
+whole = record { depth = 2; all = refl; whole = refl }
 
 -- one for 10h, where it is, isn't sent on
 pub near : forwards segment (received 0x10) ≡ []
