@@ -1,5 +1,5 @@
 -- A packet of a host, once the tables are right: from router to router by their least ways, and out on its network.
-use Rattle.std.proofs.Common.{◌≡◌, ◌≢◌, refl, sym, ap, ap₂, ◌∙◌, subst, ℕ, zero, suc, ◌+◌, ◌*◌, ◌<◌, ◌≤◌, ◌==◌, ◌||◌, Bool, true, false, List, [], ◌∷◌, ◌++◌, length, map, filter, flat_map, Option, None, Some, option_map, Result, Ok, Err, inl, inr, arith, append-nil, if◌then◌else◌}
+use Rattle.std.proofs.Common.{◌≡◌, ◌≢◌, refl, sym, ap, ap₂, ◌∙◌, subst, ℕ, zero, suc, ◌+◌, ◌*◌, ◌<◌, ◌≤◌, ◌==◌, ◌&&◌, ◌||◌, Bool, true, false, List, [], ◌∷◌, ◌++◌, length, map, filter, flat_map, Option, None, Some, option_map, Result, Ok, Err, inl, inr, arith, append-nil, if◌then◌else◌}
 use Rattle.std.specs.List.{AllByRecursion}
 use Rattle.std.proofs.lemmas.Bool.{cases_Bool, cases_eq, or_cases, ne_eqb, eq-eqb, eqb-true, both_ways}
 use Rattle.ipx_wire.specs.Forward.{forwarded}
@@ -13,7 +13,7 @@ use Rattle.ipx_wire.specs.declared.packet.PacketFault.{PacketFault}
 use Rattle.ipx_router.specs.Facts.{routes_held, offers}
 use Rattle.ipx_router.specs.History.{History, running, ports_up}
 use Rattle.ipx_router.specs.Numbers.{default_route}
-use Rattle.ipx_router.specs.Outgoing.{Way as Outway, port_to, route_to, serving, way_to}
+use Rattle.ipx_router.specs.Outgoing.{Way as Outway, is_own_port, port_to, route_to, serving, way_to}
 use Rattle.ipx_router.specs.Port.{Port, broadcast, port_at, numbers, is_up, is_local, same_node, takes_no_route}
 use Rattle.ipx_router.specs.Relays.{Sent, relayed}
 use Rattle.ipx_router.specs.Why.{why, is_far}
@@ -22,30 +22,32 @@ use Rattle.ipx_router.specs.declared.why.Why.{Why}
 use Rattle.ipx_router.proofs.verdicts.SentOnPassesChecks.{judged, far_passes}
 use Rattle.ipx_router.proofs.port_values.PortOfEachNumber.{members, one_up}
 use Rattle.ipx_router.proofs.bytes.SentIsBytes.{relayed_bytes}
-use Rattle.ipx_internet.specs.Arriving.{IsOfHost, Arrives}
+use Rattle.ipx_internet.specs.Arriving.{IsOfHost, IsAllowed, IsShort, Arrives}
 use Rattle.ipx_internet.specs.Delivery.{receives, delivered}
 use Rattle.ipx_internet.specs.Different.{AreDifferent}
 use Rattle.ipx_internet.specs.Internet.{Internet, Place, IsInternet, NodesDiffer, IsPlace, ports_of, port_of, network_of, places}
-use Rattle.ipx_internet.specs.Least.{Way, is_on, AreCheap, HasRoom}
+use Rattle.ipx_internet.specs.Least.{Way, is_on, by_port, way_by, ways_within, least as least_of, neighbours, AreCheap, HasRoom}
 use Rattle.ipx_internet.specs.Queue.{history_of}
 use Rattle.ipx_internet.specs.Run.{Run}
 use Rattle.ipx_internet.specs.Ticks.{most_ticks_gone}
 use Rattle.ipx_internet.specs.Traced.{routers_after}
-use Rattle.ipx_internet.specs.Tree.{Router, Copy, router_now, net_of, router_at, sent_on, forwards, receivers, levels, joined}
+use Rattle.ipx_internet.specs.Tree.{Router, Copy, router_now, net_of, router_at, sent_on, forwards, receivers, children, levels, joined}
 use Rattle.ipx_internet.proofs.Advancing.{runs_where}
 use Rattle.ipx_internet.proofs.Becoming.{AtRest, find_none}
 use Rattle.ipx_internet.proofs.Enduring.{Endures}
-use Rattle.ipx_internet.proofs.Having.{number_any, found_with, found_some, AnyIs, any_then}
+use Rattle.ipx_internet.proofs.Having.{number_any, found_with, found_some, AnyIs, any_then, any_and_all, the_one}
 use Rattle.ipx_internet.proofs.Keeping.{same_bytes, bytes_same}
 use Rattle.ipx_internet.proofs.Listening.{nodes_apart}
-use Rattle.ipx_internet.proofs.Lists.{all_then}
+use Rattle.ipx_internet.proofs.Lists.{all_then, holds_of}
 use Rattle.ipx_internet.proofs.Now.{numbers_front, joint}
 use Rattle.ipx_internet.proofs.Places.{places_within, places_differ}
 use Rattle.ipx_internet.proofs.Receivers.{port_is, same_number, same_place, receives_is}
 use Rattle.ipx_internet.proofs.Replying.{Layouts}
 use Rattle.ipx_internet.proofs.Righting.{route_is, by_number}
 use Rattle.ipx_internet.proofs.Runs.{router_there}
-use Rattle.ipx_internet.proofs.Shortest.{IsNeighbour, within, own, own_is, on_or_off, OnOrOff, came, is_there, at_numbers, port_on, all_places}
+use Rattle.ipx_internet.proofs.Sourcing.{Source}
+use Rattle.ipx_internet.proofs.Shortest.{IsNeighbour, within, own, own_is, on_or_off, OnOrOff, came, is_there, at_numbers, port_on, all_places, in_neighbours}
+use Rattle.ipx_internet.proofs.Spreading.{ports_same}
 use Rattle.ipx_internet.proofs.Uniting.{some_port}
 
 -- ---- lists
@@ -74,6 +76,17 @@ only_passes test f (x ∷ xs) differ all (inr behind) passes = elim (cases_Bool 
     never [] apart any same = any
     never (y ∷ ys) apart (inl here) same = apart.0 (here ∙ sym same)
     never (y ∷ ys) apart (inr rest) same = never ys apart.1 rest same
+
+-- where none passes, a filter keeps nothing
+none_pass : {X : Type 0} (test : X → Bool) (xs : List X) → AllByRecursion (λ x. test x ≡ false) xs → filter test xs ≡ []
+none_pass test [] all = refl
+none_pass test (x ∷ xs) all = let e = all.0 in rw e (none_pass test xs all.1)
+
+-- what holds of all of a list holds of one of it
+at_one : {X : Type 0} (A : X → Type 0) (x : X) (xs : List X) → AnyIs (λ y. y ≡ x) xs → AllByRecursion A xs → A x
+at_one A x xs any all =
+    let (y, (same, holds)) = the_one (λ y. (y ≡ x) × A y) xs (any_and_all (λ y. y ≡ x) A xs any all) in
+    subst A same holds
 
 -- ---- routers as they are
 
@@ -189,7 +202,8 @@ module _ (net : Internet) (laws : Layouts) (is : IsInternet net) (differ : Nodes
       abbrev leaving : Option Outway → List Sent
       leaving o = elim o [ Some out ↦ record { port = out.port; link = out.link; bytes = packet_bytes (forwarded p) } ∷ [] | None ↦ [] ]
 
-      module _ (way : Outway) (routed : way_to ports ups routes to ≡ Some way) (leaves : way.port < length ports) (leaves_up : is_up (up q) way.port ≡ true) where
+      module _ (way : Outway) (routed : way_to ports ups routes to ≡ Some way) (leaves : way.port < length ports) (leaves_up : is_up (up q) way.port ≡ true)
+          (short : p.header.length ≤ (port_at ports way.port).longest) where
         abbrev it : Sent
         it = record { port = way.port; link = way.link; bytes = packet_bytes (forwarded p) }
 
@@ -204,7 +218,7 @@ module _ (net : Internet) (laws : Layouts) (is : IsInternet net) (differ : Nodes
             ap (judged ports ups routes (port_at ports number) number) read
             ∙ far_passes ports ups routes (port_at ports number) number p (it_is_up number on) way (of_host.no_echo
             (record { router = q; port = number }) here) of_host.source far
-            few_control (of_host.elsewhere q) routed_so (of_host.short (record { router = q; port = way.port }) leaves)
+            few_control (of_host.elsewhere q) routed_so short
 
         relays : relayed ports ups routes number p ≡ it ∷ []
         relays =
@@ -240,7 +254,7 @@ module _ (net : Internet) (laws : Layouts) (is : IsInternet net) (differ : Nodes
                 leaves_up = it_is_up way.port leaves_up;
                 no_echo = of_host.no_echo (record { router = q; port = number }) here;
                 source = of_host.source;
-                short = of_host.short (record { router = q; port = way.port }) leaves;
+                short = short;
               };
               written = refl;
             }))
@@ -298,6 +312,26 @@ module _ (net : Internet) (laws : Layouts) (is : IsInternet net) (differ : Nodes
             (n : Network). n.0) named))
             (up q) (number_any j (up q) on_j))) e)
 
+  -- ---- the ports on the way
+
+  abbrev Allowed : ℕ → ℕ → Network → Type 0
+  Allowed size q network = IsAllowed net up size q network
+
+  allowed_at : (size q j : ℕ) (network : Network) → Allowed size q network → is_up (up q) j ≡ true → (port_at (ports_of net q) j).network ≡ network
+      → size ≤ (port_at (ports_of net q) j).longest
+  allowed_at size q j network all on =
+      holds_of (λ k. (port_at (ports_of net q) k).network ≡ network → size ≤ (port_at (ports_of net q) k).longest) j (up q) all on
+
+  allowed_by : (size hops q port : ℕ) (v : Way) (from : Place) → Source net is cheap up in_ports to.network q v port from
+      → within net up in_ports to.network 15 q ≡ Some v → IsShort net up size to.network (suc hops) q
+      → Allowed size q (network_of net from) × IsShort net up size to.network hops from.router
+  allowed_by size hops q port v from source least short =
+      let gone_on : way_by net (ways_within net up 15 to.network) from ≡ least_of net up q to.network =
+      ap (option_map (by_port (port_of net from).cost)) source.there ∙ ap Some (sym source.by) ∙ sym least in
+      at_one (λ f. way_by net (ways_within net up 15 to.network) f ≡ least_of net up q to.network
+      → Allowed size q (network_of net f) × IsShort net up size to.network hops f.router)
+      from (neighbours net up q) (in_neighbours net up in_ports q port from source.neighbour) short gone_on
+
   -- ---- from router to router
 
   no_hop_on : (q : ℕ) (v : Way) → within net up in_ports to.network 15 q ≡ Some v → is_on (ports_of net q) to.network ≡ true → v.hops ≡ 0
@@ -308,12 +342,13 @@ module _ (net : Internet) (laws : Layouts) (is : IsInternet net) (differ : Nodes
 
   pub goes : (hops q port number : ℕ) (parent : Option ℕ) (bytes : List ℕ) (p : Parts) (v : Way) → port < length (ports_of net q) → is_up (up q) port ≡ true
       → (port_at (ports_of net q) port).network ≢ to.network → IsBytes bytes → IsPacket bytes p → p.header.destination ≡ to → IsOfHost net p
-      → p.header.control + hops < 16 → within net up in_ports to.network 15 q ≡ Some v → v.hops ≡ hops → most_ticks_gone + 60 * hops ≤ ticks
-      → Arrives routers to hops number (record { parent = parent; to = record { router = q; port = port }; bytes = bytes })
-  goes zero q port number parent bytes p v here on_port_here away are_bytes is_packet same of_host few_control least none sure =
+      → IsShort net up p.header.length to.network hops q → p.header.control + hops < 16 → within net up in_ports to.network 15 q ≡ Some v → v.hops ≡ hops
+      → most_ticks_gone + 60 * hops ≤ ticks
+      → Arrives routers to p.header.control hops number (record { parent = parent; to = record { router = q; port = port }; bytes = bytes })
+  goes zero q port number parent bytes p v here on_port_here away are_bytes is_packet same of_host short few_control least none sure =
       by (on_or_off net up in_ports to.network q)
     where
-      by : OnOrOff net up in_ports to.network q → Arrives routers to 0 number (record { parent = parent; to = record { router = q; port = port }; bytes = bytes })
+      by : OnOrOff net up in_ports to.network q → Arrives routers to p.header.control 0 number (record { parent = parent; to = record { router = q; port = port }; bytes = bytes })
       by (inr off) =
           let c = came net up in_ports to.network 14 q v off least in
           let h = ap (λ (w : Way). w.hops) c.by in
@@ -324,25 +359,27 @@ module _ (net : Internet) (laws : Layouts) (is : IsInternet net) (differ : Nodes
           let out : Outway = record { port = j; link = to.node } in
           let now = at_numbers (λ k. router_now (ports_of net k) most_routes (history_of run.histories k)) (length net) q (router_at [] 0) inside in (
             record { port = j; link = to.node; bytes = packet_bytes (forwarded p) },
+            (p, is_packet, refl, omega (arith, few_control)),
             sends_one q inside port here on_port_here away v least bytes are_bytes p is_packet same of_host (omega (arith, few_control)) out routed (one_up
                 (λ k. k < length (ports_of net q)) (up q) j (in_ports q) on_j) on_j
-                (record { parent = parent; to = record { router = q; port = port }; bytes = bytes }) refl refl,
+                (allowed_at p.header.length q j to.network short on_j named) (record { parent = parent; to = record { router = q; port = port }; bytes = bytes }) refl refl,
+            ap (λ (r : Router). is_up r.up j) now ∙ it_is_up q inside j on_j,
             ap (λ (r : Router). (port_at r.ports j).network) now ∙ named,
             refl,
           )
-  goes (suc hops) q port number parent bytes p v here on_port_here away are_bytes is_packet same of_host few_control least some sure =
+  goes (suc hops) q port number parent bytes p v here on_port_here away are_bytes is_packet same of_host short few_control least some sure =
       by (on_or_off net up in_ports to.network q)
-      (λ f u neighbour on_f elsewhere written read_again is_u hops_u. goes hops f.router f.port (number + 1) (Some number) (packet_bytes (forwarded p))
+      (λ f u neighbour on_f elsewhere written read_again short_on is_u hops_u. goes hops f.router f.port (number + 1) (Some number) (packet_bytes (forwarded p))
       (forwarded p) u neighbour on_f elsewhere written
-      read_again same (record { for_one = of_host.for_one; source = of_host.source; no_echo = of_host.no_echo; elsewhere = of_host.elsewhere; short = of_host.short })
-      (omega (arith, few_control)) is_u hops_u (omega (arith, sure)))
+      read_again same (record { for_one = of_host.for_one; source = of_host.source; no_echo = of_host.no_echo; elsewhere = of_host.elsewhere })
+      short_on (omega (arith, few_control)) is_u hops_u (omega (arith, sure)))
     where
       by : OnOrOff net up in_ports to.network q
           → ((f : Place) (u : Way) → IsPlace net f → is_up (up f.router) f.port ≡ true → network_of net f ≢ to.network → IsBytes (packet_bytes (forwarded p))
           → IsPacket (packet_bytes (forwarded p)) (forwarded p)
-          → within net up in_ports to.network 15 f.router ≡ Some u → u.hops ≡ hops
-          → Arrives routers to hops (number + 1) (record { parent = Some number; to = f; bytes = packet_bytes (forwarded p) }))
-          → Arrives routers to (suc hops) number (record { parent = parent; to = record { router = q; port = port }; bytes = bytes })
+          → IsShort net up p.header.length to.network hops f.router → within net up in_ports to.network 15 f.router ≡ Some u → u.hops ≡ hops
+          → Arrives routers to (p.header.control + 1) hops (number + 1) (record { parent = Some number; to = f; bytes = packet_bytes (forwarded p) }))
+          → Arrives routers to p.header.control (suc hops) number (record { parent = parent; to = record { router = q; port = port }; bytes = bytes })
       by (inl on) deeper =
           let none = no_hop_on q v least on in
           absurd (omega (arith, none, some))
@@ -355,14 +392,17 @@ module _ (net : Internet) (laws : Layouts) (is : IsInternet net) (differ : Nodes
           let out : Outway = record { port = has.route.port; link = has.route.node } in
           let routed = way_by_route q inside off has.route held in
           let leaves = has.source.neighbour.here in
+          let allowed = allowed_by p.header.length hops q has.route.port v has.from has.source least short in
+          let fits = allowed_at p.header.length q has.route.port (network_of net has.from) allowed.0 has.source.neighbour.on_here has.source.neighbour.network in
           let few_now : p.header.control < 16 = omega (arith, few_control) in
           let c : Copy = record { parent = parent; to = record { router = q; port = port }; bytes = bytes } in
           let it : Sent = record { port = has.route.port; link = has.route.node; bytes = packet_bytes (forwarded p) } in
-          let one = sends_one q inside port here on_port_here away v least bytes are_bytes p is_packet same of_host few_now out routed leaves has.source.neighbour.on_here c refl refl in
+          let one = sends_one q inside port here on_port_here away v least bytes are_bytes p is_packet same of_host few_now out routed leaves has.source.neighbour.on_here fits c refl refl in
           let there = delivered_one net up in_ports is differ q has.route.port has.from has.route.node has.source.neighbour has.node in
           let next : Copy = record { parent = Some number; to = has.from; bytes = packet_bytes (forwarded p) } in
           let hops_by = ap (λ (w : Way). w.hops) has.source.by in (
             next,
+            (p, is_packet, refl, few_now),
             ap (flat_map (receivers routers number c)) one ∙ append-nil (receivers routers number c it)
                 ∙ ap (λ (n : Internet). map (λ x. record { parent = Some number; to = x; bytes = packet_bytes (forwarded p) })
                 (delivered n (record { router = q; port = has.route.port }) has.route.node)) (net_after net most_routes run.histories)
@@ -370,17 +410,79 @@ module _ (net : Internet) (laws : Layouts) (is : IsInternet net) (differ : Nodes
             deeper has.from has.source.way has.source.neighbour.place has.source.neighbour.on_there
                 (λ named. both_ways (is_on (ports_of net q) to.network) off (port_on (ports_of net q) to.network has.route.port leaves
                 (has.source.neighbour.network ∙ named)))
-                (written q inside port here on_port_here away v least bytes are_bytes p is_packet same of_host few_now out routed leaves has.source.neighbour.on_here)
-                (read_again q inside port here on_port_here away v least bytes are_bytes p is_packet same of_host few_now out routed leaves has.source.neighbour.on_here)
-                has.source.there (omega (arith, hops_by, some)),
+                (written q inside port here on_port_here away v least bytes are_bytes p is_packet same of_host few_now out routed leaves has.source.neighbour.on_here fits)
+                (read_again q inside port here on_port_here away v least bytes are_bytes p is_packet same of_host few_now out routed leaves has.source.neighbour.on_here fits)
+                allowed.1 has.source.there (omega (arith, hops_by, some)),
           )
+
+-- ---- nobody behind the last router
+
+own_port : (ports : List Port) (j : ℕ) (to : Address) → j < length ports → (port_at ports j).network ≡ to.network
+    → same_node (port_at ports j).node to.node ≡ true → is_own_port ports to ≡ true
+own_port [] j to less nets node = absurd (omega (arith, less))
+own_port (p ∷ ports) zero to less nets node =
+    let number : (p.network.0 == to.network.0) ≡ true = eq-eqb p.network.0 to.network.0 (ap (λ (n : Network). n.0) nets) in
+    let same : same_node p.node to.node ≡ true = node in
+    rw (number, same) refl
+own_port (p ∷ ports) (suc j) to less nets node = elim (cases_Bool ((p.network.0 == to.network.0) && same_node p.node to.node)) [
+  | inl e ↦ rw e refl
+  | inr e ↦ rw e (own_port ports j to (omega (arith, less)) nets node)
+]
+
+-- no port receives what is for one node, which is no port's
+nobody : (net : Internet) (to : Address) → ((router : ℕ) → is_own_port (ports_of net router) to ≡ false) → to.node ≢ broadcast → (from : Place)
+    → network_of net from ≡ to.network → delivered net from to.node ≡ []
+nobody net to elsewhere one from named =
+    none_pass (receives net from to.node) (places net)
+    (all_then (IsPlace net) (λ x. receives net from to.node x ≡ false) off (places net) (places_within net))
+  where
+    off : (x : Place) → IsPlace net x → receives net from to.node x ≡ false
+    off x there = elim (cases_Bool (receives net from to.node x)) [
+      | inr e ↦ e
+      | inl e ↦
+          let got = receives_is net from to.node x e in
+          let node : same_node (port_of net x).node to.node ≡ true = elim (or_cases (same_node (port_of net x).node to.node) (same_node to.node broadcast) got.node) [
+            | inl same ↦ same
+            | inr all ↦ absurd (both_ways (same_node to.node broadcast) (nodes_apart to.node broadcast one) all)
+          ] in
+          absurd (both_ways (is_own_port (ports_of net x.router) to) (elsewhere x.router)
+          (own_port (ports_of net x.router) x.port to there (got.network ∙ named) node))
+    ]
+
+abbrev Nobody : Internet → Address → Type 0
+Nobody net to = (from : Place) → network_of net from ≡ to.network → delivered net from to.node ≡ []
+
+pub nobody_after : (net : Internet) (most_routes : ℕ) (histories : List History) (p : Parts) → IsOfHost net p → p.header.destination.node ≢ broadcast
+    → Nobody (net_of (routers_after net most_routes histories)) p.header.destination
+nobody_after net most_routes histories p of_host one =
+    subst (λ (n : Internet). Nobody n p.header.destination) (sym (net_after net most_routes histories)) (nobody net p.header.destination of_host.elsewhere one)
 
 -- ---- its tree
 
-pub one_each : (all : List Router) (to : Address) (hops number : ℕ) (c : Copy) → Arrives all to hops number c
+pub one_each : (all : List Router) (to : Address) (control hops number : ℕ) (c : Copy) → Arrives all to control hops number c
     → length (joined (levels all (suc hops) number (c ∷ []))) ≡ suc hops
-one_each all to zero number c arrives = refl
-one_each all to (suc hops) number c arrives =
+one_each all to control zero number c arrives = refl
+one_each all to control (suc hops) number c arrives =
     let next = arrives.0 in
-    let rest = one_each all to hops (number + 1) next arrives.2 in
-    ap (λ cs. suc (length (joined (levels all (suc hops) (number + 1) (cs ++ []))))) arrives.1 ∙ ap suc rest
+    let rest = one_each all to (control + 1) hops (number + 1) next arrives.3 in
+    ap (λ cs. suc (length (joined (levels all (suc hops) (number + 1) (cs ++ []))))) arrives.2 ∙ ap suc rest
+
+-- where nobody receives what leaves at last, there is nothing behind
+pub ends : (all : List Router) (to : Address) → Nobody (net_of all) to → (control hops number : ℕ) (c : Copy) → Arrives all to control hops number c
+    → joined (levels all (suc (suc hops)) number (c ∷ [])) ≡ joined (levels all (suc hops) number (c ∷ []))
+ends all to nobody control zero number c arrives =
+    let (s, through, one, on, named, node) = arrives in
+    let from : Place = record { router = c.to.router; port = s.port } in
+    let copy : Place → Copy = λ x. record { parent = Some number; to = x; bytes = s.bytes } in
+    let there : network_of (net_of all) from ≡ to.network =
+    ap (λ (ports : List Port). (port_at ports s.port).network) (ports_same all c.to.router) ∙ named in
+    let none : receivers all number c s ≡ [] =
+    ap (λ (link : Node). map copy (delivered (net_of all) from link)) node ∙ ap (map copy) (nobody from there) in
+    let childless : children all number c ≡ [] = ap (flat_map (receivers all number c)) one ∙ append-nil (receivers all number c s) ∙ none in
+    ap (λ (cs : List Copy). c ∷ ((cs ++ []) ++ [])) childless
+ends all to nobody control (suc hops) number c arrives =
+    let (next, through, one, further) = arrives in
+    let rest = ends all to nobody (control + 1) hops (number + 1) next further in
+    ap (λ (cs : List Copy). c ∷ joined (levels all (suc (suc hops)) (number + 1) (cs ++ []))) one
+    ∙ ap (λ (cs : List Copy). c ∷ cs) rest
+    ∙ sym (ap (λ (cs : List Copy). c ∷ joined (levels all (suc hops) (number + 1) (cs ++ []))) one)

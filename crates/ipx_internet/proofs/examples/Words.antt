@@ -1,6 +1,7 @@
 -- Routers and packets, in few words.
 use Rattle.std.proofs.Common.{ℕ, ◌-◌, ◌*◌, true, List, [], ◌∷◌, ◌++◌, length, flat_map, replicate, Some}
 use Rattle.ipx_wire.specs.Crossed.{network_bytes}
+use Rattle.ipx_wire.specs.Packet.{Parts}
 use Rattle.ipx_wire.specs.Write.{packet_bytes}
 use Rattle.ipx_wire.specs.declared.network.Network.{Network}
 use Rattle.ipx_wire.specs.declared.node.Node.{Node}
@@ -27,9 +28,9 @@ abbrev pub running : List Port → List RouteOffer → Router
 running ports routes = record { ports = ports; running = true; up = numbers (length ports); routes = routes }
 
 -- a packet without data from node AAh on network 10h, with so much transport control
-abbrev pub plain : ℕ → ℕ → Node → List ℕ
-plain control to link =
-    packet_bytes (record {
+abbrev pub plain_parts : ℕ → ℕ → Node → Parts
+plain_parts control to link =
+    record {
       header = record {
         checksum = 65535;
         length = 30;
@@ -39,7 +40,10 @@ plain control to link =
         source = record { network = network 16; node = node 0xAA; socket = record { 0 = 0x4003 } };
       };
       payload = [];
-    })
+    }
+
+abbrev pub plain : ℕ → ℕ → Node → List ℕ
+plain control to link = packet_bytes (plain_parts control to link)
 
 -- a propagated packet from there, on the way to a network, with so much transport control and these networks listed
 abbrev pub to_all : ℕ → ℕ → List ℕ → List ℕ

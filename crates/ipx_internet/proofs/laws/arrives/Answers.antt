@@ -1,13 +1,14 @@
-use Rattle.std.proofs.Common.{◌≡◌, refl, subst, ℕ, suc, ◌+◌, ◌≤◌, List, length, None, arith}
+use Rattle.std.proofs.Common.{◌≡◌, refl, sym, ap, ◌∙◌, subst, ℕ, suc, ◌+◌, ◌≤◌, List, length, None, arith}
 use Rattle.ipx_wire.specs.declared.network.Network.{Network}
 use Rattle.ipx_router.specs.History.{History}
 use Rattle.ipx_internet.specs.Internet.{Internet, IsInternet, NodesDiffer}
 use Rattle.ipx_internet.specs.Least.{AreCheap, HasRoom}
 use Rattle.ipx_internet.specs.Run.{Step, AreHistories, begun}
 use Rattle.ipx_internet.specs.Ticks.{AreTicks, ticked, ups, most_ticks_gone}
-use Rattle.ipx_internet.specs.Tree.{tree_to}
+use Rattle.ipx_internet.specs.Traced.{routers_after}
+use Rattle.ipx_internet.specs.Tree.{Router, root, tree_to}
 use Rattle.ipx_internet.proofs.Becoming.{AtRest, at_first}
-use Rattle.ipx_internet.proofs.Homing.{goes, one_each}
+use Rattle.ipx_internet.proofs.Homing.{goes, one_each, ends, nobody_after}
 use Rattle.ipx_internet.proofs.Replying.{Layouts}
 use Rattle.ipx_internet.proofs.Righting.{ups_within, climbs}
 use Rattle.ipx_internet.proofs.Ticking.{quiet_rests}
@@ -54,15 +55,32 @@ module _ (c : goal.After-packets) (net : Internet) (most_routes most_services : 
       (omega arith) begins) passes (omega (arith, long)))
 
 pub returns-clause-goes : goal.returns-clause-goes
-returns-clause-goes c net most_routes most_services histories ticks place bytes p way is differ few_routers cheap room are passes there on are_bytes is_packet of_host away least sure few_control =
+returns-clause-goes c net most_routes most_services histories ticks place bytes p way is differ few_routers cheap room are passes there on are_bytes is_packet of_host away least sure short few_control =
     let to = p.header.destination in
     let long : most_ticks_gone ≤ length ticks = omega (arith, sure) in
     goes net (layouts c) is differ cheap few_routers (ups net histories) (ups_within net histories) most_routes most_services room to (length ticks)
     (ticked net most_routes most_services (begun histories) ticks)
     (rests c net most_routes most_services histories ticks to.network is differ few_routers cheap room are passes long) long way.hops place.router place.port 0 None bytes p way there on
-    away are_bytes is_packet refl of_host few_control least refl sure
+    away are_bytes is_packet refl of_host short few_control least refl sure
 
 pub returns-clause-one_each : goal.returns-clause-one_each
-returns-clause-one_each c routers to hops copy arrives =
+returns-clause-one_each c routers to control hops copy arrives =
     let same : suc hops ≡ hops + 1 = omega arith in
-    subst (λ (n : ℕ). length (tree_to routers n copy) ≡ n) same (one_each routers to hops 0 copy arrives)
+    subst (λ (n : ℕ). length (tree_to routers n copy) ≡ n) same (one_each routers to control hops 0 copy arrives)
+
+pub returns-clause-ends : goal.returns-clause-ends
+returns-clause-ends c net most_routes most_services histories ticks place bytes p way is differ few_routers cheap room are passes there on are_bytes is_packet of_host away least sure short few_control one =
+    let arrives =
+    returns-clause-goes c net most_routes most_services histories ticks place bytes p way is differ few_routers cheap room are passes there on are_bytes is_packet of_host away least sure short few_control in
+    let run = ticked net most_routes most_services (begun histories) ticks in
+    let after : List Router = routers_after net most_routes run.histories in
+    let behind = ends after p.header.destination (nobody_after net most_routes run.histories p of_host one) p.header.control way.hops 0 (root place bytes) arrives in
+    let last : suc way.hops ≡ way.hops + 1 = omega arith in
+    let next : suc (suc way.hops) ≡ way.hops + 1 + 1 = omega arith in
+    record {
+      depth = way.hops + 1;
+      all = refl;
+      whole =
+          ap (λ (n : ℕ). tree_to after n (root place bytes)) (sym last) ∙ sym behind
+          ∙ ap (λ (n : ℕ). tree_to after n (root place bytes)) next;
+    }
