@@ -22,16 +22,16 @@ use Rattle.ipx_router.specs.declared.why.Why.{Why}
 use Rattle.ipx_router.proofs.verdicts.SentOnPassesChecks.{judged, far_passes}
 use Rattle.ipx_router.proofs.port_values.PortOfEachNumber.{members, one_up}
 use Rattle.ipx_router.proofs.bytes.SentIsBytes.{relayed_bytes}
-use Rattle.ipx_internet.specs.Arriving.{IsOfHost, IsAllowed, IsShort, Arrives}
+use Rattle.ipx_internet.specs.Arriving.{IsOfHost, IsAllowed, IsShort, Arrives, EndsOn}
 use Rattle.ipx_internet.specs.Delivery.{receives, delivered}
 use Rattle.ipx_internet.specs.Different.{AreDifferent}
 use Rattle.ipx_internet.specs.Internet.{Internet, Place, IsInternet, NodesDiffer, IsPlace, ports_of, port_of, network_of, places}
-use Rattle.ipx_internet.specs.Least.{Way, is_on, by_port, way_by, ways_within, least as least_of, neighbours, AreCheap, HasRoom}
+use Rattle.ipx_internet.specs.Least.{Way, is_on, is_up_on, by_port, way_by, ways_within, least as least_of, neighbours, AreCheap, HasRoom}
 use Rattle.ipx_internet.specs.Queue.{history_of}
 use Rattle.ipx_internet.specs.Run.{Run}
 use Rattle.ipx_internet.specs.Ticks.{most_ticks_gone}
 use Rattle.ipx_internet.specs.Traced.{routers_after}
-use Rattle.ipx_internet.specs.Tree.{Router, Copy, router_now, net_of, router_at, sent_on, forwards, receivers, children, levels, joined}
+use Rattle.ipx_internet.specs.Tree.{Router, Copy, router_now, net_of, router_at, sent_on, forwards, receivers, children, levels, joined, tree_to}
 use Rattle.ipx_internet.proofs.Advancing.{runs_where}
 use Rattle.ipx_internet.proofs.Becoming.{AtRest, find_none}
 use Rattle.ipx_internet.proofs.Enduring.{Endures}
@@ -46,7 +46,7 @@ use Rattle.ipx_internet.proofs.Replying.{Layouts}
 use Rattle.ipx_internet.proofs.Righting.{route_is, by_number}
 use Rattle.ipx_internet.proofs.Runs.{router_there}
 use Rattle.ipx_internet.proofs.Sourcing.{Source}
-use Rattle.ipx_internet.proofs.Shortest.{IsNeighbour, within, own, own_is, on_or_off, OnOrOff, came, is_there, at_numbers, port_on, all_places, in_neighbours}
+use Rattle.ipx_internet.proofs.Shortest.{IsNeighbour, within, own, own_is, on_or_off, OnOrOff, came, is_there, at_numbers, port_on, port_up, all_places, in_neighbours}
 use Rattle.ipx_internet.proofs.Spreading.{ports_same}
 use Rattle.ipx_internet.proofs.Uniting.{some_port}
 
@@ -468,9 +468,9 @@ one_each all to control (suc hops) number c arrives =
     ap (λ cs. suc (length (joined (levels all (suc hops) (number + 1) (cs ++ []))))) arrives.2 ∙ ap suc rest
 
 -- where nobody receives what leaves at last, there is nothing behind
-pub ends : (all : List Router) (to : Address) → Nobody (net_of all) to → (control hops number : ℕ) (c : Copy) → Arrives all to control hops number c
+behind : (all : List Router) (to : Address) → Nobody (net_of all) to → (control hops number : ℕ) (c : Copy) → Arrives all to control hops number c
     → joined (levels all (suc (suc hops)) number (c ∷ [])) ≡ joined (levels all (suc hops) number (c ∷ []))
-ends all to nobody control zero number c arrives =
+behind all to nobody control zero number c arrives =
     let (s, through, one, on, named, node) = arrives in
     let from : Place = record { router = c.to.router; port = s.port } in
     let copy : Place → Copy = λ x. record { parent = Some number; to = x; bytes = s.bytes } in
@@ -480,9 +480,45 @@ ends all to nobody control zero number c arrives =
     ap (λ (link : Node). map copy (delivered (net_of all) from link)) node ∙ ap (map copy) (nobody from there) in
     let childless : children all number c ≡ [] = ap (flat_map (receivers all number c)) one ∙ append-nil (receivers all number c s) ∙ none in
     ap (λ (cs : List Copy). c ∷ ((cs ++ []) ++ [])) childless
-ends all to nobody control (suc hops) number c arrives =
+behind all to nobody control (suc hops) number c arrives =
     let (next, through, one, further) = arrives in
-    let rest = ends all to nobody (control + 1) hops (number + 1) next further in
+    let rest = behind all to nobody (control + 1) hops (number + 1) next further in
     ap (λ (cs : List Copy). c ∷ joined (levels all (suc (suc hops)) (number + 1) (cs ++ []))) one
     ∙ ap (λ (cs : List Copy). c ∷ cs) rest
     ∙ sym (ap (λ (cs : List Copy). c ∷ joined (levels all (suc hops) (number + 1) (cs ++ []))) one)
+
+-- the receptions on the way, and the last one
+on_way : (all : List Router) (to : Address) (control hops number : ℕ) (c : Copy) → Arrives all to control hops number c
+    → (before : List Copy) × (last : Copy) × (joined (levels all (suc hops) number (c ∷ [])) ≡ before ++ last ∷ []) × (length before ≡ hops)
+    × (is_up_on (router_at all last.to.router).ports (router_at all last.to.router).up to.network ≡ true)
+on_way all to control zero number c arrives =
+    let (s, through, one, on, named, node) = arrives in
+    let r = router_at all c.to.router in
+    ([], c, refl, refl, port_up r.ports r.up to.network s.port on named)
+on_way all to control (suc hops) number c arrives =
+    let (next, through, one, further) = arrives in
+    let (before, last, same, count, there) = on_way all to (control + 1) hops (number + 1) next further in (
+      c ∷ before,
+      last,
+      ap (λ (cs : List Copy). c ∷ joined (levels all (suc hops) (number + 1) (cs ++ []))) one ∙ ap (λ (cs : List Copy). c ∷ cs) same,
+      ap suc count,
+      there,
+    )
+
+pub ends : (all : List Router) (to : Address) → Nobody (net_of all) to → (control hops : ℕ) (c : Copy) → Arrives all to control hops 0 c
+    → EndsOn all to.network hops c
+ends all to nobody control hops c arrives =
+    let (before, last, same, count, there) = on_way all to control hops 0 c arrives in
+    let first : suc hops ≡ hops + 1 = omega arith in
+    let next : suc (suc hops) ≡ hops + 1 + 1 = omega arith in
+    record {
+      before = before;
+      last = last;
+      tree = record {
+        depth = hops + 1;
+        all = sym same ∙ ap (λ (n : ℕ). tree_to all n c) first;
+        whole = sym same ∙ sym (behind all to nobody control hops 0 c arrives) ∙ ap (λ (n : ℕ). tree_to all n c) next;
+      };
+      count = count;
+      there = there;
+    }

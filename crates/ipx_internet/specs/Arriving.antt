@@ -1,5 +1,5 @@
 -- A packet that arrives: it comes through one router after the other, a stated number of them, and leaves on the network that it is for.
-use Rattle.std.specs.Prelude.{◌≡◌, ℕ, zero, suc, ◌+◌, ◌<◌, ◌≤◌, true, false, List, [], ◌∷◌}
+use Rattle.std.specs.Prelude.{◌≡◌, ℕ, zero, suc, ◌+◌, ◌<◌, ◌≤◌, true, false, List, [], ◌∷◌, ◌++◌, length}
 use Rattle.std.specs.List.{AllByRecursion}
 use Rattle.ipx_wire.specs.Packet.{Parts, IsPacket}
 use Rattle.ipx_wire.specs.declared.address.Address.{Address}
@@ -10,8 +10,8 @@ use Rattle.ipx_router.specs.Port.{port_at, is_up}
 use Rattle.ipx_router.specs.Relays.{Sent}
 use Rattle.ipx_router.specs.Why.{is_propagated, is_own_echo, is_bad_source}
 use Rattle.ipx_internet.specs.Internet.{Internet, Place, IsPlace, ports_of, port_of, network_of}
-use Rattle.ipx_internet.specs.Least.{most_hops, neighbours, way_by, ways_within, least}
-use Rattle.ipx_internet.specs.Tree.{Router, Copy, router_at, forwards, children}
+use Rattle.ipx_internet.specs.Least.{is_up_on, most_hops, neighbours, way_by, ways_within, least}
+use Rattle.ipx_internet.specs.Tree.{Router, Copy, IsTree, router_at, forwards, children}
 
 -- a packet of a host for one network: its source isn't the broadcast node, no port of a router sent it, and it is for no port of a router
 pub record IsOfHost (net : Internet) (p : Parts) : Type 0 where
@@ -49,3 +49,11 @@ module _ (routers : List Router) (to : Address) where
       × ((port_at (router_at routers c.to.router).ports s.port).network ≡ to.network) × (s.link ≡ to.node)
   Arrives control (suc hops) number c =
       (next : Copy) × CameThrough control c.bytes × (children routers number c ≡ next ∷ []) × Arrives (control + 1) hops (number + 1) next
+
+-- the whole tree of a reception is that many receptions and a last one, at a router with a port that is up on a network
+pub record EndsOn (routers : List Router) (network : Network) (hops : ℕ) (c : Copy) : Type 0 where
+  pub before : List Copy
+  pub last : Copy
+  pub tree : IsTree routers c (before ++ last ∷ [])
+  pub count : length before ≡ hops
+  pub there : is_up_on (router_at routers last.to.router).ports (router_at routers last.to.router).up network ≡ true

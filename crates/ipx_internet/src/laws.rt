@@ -20,7 +20,7 @@ ghost use Rattle.ipx_router.specs.Relays.{Sent};
 ghost use Rattle.ipx_router.specs.Sends.{sends};
 ghost use Rattle.ipx_router.specs.Why.{is_propagated};
 ghost use Rattle.ipx_internet.specs.Announces.{IsAnnounced, AsksApart};
-ghost use Rattle.ipx_internet.specs.Arriving.{IsOfHost, IsShort, Arrives};
+ghost use Rattle.ipx_internet.specs.Arriving.{IsOfHost, IsShort, Arrives, EndsOn};
 ghost use Rattle.ipx_internet.specs.Course.{IsInCourse, IsPath, visited};
 ghost use Rattle.ipx_internet.specs.Delivery.{delivered};
 ghost use Rattle.ipx_internet.specs.Departure.{ObservesHorizon, departures, handed, deliveries_from};
@@ -530,8 +530,10 @@ pub fn right()
 /// that network. After 2,880 ticks and 60 for each hop of the router's least way it goes through as many routers more as that way has hops,
 /// one at a time, and the last one sends it out on that network, for the node that it is for (`goes`). Where the router has a port on that
 /// network itself, the way has no hops, and the packet leaves there at once. So each of these levels of its tree is one reception (`one_each`).
-/// Each of them is of a packet whose transport control is one more than before, and stays below 16. Where the packet is for one node, these
-/// receptions are its whole tree (`ends`): the last one's router sends it out on that network, and no router receives it from there.
+/// Each of them is of a packet whose transport control is one more than before, and stays below 16.
+///
+/// Where such a packet's destination has another node than the broadcast, these receptions are its whole tree (`ends`). The last one is at a
+/// router with a port that is up on that network, and no router receives what leaves there.
 ///
 /// It is for one network. No port of a router sent it or is where it goes, and its source isn't the broadcast node. No port by which one of
 /// that router's least ways leads finds it too long. Its transport control and these hops are together fewer than 16. The rest is asked for
@@ -548,17 +550,9 @@ pub fn arrives()
         → Arrives (routers_after net most_routes (ticked net most_routes most_services (begun histories) ticks).histories) p.header.destination p.header.control way.hops 0
         (root place bytes) }
     ensures one_each { (routers : List Router) (to : Address) (control hops : ℕ) (c : Copy) → Arrives routers to control hops 0 c → length (tree_to routers (hops + 1) c) ≡ hops + 1 }
-    ensures ends { (net : Internet) (most_routes most_services : ℕ) (histories : List History) (ticks : List (List Step)) (place : Place) (bytes : List ℕ) (p : Parts) (way : Way)
-        → IsInternet net → NodesDiffer net → length net ≤ most_routers → AreCheap net → HasRoom net most_routes → AreHistories net histories
-        → AreTicks net most_routes most_services (begun histories) ticks → IsPlace net place → is_up (ups net histories place.router) place.port ≡ true
-        → IsBytes bytes → IsPacket bytes p → IsOfHost net p
-        → network_of net place ≢ p.header.destination.network
-        → least net (ups net histories) place.router p.header.destination.network ≡ Some way → ticks_right (Some way) ≤ length ticks
-        → IsShort net (ups net histories) p.header.length p.header.destination.network way.hops place.router
-        → p.header.control + way.hops < most_routers
-        → p.header.destination.node ≢ broadcast
-        → IsTree (routers_after net most_routes (ticked net most_routes most_services (begun histories) ticks).histories) (root place bytes)
-        (tree_to (routers_after net most_routes (ticked net most_routes most_services (begun histories) ticks).histories) (way.hops + 1) (root place bytes)) }
+    ensures ends { (net : Internet) (most_routes : ℕ) (histories : List History) (p : Parts) (control hops : ℕ) (c : Copy)
+        → IsOfHost net p → p.header.destination.node ≢ broadcast → Arrives (routers_after net most_routes histories) p.header.destination control hops 0 c
+        → EndsOn (routers_after net most_routes histories) p.header.destination.network hops c }
 {
     ipx_wire::laws::readings();
     ipx_wire::laws::service_readings();

@@ -11,10 +11,10 @@ use Rattle.ipx_wire.specs.Sap.{sap_of}
 use Rattle.ipx_wire.specs.declared.address.Address.{Address}
 use Rattle.ipx_wire.specs.declared.network.Network.{Network}
 use Rattle.ipx_router.specs.Port.{Port}
-use Rattle.ipx_internet.specs.Arriving.{IsShort, CameThrough, Arrives}
+use Rattle.ipx_internet.specs.Arriving.{IsShort, CameThrough, Arrives, EndsOn}
 use Rattle.ipx_internet.specs.Internet.{Internet}
 use Rattle.ipx_internet.specs.Least.{Way}
-use Rattle.ipx_internet.specs.Tree.{Router, Copy, IsTree, root, forwards, tree_to}
+use Rattle.ipx_internet.specs.Tree.{Router, Copy, root, forwards}
 use Rattle.ipx_internet.proofs.examples.Leasts.{all, costly}
 use Rattle.ipx_internet.proofs.examples.Words.{network, node, port_on, route, running, plain_parts, plain, at, copy}
 
@@ -59,10 +59,16 @@ by_one_more =
     (copy 0 (at 1 0) (plain 1 0x30 (node 0xCC)), came 0 0x30 (lit< tt) (lit< tt), refl,
     (record { port = 1; link = node 0xCC; bytes = plain 2 0x30 (node 0xCC) }, came 1 0x30 (lit< tt) (lit< tt), refl, refl, refl, refl))
 
--- and these two receptions are its tree
-pub whole : IsTree segment (received 0x30) (tree_to segment 2 (received 0x30))
+-- and these two receptions are its whole tree; the second router has a port on 30h
+pub whole : EndsOn segment (network 0x30) 1 (received 0x30)
 unfolding header_bytes address_bytes network_bytes packet_of header_at address_at items network_at rip_of sap_of
-whole = record { depth = 2; all = refl; whole = refl }
+whole = record {
+  before = received 0x30 ∷ [];
+  last = copy 0 (at 1 0) (plain 1 0x30 (node 0xCC));
+  tree = record { depth = 2; all = refl; whole = refl };
+  count = refl;
+  there = refl;
+}
 
 -- one for 10h, where it is, isn't sent on
 pub near : forwards segment (received 0x10) ≡ []

@@ -1,4 +1,4 @@
-use Rattle.std.proofs.Common.{◌≡◌, refl, sym, ap, ◌∙◌, subst, ℕ, suc, ◌+◌, ◌≤◌, List, length, None, arith}
+use Rattle.std.proofs.Common.{◌≡◌, refl, subst, ℕ, suc, ◌+◌, ◌≤◌, List, length, None, arith}
 use Rattle.ipx_wire.specs.declared.network.Network.{Network}
 use Rattle.ipx_router.specs.History.{History}
 use Rattle.ipx_internet.specs.Internet.{Internet, IsInternet, NodesDiffer}
@@ -6,7 +6,7 @@ use Rattle.ipx_internet.specs.Least.{AreCheap, HasRoom}
 use Rattle.ipx_internet.specs.Run.{Step, AreHistories, begun}
 use Rattle.ipx_internet.specs.Ticks.{AreTicks, ticked, ups, most_ticks_gone}
 use Rattle.ipx_internet.specs.Traced.{routers_after}
-use Rattle.ipx_internet.specs.Tree.{Router, root, tree_to}
+use Rattle.ipx_internet.specs.Tree.{tree_to}
 use Rattle.ipx_internet.proofs.Becoming.{AtRest, at_first}
 use Rattle.ipx_internet.proofs.Homing.{goes, one_each, ends, nobody_after}
 use Rattle.ipx_internet.proofs.Replying.{Layouts}
@@ -69,18 +69,5 @@ returns-clause-one_each c routers to control hops copy arrives =
     subst (λ (n : ℕ). length (tree_to routers n copy) ≡ n) same (one_each routers to control hops 0 copy arrives)
 
 pub returns-clause-ends : goal.returns-clause-ends
-returns-clause-ends c net most_routes most_services histories ticks place bytes p way is differ few_routers cheap room are passes there on are_bytes is_packet of_host away least sure short few_control one =
-    let arrives =
-    returns-clause-goes c net most_routes most_services histories ticks place bytes p way is differ few_routers cheap room are passes there on are_bytes is_packet of_host away least sure short few_control in
-    let run = ticked net most_routes most_services (begun histories) ticks in
-    let after : List Router = routers_after net most_routes run.histories in
-    let behind = ends after p.header.destination (nobody_after net most_routes run.histories p of_host one) p.header.control way.hops 0 (root place bytes) arrives in
-    let last : suc way.hops ≡ way.hops + 1 = omega arith in
-    let next : suc (suc way.hops) ≡ way.hops + 1 + 1 = omega arith in
-    record {
-      depth = way.hops + 1;
-      all = refl;
-      whole =
-          ap (λ (n : ℕ). tree_to after n (root place bytes)) (sym last) ∙ sym behind
-          ∙ ap (λ (n : ℕ). tree_to after n (root place bytes)) next;
-    }
+returns-clause-ends c net most_routes histories p control hops copy of_host one arrives =
+    ends (routers_after net most_routes histories) p.header.destination (nobody_after net most_routes histories p of_host one) control hops copy arrives
