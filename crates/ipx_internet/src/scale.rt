@@ -11,7 +11,8 @@ ghost use Rattle.ipx_internet.specs.Most.{most_of, most_ports, most_on_network};
 ghost use Rattle.ipx_internet.specs.Scales.{saturated, IsScale};
 
 use ipx_wire::{
-    Crossed, Header, Network, Node, Operation, Packet, Rip, RipEntry, Sap, SapEntries, SapEntry, Socket,
+    Crossed, Header, Network, Node, Operation, Packet, Rip, RipEntry, Sap, SapEntries, SapEntry,
+    Socket,
 };
 
 /// This many entries of routes are as long as one of services.
