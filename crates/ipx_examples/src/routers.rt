@@ -92,12 +92,9 @@ pub fn why(rt: &HostRuntime, outcome: Outcome) -> Result<()> {
 /// The routes of a router.
 pub fn route_offer(rt: &HostRuntime, router: &Small) -> Result<()> {
     for Held { offer: route, age } in router.iter_routes() {
-        println!(rt;
-            "network {}: {} ticks, age {age}",
-            route.network, route.ticks
-        )?;
+        println!(rt; "{}: {} ticks, age {age}", route.network, route.ticks)?;
     }
-    // prints network 00000030: 2 ticks, age 1
+    // prints 00000030: 2 ticks, age 1
     Ok(())
 }
 

@@ -9,9 +9,9 @@ use ipx_wire::{Network, Node, RipEntry};
 ///
 /// ```
 /// for Held { offer: route, age } in router.iter_routes() {
-///     println!(rt; "network {}: {} ticks, age {age}", route.network, route.ticks)?;
+///     println!(rt; "{}: {} ticks, age {age}", route.network, route.ticks)?;
 /// }
-/// // prints network 00000030: 2 ticks, age 1
+/// // prints 00000030: 2 ticks, age 1
 /// ```
 #[derive(Clone, Copy, Debug, Default, PartialEq, Eq, Hash)]
 pub struct RouteOffer {
