@@ -32,20 +32,24 @@ received n = root (at 0 0) (plain 0 n (node 0xCC))
 -- it came through as many routers as its transport control says
 came : (control n : ℕ) → control < 16 → n < 256 → CameThrough control (plain control n (node 0xCC))
 unfolding header_bytes address_bytes
-came control n few small =
-    (plain_parts control n (node 0xCC), record {
-      header = record {
-        checksum = lit< tt;
-        length = lit< tt;
-        control = omega (arith, few);
-        kind = lit< tt;
-        destination = record { network = omega (arith, small); node = refl; socket = lit< tt };
-        source = record { network = lit< tt; node = refl; socket = lit< tt };
-      };
-      padding = [];
-      layout = refl;
-      counted = refl;
-    }, refl, few)
+came control n few small = (
+  plain_parts control n (node 0xCC),
+  record {
+    header = record {
+      checksum = lit< tt;
+      length = lit< tt;
+      control = omega (arith, few);
+      kind = lit< tt;
+      destination = record { network = omega (arith, small); node = refl; socket = lit< tt };
+      source = record { network = lit< tt; node = refl; socket = lit< tt };
+    };
+    padding = [];
+    layout = refl;
+    counted = refl;
+  },
+  refl,
+  few,
+)
 
 -- the router has a port on 20h: the packet leaves there
 pub at_once : Arrives segment (to 0x20) 0 0 0 (received 0x20)
@@ -55,9 +59,12 @@ at_once = (record { port = 1; link = node 0xCC; bytes = plain 1 0x20 (node 0xCC)
 -- to 30h it goes by the second router
 pub by_one_more : Arrives segment (to 0x30) 0 1 0 (received 0x30)
 unfolding header_bytes address_bytes network_bytes packet_of header_at address_at items network_at rip_of sap_of
-by_one_more =
-    (copy 0 (at 1 0) (plain 1 0x30 (node 0xCC)), came 0 0x30 (lit< tt) (lit< tt), refl,
-    (record { port = 1; link = node 0xCC; bytes = plain 2 0x30 (node 0xCC) }, came 1 0x30 (lit< tt) (lit< tt), refl, refl, refl, refl))
+by_one_more = (
+  copy 0 (at 1 0) (plain 1 0x30 (node 0xCC)),
+  came 0 0x30 (lit< tt) (lit< tt),
+  refl,
+  (record { port = 1; link = node 0xCC; bytes = plain 2 0x30 (node 0xCC) }, came 1 0x30 (lit< tt) (lit< tt), refl, refl, refl, refl),
+)
 
 -- and these two receptions are its whole tree; the second router has a port on 30h
 pub whole : EndsOn segment (network 0x30) 1 (received 0x30)
@@ -99,14 +106,16 @@ fits =
     here = (λ e. let other : 0x12 ≡ 0x13 = ap number_of e in absurd (omega (arith, other)), (λ e. omega arith, tt))
 
     last : IsShort beside (all beside) 576 (network 0x50) 0 1
-    last =
-        (λ e. let other : 0x12 ≡ 0x50 = ap number_of e in absurd (omega (arith, other)),
-        (λ e. let other : 0x32 ≡ 0x50 = ap number_of e in absurd (omega (arith, other)), (λ e. omega arith, tt)))
+    last = (
+      λ e. let other : 0x12 ≡ 0x50 = ap number_of e in absurd (omega (arith, other)),
+      (λ e. let other : 0x32 ≡ 0x50 = ap number_of e in absurd (omega (arith, other)), (λ e. omega arith, tt)),
+    )
 
     rest : IsShort beside (all beside) 576 (network 0x50) 1 2
-    rest =
-        (λ e. let other : 3 ≡ 1 = ap hops_of e in absurd (omega (arith, other)),
-        (λ e. ((λ e. omega arith, (λ e. omega arith, tt)), last), tt))
+    rest = (
+      λ e. let other : 3 ≡ 1 = ap hops_of e in absurd (omega (arith, other)),
+      (λ e. ((λ e. omega arith, (λ e. omega arith, tt)), last), tt),
+    )
 
 -- and none of them more
 pub too_long : IsShort beside (all beside) 577 (network 0x50) 2 0 → ⊥
