@@ -35,7 +35,7 @@ module _ (net : Internet) (up : ℕ → List ℕ) (size : ℕ) where
       AllByRecursion (λ from. way_by net (ways_within net up most_hops network) from ≡ least net up router network
       → IsAllowed router (network_of net from) × IsShort network hops from.router) (neighbours net up router)
 
--- bytes of a packet that came through that many routers, and these are fewer than the most
+-- bytes of a packet that came through that many routers, as its transport control says, and these are fewer than 16
 abbrev pub CameThrough : ℕ → List ℕ → Type 0
 CameThrough control bytes = (p : Parts) × IsPacket bytes p × (p.header.control ≡ control) × (control < most_routers)
 
