@@ -20,6 +20,7 @@ FUNCTION = re.compile(r"( *)(?:pub(?:\([a-z]+\))? )?fn (\w+)")
 TYPE = re.compile(r"(?:pub(?:\([a-z]+\))? )?(?:struct|enum) (\w+)")
 BLOCK = re.compile(r"impl(?:<.*?>(?= ))? (.*) \{$")
 NAMED = re.compile(r"(?:\w+::)*(\w+)(?:<(\w+))?")
+LENT = re.compile(r"&(?:'\w+ )?")
 
 
 @dataclass(frozen=True)
@@ -113,11 +114,13 @@ def functions_of(lines, file, module, homes):
 
 
 def block_path(head, module, homes):
-    """The path of an impl block: its type's, and then its trait with what that is of."""
+    """The path of an impl block: its type's, and then its trait with what that is of. That of a lent type is where it stands."""
     trait, _, of = head.rpartition(" for ")
-    name = NAMED.match(of)[1]
+    lent = LENT.match(of)
+    name = NAMED.match(of[lent.end() :] if lent else of)[1]
     parts = NAMED.match(trait).groups() if trait else ()
-    return f"{homes.get(name, module)}::{name}" + "".join(it for it in parts if it)
+    of = f"{module}::Ref{name}" if lent else f"{homes.get(name, module)}::{name}"
+    return of + "".join(it for it in parts if it)
 
 
 def head_of(lines, first, indent):
