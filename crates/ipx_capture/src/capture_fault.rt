@@ -1,3 +1,4 @@
+//! Why a capture is read no further.
 ghost use Rattle.std.specs.Prelude.{◌≡◌};
 ghost use Rattle.ipx_capture.specs.declared.capture_fault.CaptureFault.TheVariants.{Memory};
 

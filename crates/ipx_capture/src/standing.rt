@@ -1,3 +1,4 @@
+//! Where a reader of a capture stands: among its records, or at a fault that it keeps.
 use crate::capture_fault::CaptureFault;
 
 /// Whether a capture goes on.

@@ -1,3 +1,4 @@
+//! A port of a router, and the values of which none is made.
 ghost use Rattle.std.specs.Prelude.{◌≡◌, IfOk, IfErr};
 ghost use Rattle.ipx_wire.specs.Piece.{IsBytes};
 

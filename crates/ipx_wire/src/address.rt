@@ -1,3 +1,4 @@
+//! Addresses: a network, a node on it, and a socket there.
 ghost use Rattle.std.specs.Prelude.{◌≡◌, Some};
 ghost use Rattle.ipx_wire.specs.AddressWord.{address_word};
 

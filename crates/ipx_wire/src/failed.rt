@@ -1,3 +1,4 @@
+//! The fault of a device that failed.
 use thiserror::Error;
 
 /// A device failed: an [`Intake`](crate::Intake) could not read, or an [`Outlet`](crate::Outlet) could not write.

@@ -1,3 +1,4 @@
+//! The header of a packet: its first thirty bytes.
 ghost use Rattle.std.specs.Prelude.{◌≡◌, ◌+◌, ◌≤◌, ◌++◌, length, drop};
 
 use crate::address::Address;

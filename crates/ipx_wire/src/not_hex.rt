@@ -1,3 +1,4 @@
+//! The fault of a text that isn't the digits of a number.
 use thiserror::Error;
 
 /// A text is not exactly as many hexadecimal digits as a network (eight) or a node (twelve) has.

@@ -1,3 +1,4 @@
+//! The fault of a call for which memory was refused.
 ghost use Rattle.std.specs.Prelude.{◌≡◌};
 ghost use Rattle.ipx_wire.specs.declared.out_of_memory.OutOfMemory.{OutOfMemory};
 

@@ -1,3 +1,4 @@
+//! A packet, read from bytes: its header and the data that its length counts.
 ghost use Rattle.std.specs.Prelude.{◌≡◌, ◌+◌, ◌++◌, length, drop, IfOk, IfErr, IsOkAnd, Ok};
 
 use crate::fields::u16_at;

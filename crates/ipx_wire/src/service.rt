@@ -1,3 +1,4 @@
+//! A service as it is written: type, name, address and hops.
 use crate::address::Address;
 use crate::service_name::ServiceName;
 

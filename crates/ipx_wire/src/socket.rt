@@ -1,3 +1,4 @@
+//! Sockets: which process of a node a packet is for.
 ghost use Rattle.std.specs.Prelude.{◌≡◌, ◌++◌, codes, Some};
 ghost use Rattle.std.specs.Int.{to_be_bytes, w16};
 ghost use Rattle.hex.specs.Hex.{encode_upper};

@@ -1,3 +1,4 @@
+//! The line of the fault that ends a capture.
 ghost use Rattle.std.specs.Prelude.{◌≡◌, ◌++◌, OnOk, ◌+◌, ◌<◌, ◌≤◌, length, OnErr};
 ghost use Rattle.std.specs.Vec.{vec_capacity};
 ghost use Rattle.ipx_cmd.specs.CaptureWord.{capture_word};

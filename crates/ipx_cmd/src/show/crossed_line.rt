@@ -1,3 +1,4 @@
+//! The line of the networks that a propagated packet has crossed.
 ghost use Rattle.std.specs.Prelude.{◌≡◌, ◌++◌, Ok, ◌+◌, ◌≤◌, length};
 ghost use Rattle.std.specs.List.{flat_map};
 ghost use Rattle.ipx_wire.specs.Crossed.{crossed_of};

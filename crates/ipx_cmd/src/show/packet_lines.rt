@@ -1,3 +1,4 @@
+//! The line of a packet's header, and which lines of its data follow.
 ghost use Rattle.std.specs.Prelude.{◌≡◌, ◌++◌, ◌+◌, ◌≤◌, length, take};
 ghost use Rattle.ipx_wire.specs.Header.{header_at};
 ghost use Rattle.ipx_wire.specs.Packet.{packet_of};

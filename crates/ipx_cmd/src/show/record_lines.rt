@@ -1,3 +1,4 @@
+//! The lines of a record: what its frame carries, or why it shows no packet.
 ghost use Rattle.std.specs.Prelude.{◌≡◌, ◌++◌, OnOk, [], codes, ◌+◌, ◌<◌, ◌≤◌, length, OnErr};
 ghost use Rattle.std.specs.Vec.{vec_capacity};
 ghost use Rattle.ipx_capture.specs.Framed.{framed};

@@ -1,3 +1,4 @@
+//! The lines of routing information in a capture: the operation, and each entry.
 ghost use Rattle.std.specs.Prelude.{◌≡◌, ◌++◌, Ok, ◌+◌, ◌≤◌, length};
 ghost use Rattle.std.specs.List.{flat_map};
 ghost use Rattle.ipx_wire.specs.Rip.{rip_of};

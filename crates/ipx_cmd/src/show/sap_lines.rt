@@ -1,3 +1,4 @@
+//! The lines of service advertising in a capture: the operation, and each service.
 ghost use Rattle.std.specs.Prelude.{◌≡◌, ◌++◌, Ok, ◌+◌, ◌*◌, ◌≤◌, drop, length};
 ghost use Rattle.std.specs.List.{flat_map};
 ghost use Rattle.ipx_wire.specs.Numbers.{most_services};

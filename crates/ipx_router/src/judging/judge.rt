@@ -84,7 +84,7 @@ fn judge_packet<'a, const R: usize>(
     }
 }
 
-/// What is to be done with a packet that came on a port that is up.
+/// What is to be done with a packet that came on a port, if that is up; whether it is, is the last question, and not asked here.
 fn judge_on_port<'a, const R: usize>(
     ports: &[Port],
     up: &[u8],
