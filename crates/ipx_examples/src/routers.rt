@@ -94,7 +94,7 @@ pub fn route_offer(rt: &HostRuntime, router: &Small) -> Result<()> {
     for Held { offer: route, age } in router.iter_routes() {
         println!(rt; "{}: {} ticks, age {age}", route.network, route.ticks)?;
     }
-    // prints 00000030: 2 ticks, age 1
+    // prints 00000030: 2 ticks, age 2
     Ok(())
 }
 

@@ -11,7 +11,7 @@ use ipx_wire::{Network, Node, RipEntry};
 /// for Held { offer: route, age } in router.iter_routes() {
 ///     println!(rt; "{}: {} ticks, age {age}", route.network, route.ticks)?;
 /// }
-/// // prints 00000030: 2 ticks, age 1
+/// // prints 00000030: 2 ticks, age 2
 /// ```
 #[derive(Clone, Copy, Debug, Default, PartialEq, Eq, Hash)]
 pub struct RouteOffer {
