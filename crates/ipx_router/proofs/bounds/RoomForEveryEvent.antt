@@ -1,5 +1,5 @@
 -- The room that is enough for every event of a router whose tables are full at most.
-use Rattle.std.proofs.Common.{◌≡◌, refl, sym, ap, ◌∙◌, subst, ℕ, ◌+◌, ◌*◌, ◌-◌, ◌<◌, ◌≤◌, max, nat_lt, List, [], length, IfOk, Result, Ok, Err, inl, inr, arith}
+use Rattle.std.proofs.Common.{◌≡◌, refl, sym, subst, ℕ, ◌+◌, ◌*◌, ◌≤◌, max, nat_lt, List, [], length, IfOk, Result, Ok, Err, inl, inr, arith}
 use Rattle.std.proofs.Math.Nat.{le_trans, le-max_left, le-max_right, max-le, mul-le-mul_left, mul-le-mul_right, max-eq_left, max-eq_right}
 use Rattle.std.proofs.lemmas.Bool.{cases_Bool, cases_lt, ltb-false}
 use Rattle.std.proofs.lemmas.Nat.{mul-le}

@@ -57,6 +57,14 @@ module _ (most_routes most_services : ℕ) (s : State) (route_shares service_sha
   pub ups_within : AllByRecursion (λ j. j < length s.ports) s.up
   ups_within = subst (λ (up : List ℕ). AllByRecursion (λ j. j < length s.ports) up) (sym is.stands.ups) (ports_up-within s.ports is.past)
 
+  -- its routes came by them
+  pub routes_up : AllByRecursion (λ r. is_up s.up r.port ≡ true) (offers s.routes)
+  routes_up =
+      let held : AllByRecursion (λ r. is_up (ports_up s.ports is.past) r.port ≡ true) (offers s.routes) =
+      subst (λ (routes : List (Held RouteOffer)). AllByRecursion (λ r. is_up (ports_up s.ports is.past) r.port ≡ true) (offers routes))
+      (sym is.stands.routes_stand) (held_routes_up s.ports most_routes is.past) in
+      subst (λ (up : List ℕ). AllByRecursion (λ r. is_up up r.port ≡ true) (offers s.routes)) (sym is.stands.ups) held
+
   few_all : length (ports_up s.ports is.past) ≤ length s.ports
   few_all =
       omega (arith, length-numbers (length s.ports), length-filter (λ port. running is.past && not (is_down is.past port)) (numbers (length s.ports)))

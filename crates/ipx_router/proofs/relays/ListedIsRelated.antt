@@ -55,7 +55,7 @@ module _ (up : List ℕ) (routes : List RouteOffer) (by_ups : AllUp up routes) w
         | inr taken ↦ route_up default_route route (rw taken at e)
       ]
 
-  way_up : (ports : List Port) (destination : Address) (way : Way) → way_to ports up routes destination ≡ Some way → is_up up way.port ≡ true
+  pub way_up : (ports : List Port) (destination : Address) (way : Way) → way_to ports up routes destination ≡ Some way → is_up up way.port ≡ true
   way_up ports destination way e = by (port_to ports up destination.network) (serving ports routes destination.network) refl refl e
     where
       by : (o : Option ℕ) (r : Option RouteOffer) → port_to ports up destination.network ≡ o → serving ports routes destination.network ≡ r

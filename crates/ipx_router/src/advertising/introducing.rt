@@ -10,8 +10,8 @@ ghost use Rattle.ipx_router.specs.Told.{told_at, direct_entry};
 
 use crate::advertising::broadcasts::{broadcast_routes, broadcast_services};
 use crate::advertising::envelope::Envelope;
+use crate::advertising::hops::{direct_entry, told_at};
 use crate::advertising::item::Item;
-use crate::advertising::items::{direct_entry, told_at};
 use crate::advertising::requests::{query_services, request_routes};
 use crate::outbox::Outbox;
 use crate::port::Port;

@@ -3,7 +3,7 @@ ghost use Rattle.std.specs.Prelude.{◌≡◌, ◌≤◌, [], ◌∷◌, length}
 ghost use Rattle.ipx_router.specs.Outbox.{Fits, Appends};
 
 use crate::advertising::envelope::Envelope;
-use crate::advertising::items::{dead, dead_service, entry_of};
+use crate::advertising::hops::{dead, dead_service, entry_of};
 use crate::outbox::Outbox;
 use crate::route_offer::RouteOffer;
 use crate::service_offer::ServiceOffer;

@@ -3,7 +3,7 @@ ghost use Rattle.std.specs.Prelude.{◌≡◌};
 ghost use Rattle.std.specs.Option.{option_to_list};
 ghost use Rattle.ipx_router.specs.inside.Selection.{asks_for, is_asked, is_of_kind, service_selected_by, selected_by};
 
-use crate::advertising::items::{dead, dead_service};
+use crate::advertising::hops::{dead, dead_service};
 use ipx_wire::{Network, Rip, RipEntry, Sap, Service};
 
 /// Which routes are sent.

@@ -9,7 +9,7 @@ ghost use Rattle.ipx_router.specs.inside.Sources.{waits_before};
 ghost use Rattle.ipx_router.specs.Told.{by_network, direct, is_route_told, network_before, told_at};
 ghost use Rattle.ipx_router.specs.inside.ToldRoutes.{routes_left};
 
-use crate::advertising::items::{direct_entry, entry_of, is_route_told, told_at};
+use crate::advertising::hops::{direct_entry, entry_of, is_route_told, told_at};
 use crate::port::Port;
 use crate::ports::making::MOST_PORTS;
 use crate::route_offer::RouteOffer;

@@ -4,7 +4,7 @@ ghost use Rattle.std.specs.List.{prefix_len};
 ghost use Rattle.ipx_router.specs.Facts.{offers};
 ghost use Rattle.ipx_router.specs.Told.{is_service_told, told_services};
 
-use crate::advertising::items::{farther, is_service_told};
+use crate::advertising::hops::{farther, is_service_told};
 use crate::service_offer::ServiceOffer;
 use ipx_table::Table;
 use ipx_wire::Service;

@@ -15,7 +15,7 @@ use crate::route_offer::RouteOffer;
 use crate::router::Router;
 use crate::service_offer::ServiceOffer;
 use crate::why::Why;
-use crate::withdrawing::ends::{end_port, pass_second};
+use crate::withdrawing::both_tables::{end_port, pass_second};
 
 /// The seconds from one broadcast of all that is advertised to the next.
 const PERIOD: u8 = 60;

@@ -1,5 +1,6 @@
 //! Packets that a router is only asked to send on: judged as they are, and sent where they leave.
 ghost use Rattle.std.specs.Prelude.{◌≡◌, ◌*◌, ◌<◌, ◌≤◌, true, length, IfOk, IfErr, Some, None};
+ghost use Rattle.std.specs.List.{AllByRecursion};
 ghost use Rattle.ipx_router.specs.inside.CheckGroups.{GoesAs};
 ghost use Rattle.ipx_router.specs.Facts.{offers};
 ghost use Rattle.ipx_router.specs.Numbers.{most_ports};
@@ -45,7 +46,9 @@ pub(crate) fn relay<const R: usize>(
     outbox: &mut Outbox,
 ) -> Outcome
     requires port { number < length ports.now }
-    requires up { length up.now ≤ length ports.now }
+    requires few { length up.now ≤ length ports.now }
+    requires ups { AllByRecursion (λ j. j < length ports.now) up.now }
+    requires by_ups { AllByRecursion (λ r. is_up up.now r.port ≡ true) (offers routes.now.records) }
     requires room { HasRoom outbox.old (relay_places ports.now) (relay_places ports.now * packet.now.header.length) }
     ensures outcome { result ≡ relay_outcome ports.now up.now (offers routes.now.records) running number packet.now }
     ensures sends { Appends outbox.old outbox.new (relay_sends ports.now up.now (offers routes.now.records) running number packet.now) }
@@ -69,7 +72,9 @@ fn pass<'a, const R: usize>(
     number: u8,
     packet: &Packet<'a>,
 ) -> Result<Option<Onward<'a>>, Why>
-    requires { number < length ports.now }
+    requires port { number < length ports.now }
+    requires ups { AllByRecursion (λ j. j < length ports.now) up.now }
+    requires by_ups { AllByRecursion (λ r. is_up up.now r.port ≡ true) (offers routes.now.records) }
     ensures refused { IfErr result (λ why. relay_why ports.now up.now (offers routes.now.records) true number packet.now ≡ Some why) }
     ensures cleared { IfOk result (λ onward. relay_why ports.now up.now (offers routes.now.records) true number packet.now ≡ None) }
     ensures onward { IfOk result (GoesAs ports.now up.now (offers routes.now.records) (port_at ports.now number) packet.now) }
@@ -94,8 +99,10 @@ fn send_on<const R: usize>(
     onward: Option<Onward<'_>>,
 ) -> Outcome
     requires onward { GoesAs ports.now up.now (offers routes.now.records) (port_at ports.now number) packet.now onward }
+    requires port { number < length ports.now }
     requires up { is_up up.now number ≡ true }
     requires few { length up.now ≤ length ports.now }
+    requires ups { AllByRecursion (λ j. j < length ports.now) up.now }
     requires room { HasRoom outbox.old (relay_places ports.now) (relay_places ports.now * packet.now.header.length) }
     ensures outcome { result ≡ passed_outcome (port_at ports.now number) packet.now.header }
     ensures sends { Appends outbox.old outbox.new (relayed ports.now up.now (offers routes.now.records) number packet.now) }

@@ -4,18 +4,18 @@
 //! room for the networks crossed; eight were crossed; it has crossed the port's network. Of a near packet: it is for
 //! another node. Of a far packet: it came through sixteen routers or more; it is for a port of the router itself; there is
 //! no way to its network; it is longer than the port allows on which it would leave.
-ghost use Rattle.std.specs.Prelude.{◌≡◌, true, false, IfOk, IfErr, None, Some};
+ghost use Rattle.std.specs.Prelude.{◌≡◌, ◌<◌, true, false, length, IfOk, IfErr, None, Some};
+ghost use Rattle.std.specs.List.{AllByRecursion};
 ghost use Rattle.ipx_router.specs.Checks.{relay_checks};
 ghost use Rattle.ipx_router.specs.inside.CheckGroups.{source_checks, propagated_checks, is_for_other, far_checks, IsListed, IsWay, GoesAs};
 ghost use Rattle.ipx_router.specs.Facts.{offers};
 ghost use Rattle.ipx_router.specs.Outgoing.{way_to, is_own_port};
-ghost use Rattle.ipx_router.specs.Port.{is_local};
+ghost use Rattle.ipx_router.specs.Port.{is_local, is_up};
 ghost use Rattle.ipx_router.specs.Why.{first_of, is_propagated};
 
-use crate::judging::outgoing::{
-    Way, is_own_port, longest_on, takes_no_route, way_by_route, way_to,
-};
+use crate::judging::outgoing::{Way, is_own_port, takes_no_route, way_by_route, way_to};
 use crate::port::Port;
+use crate::ports::addresses::port_of;
 use crate::route_offer::RouteOffer;
 use crate::why::Why;
 use ipx_table::Table;
@@ -38,6 +38,8 @@ pub(crate) fn check<'a, const R: usize>(
     port: &Port,
     packet: &Packet<'a>,
 ) -> Result<Option<Onward<'a>>, Why>
+    requires ups { AllByRecursion (λ j. j < length ports.now) up.now }
+    requires by_ups { AllByRecursion (λ r. is_up up.now r.port ≡ true) (offers routes.now.records) }
     ensures refused { IfErr result (λ why. first_of (relay_checks ports.now up.now (offers routes.now.records) port.now packet.now) ≡ Some why) }
     ensures cleared { IfOk result (λ onward. first_of (relay_checks ports.now up.now (offers routes.now.records) port.now packet.now) ≡ None) }
     ensures onward { IfOk result (GoesAs ports.now up.now (offers routes.now.records) port.now packet.now) }
@@ -97,6 +99,8 @@ fn way_of<const R: usize>(
     routes: &Table<RouteOffer, R>,
     header: &Header,
 ) -> Result<Way, Why>
+    requires ups { AllByRecursion (λ j. j < length ports.now) up.now }
+    requires by_ups { AllByRecursion (λ r. is_up up.now r.port ≡ true) (offers routes.now.records) }
     ensures refused { IfErr result (λ why. first_of (far_checks ports.now up.now (offers routes.now.records) header.now) ≡ Some why) }
     ensures cleared { IfOk result (λ way. first_of (far_checks ports.now up.now (offers routes.now.records) header.now) ≡ None) }
     ensures way { IfOk result (IsWay ports.now up.now (offers routes.now.records) header.now) }
@@ -107,7 +111,7 @@ fn way_of<const R: usize>(
     let Some(way) = way_beyond(ports, up, routes, header.destination)? else {
         return Err(Why::NoRoute);
     };
-    if header.length > longest_on(ports, way.port) {
+    if header.length > port_of(ports, way.port).longest() {
         return Err(Why::TooLong);
     }
     Ok(way)
@@ -121,6 +125,7 @@ fn way_beyond<const R: usize>(
     routes: &Table<RouteOffer, R>,
     destination: Address,
 ) -> Result<Option<Way>, Why>
+    requires ups { AllByRecursion (λ j. j < length ports.now) up.now }
     ensures own { IfErr result (λ why. (why ≡ Why.FarSide) × (is_own_port ports.now destination ≡ true)) }
     ensures way { IfOk result (λ way. (way ≡ way_to ports.now up.now (offers routes.now.records) destination) × (is_own_port ports.now destination ≡ false)) }
 {

@@ -4,12 +4,13 @@
 //! the checks of a packet, which are also made of one that is only to be sent on; of a near packet, it is of type
 //! 20 or for a socket without a process, its source is on another network, its data are no routing information or no
 //! service advertising, or they answer a query for the nearest service; and last, the port on which it came is down.
-ghost use Rattle.std.specs.Prelude.{◌≡◌, ◌==◌, ◌||◌, ◌<◌, ◌∷◌, ◌++◌, [], length, None, Some, IfOk, IfErr};
+ghost use Rattle.std.specs.Prelude.{◌≡◌, ◌==◌, ◌||◌, ◌<◌, ◌∷◌, ◌++◌, [], true, length, None, Some, IfOk, IfErr};
+ghost use Rattle.std.specs.List.{AllByRecursion};
 ghost use Rattle.ipx_router.specs.inside.CheckGroups.{process_checks, data_why};
 ghost use Rattle.ipx_router.specs.Facts.{offers};
 ghost use Rattle.ipx_router.specs.inside.Judged.{IsVerdict, IsFound, IsHearing, packet_why};
 ghost use Rattle.ipx_router.specs.Numbers.{rip_socket, sap_socket};
-ghost use Rattle.ipx_router.specs.Port.{port_at};
+ghost use Rattle.ipx_router.specs.Port.{port_at, is_up};
 ghost use Rattle.ipx_router.specs.Why.{why, checks, first_of};
 
 use crate::judging::checks::{Onward, check, is_local};
@@ -50,7 +51,9 @@ pub(crate) fn judge<'a, const R: usize>(
     number: u8,
     bytes: &'a [u8],
 ) -> Result<Verdict<'a>, Why>
-    requires { number < length ports.now }
+    requires port { number < length ports.now }
+    requires ups { AllByRecursion (λ j. j < length ports.now) up.now }
+    requires by_ups { AllByRecursion (λ r. is_up up.now r.port ≡ true) (offers routes.now.records) }
     ensures refused { IfErr result (λ reason. why ports.now up.now (offers routes.now.records) running number bytes.entry.now ≡ Some reason) }
     ensures verdict { IfOk result (IsVerdict ports.now up.now (offers routes.now.records) running number bytes.entry.now) }
 {
@@ -71,7 +74,9 @@ fn judge_packet<'a, const R: usize>(
     number: u8,
     packet: Packet<'a>,
 ) -> Result<Verdict<'a>, Why>
-    requires { number < length ports.now }
+    requires port { number < length ports.now }
+    requires ups { AllByRecursion (λ j. j < length ports.now) up.now }
+    requires by_ups { AllByRecursion (λ r. is_up up.now r.port ≡ true) (offers routes.now.records) }
     ensures refused { IfErr result (λ reason. packet_why ports.now up.now (offers routes.now.records) number packet.entry ≡ Some reason) }
     ensures cleared { IfOk result (λ verdict. packet_why ports.now up.now (offers routes.now.records) number packet.entry ≡ None) }
     ensures found { IfOk result (IsFound ports.now up.now (offers routes.now.records) (port_at ports.now number) packet.entry) }
@@ -92,6 +97,8 @@ fn judge_on_port<'a, const R: usize>(
     port: &Port,
     packet: Packet<'a>,
 ) -> Result<Verdict<'a>, Why>
+    requires ups { AllByRecursion (λ j. j < length ports.now) up.now }
+    requires by_ups { AllByRecursion (λ r. is_up up.now r.port ≡ true) (offers routes.now.records) }
     ensures refused { IfErr result (λ reason. first_of (checks ports.now up.now (offers routes.now.records) port.now packet.entry) ≡ Some reason) }
     ensures cleared { IfOk result (λ verdict. first_of (checks ports.now up.now (offers routes.now.records) port.now packet.entry) ≡ None) }
     ensures found { IfOk result (IsFound ports.now up.now (offers routes.now.records) port.now packet.entry) }

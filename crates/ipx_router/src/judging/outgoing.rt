@@ -2,13 +2,14 @@
 //!
 //! A port of that network which is up comes first; then the route in the table; then the default route, which serves
 //! every network that a route may lead to.
-ghost use Rattle.std.specs.Prelude.{◌≡◌, ◌==◌, option_map};
-ghost use Rattle.std.specs.List.{list_any};
+ghost use Rattle.std.specs.Prelude.{◌≡◌, ◌<◌, ◌==◌, length, option_map};
+ghost use Rattle.std.specs.List.{AllByRecursion, list_any};
 ghost use Rattle.ipx_router.specs.Facts.{offers};
 ghost use Rattle.ipx_router.specs.Outgoing.{port_to, route_to, serving, way_to, is_own_port};
-ghost use Rattle.ipx_router.specs.Port.{port_at, takes_no_route};
+ghost use Rattle.ipx_router.specs.Port.{takes_no_route};
 
 use crate::port::Port;
+use crate::ports::addresses::port_of;
 use crate::route_offer::RouteOffer;
 use ipx_table::Table;
 use ipx_wire::{Address, Network, Node};
@@ -38,6 +39,7 @@ pub(crate) fn way_to<const R: usize>(
     routes: &Table<RouteOffer, R>,
     destination: Address,
 ) -> Option<Way>
+    requires ups { AllByRecursion (λ j. j < length ports.now) up.now }
     ensures { result ≡ way_to ports.now up.now (offers routes.now.records) destination }
 {
     if let Some(port) = port_to(ports, up, destination.network) {
@@ -73,33 +75,17 @@ pub(crate) fn is_own_port(ports: &[Port], destination: Address) -> bool
     })
 }
 
-/// The network of the port of that number; past the last port it is 0, which no port has.
-pub(crate) fn network_of(ports: &[Port], number: u8) -> Network
-    ensures { result ≡ (port_at ports.now number).network }
-{
-    match ports.get(usize::from(number)) {
-        Some(port) => port.network(),
-        None => Network::LOCAL,
-    }
-}
-
-/// The longest packet that may leave on the port of that number; past the last port there is none.
-pub(crate) fn longest_on(ports: &[Port], number: u8) -> u16
-    ensures { result ≡ (port_at ports.now number).longest }
-{
-    match ports.get(usize::from(number)) {
-        Some(port) => port.longest(),
-        None => 0,
-    }
-}
-
 /// The port of that network, if the router has one that is up.
 fn port_to(ports: &[Port], up: &[u8], network: Network) -> Option<u8>
+    requires ups { AllByRecursion (λ j. j < length ports.now) up.now }
     ensures { result ≡ port_to ports.now up.now network }
 {
-    up.iter()
-        .copied()
-        .find(|number| network_of(ports, *number) == network)
+    for &number in up {
+        if port_of(ports, number).network() == network {
+            return Some(number);
+        }
+    }
+    None
 }
 
 /// The route that serves packets for a network.

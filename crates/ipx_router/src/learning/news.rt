@@ -13,8 +13,8 @@ ghost use Rattle.ipx_router.specs.Sends.{rip_broadcast, sap_broadcast};
 ghost use Rattle.ipx_router.specs.inside.Touched.{change_of};
 
 use crate::advertising::envelope::Envelope;
+use crate::advertising::hops::{dead, dead_service, entry_of, farther, is_reached_on, told_at};
 use crate::advertising::item::Item;
-use crate::advertising::items::{dead, dead_service, entry_of, farther, is_reached_on, told_at};
 use crate::advertising::pages::{ENTRIES_A_PAGE, SERVICES_A_PAGE};
 use crate::learning::touched::Touched;
 use crate::outbox::Outbox;

@@ -1,4 +1,4 @@
-use Rattle.std.proofs.Common.{◌≡◌, ◌∙◌, sym, ap, subst, ℕ, ◌≤◌, length, arith}
+use Rattle.std.proofs.Common.{◌≡◌, ◌∙◌, sym, ap, subst, ◌≤◌, length, arith}
 use Rattle.ipx_wire.specs.Packet.{packet_of}
 use Rattle.ipx_router.specs.History.{Event, Start, Stop, Second, Packet, PortDown, PortUp, IsOfBytes}
 use Rattle.ipx_router.specs.Needs.{IsUpTo, packets_ever, bytes_ever}

@@ -1,5 +1,5 @@
 use Rattle.std.proofs.Common.{rules, ◌<◌, sym, ap, subst, List, length}
-use Rattle.std.specs.List.{flat_map}
+use Rattle.std.specs.List.{AllByRecursion, flat_map}
 use Rattle.ipx_router.specs.inside.Following.{Follows, sends_between}
 use Rattle.ipx_router.specs.History.{Packet}
 use Rattle.ipx_router.specs.Needs.{HasRoomFor}
@@ -9,6 +9,7 @@ use Rattle.ipx_router.specs.Relays.{Sent, propagated_on}
 use Rattle.ipx_router.specs.Stands.{State}
 use Rattle.ipx_router.proofs.verdicts.EffectOfWhatCame.{onward_follows, propagated_sent}
 use Rattle.ipx_router.proofs.bounds.RoomIsEnough.{event_fits}
+use Rattle.ipx_router.proofs.histories.RouterOneEventMore.{ups_within}
 use Rattle.ipx_router.proofs.histories.StateAfterEachEvent.{state_of}
 use Rattle.ipx_router.proofs.router.Router.propagate.Goals as goal
 
@@ -25,7 +26,10 @@ propagate-requires g c =
     let fits = event_fits g.row.R g.row.S s i.routes.shares i.services.shares c.self.invariant s (Packet n b) within c.proves_bytes.ensures step (record { few = c.bounds.ensures.few; short = c.bounds.ensures.short }) c.args.outbox.now need in
     let room : Fits c.args.outbox.now (flat_map (propagated_on c.deref.result.now n c.args.packet.now) c.deref-2.result.now) = subst (λ (ps : List Sent). Fits c.args.outbox.now ps) (sym (propagated_sent s n b c.deref.result.now c.deref-2.result.now c.deref.ensures.0 c.deref-2.ensures.0 c.args.packet.now c.args.crossed.now on)) fits in
     let listed = on.2 in
-    search (rules, room, listed)
+    let port : n < length c.deref.result.now = rw c.deref.ensures.0 within in
+    let ups : AllByRecursion (λ j. j < length c.deref.result.now) c.deref-2.result.now =
+    rw (c.deref.ensures.0, c.deref-2.ensures.0) (ups_within g.row.R g.row.S s i.routes.shares i.services.shares c.self.invariant) in
+    search (rules, port, ups, room, listed)
 
 pub returns-clause-follows : goal.returns-clause-follows
 returns-clause-follows g c =

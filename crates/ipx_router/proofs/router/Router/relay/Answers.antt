@@ -1,11 +1,12 @@
-use Rattle.std.proofs.Common.{rules, ◌<◌, ◌≤◌, ◌*◌, sym, ap, ◌∙◌, subst, List, ℕ, length}
+use Rattle.std.proofs.Common.{rules, true, ◌≡◌, ◌<◌, ◌≤◌, ◌*◌, sym, ap, ◌∙◌, subst, List, ℕ, length}
+use Rattle.std.specs.List.{AllByRecursion}
 use Rattle.ipx_router.specs.Facts.{offers}
 use Rattle.ipx_router.specs.Outbox.{HasRoom, Appends}
-use Rattle.ipx_router.specs.Port.{Port}
+use Rattle.ipx_router.specs.Port.{Port, is_up}
 use Rattle.ipx_router.specs.Relay.{relay_outcome, relay_sends, relay_places}
 use Rattle.ipx_router.specs.Relays.{Sent}
 use Rattle.ipx_router.specs.Stands.{State}
-use Rattle.ipx_router.proofs.histories.RouterOneEventMore.{ups_fit}
+use Rattle.ipx_router.proofs.histories.RouterOneEventMore.{ups_fit, ups_within, routes_up}
 use Rattle.ipx_router.proofs.histories.StateAfterEachEvent.{state_of}
 use Rattle.ipx_router.proofs.router.Router.relay.Goals as goal
 
@@ -22,7 +23,11 @@ relay-requires g c =
     subst (λ (v : State). HasRoom c.args.outbox.now (relay_places v.ports) (relay_places v.ports * size)) (sym c.self.view_is) c.requires.room in
     let room : HasRoom c.args.outbox.now (relay_places c.deref.result.now) (relay_places c.deref.result.now * size) =
     subst (λ (ps : List Port). HasRoom c.args.outbox.now (relay_places ps) (relay_places ps * size)) (sym c.deref.ensures.0) here in
-    search (rules, port, up, room)
+    let ups : AllByRecursion (λ j. j < length c.deref.result.now) c.deref-2.result.now =
+    rw (c.deref.ensures.0, c.deref-2.ensures.0) (ups_within g.row.R g.row.S s i.routes.shares i.services.shares c.self.invariant) in
+    let by_ups : AllByRecursion (λ r. is_up c.deref-2.result.now r.port ≡ true) (offers i.routes.records) =
+    rw c.deref-2.ensures.0 (routes_up g.row.R g.row.S s i.routes.shares i.services.shares c.self.invariant) in
+    search (rules, port, up, ups, by_ups, room)
 
 pub returns-clause-outcome : goal.returns-clause-outcome
 returns-clause-outcome g c =

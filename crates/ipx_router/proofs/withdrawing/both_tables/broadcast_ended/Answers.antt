@@ -4,7 +4,7 @@ use Rattle.ipx_router.specs.inside.Ended.{ended_on, service_ended_on}
 use Rattle.ipx_router.specs.inside.EndedSends.{ended_sends}
 use Rattle.ipx_router.specs.Sends.{rip_broadcast, sap_broadcast}
 use Rattle.ipx_router.proofs.sending.OneAfterAnother.{appends_then, fits_front, fits_then, next_fits, next_pays}
-use Rattle.ipx_router.proofs.withdrawing.ends.broadcast_ended.Goals as goal
+use Rattle.ipx_router.proofs.withdrawing.both_tables.broadcast_ended.Goals as goal
 
 pub advertise_ended-requires-clause-room : goal.advertise_ended-requires-clause-room
 advertise_ended-requires-clause-room c =

@@ -3,7 +3,7 @@ use Rattle.ipx_router.specs.inside.Ended.{RoutesAscend, ServicesAscend}
 use Rattle.ipx_router.specs.Facts.{offers}
 use Rattle.ipx_router.specs.Outbox.{Fits, Appends}
 use Rattle.ipx_router.proofs.ended.SentIsOfEnded.{all_as}
-use Rattle.ipx_router.proofs.withdrawing.ends.broadcast_second.Goals as goal
+use Rattle.ipx_router.proofs.withdrawing.both_tables.broadcast_second.Goals as goal
 
 pub broadcast_all-requires : goal.broadcast_all-requires
 broadcast_all-requires g c =

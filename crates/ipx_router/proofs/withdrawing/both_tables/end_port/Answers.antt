@@ -2,7 +2,7 @@ use Rattle.std.proofs.Common.{sym, ◌∙◌, subst}
 use Rattle.ipx_router.specs.inside.Ended.{RoutesAscend, ServicesAscend}
 use Rattle.ipx_router.specs.Outbox.{Fits, Appends}
 use Rattle.ipx_router.proofs.ended.SentIsOfEnded.{port_down_as}
-use Rattle.ipx_router.proofs.withdrawing.ends.end_port.Goals as goal
+use Rattle.ipx_router.proofs.withdrawing.both_tables.end_port.Goals as goal
 
 pub broadcast_down-requires-clause-routes_ascend : goal.broadcast_down-requires-clause-routes_ascend
 broadcast_down-requires-clause-routes_ascend g c = subst RoutesAscend (sym c.ended.ensures.value) c.end_port_in_place.ensures.by_key

@@ -2,7 +2,7 @@ use Rattle.std.proofs.Common.{sym, subst, rules}
 use Rattle.ipx_router.specs.Outbox.{Fits, Appends}
 use Rattle.ipx_router.proofs.ended.SentIsOfEnded.{nothing_sent, second_as}
 use Rattle.ipx_router.proofs.sending.OneAfterAnother.{appends_none}
-use Rattle.ipx_router.proofs.withdrawing.ends.pass_second.Goals as goal
+use Rattle.ipx_router.proofs.withdrawing.both_tables.pass_second.Goals as goal
 
 pub broadcast_second-requires : goal.broadcast_second-requires
 broadcast_second-requires g c =

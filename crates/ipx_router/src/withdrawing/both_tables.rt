@@ -12,7 +12,7 @@ ghost use Rattle.ipx_router.specs.Outbox.{Fits, Appends};
 ghost use Rattle.ipx_router.specs.Routes.{network_order, route_reading, route_rules};
 ghost use Rattle.ipx_router.specs.Services.{service_order, service_reading, service_rules};
 
-use crate::advertising::items::{dead, direct_entry};
+use crate::advertising::hops::{dead, direct_entry};
 use crate::outbox::Outbox;
 use crate::port::Port;
 use crate::route_offer::RouteOffer;

@@ -7,7 +7,7 @@ use Rattle.ipx_router.specs.Outbox.{Fits, Appends}
 use Rattle.ipx_router.specs.Sends.{rip_broadcast, sap_broadcast}
 use Rattle.ipx_router.specs.Told.{by_network, dead, direct_entry}
 use Rattle.ipx_router.proofs.sending.OneAfterAnother.{appends_then, fits_front, fits_then, next_fits, next_pays}
-use Rattle.ipx_router.proofs.withdrawing.ends.broadcast_down.Goals as goal
+use Rattle.ipx_router.proofs.withdrawing.both_tables.broadcast_down.Goals as goal
 
 pub advertise_ended_with-requires-clause-room : goal.advertise_ended_with-requires-clause-room
 advertise_ended_with-requires-clause-room c =
