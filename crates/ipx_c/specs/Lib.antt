@@ -2,8 +2,6 @@
 pub mod Sizes
 pub mod Codes
 pub mod Values
--- what a handle owns
-pub mod Holds
 -- events
 pub mod Happens
 -- making
@@ -16,3 +14,5 @@ pub mod Reads
 pub mod Kinds
 -- words
 pub mod Words
+-- nothing that a public contract says
+pub mod inside

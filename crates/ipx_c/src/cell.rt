@@ -4,7 +4,7 @@
 //! that it has none. A cell isn't `Drop`, and no other module sees its fields or those of `Parts`, so none can lose a machine.
 ghost use Rattle.std.specs.Prelude.{◌≡◌, Option, None, Some, IsSome};
 ghost use Rattle.std.specs.Box.Ownership.{box_owns};
-ghost use Rattle.ipx_c.specs.Holds.{holds, code};
+ghost use Rattle.ipx_c.specs.inside.Holds.{holds, code};
 ghost use Rattle.ipx_c.specs.declared.machine.Machine.{Machine};
 
 use crate::machine::Machine;

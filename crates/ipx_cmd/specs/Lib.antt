@@ -46,11 +46,5 @@ pub mod RecordText
 -- the text of a capture, and what a run leaves
 pub mod Shown
 pub mod Decoded
--- What only types inside the crate say: nobody needs to believe it.
-pub mod Acted
-pub mod Leads
-pub mod Stretch
-pub mod MachineStands
-pub mod InternetStands
 -- nothing that a public contract says
 pub mod inside

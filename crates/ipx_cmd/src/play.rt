@@ -2,13 +2,13 @@
 //! ends is written before the next piece is asked for.
 ghost use Rattle.std.specs.Prelude.{◌≡◌, ◌+◌, ◌^◌, ◌<◌, ◌≤◌, ◌++◌, false, [], length, Err, IfErr, IfOk, OnOk, OnErr};
 ghost use Rattle.std.specs.Io.KnownBytes.{IsAtEnd};
-ghost use Rattle.ipx_cmd.specs.Acted.{StaysFine};
-ghost use Rattle.ipx_cmd.specs.Leads.{IsPending};
+ghost use Rattle.ipx_cmd.specs.inside.Acted.{StaysFine};
+ghost use Rattle.ipx_cmd.specs.inside.Leads.{IsPending};
 ghost use Rattle.ipx_cmd.specs.Output.{fault_text};
 ghost use Rattle.ipx_cmd.specs.Played.{GivenUp, Played, PlayedSoFar};
 ghost use Rattle.ipx_cmd.specs.Replayed.{ReplayGivenUp, Replayed, ReplayedSoFar};
 ghost use Rattle.ipx_cmd.specs.Simulated.{InternetGivenUp, Simulated, SimulatedSoFar};
-ghost use Rattle.ipx_cmd.specs.Stretch.{Answered, Completed, Flushed, GaveUp, Passed, Unfinished};
+ghost use Rattle.ipx_cmd.specs.inside.Stretch.{Answered, Completed, Flushed, GaveUp, Passed, Unfinished};
 ghost use Rattle.ipx_cmd.specs.WroteFront.{IsFaultOf};
 ghost use Rattle.ipx_cmd.specs.declared.ended.Ended.TheVariants.{Done, BadInput};
 ghost use Rattle.ipx_wire.specs.Ends.{Gave, LostInput, calls_after};

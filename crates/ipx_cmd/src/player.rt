@@ -3,11 +3,11 @@
 //! A line ends before a line feed or at the end of the script. A carriage return right before that
 //! end is dropped, but counted where the line is too long.
 ghost use Rattle.std.specs.Prelude.{◌≡◌, ℕ, true, ◌+◌, ◌^◌, ◌<◌, ◌≤◌, [], ◌∷◌, ◌++◌, false, length, IfErr, OnOk, MatchOption};
-ghost use Rattle.ipx_cmd.specs.Acted.{Acted, Halted};
-ghost use Rattle.ipx_cmd.specs.Leads.{IsOneLine, IsPending};
+ghost use Rattle.ipx_cmd.specs.inside.Acted.{Acted, Halted};
+ghost use Rattle.ipx_cmd.specs.inside.Leads.{IsOneLine, IsPending};
 ghost use Rattle.ipx_cmd.specs.Lines.{is_long, line_feed, longest_line, without_return};
 ghost use Rattle.ipx_cmd.specs.declared.lines.fault.LineFault.TheVariants.{Long};
-ghost use Rattle.ipx_cmd.specs.Stretch.{Finished, FinishedOff, NotKept, Went, WentOff};
+ghost use Rattle.ipx_cmd.specs.inside.Stretch.{Finished, FinishedOff, NotKept, Went, WentOff};
 
 use crate::lines::fault::LineFault;
 use crate::lines::halt::Halt;

@@ -9,7 +9,7 @@ use Rattle.ipx_wire.specs.declared.network.Network.{Network}
 use Rattle.ipx_router.specs.Port.{Port, port_at, numbers}
 use Rattle.ipx_internet.specs.Internet.{Internet, Place, ports_of, port_of, network_of, places}
 use Rattle.ipx_internet.specs.Most.{on_network}
-use Rattle.ipx_internet.specs.Stations.{stations_on, station, station_at, AreOf}
+use Rattle.ipx_internet.specs.inside.Stations.{stations_on, station, station_at, AreOf}
 use Rattle.ipx_internet.specs.declared.stations.Station.{Station}
 use Rattle.ipx_internet.proofs.Lists.{all_then, all_of, all-map, all-flat_map, numbers_below}
 

@@ -3,7 +3,7 @@ use Rattle.std.proofs.Common.{◌≡◌, sym, ap, subst, ℕ, List, [], arith}
 use Rattle.ipx_internet.specs.Internet.{NodesDiffer}
 use Rattle.ipx_internet.specs.Queue.{Delivery}
 use Rattle.ipx_internet.specs.inside.Simulated.{IsSimulated}
-use Rattle.ipx_internet.specs.Stations.{AreOf, stations_on}
+use Rattle.ipx_internet.specs.inside.Stations.{AreOf, stations_on}
 use Rattle.ipx_internet.specs.declared.stations.Station.{Station}
 
 -- it has no station

@@ -7,7 +7,7 @@ use Rattle.ipx_wire.specs.declared.network.Network.{Network}
 use Rattle.ipx_router.specs.Port.{Port, port_at}
 use Rattle.ipx_router.specs.Relays.{Sent}
 use Rattle.ipx_internet.specs.Listed.{child, listed_from, IsCut, Fills}
-use Rattle.ipx_internet.specs.Stations.{stations_on, hears, hearers}
+use Rattle.ipx_internet.specs.inside.Stations.{stations_on, hears, hearers}
 use Rattle.ipx_internet.specs.declared.fault.TraceFault.{TraceFault}
 use Rattle.ipx_internet.specs.declared.fault.TraceFault.TheVariants.{NoSuchPort, Limit, Memory}
 use Rattle.ipx_internet.specs.declared.listing.Listed.{Listed}

@@ -5,7 +5,7 @@ use Rattle.std.proofs.lemmas.List.{length-map}
 use Rattle.ipx_wire.specs.declared.network.Network.{Network}
 use Rattle.ipx_internet.specs.Internet.{Internet, Place, network_of, places}
 use Rattle.ipx_internet.specs.Most.{greatest, on_network, most_on_network}
-use Rattle.ipx_internet.specs.Stations.{stations_on, station_at, IsIndex, AreOf}
+use Rattle.ipx_internet.specs.inside.Stations.{stations_on, station_at, IsIndex, AreOf}
 use Rattle.ipx_internet.specs.declared.stations.Station.{Station}
 use Rattle.ipx_internet.proofs.Counts.{IsIn, in_image, at_most_greatest}
 use Rattle.ipx_internet.proofs.Receivers.{same_number}

@@ -7,7 +7,7 @@ use Rattle.ipx_wire.specs.declared.node.Node.{Node}
 use Rattle.ipx_router.specs.Port.{same_node, broadcast}
 use Rattle.ipx_internet.specs.Delivery.{receives, delivered}
 use Rattle.ipx_internet.specs.Internet.{Internet, Place, port_of, network_of, places}
-use Rattle.ipx_internet.specs.Stations.{stations_on, station_at, place_of, hears, IsIndex, AreOf}
+use Rattle.ipx_internet.specs.inside.Stations.{stations_on, station_at, place_of, hears, IsIndex, AreOf}
 use Rattle.ipx_internet.specs.declared.stations.Station.{Station}
 
 module _ {X Y : Type 0} (f : X → Y) (g : Y → X) (p r : X → Bool) (h : Y → Bool) (back : (x : X) → g (f x) ≡ x) (both : (x : X) → r x ≡ (p x && h (f x))) where

@@ -16,7 +16,7 @@ use Rattle.ipx_internet.specs.Internet.{Internet}
 use Rattle.ipx_internet.specs.InternetWeight.{most_hearers, message_weight, said_weight, delivery_weight, records_at, internet_weight}
 use Rattle.ipx_internet.specs.Moment.{Moment, net_at}
 use Rattle.ipx_internet.specs.inside.Simulated.{IsComing}
-use Rattle.ipx_internet.specs.Scales.{saturated}
+use Rattle.ipx_internet.specs.inside.Scales.{saturated}
 use Rattle.ipx_internet.proofs.Handing.{first_left, some_router}
 use Rattle.ipx_internet.proofs.Settling.{none_of}
 

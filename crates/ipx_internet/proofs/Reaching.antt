@@ -9,7 +9,7 @@ use Rattle.ipx_router.specs.declared.outcome.Outcome.{Outcome}
 use Rattle.ipx_internet.specs.Delivery.{receives, delivered}
 use Rattle.ipx_internet.specs.Internet.{Place, IsPlace}
 use Rattle.ipx_internet.specs.Listed.{Listing, copy_at, waits_next, receivers_by, children_by, IsListed}
-use Rattle.ipx_internet.specs.Stations.{stations_on, place_of, hears, AreOf}
+use Rattle.ipx_internet.specs.inside.Stations.{stations_on, place_of, hears, AreOf}
 use Rattle.ipx_internet.specs.Traced.{tree, outcome_at}
 use Rattle.ipx_internet.specs.Tree.{Router, Copy, net_of, router_at, forwards, receivers, children, next_level, levels, joined, tree_to, IsTree}
 use Rattle.ipx_internet.specs.declared.stations.Station.{Station}

@@ -4,7 +4,7 @@ use Rattle.std.proofs.lemmas.Bool.{cases_lt}
 use Rattle.ipx_internet.specs.Internet.{Internet}
 use Rattle.ipx_internet.specs.InternetWeight.{most_hearers, weight_in_reach}
 use Rattle.ipx_internet.specs.Most.{most_of}
-use Rattle.ipx_internet.specs.Scales.{saturated}
+use Rattle.ipx_internet.specs.inside.Scales.{saturated}
 
 -- the greatest number of a word
 abbrev most : ℕ

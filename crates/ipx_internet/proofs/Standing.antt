@@ -13,13 +13,13 @@ use Rattle.ipx_router.specs.RouterOf.{HasPast}
 use Rattle.ipx_router.specs.Sends.{sends}
 use Rattle.ipx_router.specs.Stands.{State, StandsFor as RouterStandsFor}
 use Rattle.ipx_router.specs.declared.outcome.Outcome.{Outcome}
-use Rattle.ipx_internet.specs.Batches.{heard, reaching}
+use Rattle.ipx_internet.specs.inside.Batches.{heard, reaching}
 use Rattle.ipx_internet.specs.Delivery.{receives, delivered}
 use Rattle.ipx_internet.specs.Internet.{Internet, Place, IsInternet, NodesDiffer, IsPlace, ports_of}
 use Rattle.ipx_internet.specs.Moment.{StandsFor}
 use Rattle.ipx_internet.specs.Queue.{Delivery, Queued, deliveries_of, history_of, queued}
 use Rattle.ipx_internet.specs.inside.Simulated.{moment, net_among, IsComing, AreRouters}
-use Rattle.ipx_internet.specs.Stations.{AreOf, place_of, hearers}
+use Rattle.ipx_internet.specs.inside.Stations.{AreOf, place_of, hearers}
 use Rattle.ipx_internet.specs.declared.stations.Station.{Station}
 use Rattle.ipx_internet.proofs.Hearing.{heard_at}
 use Rattle.ipx_internet.proofs.Lists.{all_at, all-append, all-map, all-flat_map, all_of}

@@ -2,7 +2,7 @@
 use Rattle.std.proofs.Common.{◌≡◌, refl, sym, subst, arith, ℕ, ◌≤◌, ◌==◌, ◌∷◌, ◌++◌, [], if◌then◌else◌, ◌⊎◌, List, length, leb}
 use Rattle.std.specs.List.{insert}
 use Rattle.ipx_wire.specs.declared.network.Network.{Network}
-use Rattle.ipx_internet.specs.Stations.{stations_on, IsIndex}
+use Rattle.ipx_internet.specs.inside.Stations.{stations_on, IsIndex}
 use Rattle.ipx_internet.specs.declared.stations.Station.{Station}
 use Rattle.ipx_internet.proofs.Sorting.{IsPoint, stays_sorted, put_is, still_few, still_full}
 

@@ -8,7 +8,7 @@ use Rattle.ipx_router.specs.Port.{Port, port_at, same_node}
 use Rattle.ipx_internet.specs.Internet.{Internet, Place, port_of, network_of, IsPlace, places}
 use Rattle.ipx_internet.specs.Moment.{HasNode, SharesNode}
 use Rattle.ipx_internet.specs.Most.{on_network}
-use Rattle.ipx_internet.specs.Stations.{stations_on, station_at, AreOf}
+use Rattle.ipx_internet.specs.inside.Stations.{stations_on, station_at, AreOf}
 use Rattle.ipx_internet.specs.declared.stations.Station.{Station}
 use Rattle.ipx_internet.proofs.Counts.{IsIn, place_in}
 use Rattle.ipx_internet.proofs.Lists.{all_passed}

@@ -10,7 +10,7 @@ use Rattle.ipx_router.specs.declared.outcome.Outcome.{Outcome}
 use Rattle.ipx_internet.specs.Internet.{Internet, Place, ports_of, IsPlace, IsInternet, NodesDiffer}
 use Rattle.ipx_internet.specs.Listed.{Listing, copy_at, waits_next, children_by, GoesOn, IsCut, IsListed}
 use Rattle.ipx_internet.specs.inside.Simulated.{net_among}
-use Rattle.ipx_internet.specs.Stations.{AreOf}
+use Rattle.ipx_internet.specs.inside.Stations.{AreOf}
 use Rattle.ipx_internet.specs.Traced.{router_of, routers_of, tree, most_levels, outcome_of, outcome_at}
 use Rattle.ipx_internet.specs.Tree.{Router, Copy, IsRouter, net_of, router_at, children, tree_to, IsTree}
 use Rattle.ipx_internet.specs.Weight.{weight, IsBounded}

@@ -10,7 +10,7 @@ use Rattle.ipx_internet.specs.Internet.{Internet, Place, IsInternet, NodesDiffer
 use Rattle.ipx_internet.specs.Moment.{SharesNode}
 use Rattle.ipx_internet.specs.Queue.{Delivery}
 use Rattle.ipx_internet.specs.inside.Simulated.{net_among, IsComing, IsSimulated}
-use Rattle.ipx_internet.specs.Stations.{AreOf}
+use Rattle.ipx_internet.specs.inside.Stations.{AreOf}
 use Rattle.ipx_internet.specs.declared.stations.Station.{Station}
 use Rattle.ipx_internet.proofs.Handing.{within_net}
 use Rattle.ipx_internet.proofs.Lists.{all_then, all-append}

@@ -39,9 +39,5 @@ pub mod Refused
 -- Traced
 pub mod Traced
 pub mod Listed
--- what only types inside the crate say: nobody needs to believe it
-pub mod Stations
-pub mod Batches
-pub mod Scales
 -- nothing that a public contract says
 pub mod inside

@@ -14,7 +14,7 @@ ghost use Rattle.ipx_internet.specs.Queue.{Delivery, Queued, queued, history_of}
 ghost use Rattle.ipx_internet.specs.Refused.{IsNotAdded, IsNoEvent};
 ghost use Rattle.ipx_internet.specs.inside.Simulated.{AreRouters, IsComing, moment, net_among};
 ghost use Rattle.ipx_internet.specs.Settled.{HasSettled, StopsShort, IsToldOf};
-ghost use Rattle.ipx_internet.specs.Stations.{AreOf};
+ghost use Rattle.ipx_internet.specs.inside.Stations.{AreOf};
 ghost use Rattle.ipx_internet.specs.Traced.{routers_of};
 ghost use Rattle.ipx_internet.specs.Tree.{IsRouter};
 ghost use Rattle.ipx_internet.specs.declared.internet.Settled.TheVariants.{Quiet};

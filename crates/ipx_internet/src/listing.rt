@@ -3,7 +3,7 @@ ghost use Rattle.std.specs.Prelude.{◌≡◌, ◌+◌, ◌<◌, ◌≤◌, true
 ghost use Rattle.ipx_router.specs.Facts.{offers};
 ghost use Rattle.ipx_router.specs.Relay.{relay_outcome, relay_sends};
 ghost use Rattle.ipx_internet.specs.Listed.{bytes_in, IsIn, into_odd, outbox_of, child, listed_from, copy_at, waits_next, children_by, GoesOn, IsCut};
-ghost use Rattle.ipx_internet.specs.Stations.{hears};
+ghost use Rattle.ipx_internet.specs.inside.Stations.{hears};
 ghost use Rattle.ipx_internet.specs.Traced.{router_of, outcome_of};
 ghost use Rattle.ipx_internet.specs.Tree.{root, sent_on};
 ghost use Rattle.ipx_internet.specs.declared.fault.TraceFault.TheVariants.{Memory as NoMemory};

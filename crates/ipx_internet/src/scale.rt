@@ -8,7 +8,7 @@ ghost use Rattle.ipx_router.specs.Why.{is_propagated};
 ghost use Rattle.ipx_internet.specs.Internet.{Internet};
 ghost use Rattle.ipx_internet.specs.InternetWeight.{most_hearers, weight_in_reach, entry_weight, routes_weight, services_weight, request_weight, query_weight, message_weight, said_weight, packet_weight};
 ghost use Rattle.ipx_internet.specs.Most.{most_of, most_ports, most_on_network};
-ghost use Rattle.ipx_internet.specs.Scales.{saturated, IsScale};
+ghost use Rattle.ipx_internet.specs.inside.Scales.{saturated, IsScale};
 
 use ipx_wire::{
     Crossed, Header, Network, Node, Operation, Packet, Rip, RipEntry, Sap, SapEntries, SapEntry,

@@ -9,7 +9,7 @@ ghost use Rattle.ipx_router.specs.Stands.{State};
 ghost use Rattle.ipx_internet.specs.Internet.{Internet};
 ghost use Rattle.ipx_internet.specs.Moment.{SharesNode};
 ghost use Rattle.ipx_internet.specs.Most.{most_on_network};
-ghost use Rattle.ipx_internet.specs.Stations.{stations_on, station, hears, AreOf};
+ghost use Rattle.ipx_internet.specs.inside.Stations.{stations_on, station, hears, AreOf};
 
 use ipx_router::{Port, Router};
 use ipx_wire::{Network, Node, OutOfMemory};
@@ -45,7 +45,7 @@ pub(crate) struct Stations {
 impl Model for Stations {
     ghost use Rattle.std.specs.Prelude.{◌-◌};
     ghost use Rattle.std.specs.Vec.{vec_len, vec_capacity};
-    ghost use Rattle.ipx_internet.specs.Stations.{Index, IsIndex};
+    ghost use Rattle.ipx_internet.specs.inside.Stations.{Index, IsIndex};
 
     ghost Value = { Index };
 

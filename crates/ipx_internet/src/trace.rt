@@ -6,7 +6,7 @@ ghost use Rattle.ipx_internet.specs.Internet.{IsInternet, NodesDiffer, IsPlace};
 ghost use Rattle.ipx_internet.specs.Listed.{IsCut};
 ghost use Rattle.ipx_internet.specs.Moment.{net_at};
 ghost use Rattle.ipx_internet.specs.inside.Simulated.{net_among};
-ghost use Rattle.ipx_internet.specs.Stations.{AreOf};
+ghost use Rattle.ipx_internet.specs.inside.Stations.{AreOf};
 ghost use Rattle.ipx_internet.specs.Traced.{traced, routers_of, tree, outcome_at};
 ghost use Rattle.ipx_internet.specs.Tree.{IsRouter, root, IsTree};
 ghost use Rattle.ipx_internet.specs.Weight.{weight};

@@ -10,7 +10,7 @@ use Rattle.ipx_internet.specs.Moment.{Moment, SharesNode, StandsFor, net_at}
 use Rattle.ipx_internet.specs.Queue.{Queued, history_of}
 use Rattle.ipx_cmd.specs.EventText.{most_routes, most_services}
 use Rattle.ipx_cmd.specs.InternetMachine.{internet_made, named_routers, nodes_meet, untouched}
-use Rattle.ipx_cmd.specs.InternetStands.{IsNotAdded, IsUnmade}
+use Rattle.ipx_cmd.specs.inside.InternetStands.{IsNotAdded, IsUnmade}
 use Rattle.ipx_cmd.specs.Line.{◌>>=◌, Stops}
 use Rattle.ipx_cmd.specs.Making.{named_router}
 use Rattle.ipx_cmd.specs.declared.lines.fault.LineFault.{LineFault}

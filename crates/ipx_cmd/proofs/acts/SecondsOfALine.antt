@@ -4,7 +4,7 @@ use Rattle.ipx_wire.specs.Ends.{Output}
 use Rattle.ipx_router.specs.History.{History, Second}
 use Rattle.ipx_router.specs.Port.{Port}
 use Rattle.ipx_router.specs.Stands.{State, StandsFor}
-use Rattle.ipx_cmd.specs.Acted.{Added}
+use Rattle.ipx_cmd.specs.inside.Acted.{Added}
 use Rattle.ipx_cmd.specs.EventText.{events_text, most_routes, most_services}
 use Rattle.ipx_cmd.specs.inside.Said.{Says}
 use Rattle.ipx_cmd.specs.declared.ended.RunFault.{RunFault}

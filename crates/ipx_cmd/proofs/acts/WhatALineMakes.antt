@@ -6,11 +6,11 @@ use Rattle.ipx_wire.specs.Ends.{Output}
 use Rattle.ipx_router.specs.History.{History}
 use Rattle.ipx_router.specs.Port.{Port}
 use Rattle.ipx_router.specs.Stands.{State}
-use Rattle.ipx_cmd.specs.Acted.{Acted, Halted}
+use Rattle.ipx_cmd.specs.inside.Acted.{Acted, Halted}
 use Rattle.ipx_cmd.specs.Instruction.{Instruction, instruction_of, next_port, values_of}
 use Rattle.ipx_cmd.specs.Line.{◌>>=◌, Stops}
 use Rattle.ipx_cmd.specs.Machine.{Standing, Led, acts, does, obeys, past_of, stage_of}
-use Rattle.ipx_cmd.specs.MachineStands.{Machine, RouterStands, IsSame, IsStanding, Leads, Makes, reached}
+use Rattle.ipx_cmd.specs.inside.MachineStands.{Machine, RouterStands, IsSame, IsStanding, Leads, Makes, reached}
 use Rattle.ipx_cmd.specs.Making.{named_port}
 use Rattle.ipx_cmd.specs.Script.{line_meaning}
 use Rattle.ipx_cmd.specs.WroteFront.{IsFaultOf}

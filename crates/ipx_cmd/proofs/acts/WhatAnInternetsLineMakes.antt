@@ -7,11 +7,11 @@ use Rattle.ipx_router.specs.Port.{Port}
 use Rattle.ipx_internet.specs.Internet.{Internet}
 use Rattle.ipx_internet.specs.Moment.{Moment, StandsFor, net_at}
 use Rattle.ipx_internet.specs.Queue.{Queued}
-use Rattle.ipx_cmd.specs.Acted.{Acted, Added, Halted}
+use Rattle.ipx_cmd.specs.inside.Acted.{Acted, Added, Halted}
 use Rattle.ipx_cmd.specs.EventText.{most_routes, most_services}
 use Rattle.ipx_cmd.specs.Instruction.{values_of}
 use Rattle.ipx_cmd.specs.InternetMachine.{Standing, Led, acts, does, internet_made, latest, obeys, order_fault, order_text, ordered, past_of, stage_of, untouched, with_port}
-use Rattle.ipx_cmd.specs.InternetStands.{InternetMachine, InternetStands, IsSame, IsStanding, Leads, Makes, reached}
+use Rattle.ipx_cmd.specs.inside.InternetStands.{InternetMachine, InternetStands, IsSame, IsStanding, Leads, Makes, reached}
 use Rattle.ipx_cmd.specs.Line.{◌>>=◌, Stops}
 use Rattle.ipx_cmd.specs.Making.{named_port}
 use Rattle.ipx_cmd.specs.OrderLine.{order_meaning}

@@ -6,7 +6,7 @@ use Rattle.std.proofs.lemmas.List.Elements.{All-from_get_or}
 use Rattle.std.proofs.lemmas.List.Sums.{position_or_len_is}
 use Rattle.std.specs.List.{position, position_or_len}
 use Rattle.memchr.specs.Find.{IsFirstByte, is_byte}
-use Rattle.ipx_cmd.specs.Leads.{IsOneLine}
+use Rattle.ipx_cmd.specs.inside.Leads.{IsOneLine}
 use Rattle.ipx_cmd.specs.Lines.{is_line_feed, line_feed}
 
 -- what isn't true

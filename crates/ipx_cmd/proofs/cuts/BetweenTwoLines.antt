@@ -1,9 +1,9 @@
 -- A piece of a script between two of its lines.
 use Rattle.std.proofs.Common.{◌≡◌, ℕ, ◌+◌, ◌≤◌, false, List, ◌++◌, length}
 use Rattle.ipx_wire.specs.Ends.{Output}
-use Rattle.ipx_cmd.specs.Leads.{IsPending}
+use Rattle.ipx_cmd.specs.inside.Leads.{IsPending}
 use Rattle.ipx_cmd.specs.Playing.{Step}
-use Rattle.ipx_cmd.specs.Stretch.{Went}
+use Rattle.ipx_cmd.specs.inside.Stretch.{Went}
 
 pub record Midpiece {M S : Type 0} (acts : Step S) (stands : M → S → Type 0) (start now : M) (number later : ℕ) (pending left piece rest : List ℕ) (from to : Output) (old new : List ℕ) : Type 0 where
   pub taken : List ℕ

@@ -4,11 +4,11 @@ use Rattle.std.proofs.KnownBytes.{Appends-trans, Consumes-nil, Consumes-trans, C
 use Rattle.std.specs.Io.KnownBytes.{Appends, Consumes}
 use Rattle.ipx_wire.specs.Ends.{Gave, Input, LostInput, Output, calls_after}
 use Rattle.ipx_cmd.specs.Decoded.{IsFront}
-use Rattle.ipx_cmd.specs.Leads.{IsPending}
+use Rattle.ipx_cmd.specs.inside.Leads.{IsPending}
 use Rattle.ipx_cmd.specs.Lines.{is_any, is_long}
 use Rattle.ipx_cmd.specs.Played.{GivenUp, Played, PlayedSoFar}
 use Rattle.ipx_cmd.specs.Playing.{Step, Transcript, behind, by_lines, is_bad, of_front, of_script}
-use Rattle.ipx_cmd.specs.Stretch.{Completed, EndedAll, GaveUp, Unfinished, Went}
+use Rattle.ipx_cmd.specs.inside.Stretch.{Completed, EndedAll, GaveUp, Unfinished, Went}
 use Rattle.ipx_cmd.specs.WroteFront.{IsFaultOf, WroteFront}
 use Rattle.ipx_cmd.specs.declared.ended.Ended.{Ended}
 use Rattle.ipx_cmd.specs.declared.ended.Ended.TheVariants.{BadInput}

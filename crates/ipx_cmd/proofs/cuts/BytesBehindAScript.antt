@@ -3,7 +3,7 @@ use Rattle.std.proofs.Common.{◌≡◌, ◌⊎◌, ℕ, ◌+◌, true, List, []
 use Rattle.std.proofs.lemmas.Bool.{cases_Bool, cases_lt, eqb-true, lt-ltb}
 use Rattle.std.proofs.lemmas.List.Elements.{All-nil, All-cons, All-append}
 use Rattle.ipx_cmd.specs.Decoded.{IsFront}
-use Rattle.ipx_cmd.specs.Leads.{Ends, IsPending, Leads, TakesLong}
+use Rattle.ipx_cmd.specs.inside.Leads.{Ends, IsPending, Leads, TakesLong}
 use Rattle.ipx_cmd.specs.Lines.{is_any, is_line_feed, is_long, line_feed, longest_line, without_return}
 use Rattle.ipx_cmd.specs.Output.{fault_text}
 use Rattle.ipx_cmd.specs.Playing.{Step, Transcript, behind, by_lines, is_bad, of_front, of_script}

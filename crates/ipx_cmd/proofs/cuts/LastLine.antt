@@ -1,12 +1,12 @@
 -- The last line of a script, which no line feed ends.
 use Rattle.std.proofs.Common.{if◌then◌else◌, IfErr, OnOk, ◌≡◌, ℕ, ◌<◌, true, false, List, [], ◌∷◌, length, refl, sym, ap, ◌∙◌, subst, arith, Result, Ok, Err, append-nil}
 use Rattle.ipx_wire.specs.Ends.{Output}
-use Rattle.ipx_cmd.specs.Acted.{Acted, Added, Halted, said_by}
+use Rattle.ipx_cmd.specs.inside.Acted.{Acted, Added, Halted, said_by}
 use Rattle.ipx_cmd.specs.Decoded.{IsFront}
-use Rattle.ipx_cmd.specs.Leads.{IsPending}
+use Rattle.ipx_cmd.specs.inside.Leads.{IsPending}
 use Rattle.ipx_cmd.specs.Lines.{is_any, without_return}
 use Rattle.ipx_cmd.specs.Playing.{Step, Transcript, all_good, by_lines, goes_on, transcript}
-use Rattle.ipx_cmd.specs.Stretch.{Finished, FinishedOff}
+use Rattle.ipx_cmd.specs.inside.Stretch.{Finished, FinishedOff}
 use Rattle.ipx_cmd.specs.declared.ended.Ended.TheVariants.{Done}
 use Rattle.ipx_cmd.specs.declared.lines.fault.LineFault.{LineFault}
 use Rattle.ipx_cmd.specs.declared.lines.halt.Halt.{Halt}

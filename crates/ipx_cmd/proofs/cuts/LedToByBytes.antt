@@ -2,7 +2,7 @@
 use Rattle.std.proofs.Common.{◌≡◌, ℕ, ◌+◌, ◌≤◌, Bool, true, false, List, [], ◌∷◌, ◌++◌, length, refl, sym, ap, ◌∙◌, arith, Ok, Err, append_assoc}
 use Rattle.std.proofs.lemmas.Bool.{le-ltb}
 use Rattle.std.proofs.lemmas.List.Elements.{All-nil}
-use Rattle.ipx_cmd.specs.Leads.{Begins, Ends, IsOneLine, IsPending, Leads, TakesLong}
+use Rattle.ipx_cmd.specs.inside.Leads.{Begins, Ends, IsOneLine, IsPending, Leads, TakesLong}
 use Rattle.ipx_cmd.specs.Lines.{is_long, line_feed, longest_line, without_return}
 use Rattle.ipx_cmd.specs.Output.{fault_text}
 use Rattle.ipx_cmd.specs.Playing.{Step, Transcript, behind, by_lines, goes_on, line_does}

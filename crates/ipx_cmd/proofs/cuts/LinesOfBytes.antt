@@ -4,7 +4,7 @@ use Rattle.std.proofs.lemmas.Bool.{cases_Bool, eqb-true, lt-ltb, ltb-true}
 use Rattle.std.proofs.lemmas.List.Elements.{All-nil, All-cons, All-append}
 use Rattle.std.proofs.lemmas.List.Splits.{slice_split_at, slice_split_none, slice_split-cons_yes, slice_split-cons_no}
 use Rattle.std.specs.List.{onto_first, slice_split}
-use Rattle.ipx_cmd.specs.Leads.{IsOneLine, TakesLong}
+use Rattle.ipx_cmd.specs.inside.Leads.{IsOneLine, TakesLong}
 use Rattle.ipx_cmd.specs.Lines.{counted, is_line_feed, is_long, line_feed, lines_by, longest_line}
 use Rattle.ipx_cmd.specs.Playing.{Step, Transcript, by_lines, goes_on, line_does, transcript, wrong}
 use Rattle.ipx_cmd.specs.declared.lines.fault.LineFault.TheVariants.{Long}

@@ -3,12 +3,12 @@ use Rattle.std.proofs.Common.{OnOk, IfErr, ◌≡◌, ℕ, suc, ◌+◌, false, 
 use Rattle.std.proofs.KnownBytes.{Appends-nil, Appends-trans}
 use Rattle.std.specs.Io.KnownBytes.{Appends}
 use Rattle.ipx_wire.specs.Ends.{Output}
-use Rattle.ipx_cmd.specs.Acted.{Acted, Added, Halted, said_by}
-use Rattle.ipx_cmd.specs.Leads.{Begins, Ends, IsPending}
+use Rattle.ipx_cmd.specs.inside.Acted.{Acted, Added, Halted, said_by}
+use Rattle.ipx_cmd.specs.inside.Leads.{Begins, Ends, IsPending}
 use Rattle.ipx_cmd.specs.Lines.{line_feed, without_return}
 use Rattle.ipx_cmd.specs.Output.{fault_text}
 use Rattle.ipx_cmd.specs.Playing.{Step}
-use Rattle.ipx_cmd.specs.Stretch.{Went, WentOff}
+use Rattle.ipx_cmd.specs.inside.Stretch.{Went, WentOff}
 use Rattle.ipx_cmd.specs.WroteFront.{WroteFront}
 use Rattle.ipx_cmd.specs.declared.lines.fault.LineFault.{LineFault}
 use Rattle.ipx_cmd.specs.declared.lines.halt.Halt.{Halt}

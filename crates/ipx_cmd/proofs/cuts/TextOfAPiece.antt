@@ -3,11 +3,11 @@ use Rattle.std.proofs.Common.{IfErr, IfOk, OnOk, ◌≡◌, ℕ, false, List, []
 use Rattle.std.proofs.KnownBytes.{Appends-trans}
 use Rattle.std.specs.Io.KnownBytes.{Appends}
 use Rattle.ipx_wire.specs.Ends.{Output}
-use Rattle.ipx_cmd.specs.Acted.{Added, StaysFine}
-use Rattle.ipx_cmd.specs.Leads.{Begins, Ends, Leads}
+use Rattle.ipx_cmd.specs.inside.Acted.{Added, StaysFine}
+use Rattle.ipx_cmd.specs.inside.Leads.{Begins, Ends, Leads}
 use Rattle.ipx_cmd.specs.Output.{fault_text}
 use Rattle.ipx_cmd.specs.Playing.{Step, Transcript, by_lines}
-use Rattle.ipx_cmd.specs.Stretch.{Answered, Completed, Finished, FinishedOff, GaveUp, Passed, Unfinished, Went, WentOff}
+use Rattle.ipx_cmd.specs.inside.Stretch.{Answered, Completed, Finished, FinishedOff, GaveUp, Passed, Unfinished, Went, WentOff}
 use Rattle.ipx_cmd.specs.WroteFront.{WroteAll, WroteFront}
 use Rattle.ipx_cmd.specs.declared.ended.Ended.{Ended}
 use Rattle.ipx_cmd.specs.declared.ended.Ended.TheVariants.{Done}

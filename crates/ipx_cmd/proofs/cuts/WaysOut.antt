@@ -4,10 +4,10 @@ use Rattle.std.specs.Result.{IsErrAnd}
 use Rattle.ipx_wire.specs.Ends.{Gave, Input, Output, calls_after}
 use Rattle.ipx_cmd.specs.Played.{GivenUp, Played}
 use Rattle.ipx_cmd.specs.Playing.{Step}
-use Rattle.ipx_cmd.specs.Stretch.{Completed, Passed, Unfinished}
+use Rattle.ipx_cmd.specs.inside.Stretch.{Completed, Passed, Unfinished}
 use Rattle.ipx_cmd.specs.WroteFront.{IsFaultOf}
 use Rattle.ipx_cmd.specs.declared.ended.Ended.{Ended}
-use Rattle.ipx_cmd.specs.Leads.{IsPending}
+use Rattle.ipx_cmd.specs.inside.Leads.{IsPending}
 use Rattle.ipx_cmd.specs.declared.ended.Ended.TheVariants.{BadInput, Done}
 use Rattle.ipx_cmd.specs.declared.ended.RunFault.{RunFault}
 use Rattle.ipx_cmd.specs.declared.ended.RunFault.TheVariants.{Read, Write, Memory}

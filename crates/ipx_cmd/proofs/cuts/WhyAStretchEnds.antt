@@ -3,11 +3,11 @@ use Rattle.std.proofs.Common.{IfErr, OnOk, ◌≡◌, ℕ, ◌+◌, ◌≤◌, t
 use Rattle.std.proofs.KnownBytes.{Appends-nil}
 use Rattle.std.specs.Result.{IsErrAnd}
 use Rattle.ipx_wire.specs.Ends.{Output}
-use Rattle.ipx_cmd.specs.Leads.{Begins, Ends, IsOneLine, IsPending}
+use Rattle.ipx_cmd.specs.inside.Leads.{Begins, Ends, IsOneLine, IsPending}
 use Rattle.ipx_cmd.specs.Lines.{is_long, line_feed}
 use Rattle.ipx_cmd.specs.Output.{fault_text}
 use Rattle.ipx_cmd.specs.Playing.{Step, by_lines}
-use Rattle.ipx_cmd.specs.Stretch.{NotKept, Went, WentOff}
+use Rattle.ipx_cmd.specs.inside.Stretch.{NotKept, Went, WentOff}
 use Rattle.ipx_cmd.specs.declared.ended.RunFault.TheVariants.{Memory}
 use Rattle.ipx_cmd.specs.declared.lines.fault.LineFault.{LineFault}
 use Rattle.ipx_cmd.specs.declared.lines.fault.LineFault.TheVariants.{Long}

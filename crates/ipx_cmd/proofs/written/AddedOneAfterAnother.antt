@@ -3,7 +3,7 @@ use Rattle.std.proofs.Common.{◌≡◌, ℕ, zero, suc, ◌+◌, false, List, [
 use Rattle.std.proofs.KnownBytes.{Appends-nil, Appends-trans}
 use Rattle.std.specs.Io.KnownBytes.{Appends}
 use Rattle.ipx_wire.specs.Ends.{Output}
-use Rattle.ipx_cmd.specs.Acted.{Added}
+use Rattle.ipx_cmd.specs.inside.Acted.{Added}
 use Rattle.ipx_cmd.specs.inside.Said.{Says}
 use Rattle.ipx_cmd.specs.WroteFront.{WroteAll, WroteFront}
 use Rattle.ipx_cmd.specs.declared.ended.RunFault.{RunFault}

@@ -10,7 +10,7 @@ use Rattle.ipx_internet.specs.Moment.{Moment, StandsFor, net_at}
 use Rattle.ipx_internet.specs.Queue.{Delivery, Queued}
 use Rattle.ipx_internet.specs.Traced.{Traced, outcome_at, routers_of, tree}
 use Rattle.ipx_internet.specs.Tree.{Copy, Router, root}
-use Rattle.ipx_cmd.specs.Acted.{Added}
+use Rattle.ipx_cmd.specs.inside.Acted.{Added}
 use Rattle.ipx_cmd.specs.EventText.{most_routes, most_services}
 use Rattle.ipx_cmd.specs.InternetMachine.{traced_all}
 use Rattle.ipx_cmd.specs.InternetText.{copies_text, copy_text, settled_text, trace_text}

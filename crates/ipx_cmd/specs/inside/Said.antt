@@ -1,7 +1,7 @@
 -- What an act of the router leaves of its text.
 use Rattle.std.specs.Prelude.{ℕ, List, ◌++◌, false, Result, Ok, Err}
 use Rattle.ipx_wire.specs.Ends.{Output}
-use Rattle.ipx_cmd.specs.Acted.{Added}
+use Rattle.ipx_cmd.specs.inside.Acted.{Added}
 use Rattle.ipx_cmd.specs.WroteFront.{IsFaultOf, WroteFront}
 use Rattle.ipx_cmd.specs.declared.ended.RunFault.{RunFault}
 

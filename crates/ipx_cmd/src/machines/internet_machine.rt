@@ -3,10 +3,10 @@ ghost use Rattle.std.specs.Prelude.{◌≡◌, ◌<◌, ◌++◌, ◌∷◌, [],
 ghost use Rattle.ipx_internet.specs.Internet.{Internet};
 ghost use Rattle.ipx_internet.specs.Moment.{StandsFor, net_at};
 ghost use Rattle.ipx_internet.specs.Queue.{Queued};
-ghost use Rattle.ipx_cmd.specs.Acted.{Halted};
+ghost use Rattle.ipx_cmd.specs.inside.Acted.{Halted};
 ghost use Rattle.ipx_cmd.specs.Instruction.{values_of};
 ghost use Rattle.ipx_cmd.specs.InternetMachine.{Standing, latest, nothing_yet, obeys, order_fault, order_text, ordered, past_of, port_fault, router_fault, with_port};
-ghost use Rattle.ipx_cmd.specs.InternetStands.{IsSame, IsStanding, Leads, Makes, reached};
+ghost use Rattle.ipx_cmd.specs.inside.InternetStands.{IsSame, IsStanding, Leads, Makes, reached};
 ghost use Rattle.ipx_cmd.specs.Line.{Stops};
 ghost use Rattle.ipx_cmd.specs.Making.{named_port};
 ghost use Rattle.ipx_cmd.specs.OrderLine.{order_meaning};
@@ -43,7 +43,7 @@ pub(crate) struct InternetMachine {
 
 impl Model for InternetMachine {
     ghost use Rattle.std.specs.Prelude.{map};
-    ghost use Rattle.ipx_cmd.specs.InternetStands.{InternetMachine};
+    ghost use Rattle.ipx_cmd.specs.inside.InternetStands.{InternetMachine};
 
     ghost Value = { InternetMachine };
 
@@ -65,7 +65,7 @@ impl InternetMachine {
 
 impl Act for InternetMachine {
     ghost use Rattle.ipx_cmd.specs.InternetMachine.{Standing, acts};
-    ghost use Rattle.ipx_cmd.specs.InternetStands.{IsStanding};
+    ghost use Rattle.ipx_cmd.specs.inside.InternetStands.{IsStanding};
 
     ghost State = { Standing };
 

@@ -3,11 +3,11 @@ ghost use Rattle.std.specs.Prelude.{◌≡◌, ◌<◌, ◌++◌, ◌∷◌, [],
 ghost use Rattle.ipx_router.specs.History.{History};
 ghost use Rattle.ipx_router.specs.Port.{Port as PortValues};
 ghost use Rattle.ipx_router.specs.Stands.{StandsFor};
-ghost use Rattle.ipx_cmd.specs.Acted.{Halted};
+ghost use Rattle.ipx_cmd.specs.inside.Acted.{Halted};
 ghost use Rattle.ipx_cmd.specs.Instruction.{instruction_of, values_of};
 ghost use Rattle.ipx_cmd.specs.Line.{Stops};
 ghost use Rattle.ipx_cmd.specs.Machine.{Standing, events_of, has_ports, instruction_text, nothing_yet, obeys, past_of};
-ghost use Rattle.ipx_cmd.specs.MachineStands.{IsSame, IsStanding, Leads, Makes, reached};
+ghost use Rattle.ipx_cmd.specs.inside.MachineStands.{IsSame, IsStanding, Leads, Makes, reached};
 ghost use Rattle.ipx_cmd.specs.Making.{named_port};
 ghost use Rattle.ipx_cmd.specs.inside.Said.{Says};
 ghost use Rattle.ipx_cmd.specs.Script.{line_meaning};
@@ -38,7 +38,7 @@ pub(crate) struct Machine {
 }
 
 impl Model for Machine {
-    ghost use Rattle.ipx_cmd.specs.MachineStands.{Machine};
+    ghost use Rattle.ipx_cmd.specs.inside.MachineStands.{Machine};
 
     ghost Value = { Machine };
 
@@ -60,7 +60,7 @@ impl Machine {
 
 impl Act for Machine {
     ghost use Rattle.ipx_cmd.specs.Machine.{Standing, acts};
-    ghost use Rattle.ipx_cmd.specs.MachineStands.{IsStanding};
+    ghost use Rattle.ipx_cmd.specs.inside.MachineStands.{IsStanding};
 
     ghost State = { Standing };
 

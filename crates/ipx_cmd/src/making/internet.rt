@@ -3,7 +3,7 @@ ghost use Rattle.std.specs.Prelude.{◌≡◌, ◌++◌, ◌∷◌, [], map, OnO
 ghost use Rattle.ipx_internet.specs.Moment.{SharesNode, StandsFor, net_at};
 ghost use Rattle.ipx_internet.specs.Queue.{Queued};
 ghost use Rattle.ipx_cmd.specs.InternetMachine.{internet_made, named_routers, nodes_meet, untouched};
-ghost use Rattle.ipx_cmd.specs.InternetStands.{IsNotAdded, IsUnmade, halt_of};
+ghost use Rattle.ipx_cmd.specs.inside.InternetStands.{IsNotAdded, IsUnmade, halt_of};
 ghost use Rattle.ipx_cmd.specs.Making.{named_router};
 ghost use Rattle.ipx_cmd.specs.Line.{Stops};
 

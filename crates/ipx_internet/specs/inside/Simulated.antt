@@ -6,7 +6,7 @@ use Rattle.ipx_router.specs.Stands.{State}
 use Rattle.ipx_internet.specs.Internet.{Internet, IsInternet, NodesDiffer, IsPlace}
 use Rattle.ipx_internet.specs.Moment.{Moment, net_at}
 use Rattle.ipx_internet.specs.Queue.{Delivery}
-use Rattle.ipx_internet.specs.Stations.{AreOf}
+use Rattle.ipx_internet.specs.inside.Stations.{AreOf}
 use Rattle.ipx_internet.specs.declared.stations.Station.{Station}
 
 -- routers, and deliveries that wait

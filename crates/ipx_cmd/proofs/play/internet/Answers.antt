@@ -1,5 +1,5 @@
 use Rattle.ipx_cmd.specs.InternetMachine.{nothing_yet}
-use Rattle.ipx_cmd.specs.InternetStands.{IsStanding}
+use Rattle.ipx_cmd.specs.inside.InternetStands.{IsStanding}
 use Rattle.ipx_cmd.specs.WroteFront.{IsFaultOf}
 use Rattle.ipx_cmd.proofs.cuts.WaysOut.{if_err_at}
 use Rattle.ipx_cmd.proofs.play.internet.Goals as goal

@@ -1,5 +1,5 @@
 use Rattle.std.proofs.Common.{ℕ, subst, ◌∙◌}
-use Rattle.ipx_cmd.specs.Stretch.{Answered}
+use Rattle.ipx_cmd.specs.inside.Stretch.{Answered}
 use Rattle.ipx_cmd.proofs.cuts.TextOfAPiece.{completed_of, last_fine_of, unfinished_of}
 use Rattle.ipx_cmd.proofs.play.play_end.Goals as goal
 

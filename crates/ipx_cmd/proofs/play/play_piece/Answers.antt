@@ -1,5 +1,5 @@
 use Rattle.std.proofs.Common.{ℕ, subst, ◌++◌}
-use Rattle.ipx_cmd.specs.Stretch.{Answered}
+use Rattle.ipx_cmd.specs.inside.Stretch.{Answered}
 use Rattle.ipx_cmd.proofs.cuts.TextOfAPiece.{fine_of, gave_up_of, passed_of}
 use Rattle.ipx_cmd.proofs.play.play_piece.Goals as goal
 

@@ -1,5 +1,5 @@
 use Rattle.ipx_cmd.specs.Machine.{nothing_yet}
-use Rattle.ipx_cmd.specs.MachineStands.{IsStanding}
+use Rattle.ipx_cmd.specs.inside.MachineStands.{IsStanding}
 use Rattle.ipx_cmd.specs.WroteFront.{IsFaultOf}
 use Rattle.ipx_cmd.proofs.cuts.WaysOut.{if_err_at}
 use Rattle.ipx_cmd.proofs.play.replay.Goals as goal

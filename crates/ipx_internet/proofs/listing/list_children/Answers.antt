@@ -2,7 +2,7 @@ use Rattle.std.proofs.Common.{◌+◌, map, filter, drop}
 use Rattle.std.proofs.lemmas.Result.{err_from_is_err_and}
 use Rattle.ipx_router.specs.Relays.{Sent}
 use Rattle.ipx_internet.specs.Listed.{child, listed_from}
-use Rattle.ipx_internet.specs.Stations.{hears}
+use Rattle.ipx_internet.specs.inside.Stations.{hears}
 use Rattle.ipx_internet.proofs.Filling.{cut_short, goes_on, packet_fills}
 use Rattle.ipx_internet.proofs.listing.list_children.Goals as goal
 

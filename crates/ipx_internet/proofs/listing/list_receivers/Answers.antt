@@ -1,7 +1,7 @@
 use Rattle.std.proofs.Common.{sym, subst, ◌∙◌, suc, ◌∷◌, [], List, map, filter, drop, get_or}
 use Rattle.std.proofs.lemmas.Result.{err_from_is_err_and}
 use Rattle.ipx_internet.specs.Listed.{child, Fills}
-use Rattle.ipx_internet.specs.Stations.{hears}
+use Rattle.ipx_internet.specs.inside.Stations.{hears}
 use Rattle.ipx_internet.specs.declared.listing.Listed.{Listed}
 use Rattle.ipx_internet.proofs.Filling.{cut_short, one_hears, some_station}
 use Rattle.ipx_internet.proofs.listing.list_receivers.Goals as goal

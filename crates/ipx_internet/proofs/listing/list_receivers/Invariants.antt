@@ -1,6 +1,6 @@
 use Rattle.std.proofs.Common.{map, filter, drop}
 use Rattle.ipx_internet.specs.Listed.{child, Fills}
-use Rattle.ipx_internet.specs.Stations.{hears}
+use Rattle.ipx_internet.specs.inside.Stations.{hears}
 use Rattle.ipx_internet.proofs.listing.list_receivers.Given as goal
 
 abbrev pub invariant-loop-station : goal.invariant-loop-station

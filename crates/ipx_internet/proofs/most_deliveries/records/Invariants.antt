@@ -1,6 +1,6 @@
 use Rattle.std.proofs.Common.{◌≡◌, ◌+◌, ◌<◌, ◌^◌, drop}
 use Rattle.ipx_internet.specs.InternetWeight.{records_at}
-use Rattle.ipx_internet.specs.Scales.{saturated}
+use Rattle.ipx_internet.specs.inside.Scales.{saturated}
 use Rattle.ipx_internet.proofs.most_deliveries.records.Given as goal
 
 abbrev pub invariant-loop-router : goal.invariant-loop-router

@@ -1,7 +1,7 @@
 use Rattle.std.proofs.Common.{◌≡◌, ◌+◌, ◌<◌, ◌^◌, drop}
 use Rattle.std.specs.List.{sum_by}
 use Rattle.ipx_internet.specs.InternetWeight.{delivery_weight}
-use Rattle.ipx_internet.specs.Scales.{saturated}
+use Rattle.ipx_internet.specs.inside.Scales.{saturated}
 use Rattle.ipx_internet.specs.inside.Simulated.{net_among}
 use Rattle.ipx_internet.proofs.most_deliveries.weigh.Given as goal
 

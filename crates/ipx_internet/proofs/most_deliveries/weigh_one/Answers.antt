@@ -1,11 +1,11 @@
 use Rattle.std.proofs.Common.{◌≡◌, sym, ap, ◌∙◌, Ok}
 use Rattle.ipx_wire.specs.Packet.{Parts, packet_of}
-use Rattle.ipx_internet.specs.Batches.{delivery_of}
+use Rattle.ipx_internet.specs.inside.Batches.{delivery_of}
 use Rattle.ipx_internet.specs.Internet.{Internet, port_of}
 use Rattle.ipx_internet.specs.Queue.{Delivery}
 use Rattle.ipx_internet.specs.inside.Simulated.{net_among}
 use Rattle.ipx_internet.proofs.Landing.{as_read}
-use Rattle.ipx_internet.specs.Scales.{saturated}
+use Rattle.ipx_internet.specs.inside.Scales.{saturated}
 use Rattle.ipx_internet.proofs.most_deliveries.weigh_one.Goals as goal
 
 pub returns-in-Ok : goal.returns-in-Ok

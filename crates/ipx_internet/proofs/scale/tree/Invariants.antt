@@ -1,6 +1,6 @@
 use Rattle.std.proofs.Common.{◌≡◌, ℕ}
 use Rattle.ipx_internet.specs.Most.{most_of}
-use Rattle.ipx_internet.specs.Scales.{saturated}
+use Rattle.ipx_internet.specs.inside.Scales.{saturated}
 use Rattle.ipx_internet.proofs.scale.tree.Given as goal
 
 abbrev pub invariant-loop : goal.invariant-loop

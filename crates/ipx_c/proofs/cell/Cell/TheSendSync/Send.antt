@@ -11,7 +11,7 @@ use Rattle.std.specs.Global.{Global}
 use Rattle.std.proofs.Crossing as heap
 use Rattle.std_alloc.proofs.SendSync.{quiet, lies}
 use Rattle.std_heap.proofs.Global.TheSendSync as allocator
-use Rattle.ipx_c.specs.Holds.{holds}
+use Rattle.ipx_c.specs.inside.Holds.{holds}
 use Rattle.ipx_c.specs.declared.machine.Machine.{Machine}
 use Rattle.ipx_c.specs.contracts.machine.Machine as OfMachine
 use Rattle.ipx_c.proofs.machine.Machine.TheSendSync as machine

@@ -2,7 +2,7 @@ use Rattle.std.proofs.Common.{length, subst, List, ℕ, rules, ◌≡◌, [], �
 use Rattle.std.proofs.lemmas.List.{nil_from_length}
 use Rattle.std.proofs.lemmas.List.Elements.{All-append}
 use Rattle.ipx_cmd.specs.Lines.{line_feed}
-use Rattle.ipx_cmd.specs.Stretch.{WentOff}
+use Rattle.ipx_cmd.specs.inside.Stretch.{WentOff}
 use Rattle.ipx_cmd.specs.declared.ended.RunFault.TheVariants.{Memory}
 use Rattle.ipx_cmd.specs.declared.lines.halt.Halt.TheVariants.{Line, Run}
 use Rattle.ipx_cmd.proofs.cuts.LinesOfBytes.{not_feed}

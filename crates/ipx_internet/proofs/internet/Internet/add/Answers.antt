@@ -4,7 +4,7 @@ use Rattle.ipx_router.specs.Stands.{State}
 use Rattle.ipx_internet.specs.Moment.{Moment, SharesNode, net_at}
 use Rattle.ipx_internet.specs.Refused.{IsNotAdded}
 use Rattle.ipx_internet.specs.inside.Simulated.{net_among, IsSimulated}
-use Rattle.ipx_internet.specs.Stations.{AreOf}
+use Rattle.ipx_internet.specs.inside.Stations.{AreOf}
 use Rattle.ipx_internet.specs.declared.stations.Station.{Station}
 use Rattle.ipx_internet.proofs.Widening.{wider_simulated}
 use Rattle.ipx_internet.proofs.internet.Internet.add.Goals as goal

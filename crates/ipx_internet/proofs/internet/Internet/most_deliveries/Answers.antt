@@ -7,7 +7,7 @@ use Rattle.ipx_internet.specs.InternetWeight.{most_hearers, delivery_weight, rec
 use Rattle.ipx_internet.specs.Moment.{Moment}
 use Rattle.ipx_internet.specs.Most.{most_ports, most_on_network}
 use Rattle.ipx_internet.specs.Queue.{Delivery}
-use Rattle.ipx_internet.specs.Scales.{saturated, IsScale}
+use Rattle.ipx_internet.specs.inside.Scales.{saturated, IsScale}
 use Rattle.ipx_internet.specs.inside.Simulated.{moment, net_among}
 use Rattle.ipx_internet.proofs.Measuring.{nothing_weighs}
 use Rattle.ipx_internet.proofs.Saturating.{scaled}

@@ -1,7 +1,7 @@
 use Rattle.std.proofs.Common.{◌≡◌, ℕ, ◌+◌, ◌<◌, ◌^◌, drop}
 use Rattle.ipx_internet.specs.Internet.{Internet}
 use Rattle.ipx_internet.specs.InternetWeight.{routes_weight}
-use Rattle.ipx_internet.specs.Scales.{saturated, IsScale}
+use Rattle.ipx_internet.specs.inside.Scales.{saturated, IsScale}
 use Rattle.ipx_internet.proofs.scale.Scale.routes.Given as goal
 
 abbrev pub invariant-loop-k : goal.invariant-loop-k

@@ -3,7 +3,7 @@ use Rattle.ipx_wire.specs.declared.rip.Operation.{Operation}
 use Rattle.ipx_wire.specs.declared.rip.Operation.TheVariants.{Request, Response}
 use Rattle.ipx_wire.specs.declared.socket.Socket.{Socket}
 use Rattle.ipx_internet.specs.InternetWeight.{request_weight, routes_weight}
-use Rattle.ipx_internet.specs.Scales.{saturated}
+use Rattle.ipx_internet.specs.inside.Scales.{saturated}
 use Rattle.ipx_internet.proofs.scale.Scale.routing.Goals as goal
 
 pub returns-in-Request : goal.returns-in-Request

@@ -2,7 +2,7 @@ use Rattle.std.proofs.Common.{arith, ◌≡◌, sym, ap, ap₂, ◌∙◌, subst
 use Rattle.ipx_wire.specs.declared.network.Network.{Network}
 use Rattle.ipx_wire.specs.declared.node.Node.{Node}
 use Rattle.ipx_router.specs.Port.{Port, port_at}
-use Rattle.ipx_internet.specs.Stations.{station}
+use Rattle.ipx_internet.specs.inside.Stations.{station}
 use Rattle.ipx_internet.specs.declared.stations.Station.{Station}
 use Rattle.ipx_internet.proofs.Taking.{port_found, no_port}
 use Rattle.ipx_internet.proofs.Adding.{HasFirst, none_yet, one_more, are_wider}

@@ -1,7 +1,7 @@
 use Rattle.std.proofs.Common.{rules, arith, ◌≡◌, ap, sym, subst, ◌≤◌, ◌∙◌, ◌⊎◌, inl, inr, List, length, leb}
 use Rattle.std.proofs.lemmas.Bool.{cases_lt}
 use Rattle.std.specs.List.{insert}
-use Rattle.ipx_internet.specs.Stations.{stations_on, IsIndex}
+use Rattle.ipx_internet.specs.inside.Stations.{stations_on, IsIndex}
 use Rattle.ipx_internet.specs.declared.stations.Station.{Station}
 use Rattle.ipx_internet.proofs.Sorting.{IsPoint}
 use Rattle.ipx_internet.proofs.Stationed.{on_networks, index_put}

@@ -1,6 +1,6 @@
 use Rattle.std.proofs.Common.{ap, sym, ◌∙◌, length, map}
 use Rattle.ipx_cmd.specs.InternetMachine.{latest}
-use Rattle.ipx_cmd.specs.InternetStands.{InternetMachine}
+use Rattle.ipx_cmd.specs.inside.InternetStands.{InternetMachine}
 use Rattle.ipx_cmd.proofs.acts.LatestNamed.{latest_at}
 use Rattle.ipx_cmd.proofs.machines.internet_machine.InternetMachine.latest.Goals as goal
 

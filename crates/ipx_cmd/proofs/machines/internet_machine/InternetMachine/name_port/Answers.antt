@@ -3,7 +3,7 @@ use Rattle.std.specs.Option.{option_to_list}
 use Rattle.ipx_router.specs.Port.{Port}
 use Rattle.ipx_cmd.specs.Instruction.{values_of}
 use Rattle.ipx_cmd.specs.InternetMachine.{with_port}
-use Rattle.ipx_cmd.specs.InternetStands.{InternetMachine}
+use Rattle.ipx_cmd.specs.inside.InternetStands.{InternetMachine}
 use Rattle.ipx_cmd.proofs.acts.LatestNamed.{with_port_seen}
 use Rattle.ipx_cmd.proofs.acts.ValuesMakeARouter.{port_is}
 use Rattle.ipx_cmd.proofs.machines.internet_machine.InternetMachine.name_port.Goals as goal

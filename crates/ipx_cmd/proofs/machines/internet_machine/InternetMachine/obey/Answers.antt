@@ -1,6 +1,6 @@
 use Rattle.std.proofs.Common.{refl, ap, sym, subst, ◌∙◌, IsSome}
 use Rattle.std.proofs.lemmas.Bool.{true≢false}
-use Rattle.ipx_cmd.specs.InternetStands.{InternetMachine}
+use Rattle.ipx_cmd.specs.inside.InternetStands.{InternetMachine}
 use Rattle.ipx_cmd.proofs.acts.WhatAnInternetsLineMakes.{obey_halts, obey_leads}
 use Rattle.ipx_cmd.proofs.machines.internet_machine.InternetMachine.obey.Goals.{in-Some+in_default+in-Ok, in-Some+in_default+in-Err-run, in-None}
 use Rattle.ipx_cmd.proofs.machines.internet_machine.InternetMachine.obey.Goals as goal

@@ -1,6 +1,6 @@
 use Rattle.std.proofs.Common.{ap, sym, subst, ◌∙◌, is_some, length, IfErr}
 use Rattle.std.proofs.lemmas.List.{length-map}
-use Rattle.ipx_cmd.specs.InternetStands.{InternetMachine}
+use Rattle.ipx_cmd.specs.inside.InternetStands.{InternetMachine}
 use Rattle.ipx_cmd.specs.Line.{Stops}
 use Rattle.ipx_cmd.specs.OrderLine.{order_meaning}
 use Rattle.ipx_cmd.specs.declared.lines.order.OrderStage.{OrderStage}

@@ -1,7 +1,7 @@
 use Rattle.std.proofs.Common.{ap, ◌∙◌, option_map, Option, Some, Ok}
 use Rattle.std.proofs.lemmas.Result.{err_from_is_err_and}
 use Rattle.ipx_cmd.specs.InternetMachine.{Standing}
-use Rattle.ipx_cmd.specs.InternetStands.{IsStanding}
+use Rattle.ipx_cmd.specs.inside.InternetStands.{IsStanding}
 use Rattle.ipx_cmd.specs.Request.{request_of}
 use Rattle.ipx_cmd.specs.declared.lines.order.Order.{Order}
 use Rattle.ipx_cmd.proofs.acts.EventsOneAfterAnother.{where_ok}

@@ -2,7 +2,7 @@ use Rattle.std.proofs.Common.{ap, ◌∙◌, arith, length, option_map, Option, 
 use Rattle.std.proofs.lemmas.Result.{err_from_is_err_and}
 use Rattle.ipx_cmd.specs.Instruction.{instruction_of}
 use Rattle.ipx_cmd.specs.Machine.{Standing}
-use Rattle.ipx_cmd.specs.MachineStands.{IsStanding, reached}
+use Rattle.ipx_cmd.specs.inside.MachineStands.{IsStanding, reached}
 use Rattle.ipx_cmd.specs.declared.lines.command.Command.{Command}
 use Rattle.ipx_cmd.proofs.acts.WhatALineMakes.{refused_line, skipped, named_line, unnamed_line, unmade_line, unlike_port, line_acted, line_halted, still}
 use Rattle.ipx_cmd.proofs.acts.AnotherPortMayBeNamed.{port_line}

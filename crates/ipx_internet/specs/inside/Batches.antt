@@ -5,7 +5,7 @@ use Rattle.ipx_router.specs.Outbox.{Contents}
 use Rattle.ipx_router.specs.Port.{Port, broadcast}
 use Rattle.ipx_router.specs.Relays.{Sent}
 use Rattle.ipx_internet.specs.Queue.{Delivery}
-use Rattle.ipx_internet.specs.Stations.{place_of, hearers}
+use Rattle.ipx_internet.specs.inside.Stations.{place_of, hearers}
 use Rattle.ipx_internet.specs.declared.batch.Pending.{Pending}
 use Rattle.ipx_internet.specs.declared.batch.Coming.{Coming}
 use Rattle.ipx_internet.specs.declared.stations.Station.{Station}

@@ -7,7 +7,7 @@ use Rattle.ipx_internet.specs.Moment.{Moment, SharesNode, StandsFor, net_at}
 use Rattle.ipx_internet.specs.Queue.{Queued}
 use Rattle.ipx_internet.specs.declared.fault.InternetFault.{InternetFault}
 use Rattle.ipx_internet.specs.declared.fault.InternetFault.TheVariants.{SameNode, NoSuchPort, Memory}
-use Rattle.ipx_cmd.specs.Acted.{Added}
+use Rattle.ipx_cmd.specs.inside.Acted.{Added}
 use Rattle.ipx_cmd.specs.EventText.{most_routes, most_services}
 use Rattle.ipx_cmd.specs.InternetMachine.{Led, Standing, latest, nodes_meet, past_of}
 use Rattle.ipx_cmd.specs.Making.{named_router}

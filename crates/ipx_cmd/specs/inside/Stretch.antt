@@ -1,9 +1,9 @@
 -- What a stretch of a script's bytes leaves.
 use Rattle.std.specs.Prelude.{Result, Ok, Err, MatchResult, ◌≡◌, ℕ, List, [], ◌++◌, true, false}
 use Rattle.ipx_wire.specs.Ends.{Output}
-use Rattle.ipx_cmd.specs.Acted.{Added}
+use Rattle.ipx_cmd.specs.inside.Acted.{Added}
 use Rattle.ipx_cmd.specs.Decoded.{IsFront}
-use Rattle.ipx_cmd.specs.Leads.{Begins, Ends, Leads}
+use Rattle.ipx_cmd.specs.inside.Leads.{Begins, Ends, Leads}
 use Rattle.ipx_cmd.specs.Output.{fault_text}
 use Rattle.ipx_cmd.specs.Playing.{Step, by_lines}
 use Rattle.ipx_cmd.specs.WroteFront.{IsFaultOf, WroteAll, WroteFront}

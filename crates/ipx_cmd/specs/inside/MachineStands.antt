@@ -5,7 +5,7 @@ use Rattle.ipx_router.specs.History.{History}
 use Rattle.ipx_router.specs.Port.{Port}
 use Rattle.ipx_router.specs.Stands.{State, StandsFor}
 use Rattle.ipx_cmd.specs.EventText.{most_routes, most_services}
-use Rattle.ipx_cmd.specs.Acted.{Added}
+use Rattle.ipx_cmd.specs.inside.Acted.{Added}
 use Rattle.ipx_cmd.specs.Machine.{Led, Standing, past_of}
 use Rattle.ipx_cmd.specs.declared.lines.command.Stage.{Stage}
 
