@@ -189,7 +189,9 @@ class Checked:
             it = function_at(self.found, at[1], int(at[2]))
             return it.path if it else f"{at[1]}:{at[2]}"
         if at := PROOF_ERROR.match(line):
-            return next((it.path for it in self.found if proof_folder(it) == at[1]), at[1])
+            # (a folder has a + before a name that would stand for something else)
+            folder = at[1].replace("/+", "/")
+            return next((it.path for it in self.found if proof_folder(it) == folder), at[1])
         return ""
 
     def first_broken(self):

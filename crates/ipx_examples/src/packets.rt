@@ -50,7 +50,7 @@ pub fn crossed(rt: &HostRuntime, packet: &Packet<'_>) -> Result<()> {
             }
         }
         Err(CrossedFault::Short) => println!(rt; "there is no room for eight networks")?,
-        Err(CrossedFault::Full) => println!(rt; "it has crossed eight networks")?,
+        Err(CrossedFault::Full) => println!(rt; "it has crossed eight networks or more")?,
     }
     // prints it has crossed 00000040
     Ok(())

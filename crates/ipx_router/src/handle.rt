@@ -1,4 +1,4 @@
-//! The calls by which an event is handed to a router, and the room that it needs.
+//! `handle` and `step`, by which a router takes an event, and the calls that tell their room.
 ghost use Rattle.std.specs.Prelude.{◌≡◌, ℕ, ◌≤◌, length, List, [], ◌∷◌, ◌++◌, IsOk, IfOk, OnOk, OnErr};
 ghost use Rattle.ipx_table.specs.Shares.{IsSharedBy};
 ghost use Rattle.ipx_router.specs.Bounds.{most_length};

@@ -2,7 +2,7 @@
 ghost use Rattle.std.specs.Prelude.{◌≡◌, ◌↔◌, ◌==◌, true, ℕ, ◌+◌, ◌-◌, ◌<◌, ◌≤◌, [], ◌∷◌, ◌++◌, length, take, slice_get, Some, IsOk, OnOk, OnErr, max, ◌*◌};
 ghost use Rattle.std.specs.Vec.{vec_len, vec_capacity};
 ghost use Rattle.ipx_wire.specs.Forward.{forwarded, propagated};
-ghost use Rattle.ipx_wire.specs.Numbers.{most_entries, most_services};
+ghost use Rattle.ipx_wire.specs.Numbers.{crossed_bytes, crossed_places, most_entries, most_services};
 ghost use Rattle.ipx_wire.specs.Write.{packet_bytes, rip_packet, query_packet};
 ghost use Rattle.ipx_wire.specs.WriteServices.{sap_packet};
 ghost use Rattle.ipx_wire.specs.declared.network.Network.{Network};
@@ -243,8 +243,8 @@ impl Outbox {
         arrived: Network,
         outgoing: Network,
     )
-        requires free { packet.now.header.control < 8 }
-        requires eight { 32 ≤ length packet.now.payload }
+        requires free { packet.now.header.control < crossed_places }
+        requires eight { crossed_bytes ≤ length packet.now.payload }
         requires room { Fits self.old (record { port = port; link = broadcast; bytes = packet_bytes (propagated arrived outgoing packet.now) } ∷ []) }
         ensures { Appends self.old self.new (record { port = port; link = broadcast; bytes = packet_bytes (propagated arrived outgoing packet.now) } ∷ []) }
     {
@@ -384,8 +384,8 @@ fn put_crossed(
     arrived: Network,
     outgoing: Network,
 ) -> usize
-    requires free { packet.now.header.control < 8 }
-    requires eight { 32 ≤ length packet.now.payload }
+    requires free { packet.now.header.control < crossed_places }
+    requires eight { crossed_bytes ≤ length packet.now.payload }
     requires room { start + length (packet_bytes (propagated arrived outgoing packet.now)) ≤ vec_len bytes.old }
     ensures front { take (start + result) bytes.new.items ≡ take start bytes.old.items ++ packet_bytes (propagated arrived outgoing packet.now) }
     ensures size { result ≡ length (packet_bytes (propagated arrived outgoing packet.now)) }
@@ -400,7 +400,7 @@ fn put_crossed(
 /// A packet that is sent on is as long as it came.
 pub(crate) fn proves_lengths(packet: &Packet<'_>)
     ensures forwarded { length (packet_bytes (forwarded packet.now)) ≡ packet.now.header.length }
-    ensures propagated { (arrived outgoing : Network) → packet.now.header.control < 8 → 32 ≤ length packet.now.payload
+    ensures propagated { (arrived outgoing : Network) → packet.now.header.control < crossed_places → crossed_bytes ≤ length packet.now.payload
         → length (packet_bytes (propagated arrived outgoing packet.now)) ≡ packet.now.header.length }
 {
     ipx_wire::laws::sizes();

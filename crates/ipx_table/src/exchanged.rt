@@ -1,4 +1,4 @@
-//! What a table returns for an offer, where the caller wants to know what it changed.
+//! What an offer changed: the offers of its key, before and after.
 ghost use Rattle.std.specs.Prelude.{◌≡◌};
 ghost use Rattle.ipx_table.specs.Taken.{offer_left};
 

@@ -1,4 +1,4 @@
-//! What a table holds.
+//! The trait of what a table can keep.
 ghost use Rattle.std.specs.Prelude.{◌≡◌, true};
 ghost use Rattle.ipx_table.specs.Reading.{Reading};
 

@@ -1,4 +1,4 @@
-//! What a table returns for an offer.
+//! What a table did with an offer.
 ghost use Rattle.std.specs.Prelude.{◌≡◌, Some};
 ghost use Rattle.ipx_table.specs.TakenWord.{taken_word};
 

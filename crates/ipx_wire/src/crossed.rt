@@ -31,7 +31,7 @@ pub enum CrossedFault {
 ///         }
 ///     }
 ///     Err(CrossedFault::Short) => println!(rt; "there is no room for eight networks")?,
-///     Err(CrossedFault::Full) => println!(rt; "it has crossed eight networks")?,
+///     Err(CrossedFault::Full) => println!(rt; "it has crossed eight networks or more")?,
 /// }
 /// // prints it has crossed 00000040
 /// ```

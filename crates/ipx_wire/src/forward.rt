@@ -1,6 +1,7 @@
 //! Packets sent on: each field as it came, but for those that a router changes.
 ghost use Rattle.std.specs.Prelude.{◌≡◌, ◌<◌, ◌≤◌, ◌++◌, length, drop};
 ghost use Rattle.ipx_wire.specs.Forward.{forwarded, propagated};
+ghost use Rattle.ipx_wire.specs.Numbers.{crossed_bytes, crossed_places};
 ghost use Rattle.ipx_wire.specs.Packet.{IsPacket};
 ghost use Rattle.ipx_wire.specs.Write.{packet_bytes};
 
@@ -67,8 +68,8 @@ pub fn write_crossed(
     outgoing: Network,
     out: &mut [u8],
 ) -> usize
-    requires free { packet.now.header.control < 8 }
-    requires eight { 32 ≤ length packet.now.payload }
+    requires free { packet.now.header.control < crossed_places }
+    requires eight { crossed_bytes ≤ length packet.now.payload }
     requires room { packet.now.header.length ≤ length out.old }
     ensures count { result ≡ packet.now.header.length }
     ensures bytes { out.new ≡ packet_bytes (propagated arrived outgoing packet.now) ++ drop packet.now.header.length out.old }
@@ -87,8 +88,8 @@ pub fn write_crossed(
 ///
 /// Its transport control is under 8 and it has 32 bytes of data or more, as for [`write_crossed`], which says what changes.
 pub fn change_to_crossed(packet: &Packet<'_>, arrived: Network, outgoing: Network, bytes: &mut [u8])
-    requires free { packet.now.header.control < 8 }
-    requires eight { 32 ≤ length packet.now.payload }
+    requires free { packet.now.header.control < crossed_places }
+    requires eight { crossed_bytes ≤ length packet.now.payload }
     requires own { bytes.old ≡ packet_bytes packet.now }
     ensures { bytes.new ≡ packet_bytes (propagated arrived outgoing packet.now) }
 {

@@ -3,7 +3,7 @@ ghost use Rattle.std.specs.Prelude.{◌≡◌, ◌↔◌, ℕ, ◌+◌, ◌-◌,
 ghost use Rattle.std.specs.List.{AllByRecursion};
 ghost use Rattle.ipx_wire.specs.Address.{IsAddress};
 ghost use Rattle.ipx_wire.specs.Header.{IsHeader, header_bytes};
-ghost use Rattle.ipx_wire.specs.Numbers.{no_checksum, rip_type, sap_type, propagated_type, crossed_places, most_routers, rip_socket, sap_socket, local_network, default_route, all_routes, most_entries, most_services, every_service, unreachable, header_size, entry_size, service_size, node_size, all_ones};
+ghost use Rattle.ipx_wire.specs.Numbers.{no_checksum, rip_type, sap_type, propagated_type, crossed_places, crossed_bytes, most_routers, rip_socket, sap_socket, local_network, default_route, all_routes, most_entries, most_services, every_service, unreachable, header_size, entry_size, service_size, node_size, all_ones};
 ghost use Rattle.ipx_wire.specs.Forward.{forwarded, propagated};
 ghost use Rattle.ipx_wire.specs.Write.{packet_bytes, rip_packet, rip_packet_parts, rip_payload, query_packet, query_packet_parts, query_payload};
 ghost use Rattle.ipx_wire.specs.Piece.{IsBytes, piece};
@@ -76,10 +76,10 @@ pub fn reread()
         → length further < 64 → IsSap (sap_payload nearest services ++ further) (Response nearest (map entry_of services)) }
     ensures forwarded { (bytes : List ℕ) (p : Parts) (further : List ℕ) → IsPacket bytes p → p.header.control < 255
         → IsPacket (packet_bytes (forwarded p) ++ further) (forwarded p) }
-    ensures propagated { (bytes : List ℕ) (p : Parts) (arrived outgoing : Network) (further : List ℕ) → IsPacket bytes p → p.header.control < 8 → 32 ≤ length p.payload
+    ensures propagated { (bytes : List ℕ) (p : Parts) (arrived outgoing : Network) (further : List ℕ) → IsPacket bytes p → p.header.control < crossed_places → crossed_bytes ≤ length p.payload
         → IsNetwork outgoing → IsPacket (packet_bytes (propagated arrived outgoing p) ++ further) (propagated arrived outgoing p) }
     ensures crossed { (p : Parts) (networks : List Network) (arrived outgoing : Network) → IsCrossed p.header.control p.payload networks
-        → (propagated arrived outgoing p).header.control < 8 → IsNetwork arrived
+        → (propagated arrived outgoing p).header.control < crossed_places → IsNetwork arrived
         → IsCrossed (propagated arrived outgoing p).header.control (propagated arrived outgoing p).payload (networks ++ arrived ∷ []) }
 {}
 
@@ -94,7 +94,7 @@ pub fn sizes()
         → length (query_packet from to nearest kind) ≡ 34 }
     ensures forwarded { (bytes : List ℕ) (p : Parts) → IsPacket bytes p
         → length (packet_bytes (forwarded p)) ≡ p.header.length }
-    ensures propagated { (bytes : List ℕ) (p : Parts) (arrived outgoing : Network) → IsPacket bytes p → p.header.control < 8 → 32 ≤ length p.payload
+    ensures propagated { (bytes : List ℕ) (p : Parts) (arrived outgoing : Network) → IsPacket bytes p → p.header.control < crossed_places → crossed_bytes ≤ length p.payload
         → length (packet_bytes (propagated arrived outgoing p)) ≡ p.header.length }
 {}
 
@@ -106,7 +106,7 @@ pub fn sizes()
 pub fn sent_on()
     ensures forwarded { (bytes : List ℕ) (p : Parts) → IsPacket bytes p → p.header.control < 255
         → packet_bytes (forwarded p) ≡ take 4 bytes ++ (p.header.control + 1) ∷ drop 5 (take p.header.length bytes) }
-    ensures propagated { (bytes : List ℕ) (p : Parts) (arrived outgoing : Network) → IsPacket bytes p → p.header.control < 8 → 32 ≤ length p.payload
+    ensures propagated { (bytes : List ℕ) (p : Parts) (arrived outgoing : Network) → IsPacket bytes p → p.header.control < crossed_places → crossed_bytes ≤ length p.payload
         → packet_bytes (propagated arrived outgoing p) ≡ replicate 2 0xff ++ piece bytes 2 2 ++ (p.header.control + 1) ∷ piece bytes 5 1 ++ network_bytes outgoing
         ++ piece bytes 10 (20 + 4 * p.header.control) ++ network_bytes arrived ++ drop (34 + 4 * p.header.control) (take p.header.length bytes) }
 {}

@@ -1,4 +1,4 @@
-//! The entries of service advertising packets, read one by one from the bytes that hold them.
+//! The entries of a response of services, lent from its bytes, each by its number.
 ghost use Rattle.ipx_wire.specs.Piece.{piece};
 ghost use Rattle.ipx_wire.specs.SapEntries.{sap_entry_at, sap_entries_at};
 ghost use Rattle.ipx_wire.specs.inside.Kept.{IsCounted};

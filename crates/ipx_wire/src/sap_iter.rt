@@ -1,4 +1,4 @@
-//! The entries of a service advertising packet, one by one.
+//! The iterator over the entries of a response of services.
 ghost use Rattle.ipx_wire.specs.SapEntries.{sap_entries_at};
 ghost use Rattle.std.specs.Prelude.{◌≡◌, ◌*◌, ◌≤◌, length};
 

@@ -1,4 +1,4 @@
-//! Whole packets of a router's own, written to the beginning of a slice.
+//! Packets of routing information, and queries for services, written whole to the beginning of a slice.
 ghost use Rattle.std.specs.Prelude.{◌≡◌, ◌+◌, ◌*◌, ◌^◌, ◌<◌, ◌≤◌, ◌++◌, length, drop};
 ghost use Rattle.std.specs.List.{flat_map};
 ghost use Rattle.ipx_wire.specs.Numbers.{most_entries};

@@ -1,4 +1,4 @@
-//! Responses of a router's own, written to the beginning of a slice.
+//! Responses of services, written whole to the beginning of a slice.
 ghost use Rattle.std.specs.Prelude.{◌≡◌, ◌+◌, ◌*◌, ◌≤◌, ◌++◌, length, drop, map};
 ghost use Rattle.std.specs.List.{flat_map, AllByRecursion};
 ghost use Rattle.ipx_wire.specs.Name.{IsServiceName, name_field};

@@ -1,4 +1,4 @@
-//! What a port advertises to all nodes of its network: all of it, or all as unreachable.
+//! Whole broadcasts of one port: all that it advertises, or all of it as unreachable.
 ghost use Rattle.std.specs.Prelude.{◌<◌, ◌≤◌, length, map};
 ghost use Rattle.std.specs.List.{AllByRecursion};
 ghost use Rattle.ipx_router.specs.Facts.{offers};
@@ -9,7 +9,7 @@ ghost use Rattle.ipx_router.specs.Told.{told, told_services, dead, dead_service}
 
 use crate::advertising::envelope::Envelope;
 use crate::advertising::selection::{Selection, ServiceSelection};
-use crate::advertising::told::{advertise_routes, advertise_services};
+use crate::advertising::told::{send_routes, send_services};
 use crate::outbox::Outbox;
 use crate::port::Port;
 use crate::route_offer::RouteOffer;
@@ -31,7 +31,7 @@ pub(crate) fn broadcast_routes<const R: usize>(
     ensures { Appends outbox.old outbox.new (rip_broadcast ports.now number (told ports.now up.now (offers routes.now.records) number)) }
 {
     let envelope = Envelope::routes_to_all(ports, number);
-    advertise_routes(outbox, envelope, ports, up, routes, Selection::All);
+    send_routes(outbox, envelope, ports, up, routes, Selection::All);
 }
 
 /// Broadcasts the routes that a port advertises, as unreachable.
@@ -49,7 +49,7 @@ pub(crate) fn withdraw_routes<const R: usize>(
     ensures { Appends outbox.old outbox.new (rip_broadcast ports.now number (map dead (told ports.now up.now (offers routes.now.records) number))) }
 {
     let envelope = Envelope::routes_to_all(ports, number);
-    advertise_routes(outbox, envelope, ports, up, routes, Selection::Dead);
+    send_routes(outbox, envelope, ports, up, routes, Selection::Dead);
 }
 
 /// Broadcasts the services that a port advertises.
@@ -64,7 +64,7 @@ pub(crate) fn broadcast_services<const S: usize>(
     ensures { Appends outbox.old outbox.new (sap_broadcast ports.now number (told_services (offers services.now.records) number)) }
 {
     let envelope = Envelope::services_to_all(ports, number);
-    advertise_services(outbox, envelope, services, ServiceSelection::All);
+    send_services(outbox, envelope, services, ServiceSelection::All);
 }
 
 /// Broadcasts the services that a port advertises, as unreachable.
@@ -79,5 +79,5 @@ pub(crate) fn withdraw_services<const S: usize>(
     ensures { Appends outbox.old outbox.new (sap_broadcast ports.now number (map dead_service (told_services (offers services.now.records) number))) }
 {
     let envelope = Envelope::services_to_all(ports, number);
-    advertise_services(outbox, envelope, services, ServiceSelection::Dead);
+    send_services(outbox, envelope, services, ServiceSelection::Dead);
 }

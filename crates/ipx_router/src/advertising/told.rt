@@ -1,5 +1,4 @@
-//! What a port advertises, from the tables and the ports straight into pages of the outbox: no list of all routes or
-//! services is made.
+//! From the tables and the ports straight into pages of the outbox: no list of all routes or services is made.
 ghost use Rattle.std.specs.Prelude.{◌≡◌, ◌<◌, ◌≤◌, List, [], ◌∷◌, ◌++◌, length, take, false, Some};
 ghost use Rattle.std.specs.List.{AllByRecursion, flat_map};
 ghost use Rattle.std.specs.Option.{option_to_list};
@@ -28,7 +27,7 @@ use ipx_table::Table;
 use ipx_wire::{RipEntry, Service};
 
 /// Sends the routes that a port advertises, as they are selected, in an envelope of that port.
-pub(crate) fn advertise_routes<const R: usize>(
+pub(crate) fn send_routes<const R: usize>(
     outbox: &mut Outbox,
     envelope: Envelope,
     ports: &[Port],
@@ -92,7 +91,7 @@ fn send_filled(outbox: &mut Outbox, envelope: Envelope, page: &[RipEntry])
 }
 
 /// Sends the services that a port advertises, as they are selected, in an envelope of that port.
-pub(crate) fn advertise_services<const S: usize>(
+pub(crate) fn send_services<const S: usize>(
     outbox: &mut Outbox,
     envelope: Envelope,
     table: &Table<ServiceOffer, S>,

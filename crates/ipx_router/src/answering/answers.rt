@@ -1,4 +1,4 @@
-//! What a router answers to a request for routes and to a query for services, on the port where it was heard.
+//! Answers of any number of packets: the routes that a request asks for, and the services of a type.
 ghost use Rattle.std.specs.Prelude.{◌≡◌, ◌<◌, ◌≤◌, if◌then◌else◌, List, length};
 ghost use Rattle.std.specs.List.{AllByRecursion, flat_map};
 ghost use Rattle.ipx_wire.specs.declared.rip.RipEntry.{RipEntry};
@@ -13,7 +13,7 @@ ghost use Rattle.ipx_router.specs.Told.{told, told_services};
 
 use crate::advertising::envelope::Envelope;
 use crate::advertising::selection::{Selection, ServiceSelection};
-use crate::advertising::told::{advertise_routes, advertise_services};
+use crate::advertising::told::{send_routes, send_services};
 use crate::answering::nearest::answer_nearest;
 use crate::outbox::Outbox;
 use crate::port::Port;
@@ -41,7 +41,7 @@ pub(crate) fn answer_request<const R: usize>(
         (asked request.now.entries (told ports.now up.now (offers routes.now.records) number))) }
 {
     let envelope = Envelope::routes_reply(ports, number, source);
-    advertise_routes(outbox, envelope, ports, up, routes, selection_to(request));
+    send_routes(outbox, envelope, ports, up, routes, selection_to(request));
 }
 
 /// Which routes answer a request: all, where it asks for all, so that no route is compared with its entries.
@@ -76,6 +76,6 @@ pub(crate) fn answer_query<const S: usize>(
     if nearest {
         answer_nearest(outbox, envelope, services, kind);
     } else {
-        advertise_services(outbox, envelope, services, ServiceSelection::OfKind(kind));
+        send_services(outbox, envelope, services, ServiceSelection::OfKind(kind));
     }
 }

@@ -1,4 +1,4 @@
-//! What a router does where it is started or stopped, where a second passes, and where a port goes down or comes up.
+//! The events without bytes: a start and a stop, a second, a port that goes down or comes up.
 ghost use Rattle.std.specs.Prelude.{◌≡◌, ◌<◌, true, false, length};
 ghost use Rattle.ipx_router.specs.inside.Following.{Follows, sends_between, outcome_at};
 ghost use Rattle.ipx_router.specs.History.{Start as Started, Stop as Halted, Second as Passed, PortDown as Down, PortUp as Up};

@@ -1,4 +1,4 @@
-//! The room that an event needs in an outbox.
+//! Room counted out: packets and bytes that an event takes at most.
 ghost use Rattle.std.specs.Prelude.{◌≡◌, ◌^◌, ◌<◌, ◌≤◌, ◌*◌};
 ghost use Rattle.ipx_router.specs.Bounds.{most_packets, most_length};
 ghost use Rattle.ipx_router.specs.Happened.{happened};

@@ -1,4 +1,4 @@
-//! What a router does with a packet that comes on a port.
+//! The event of a packet: judged, and then learned from, answered or sent on.
 ghost use Rattle.std.specs.Prelude.{◌≡◌, ◌<◌, Bool, length, IfOk, IfErr};
 ghost use Rattle.ipx_wire.specs.declared.rip.Operation.TheVariants.{Request, Response};
 ghost use Rattle.ipx_wire.specs.declared.sap.Sap.TheVariants.{Query, Response as SapResponse};

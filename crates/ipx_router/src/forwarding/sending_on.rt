@@ -1,4 +1,4 @@
-//! Packets that a router is only asked to send on: judged as they are, and sent where they leave.
+//! How `Router::relay` judges and sends, given a router's parts.
 ghost use Rattle.std.specs.Prelude.{◌≡◌, ◌*◌, ◌<◌, ◌≤◌, true, length, IfOk, IfErr, Some, None};
 ghost use Rattle.std.specs.List.{AllByRecursion};
 ghost use Rattle.ipx_router.specs.inside.CheckGroups.{GoesAs};

@@ -1,7 +1,7 @@
 //! The checks of a packet that may be sent on, in their order; the first that holds drops it.
 //!
 //! Of every packet: the source is the port itself; the source node is the broadcast. Of a propagated packet: its data have no
-//! room for the networks crossed; eight were crossed; it has crossed the port's network. Of a near packet: it is for
+//! room for the networks crossed; eight or more were crossed; it has crossed the port's network. Of a near packet: it is for
 //! another node. Of a far packet: it came through sixteen routers or more; it is for a port of the router itself; there is
 //! no way to its network; it is longer than the port allows on which it would leave.
 ghost use Rattle.std.specs.Prelude.{◌≡◌, ◌<◌, true, false, length, IfOk, IfErr, None, Some};

@@ -115,7 +115,7 @@ fn route_to<const R: usize>(routes: &Table<RouteOffer, R>, network: Network) -> 
 pub(crate) fn takes_no_route(ports: &[Port], network: Network) -> bool
     ensures { result ≡ takes_no_route ports.now network }
 {
-    network.0 == 0 || network.0 == Network::ALL_ROUTES.0 || is_direct(ports, network)
+    network == Network::LOCAL || network == Network::ALL_ROUTES || is_direct(ports, network)
 }
 
 /// Whether a port, up or not, is on that network. Every port is compared: usually none is, and a loop without an exit is

@@ -41,7 +41,7 @@ pub(crate) fn advertise_route_changes(
         return;
     }
     for &number in up {
-        advertise_routes_on(outbox, ports, number, changes);
+        broadcast_route_changes(outbox, ports, number, changes);
     }
 }
 
@@ -61,12 +61,12 @@ pub(crate) fn advertise_service_changes(
         return;
     }
     for &number in up {
-        advertise_services_on(outbox, ports, number, changes);
+        broadcast_service_changes(outbox, ports, number, changes);
     }
 }
 
-/// Advertises changed routes on one port, in at most one packet.
-fn advertise_routes_on(
+/// Broadcasts changed routes on one port, in at most one packet.
+fn broadcast_route_changes(
     outbox: &mut Outbox,
     ports: &[Port],
     number: u8,
@@ -82,8 +82,8 @@ fn advertise_routes_on(
     broadcast_page(outbox, ports, number, &page);
 }
 
-/// Advertises changed services on one port, in at most one packet.
-fn advertise_services_on(
+/// Broadcasts changed services on one port, in at most one packet.
+fn broadcast_service_changes(
     outbox: &mut Outbox,
     ports: &[Port],
     number: u8,

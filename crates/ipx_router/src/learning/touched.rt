@@ -1,5 +1,5 @@
 //! What an event touches of a table: each key whose offer it changes, with what it had before and has now. An offer that changes
-//! nothing isn't noted, so a response that changes nothing costs one search of the table per entry, and nothing more.
+//! nothing isn't noted, so a response that changes nothing costs one search of the table for each entry.
 ghost use Rattle.std.specs.Prelude.{◌≡◌, ◌+◌, ◌-◌, ◌<◌, ◌≤◌, List, ◌++◌, ◌∷◌, [], length, get_or, insert, set, true, false, IfOk, IfErr};
 ghost use Rattle.std.specs.Ordering.{is_eq, is_lt};
 ghost use Rattle.std.specs.declared.cmp.Ordering.TheVariants.{Equal};

@@ -1,4 +1,4 @@
-//! Seconds, and ports that go down: what ends in both tables, and how the ports that are up advertise it.
+//! Both tables at once: what a second or the end of a port ends in them, handed to each port that is up.
 ghost use Rattle.std.specs.Prelude.{◌≡◌, ◌<◌, ◌≤◌, List, [], ◌∷◌, ◌++◌, length, true, false};
 ghost use Rattle.std.specs.List.{AllByRecursion, flat_map, list_any};
 ghost use Rattle.ipx_table.specs.Facts.{Fact, Second, PortEnd};
@@ -17,7 +17,7 @@ use crate::outbox::Outbox;
 use crate::port::Port;
 use crate::route_offer::RouteOffer;
 use crate::service_offer::ServiceOffer;
-use crate::withdrawing::ended::{advertise_ended, advertise_ended_services, advertise_ended_with};
+use crate::withdrawing::ended::{broadcast_ended, broadcast_ended_services, broadcast_ended_with};
 use crate::withdrawing::periodic::{broadcast_routes_with_ended, broadcast_services_with_ended};
 use ipx_table::Table;
 
@@ -52,7 +52,7 @@ pub(crate) fn pass_second<const R: usize, const S: usize>(
     }
     routes.second_in_place();
     services.second_in_place();
-    broadcast_second(outbox, ports, up, routes, services, periodic);
+    advertise_second(outbox, ports, up, routes, services, periodic);
     routes.clear_ended();
     services.clear_ended();
 }
@@ -96,7 +96,7 @@ pub(crate) fn end_port<const R: usize, const S: usize>(
     proves_by_key(routes, services);
     routes.end_port_in_place(port);
     services.end_port_in_place(port);
-    broadcast_down(outbox, ports, up, port, routes.ended(), services.ended());
+    advertise_down(outbox, ports, up, port, routes.ended(), services.ended());
     routes.clear_ended();
     services.clear_ended();
 }
@@ -105,7 +105,7 @@ pub(crate) fn end_port<const R: usize, const S: usize>(
 /// advertise.
 // (out of line, so that its room on the stack isn't there yet while the tables part what ends from what stays)
 #[inline(never)]
-fn broadcast_second<const R: usize, const S: usize>(
+fn advertise_second<const R: usize, const S: usize>(
     outbox: &mut Outbox,
     ports: &[Port],
     up: &[u8],
@@ -124,14 +124,14 @@ fn broadcast_second<const R: usize, const S: usize>(
     let ended = routes.ended();
     let ended_services = services.ended();
     if periodic {
-        broadcast_all(outbox, ports, up, routes, services, ended, ended_services);
+        advertise_all(outbox, ports, up, routes, services, ended, ended_services);
     } else {
-        broadcast_ended(outbox, ports, up, ended, ended_services);
+        advertise_ended(outbox, ports, up, ended, ended_services);
     }
 }
 
 /// Advertises on the ports that are up what ended.
-fn broadcast_ended(
+fn advertise_ended(
     outbox: &mut Outbox,
     ports: &[Port],
     up: &[u8],
@@ -145,13 +145,13 @@ fn broadcast_ended(
     ensures { Appends outbox.old outbox.new (flat_map (ended_sends ports.now ended.now ended_services.now) up.now) }
 {
     for &number in up {
-        advertise_ended(outbox, ports, number, ended);
-        advertise_ended_services(outbox, ports, number, ended_services);
+        broadcast_ended(outbox, ports, number, ended);
+        broadcast_ended_services(outbox, ports, number, ended_services);
     }
 }
 
 /// Advertises on the ports that are up all that they advertise, and among it what ended.
-fn broadcast_all<const R: usize, const S: usize>(
+fn advertise_all<const R: usize, const S: usize>(
     outbox: &mut Outbox,
     ports: &[Port],
     up: &[u8],
@@ -174,9 +174,9 @@ fn broadcast_all<const R: usize, const S: usize>(
 }
 
 /// Advertises on the ports that are up what ended, and the network of the port that went down as unreachable.
-// (out of line, as `broadcast_second` is)
+// (out of line, as `advertise_second` is)
 #[inline(never)]
-fn broadcast_down(
+fn advertise_down(
     outbox: &mut Outbox,
     ports: &[Port],
     up: &[u8],
@@ -193,8 +193,8 @@ fn broadcast_down(
 {
     let network = dead(direct_entry(ports, port));
     for &number in up {
-        advertise_ended_with(outbox, ports, number, ended, network);
-        advertise_ended_services(outbox, ports, number, ended_services);
+        broadcast_ended_with(outbox, ports, number, ended, network);
+        broadcast_ended_services(outbox, ports, number, ended_services);
     }
 }
 

@@ -1,5 +1,4 @@
-//! What ended, of either kind: what expired, or came by a port that went down, is advertised as unreachable on the ports
-//! where it wasn't learned, alone or in its place among other items.
+//! What ended, item by item: on a port where it wasn't learned, as unreachable, alone or in its place among other items.
 ghost use Rattle.std.specs.Prelude.{◌≡◌, ◌<◌, ◌≤◌, List, [], ◌∷◌, ◌++◌, length, drop};
 ghost use Rattle.std.specs.List.{flat_map, prefix_len};
 ghost use Rattle.ipx_table.specs.Stands.{Ascends};
@@ -21,8 +20,8 @@ use crate::service_offer::ServiceOffer;
 use arrayvec::ArrayVec;
 use ipx_wire::{RipEntry, Service};
 
-/// Advertises on a port the routes that ended.
-pub(crate) fn advertise_ended(outbox: &mut Outbox, ports: &[Port], number: u8, ended: &[RouteOffer])
+/// Broadcasts on a port the routes that ended.
+pub(crate) fn broadcast_ended(outbox: &mut Outbox, ports: &[Port], number: u8, ended: &[RouteOffer])
     requires port { number < length ports.now }
     requires ascends { RoutesAscend ended.now }
     requires room { Fits outbox.old (rip_broadcast ports.now number (flat_map (ended_on number) ended.now)) }
@@ -34,8 +33,8 @@ pub(crate) fn advertise_ended(outbox: &mut Outbox, ports: &[Port], number: u8, e
     send_rest(outbox, envelope, &page);
 }
 
-/// Advertises on a port the services that ended.
-pub(crate) fn advertise_ended_services(
+/// Broadcasts on a port the services that ended.
+pub(crate) fn broadcast_ended_services(
     outbox: &mut Outbox,
     ports: &[Port],
     number: u8,
@@ -52,8 +51,8 @@ pub(crate) fn advertise_ended_services(
     send_rest(outbox, envelope, &page);
 }
 
-/// Advertises on a port the routes that ended, and in its place among them one entry more.
-pub(crate) fn advertise_ended_with(
+/// Broadcasts on a port the routes that ended, and in its place among them one entry more.
+pub(crate) fn broadcast_ended_with(
     outbox: &mut Outbox,
     ports: &[Port],
     number: u8,

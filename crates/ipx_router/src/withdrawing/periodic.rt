@@ -22,7 +22,7 @@ use arrayvec::ArrayVec;
 use ipx_table::Table;
 use ipx_wire::{RipEntry, Service};
 
-/// Advertises on a port all routes, and among them those that ended.
+/// Broadcasts on a port all routes, and among them those that ended.
 pub(crate) fn broadcast_routes_with_ended<const R: usize>(
     outbox: &mut Outbox,
     ports: &[Port],
@@ -54,7 +54,7 @@ pub(crate) fn broadcast_routes_with_ended<const R: usize>(
     send_rest(outbox, envelope, &page);
 }
 
-/// Advertises on a port all services, and among them those that ended.
+/// Broadcasts on a port all services, and among them those that ended.
 pub(crate) fn broadcast_services_with_ended<const S: usize>(
     outbox: &mut Outbox,
     ports: &[Port],

@@ -12,8 +12,8 @@ use Rattle.ipx_router.proofs.sending.PortByPort.{in_envelope}
 use Rattle.ipx_router.proofs.telling.SentOfTold.{selected_all}
 use Rattle.ipx_router.proofs.advertising.broadcasts.broadcast_routes.Goals as goal
 
-pub advertise_routes-requires : goal.advertise_routes-requires
-advertise_routes-requires g c =
+pub send_routes-requires : goal.send_routes-requires
+send_routes-requires g c =
     let port = ap (λ (e : Envelope). e.port) c.routes_to_all-envelope.ensures in
     let room = subst (Fits c.args.outbox.now)
     (sym (in_envelope entries_a_page entries_in (λ (j : ℕ). flat_map (selected_by All) (told c.args.ports.now c.args.up.now (offers c.args.routes.now.records) j)) c.routes_to_all-envelope.ensures
@@ -23,7 +23,7 @@ advertise_routes-requires g c =
 
 pub returns : goal.returns
 returns g c =
-    subst (Appends c.args.outbox.now c.advertise_routes.new.outbox)
+    subst (Appends c.args.outbox.now c.send_routes.new.outbox)
     (in_envelope entries_a_page entries_in (λ (j : ℕ). flat_map (selected_by All) (told c.args.ports.now c.args.up.now (offers c.args.routes.now.records) j)) c.routes_to_all-envelope.ensures
     (selected_all (told c.args.ports.now c.args.up.now (offers c.args.routes.now.records) c.args.number)))
-    c.advertise_routes.ensures
+    c.send_routes.ensures

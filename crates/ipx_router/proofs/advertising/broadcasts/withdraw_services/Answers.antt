@@ -12,8 +12,8 @@ use Rattle.ipx_router.proofs.sending.PortByPort.{in_envelope}
 use Rattle.ipx_router.proofs.telling.SentOfTold.{services_selected_dead}
 use Rattle.ipx_router.proofs.advertising.broadcasts.withdraw_services.Goals as goal
 
-pub advertise_services-requires : goal.advertise_services-requires
-advertise_services-requires g c =
+pub send_services-requires : goal.send_services-requires
+send_services-requires g c =
     let port = ap (λ (e : Envelope). e.port) c.services_to_all-envelope.ensures in
     let room = subst (Fits c.args.outbox.now)
     (sym (in_envelope services_a_page (services_in false) (λ (j : ℕ). flat_map (service_selected_by Dead) (told_services (offers c.args.services.now.records) j)) c.services_to_all-envelope.ensures
@@ -23,7 +23,7 @@ advertise_services-requires g c =
 
 pub returns : goal.returns
 returns g c =
-    subst (Appends c.args.outbox.now c.advertise_services.new.outbox)
+    subst (Appends c.args.outbox.now c.send_services.new.outbox)
     (in_envelope services_a_page (services_in false) (λ (j : ℕ). flat_map (service_selected_by Dead) (told_services (offers c.args.services.now.records) j)) c.services_to_all-envelope.ensures
     (services_selected_dead (told_services (offers c.args.services.now.records) c.args.number)))
-    c.advertise_services.ensures
+    c.send_services.ensures

@@ -20,8 +20,8 @@ returns-then-nearest g c =
     (nearest_answered a.ports.now a.number a.source a.nearest a.kind (told_services (offers a.services.now.records)) c.services_reply-envelope.ensures c.if-nearest.true)
     c.answer_nearest.ensures
 
-pub advertise_services-requires : goal.advertise_services-requires
-advertise_services-requires g c =
+pub send_services-requires : goal.send_services-requires
+send_services-requires g c =
     let a = c.args in
     let room = subst (Fits a.outbox.now)
     (sym (query_answered a.ports.now a.number a.source a.nearest a.kind (told_services (offers a.services.now.records)) c.services_reply-envelope.ensures c.if-nearest.false))
@@ -31,6 +31,6 @@ advertise_services-requires g c =
 pub returns-else-nearest : goal.returns-else-nearest
 returns-else-nearest g c =
     let a = c.args in
-    subst (Appends a.outbox.now c.advertise_services.new.outbox)
+    subst (Appends a.outbox.now c.send_services.new.outbox)
     (query_answered a.ports.now a.number a.source a.nearest a.kind (told_services (offers a.services.now.records)) c.services_reply-envelope.ensures c.if-nearest.false)
-    c.advertise_services.ensures
+    c.send_services.ensures

@@ -10,8 +10,8 @@ use Rattle.ipx_router.specs.declared.advertising.envelope.Envelope.{Envelope}
 use Rattle.ipx_router.proofs.sending.PortByPort.{in_envelope}
 use Rattle.ipx_router.proofs.answering.answers.answer_request.Goals as goal
 
-pub advertise_routes-requires : goal.advertise_routes-requires
-advertise_routes-requires g c =
+pub send_routes-requires : goal.send_routes-requires
+send_routes-requires g c =
     let port = ap (λ (e : Envelope). e.port) c.routes_reply-envelope.ensures in
     let room = subst (Fits c.args.outbox.now)
     (sym (in_envelope entries_a_page entries_in (λ (j : ℕ). flat_map (selected_by c.selection_to.result) (told c.args.ports.now c.args.up.now (offers c.args.routes.now.records) j))
@@ -21,7 +21,7 @@ advertise_routes-requires g c =
 
 pub returns : goal.returns
 returns g c =
-    subst (Appends c.args.outbox.now c.advertise_routes.new.outbox)
+    subst (Appends c.args.outbox.now c.send_routes.new.outbox)
     (in_envelope entries_a_page entries_in (λ (j : ℕ). flat_map (selected_by c.selection_to.result) (told c.args.ports.now c.args.up.now (offers c.args.routes.now.records) j))
     c.routes_reply-envelope.ensures (c.selection_to.ensures (told c.args.ports.now c.args.up.now (offers c.args.routes.now.records) c.args.number)))
-    c.advertise_routes.ensures
+    c.send_routes.ensures

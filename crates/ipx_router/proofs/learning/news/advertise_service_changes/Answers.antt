@@ -16,8 +16,8 @@ loop-number-preserved c =
     let n = length c.args.up.now in
     record {
       sent = sent_next (λ j. sap_broadcast c.args.ports.now j (flat_map (service_told j) (map change_of c.args.changes.now))) c.args.up.now k _
-          c.loop-number-test.true c.loop-number.invariant.sent c.advertise_services_on.ensures.sent;
-      room = c.advertise_services_on.ensures.left _ _ (room_next n k most_own_length c.loop-number-test.true c.loop-number.invariant.room);
+          c.loop-number-test.true c.loop-number.invariant.sent c.broadcast_service_changes.ensures.sent;
+      room = c.broadcast_service_changes.ensures.left _ _ (room_next n k most_own_length c.loop-number-test.true c.loop-number.invariant.room);
     }
 
 pub returns-then-is_empty : goal.returns-then-is_empty

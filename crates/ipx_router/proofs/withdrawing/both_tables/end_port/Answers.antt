@@ -4,14 +4,14 @@ use Rattle.ipx_router.specs.Outbox.{Fits, Appends}
 use Rattle.ipx_router.proofs.ended.SentIsOfEnded.{port_down_as}
 use Rattle.ipx_router.proofs.withdrawing.both_tables.end_port.Goals as goal
 
-pub broadcast_down-requires-clause-routes_ascend : goal.broadcast_down-requires-clause-routes_ascend
-broadcast_down-requires-clause-routes_ascend g c = subst RoutesAscend (sym c.ended.ensures.value) c.end_port_in_place.ensures.by_key
+pub advertise_down-requires-clause-routes_ascend : goal.advertise_down-requires-clause-routes_ascend
+advertise_down-requires-clause-routes_ascend g c = subst RoutesAscend (sym c.ended.ensures.value) c.end_port_in_place.ensures.by_key
 
-pub broadcast_down-requires-clause-services_ascend : goal.broadcast_down-requires-clause-services_ascend
-broadcast_down-requires-clause-services_ascend g c = subst ServicesAscend (sym c.ended-2.ensures.value) c.end_port_in_place-2.ensures.by_key
+pub advertise_down-requires-clause-services_ascend : goal.advertise_down-requires-clause-services_ascend
+advertise_down-requires-clause-services_ascend g c = subst ServicesAscend (sym c.ended-2.ensures.value) c.end_port_in_place-2.ensures.by_key
 
-pub broadcast_down-requires-clause-room : goal.broadcast_down-requires-clause-room
-broadcast_down-requires-clause-room g c =
+pub advertise_down-requires-clause-room : goal.advertise_down-requires-clause-room
+advertise_down-requires-clause-room g c =
     let a = c.args in
     subst (Fits a.outbox.now)
     (port_down_as a.ports.now a.up.now a.routes.now.records a.services.now.records c.proves_by_key.ensures.routes c.proves_by_key.ensures.services a.port
@@ -21,7 +21,7 @@ broadcast_down-requires-clause-room g c =
 pub returns-clause-sends : goal.returns-clause-sends
 returns-clause-sends g c =
     let a = c.args in
-    subst (Appends a.outbox.now c.broadcast_down.new.outbox)
+    subst (Appends a.outbox.now c.advertise_down.new.outbox)
     (sym (port_down_as a.ports.now a.up.now a.routes.now.records a.services.now.records c.proves_by_key.ensures.routes c.proves_by_key.ensures.services a.port
     (c.ended.ensures.value ∙ c.end_port_in_place.ensures.ended) (c.ended-2.ensures.value ∙ c.end_port_in_place-2.ensures.ended)))
-    c.broadcast_down.ensures
+    c.advertise_down.ensures

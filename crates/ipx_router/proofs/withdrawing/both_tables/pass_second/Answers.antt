@@ -4,8 +4,8 @@ use Rattle.ipx_router.proofs.ended.SentIsOfEnded.{nothing_sent, second_as}
 use Rattle.ipx_router.proofs.sending.OneAfterAnother.{appends_none}
 use Rattle.ipx_router.proofs.withdrawing.both_tables.pass_second.Goals as goal
 
-pub broadcast_second-requires : goal.broadcast_second-requires
-broadcast_second-requires g c =
+pub advertise_second-requires : goal.advertise_second-requires
+advertise_second-requires g c =
     let a = c.args in
     let room = subst (Fits a.outbox.now)
     (second_as a.ports.now a.up.now a.routes.now.records a.services.now.records c.proves_by_key.ensures.routes c.proves_by_key.ensures.services
@@ -16,10 +16,10 @@ broadcast_second-requires g c =
 pub returns-clause-sends : goal.returns-clause-sends
 returns-clause-sends g c =
     let a = c.args in
-    subst (Appends a.outbox.now c.broadcast_second.new.outbox)
+    subst (Appends a.outbox.now c.advertise_second.new.outbox)
     (sym (second_as a.ports.now a.up.now a.routes.now.records a.services.now.records c.proves_by_key.ensures.routes c.proves_by_key.ensures.services
     c.second_in_place.ensures.ended c.second_in_place-2.ensures.ended a.periodic c.second_in_place.ensures.records c.second_in_place-2.ensures.records))
-    c.broadcast_second.ensures
+    c.advertise_second.ensures
 
 pub returns-then-is_quiet-clause-sends : goal.returns-then-is_quiet-clause-sends
 returns-then-is_quiet-clause-sends g c =

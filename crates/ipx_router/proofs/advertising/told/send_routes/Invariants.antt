@@ -6,7 +6,7 @@ use Rattle.ipx_router.specs.inside.Owed.{Pays, owed}
 use Rattle.ipx_router.specs.inside.Envelope.{entries_in}
 use Rattle.ipx_router.specs.inside.Selection.{selected_by}
 use Rattle.ipx_router.specs.Told.{told}
-use Rattle.ipx_router.proofs.advertising.told.advertise_routes.Given as goal
+use Rattle.ipx_router.proofs.advertising.told.send_routes.Given as goal
 
 abbrev pub invariant-loop-count : goal.invariant-loop-count
 invariant-loop-count g l =

@@ -5,7 +5,7 @@ use Rattle.ipx_router.specs.inside.Envelope.{services_in}
 use Rattle.ipx_router.specs.inside.Selection.{service_selected_by}
 use Rattle.ipx_router.specs.Told.{told_services}
 use Rattle.ipx_router.proofs.sending.PageByPage.{owed_step, owed_fits, end_fits, end_sent}
-use Rattle.ipx_router.proofs.advertising.told.advertise_services.Goals as goal
+use Rattle.ipx_router.proofs.advertising.told.send_services.Goals as goal
 
 pub add_selected_service-requires : goal.add_selected_service-requires
 add_selected_service-requires g c =

@@ -9,7 +9,7 @@ use Rattle.ipx_router.proofs.sending.PageByPage.{pays_rest}
 use Rattle.ipx_router.proofs.ended.EndedRises.{routes_in_order}
 use Rattle.ipx_router.proofs.ended.EndedPageByPage.{begun_fits, begun_pays, among}
 use Rattle.ipx_router.proofs.sending.OneAfterAnother.{pays_then, still_fits, page_fits}
-use Rattle.ipx_router.proofs.withdrawing.ended.advertise_ended_with.Goals as goal
+use Rattle.ipx_router.proofs.withdrawing.ended.broadcast_ended_with.Goals as goal
 
 pub add_item-requires : goal.add_item-requires
 add_item-requires c =

@@ -3,7 +3,7 @@ use Rattle.std.specs.List.{flat_map}
 use Rattle.ipx_router.specs.inside.EndedSends.{periodic_sends}
 use Rattle.ipx_router.specs.Facts.{offers}
 use Rattle.ipx_router.specs.inside.Owed.{Pays}
-use Rattle.ipx_router.proofs.withdrawing.both_tables.broadcast_all.Given as goal
+use Rattle.ipx_router.proofs.withdrawing.both_tables.advertise_all.Given as goal
 
 abbrev pub invariant-loop-number : goal.invariant-loop-number
 invariant-loop-number g l = Pays l.initial.outbox l.outbox

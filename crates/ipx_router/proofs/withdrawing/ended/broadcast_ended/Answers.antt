@@ -8,7 +8,7 @@ use Rattle.ipx_router.proofs.sending.PageByPage.{pays_rest}
 use Rattle.ipx_router.proofs.ended.EndedRises.{routes_in_order, sorted-ended}
 use Rattle.ipx_router.proofs.ended.EndedPageByPage.{begun_fits, begun_pays, among}
 use Rattle.ipx_router.proofs.sending.OneAfterAnother.{still_fits}
-use Rattle.ipx_router.proofs.withdrawing.ended.advertise_ended.Goals as goal
+use Rattle.ipx_router.proofs.withdrawing.ended.broadcast_ended.Goals as goal
 
 pub add_ended_before-rest-requires : goal.add_ended_before-rest-requires
 add_ended_before-rest-requires c =

@@ -3,10 +3,10 @@ use Rattle.ipx_router.specs.inside.Ended.{RoutesAscend, ServicesAscend}
 use Rattle.ipx_router.specs.Facts.{offers}
 use Rattle.ipx_router.specs.Outbox.{Fits, Appends}
 use Rattle.ipx_router.proofs.ended.SentIsOfEnded.{all_as}
-use Rattle.ipx_router.proofs.withdrawing.both_tables.broadcast_second.Goals as goal
+use Rattle.ipx_router.proofs.withdrawing.both_tables.advertise_second.Goals as goal
 
-pub broadcast_all-requires : goal.broadcast_all-requires
-broadcast_all-requires g c =
+pub advertise_all-requires : goal.advertise_all-requires
+advertise_all-requires g c =
     let a = c.args in
     let routes_up = subst RoutesAscend (sym c.ended-ended.ensures.value) c.requires.routes_ascend in
     let services_up = subst ServicesAscend (sym c.ended-ended_services.ensures.value) c.requires.services_ascend in
@@ -15,14 +15,14 @@ broadcast_all-requires g c =
     c.requires.room in
     (search rules, (search rules, (c.requires.ports, (c.requires.few, (routes_up, (services_up, room))))))
 
-pub broadcast_ended-requires-clause-routes_ascend : goal.broadcast_ended-requires-clause-routes_ascend
-broadcast_ended-requires-clause-routes_ascend g c = subst RoutesAscend (sym c.ended-ended.ensures.value) c.requires.routes_ascend
+pub advertise_ended-requires-clause-routes_ascend : goal.advertise_ended-requires-clause-routes_ascend
+advertise_ended-requires-clause-routes_ascend g c = subst RoutesAscend (sym c.ended-ended.ensures.value) c.requires.routes_ascend
 
-pub broadcast_ended-requires-clause-services_ascend : goal.broadcast_ended-requires-clause-services_ascend
-broadcast_ended-requires-clause-services_ascend g c = subst ServicesAscend (sym c.ended-ended_services.ensures.value) c.requires.services_ascend
+pub advertise_ended-requires-clause-services_ascend : goal.advertise_ended-requires-clause-services_ascend
+advertise_ended-requires-clause-services_ascend g c = subst ServicesAscend (sym c.ended-ended_services.ensures.value) c.requires.services_ascend
 
-pub broadcast_ended-requires-clause-room : goal.broadcast_ended-requires-clause-room
-broadcast_ended-requires-clause-room g c =
+pub advertise_ended-requires-clause-room : goal.advertise_ended-requires-clause-room
+advertise_ended-requires-clause-room g c =
     let a = c.args in
     subst (Fits a.outbox.now)
     (all_as a.ports.now a.up.now (offers a.routes.now.records) (offers a.services.now.records) (sym c.ended-ended.ensures.value) (sym c.ended-ended_services.ensures.value) c.if-periodic.false)
@@ -31,13 +31,13 @@ broadcast_ended-requires-clause-room g c =
 pub returns-then-periodic : goal.returns-then-periodic
 returns-then-periodic g c =
     let a = c.args in
-    subst (Appends a.outbox.now c.broadcast_all.new.outbox)
+    subst (Appends a.outbox.now c.advertise_all.new.outbox)
     (sym (all_as a.ports.now a.up.now (offers a.routes.now.records) (offers a.services.now.records) (sym c.ended-ended.ensures.value) (sym c.ended-ended_services.ensures.value) c.if-periodic.true))
-    c.broadcast_all.ensures
+    c.advertise_all.ensures
 
 pub returns-else-periodic : goal.returns-else-periodic
 returns-else-periodic g c =
     let a = c.args in
-    subst (Appends a.outbox.now c.broadcast_ended.new.outbox)
+    subst (Appends a.outbox.now c.advertise_ended.new.outbox)
     (sym (all_as a.ports.now a.up.now (offers a.routes.now.records) (offers a.services.now.records) (sym c.ended-ended.ensures.value) (sym c.ended-ended_services.ensures.value) c.if-periodic.false))
-    c.broadcast_ended.ensures
+    c.advertise_ended.ensures

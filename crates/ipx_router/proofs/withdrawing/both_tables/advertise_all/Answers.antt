@@ -7,7 +7,7 @@ use Rattle.ipx_router.specs.Facts.{offers}
 use Rattle.ipx_router.specs.Sends.{rip_broadcast, sap_broadcast}
 use Rattle.ipx_router.specs.Told.{by_network, by_name, told, told_services}
 use Rattle.ipx_router.proofs.sending.OneAfterAnother.{appends_then, fits_front, fits_then, next_fits, next_pays}
-use Rattle.ipx_router.proofs.withdrawing.both_tables.broadcast_all.Goals as goal
+use Rattle.ipx_router.proofs.withdrawing.both_tables.advertise_all.Goals as goal
 
 pub broadcast_routes_with_ended-requires : goal.broadcast_routes_with_ended-requires
 broadcast_routes_with_ended-requires g c =

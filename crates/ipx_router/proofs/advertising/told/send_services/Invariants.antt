@@ -6,7 +6,7 @@ use Rattle.ipx_router.specs.inside.Envelope.{services_in}
 use Rattle.ipx_router.specs.inside.Selection.{service_selected_by}
 use Rattle.ipx_router.specs.Told.{told_services}
 use Rattle.ipx_router.proofs.sending.PageByPage.{owed_all, owed_of}
-use Rattle.ipx_router.proofs.advertising.told.advertise_services.Given as goal
+use Rattle.ipx_router.proofs.advertising.told.send_services.Given as goal
 
 abbrev pub invariant-loop-service : goal.invariant-loop-service
 invariant-loop-service g l =

@@ -11,7 +11,7 @@ use Rattle.ipx_router.specs.Told.{told}
 use Rattle.ipx_router.proofs.sending.PagesFilledFirst.{filled_fits, filled_pays}
 use Rattle.ipx_router.proofs.sending.OneAfterAnother.{pays_same}
 use Rattle.ipx_router.proofs.telling.NetworksAmongRoutes.{told_placed}
-use Rattle.ipx_router.proofs.advertising.told.advertise_routes.Goals as goal
+use Rattle.ipx_router.proofs.advertising.told.send_routes.Goals as goal
 
 pub loop-count-init : goal.loop-count-init
 loop-count-init g c =
