@@ -373,9 +373,9 @@ pub fn announced()
     ipx_router::laws::packets();
 }
 
-/// Every route is of a real way after 2,880 such ticks, whatever was in the tables before, where nothing waits at first: each came by a port that is up from a
-/// router that has the network on another port, or has such a route by another one. All those ports are up, neighbour by
-/// neighbour, and hops and ticks are those of that way.
+/// Every route is of a real way after 2,880 ticks as of `gone`, whatever was in the tables before, where nothing waits at first: each came
+/// by a port that is up from a router that has the network on another port, or has such a route by another one. All those ports are up,
+/// neighbour by neighbour, and hops and ticks are those of that way.
 ///
 /// So no route is of a way that leads over a port that has been down that long (`down`). The port by which a route came is up after
 /// any number of ticks (`own_ports`).
@@ -402,8 +402,8 @@ pub fn real()
     ipx_router::laws::packets();
 }
 
-/// Whatever waits when the ticks begin, forged packets too, one tick more is enough for what the three laws above say: the first one
-/// ends with nothing that waits.
+/// Whatever waits when the ticks begin, forged packets too, one tick more is enough for what `gone`, `gone_meanwhile` and `real` say:
+/// the first one ends with nothing that waits.
 ///
 /// So after more than 2,880 ticks no router has a route to a network on which nobody has a port up, none has any service, and every
 /// route is of a real way. Where anything else happens meanwhile, it is so of what stayed gone after the first tick.
@@ -455,11 +455,11 @@ pub fn least_ways()
 {}
 
 /// Every table becomes right and stays so, whatever was in it before: after 2,880 ticks and 60 for each hop every router has the route of
-/// the least way to a network, and where there is no way it has none (`tables`). From then on it is the same route, with hops, ticks,
-/// port and neighbour (`stay`). No network takes longer than 3,780 ticks (`soon`). That is said of ticks that begin with nothing that waits;
-/// whatever waits, forged packets too, one tick more is enough, 3,781 at most (`whatever_waits`), and from then on too it is the same route
-/// (`whatever_waits_stay`). Where every route is of a real way from the first, there is no service and nothing waits, the 60 ticks for each
-/// hop alone are enough (`sooner`, `sooner_stay`).
+/// the least way to a network, and where there is no way it has none (`tables`). From then on it is the same route at the end
+/// of each tick, with hops, ticks, port and neighbour (`stay`). No network takes longer than 3,780 ticks (`soon`). That is said of ticks that
+/// begin with nothing that waits; whatever waits, forged packets too, one tick more is enough, 3,781 at most (`whatever_waits`), and from then
+/// on too it is the same route (`whatever_waits_stay`). Where every route is of a real way from the first, there is no service and nothing
+/// waits, the 60 ticks for each hop alone are enough (`sooner`, `sooner_stay`).
 ///
 /// Ways lead over the ports that are up, of routers that run, whichever these are. There are at most 16 routers, no port costs more than
 /// 4,095 ticks, and the ports of two routers on one network have different nodes. Every table has room for all networks that its router has
@@ -529,25 +529,38 @@ pub fn right()
 /// So packets arrive. A packet of a host comes to a port that is up, of a router that has a way to the packet's network; the port isn't on
 /// that network. After 2,880 ticks and 60 for each hop of the router's least way it goes through as many routers more as that way has hops,
 /// one at a time, and the last one sends it out on that network, for the node that it is for (`goes`). Where the router has a port on that
-/// network itself, the way has no hops, and the packet leaves there at once. So each of these levels of its tree is one reception (`one_each`).
-/// Each of them is of a packet whose transport control is one more than before, and stays below 16.
+/// network itself, the way has no hops, and the packet leaves there at once. So the first levels of its tree, one for each hop and a last one,
+/// have as many receptions together (`one_each`). Each of these is of a packet whose transport control is one more than before, and stays
+/// below 16.
 ///
 /// Where such a packet's destination has another node than the broadcast, these receptions are its whole tree (`ends`). The last one is at a
 /// router with a port that is up on that network, and no router receives what leaves there.
 ///
 /// It is for one network. No port of a router sent it or is where it goes, and its source isn't the broadcast node. No port by which one of
 /// that router's least ways leads finds it too long. Its transport control and these hops are together fewer than 16. The rest is asked for
-/// as by `right`, of ticks that begin with nothing that waits.
+/// as by `right`, of ticks that begin with nothing that waits; whatever waits, forged packets too, packets arrive in the
+/// same way after one tick more (`whatever_waits`).
 pub fn arrives()
     ensures goes { (net : Internet) (most_routes most_services : ℕ) (histories : List History) (ticks : List (List Step)) (place : Place) (bytes : List ℕ) (p : Parts) (way : Way)
         → IsInternet net → NodesDiffer net → length net ≤ most_routers → AreCheap net → HasRoom net most_routes → AreHistories net histories
         → AreTicks net most_routes most_services (begun histories) ticks → IsPlace net place → is_up (ups net histories place.router) place.port ≡ true
         → IsBytes bytes → IsPacket bytes p → IsOfHost net p
-        → network_of net place ≢ p.header.destination.network
-        → least net (ups net histories) place.router p.header.destination.network ≡ Some way → ticks_right (Some way) ≤ length ticks
+        → network_of net place ≢ p.header.destination.network → least net (ups net histories) place.router p.header.destination.network ≡ Some way
+        → ticks_right (Some way) ≤ length ticks
         → IsShort net (ups net histories) p.header.length p.header.destination.network way.hops place.router
         → p.header.control + way.hops < most_routers
         → Arrives (routers_after net most_routes (ticked net most_routes most_services (begun histories) ticks).histories) p.header.destination p.header.control way.hops 0
+        (root place bytes) }
+    ensures whatever_waits { (net : Internet) (most_routes most_services : ℕ) (run : Run) (ticks : List (List Step)) (place : Place) (bytes : List ℕ) (p : Parts) (way : Way)
+        → IsInternet net → NodesDiffer net → length net ≤ most_routers → AreCheap net → HasRoom net most_routes → AreHistories net run.histories
+        → AllByRecursion (λ w. IsDelivery net w.delivery) run.waiting
+        → AreTicks net most_routes most_services run ticks → IsPlace net place → is_up (ups net run.histories place.router) place.port ≡ true
+        → IsBytes bytes → IsPacket bytes p → IsOfHost net p
+        → network_of net place ≢ p.header.destination.network → least net (ups net run.histories) place.router p.header.destination.network ≡ Some way
+        → ticks_right (Some way) < length ticks
+        → IsShort net (ups net run.histories) p.header.length p.header.destination.network way.hops place.router
+        → p.header.control + way.hops < most_routers
+        → Arrives (routers_after net most_routes (ticked net most_routes most_services run ticks).histories) p.header.destination p.header.control way.hops 0
         (root place bytes) }
     ensures one_each { (routers : List Router) (to : Address) (control hops : ℕ) (c : Copy) → Arrives routers to control hops 0 c → length (tree_to routers (hops + 1) c) ≡ hops + 1 }
     ensures ends { (net : Internet) (most_routes : ℕ) (histories : List History) (p : Parts) (control hops : ℕ) (c : Copy)
