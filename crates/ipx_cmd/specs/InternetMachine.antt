@@ -13,8 +13,8 @@ use Rattle.ipx_cmd.specs.EventText.{most_routes, most_services, reason}
 use Rattle.ipx_cmd.specs.InternetText.{dropped_text, settled_text, trace_text}
 use Rattle.ipx_cmd.specs.Line.{◌>>=◌}
 use Rattle.ipx_cmd.specs.Making.{named_port, named_router}
-use Rattle.ipx_cmd.specs.Request.{Request, NextRouter, NextPort, Starts, Stops, Passes, Arrives, GoesDown, ComesUp, Settles, Traces, ShowsRoutes, ShowsServices}
 use Rattle.ipx_cmd.specs.OrderLine.{order_meaning}
+use Rattle.ipx_cmd.specs.OrderMeaning.{OrderMeaning, NextRouter, NextPort, Starts, Stops, SecondsPass, PacketComes, PortGoesDown, PortComesUp, Settles, Traces, ShowsRoutes, ShowsServices}
 use Rattle.ipx_cmd.specs.TableText.{routes_text, services_text}
 use Rattle.ipx_cmd.specs.declared.lines.fault.LineFault.{LineFault}
 use Rattle.ipx_cmd.specs.declared.lines.fault.LineFault.TheVariants.{SameNode, Router as RouterWord, Port as PortWord}
@@ -100,13 +100,13 @@ abbrev pub every_second : ℕ → List (ℕ × Event)
 every_second count = map (λ router. (router, Second)) (numbers count)
 
 -- the events that happen to the routers, in order, where there are this many routers
-abbrev pub events_of : ℕ → Request → List (ℕ × Event)
+abbrev pub events_of : ℕ → OrderMeaning → List (ℕ × Event)
 events_of count (Starts router) = (router, Start) ∷ []
 events_of count (Stops router) = (router, Stop) ∷ []
-events_of count (Passes seconds) = flat_map (λ second. second) (replicate seconds (every_second count))
-events_of count (Arrives router port bytes) = (router, Packet port bytes) ∷ []
-events_of count (GoesDown router port) = (router, PortDown port) ∷ []
-events_of count (ComesUp router port) = (router, PortUp port) ∷ []
+events_of count (SecondsPass seconds) = flat_map (λ second. second) (replicate seconds (every_second count))
+events_of count (PacketComes router port bytes) = (router, Packet port bytes) ∷ []
+events_of count (PortGoesDown router port) = (router, PortDown port) ∷ []
+events_of count (PortComesUp router port) = (router, PortUp port) ∷ []
 events_of count order = []
 
 -- the router that an order names, and the port, if it names them, are there
@@ -117,15 +117,15 @@ abbrev pub port_fault : Internet → ℕ → ℕ → Option LineFault
 port_fault net router port =
     if nat_lt router (length net) then if nat_lt port (length (ports_of net router)) then None else Some PortWord else Some RouterWord
 
-abbrev pub order_fault : Internet → Request → Option LineFault
+abbrev pub order_fault : Internet → OrderMeaning → Option LineFault
 order_fault net NextRouter = None
 order_fault net (NextPort values) = None
 order_fault net (Starts router) = router_fault net router
 order_fault net (Stops router) = router_fault net router
-order_fault net (Passes seconds) = None
-order_fault net (Arrives router port bytes) = port_fault net router port
-order_fault net (GoesDown router port) = port_fault net router port
-order_fault net (ComesUp router port) = port_fault net router port
+order_fault net (SecondsPass seconds) = None
+order_fault net (PacketComes router port bytes) = port_fault net router port
+order_fault net (PortGoesDown router port) = port_fault net router port
+order_fault net (PortComesUp router port) = port_fault net router port
 order_fault net (Settles limit) = None
 order_fault net (Traces router port limit bytes) = port_fault net router port
 order_fault net (ShowsRoutes router) = router_fault net router
@@ -157,27 +157,27 @@ module _ (net : Internet) where
       (tree (routers_now q) (root (record { router = router; port = port }) bytes))
 
   -- what an order makes of the internet
-  abbrev pub ordered : Queued → Request → Queued
+  abbrev pub ordered : Queued → OrderMeaning → Queued
   ordered q (Settles limit) = settles q limit
   ordered q order = happens q (events_of (length net) order)
 
   -- and its text
-  abbrev pub order_text : Queued → Request → List ℕ
+  abbrev pub order_text : Queued → OrderMeaning → List ℕ
   order_text q NextRouter = []
   order_text q (NextPort values) = []
   order_text q (Starts router) = event_said q router Start
   order_text q (Stops router) = event_said q router Stop
-  order_text q (Passes seconds) = []
-  order_text q (Arrives router port bytes) = event_said q router (Packet port bytes)
-  order_text q (GoesDown router port) = event_said q router (PortDown port)
-  order_text q (ComesUp router port) = event_said q router (PortUp port)
+  order_text q (SecondsPass seconds) = []
+  order_text q (PacketComes router port bytes) = event_said q router (Packet port bytes)
+  order_text q (PortGoesDown router port) = event_said q router (PortDown port)
+  order_text q (PortComesUp router port) = event_said q router (PortUp port)
   order_text q (Settles limit) = settled_text (settles q limit).queue
   order_text q (Traces router port limit bytes) = trace_text limit (traced_all q router port bytes)
   order_text q (ShowsRoutes router) = routes_text (ports_of net router) (history_of q.histories router)
   order_text q (ShowsServices router) = services_text (ports_of net router) (history_of q.histories router)
 
   -- both, if what the order names is there
-  abbrev pub obeys : Queued → Request → Led
+  abbrev pub obeys : Queued → OrderMeaning → Led
   obeys q order = elim (order_fault net order) [
     | None ↦ Ok (record { net = net; past = Some (ordered q order) }, order_text q order)
     | Some fault ↦ Err fault
@@ -186,7 +186,7 @@ module _ (net : Internet) where
 -- ---- lines
 
 -- what is done that a line asks for; a line that is skipped does nothing
-abbrev pub does : Standing → Option Request → Led
+abbrev pub does : Standing → Option OrderMeaning → Led
 does standing None = Ok (standing, [])
 does standing (Some NextRouter) = name_router standing
 does standing (Some (NextPort values)) = name_port standing values

@@ -8,9 +8,9 @@ pub mod Making
 pub mod PortWord
 pub mod Fault
 -- what a line asks for
-pub mod Instruction
+pub mod CommandMeaning
 pub mod Script
-pub mod Request
+pub mod OrderMeaning
 pub mod OrderLine
 -- what is written
 pub mod ServiceWords

@@ -3,8 +3,8 @@ use Rattle.std.specs.Prelude.{ℕ, nat_lt, Bool, true, if◌then◌else◌, List
 use Rattle.std.specs.Option.{is_some}
 use Rattle.ipx_router.specs.History.{Event, History, Start, Stop, Second, Packet, PortDown, PortUp}
 use Rattle.ipx_router.specs.Port.{Port}
+use Rattle.ipx_cmd.specs.CommandMeaning.{CommandMeaning, NextPort, Starts, Stops, SecondsPass, PacketComes, PortGoesDown, PortComesUp, ShowsRoutes, ShowsServices}
 use Rattle.ipx_cmd.specs.EventText.{events_text}
-use Rattle.ipx_cmd.specs.Instruction.{Instruction, NextPort, Starts, Stops, Passes, Arrives, GoesDown, ComesUp, ShowsRoutes, ShowsServices}
 use Rattle.ipx_cmd.specs.Line.{◌>>=◌}
 use Rattle.ipx_cmd.specs.Making.{named_port, named_router}
 use Rattle.ipx_cmd.specs.Script.{line_meaning}
@@ -48,51 +48,51 @@ name_port standing values = do
   port ← named_port values
   Ok (record { ports = standing.ports ++ port ∷ []; past = standing.past }, [])
 
--- ---- what an instruction asks of the router
+-- ---- what a command asks of the router
 
 -- the events that happen, in order
-abbrev pub events_of : Instruction → List Event
+abbrev pub events_of : CommandMeaning → List Event
 events_of Starts = Start ∷ []
 events_of Stops = Stop ∷ []
-events_of (Passes seconds) = replicate seconds Second
-events_of (Arrives port bytes) = Packet port bytes ∷ []
-events_of (GoesDown port) = PortDown port ∷ []
-events_of (ComesUp port) = PortUp port ∷ []
+events_of (SecondsPass seconds) = replicate seconds Second
+events_of (PacketComes port bytes) = Packet port bytes ∷ []
+events_of (PortGoesDown port) = PortDown port ∷ []
+events_of (PortComesUp port) = PortUp port ∷ []
 events_of (NextPort values) = []
 events_of ShowsRoutes = []
 events_of ShowsServices = []
 
 -- its text after a history: the lines of a table, or what is written of the events
-abbrev pub instruction_text : List Port → History → Instruction → List ℕ
-instruction_text ports history ShowsRoutes = routes_text ports history
-instruction_text ports history ShowsServices = services_text ports history
-instruction_text ports history instruction = events_text ports history (events_of instruction)
+abbrev pub command_text : List Port → History → CommandMeaning → List ℕ
+command_text ports history ShowsRoutes = routes_text ports history
+command_text ports history ShowsServices = services_text ports history
+command_text ports history command = events_text ports history (events_of command)
 
 -- every port that it names is one of the router's
-abbrev pub has_ports : ℕ → Instruction → Bool
-has_ports count (Arrives port bytes) = nat_lt port count
-has_ports count (GoesDown port) = nat_lt port count
-has_ports count (ComesUp port) = nat_lt port count
-has_ports count instruction = true
+abbrev pub has_ports : ℕ → CommandMeaning → Bool
+has_ports count (PacketComes port bytes) = nat_lt port count
+has_ports count (PortGoesDown port) = nat_lt port count
+has_ports count (PortComesUp port) = nat_lt port count
+has_ports count command = true
 
 -- what it does to the router after a history
-abbrev pub obeyed : List Port → History → Instruction → Standing × List ℕ
-obeyed ports history instruction =
-    (record { ports = ports; past = Some (history ++ events_of instruction) }, instruction_text ports history instruction)
+abbrev pub obeyed : List Port → History → CommandMeaning → Standing × List ℕ
+obeyed ports history command =
+    (record { ports = ports; past = Some (history ++ events_of command) }, command_text ports history command)
 
 -- the same, if the router has the ports
-abbrev pub obeys : List Port → History → Instruction → Led
-obeys ports history instruction = if has_ports (length ports) instruction then Ok (obeyed ports history instruction) else Err PortWord
+abbrev pub obeys : List Port → History → CommandMeaning → Led
+obeys ports history command = if has_ports (length ports) command then Ok (obeyed ports history command) else Err PortWord
 
 -- ---- lines
 
 -- what is done that a line asks for; a line that is skipped does nothing
-abbrev pub does : Standing → Option Instruction → Led
+abbrev pub does : Standing → Option CommandMeaning → Led
 does standing None = Ok (standing, [])
 does standing (Some (NextPort values)) = name_port standing values
-does standing (Some instruction) = do
+does standing (Some command) = do
   history ← past_of standing
-  obeys standing.ports history instruction
+  obeys standing.ports history command
 
 -- what a line does, without its end
 unfoldable pub acts : Standing → List ℕ → Led

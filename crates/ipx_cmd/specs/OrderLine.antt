@@ -5,7 +5,7 @@ use Rattle.ipx_cmd.specs.declared.lines.order.OrderStage.{OrderStage}
 use Rattle.ipx_cmd.specs.declared.lines.fault.LineFault.{LineFault}
 use Rattle.ipx_cmd.specs.declared.lines.fault.LineFault.TheVariants.{Command, Words, Late, Many, Number, Hex, Router, Routers}
 use Rattle.ipx_cmd.specs.Line.{◌>>=◌, or_fault, line_words, no_more}
-use Rattle.ipx_cmd.specs.Request.{Request, NextRouter, NextPort, Starts, Stops, Passes, Arrives, GoesDown, ComesUp, Settles, Traces, ShowsRoutes, ShowsServices}
+use Rattle.ipx_cmd.specs.OrderMeaning.{OrderMeaning, NextRouter, NextPort, Starts, Stops, SecondsPass, PacketComes, PortGoesDown, PortComesUp, Settles, Traces, ShowsRoutes, ShowsServices}
 use Rattle.ipx_cmd.specs.Script.{most_ports, most_number, count_meaning, number_meaning, port_of}
 use Rattle.ipx_cmd.specs.Words.{only_one, only_two, only_three, only_four, port_words, number_of, bytes_of}
 
@@ -28,14 +28,14 @@ port_allowed stage =
     if stage.made then Err Late else if stage.routers == 0 then Err Router else if nat_le most_ports stage.ports then Err Many else Ok tt
 
 -- `router`
-abbrev pub router_meaning : OrderStage → List (List ℕ) → Result Request LineFault
+abbrev pub router_meaning : OrderStage → List (List ℕ) → Result OrderMeaning LineFault
 router_meaning stage arguments = do
   _ ← no_more arguments
   _ ← router_allowed stage
   Ok NextRouter
 
 -- `port NET NODE COST LONGEST`, or with ROUTES SERVICES behind it, by the words after the first
-abbrev pub port_meaning : OrderStage → List (List ℕ) → Result Request LineFault
+abbrev pub port_meaning : OrderStage → List (List ℕ) → Result OrderMeaning LineFault
 port_meaning stage arguments = do
   named ← or_fault Words (port_words arguments)
   _ ← port_allowed stage
@@ -45,10 +45,10 @@ port_meaning stage arguments = do
 -- ---- what happens, and what is asked
 
 -- `start ROUTER`, `stop ROUTER`, `routes ROUTER` or `services ROUTER`
-abbrev pub of_router : (ℕ → Request) → List (List ℕ) → Result Request LineFault
-of_router request arguments = do
+abbrev pub of_router : (ℕ → OrderMeaning) → List (List ℕ) → Result OrderMeaning LineFault
+of_router order arguments = do
   router ← number_meaning arguments
-  Ok (request router)
+  Ok (order router)
 
 -- the router and the port that two words name
 abbrev pub place_of : List ℕ → List ℕ → Result (ℕ × ℕ) LineFault
@@ -64,16 +64,16 @@ place_meaning arguments = do
   place_of two.0 two.1
 
 -- `down ROUTER PORT` or `up ROUTER PORT`
-abbrev pub of_port : (ℕ → ℕ → Request) → List (List ℕ) → Result Request LineFault
-of_port request arguments = do
+abbrev pub of_port : (ℕ → ℕ → OrderMeaning) → List (List ℕ) → Result OrderMeaning LineFault
+of_port order arguments = do
   place ← place_meaning arguments
-  Ok (request place.0 place.1)
+  Ok (order place.0 place.1)
 
 -- `second N`: so long a time passes
-abbrev pub second_meaning : List (List ℕ) → Result Request LineFault
+abbrev pub second_meaning : List (List ℕ) → Result OrderMeaning LineFault
 second_meaning arguments = do
   count ← count_meaning arguments
-  Ok (Passes count)
+  Ok (SecondsPass count)
 
 -- the limit behind `settle`
 abbrev pub limit_meaning : List (List ℕ) → Result ℕ LineFault
@@ -82,26 +82,26 @@ limit_meaning arguments = do
   or_fault Number (number_of most_limit word)
 
 -- `settle LIMIT`
-abbrev pub settle_meaning : List (List ℕ) → Result Request LineFault
+abbrev pub settle_meaning : List (List ℕ) → Result OrderMeaning LineFault
 settle_meaning arguments = do
   limit ← limit_meaning arguments
   Ok (Settles limit)
 
 -- the packet that three words name
-abbrev pub packet_of : List ℕ → List ℕ → List ℕ → Result Request LineFault
+abbrev pub packet_of : List ℕ → List ℕ → List ℕ → Result OrderMeaning LineFault
 packet_of router_word port_word bytes_word = do
   place ← place_of router_word port_word
   bytes ← or_fault Hex (bytes_of bytes_word)
-  Ok (Arrives place.0 place.1 bytes)
+  Ok (PacketComes place.0 place.1 bytes)
 
 -- `in ROUTER PORT HEX`
-abbrev pub in_meaning : List (List ℕ) → Result Request LineFault
+abbrev pub in_meaning : List (List ℕ) → Result OrderMeaning LineFault
 in_meaning arguments = do
   three ← or_fault Words (only_three arguments)
   packet_of three.0 three.1 three.2
 
 -- the packet that four words name, and how many receptions are listed at most
-abbrev pub traced_of : List ℕ → List ℕ → List ℕ → List ℕ → Result Request LineFault
+abbrev pub traced_of : List ℕ → List ℕ → List ℕ → List ℕ → Result OrderMeaning LineFault
 traced_of router_word port_word limit_word bytes_word = do
   place ← place_of router_word port_word
   limit ← or_fault Number (number_of most_limit limit_word)
@@ -109,7 +109,7 @@ traced_of router_word port_word limit_word bytes_word = do
   Ok (Traces place.0 place.1 limit bytes)
 
 -- `trace ROUTER PORT LIMIT HEX`
-abbrev pub trace_meaning : List (List ℕ) → Result Request LineFault
+abbrev pub trace_meaning : List (List ℕ) → Result OrderMeaning LineFault
 trace_meaning arguments = do
   four ← or_fault Words (only_four arguments)
   traced_of four.0 four.1 four.2 four.3
@@ -117,7 +117,7 @@ trace_meaning arguments = do
 -- ---- a line
 
 -- a command of one router, by its number alone
-abbrev pub router_command : List ℕ → List (List ℕ) → Result Request LineFault
+abbrev pub router_command : List ℕ → List (List ℕ) → Result OrderMeaning LineFault
 router_command name arguments =
     if bytes_eq name (codes "start") then of_router Starts arguments
     else if bytes_eq name (codes "stop") then of_router Stops arguments
@@ -126,16 +126,16 @@ router_command name arguments =
     else Err Command
 
 -- a command of a port, or of all routers, or one of those
-abbrev pub later_command : List ℕ → List (List ℕ) → Result Request LineFault
+abbrev pub later_command : List ℕ → List (List ℕ) → Result OrderMeaning LineFault
 later_command name arguments =
     if bytes_eq name (codes "second") then second_meaning arguments
     else if bytes_eq name (codes "settle") then settle_meaning arguments
-    else if bytes_eq name (codes "down") then of_port GoesDown arguments
-    else if bytes_eq name (codes "up") then of_port ComesUp arguments
+    else if bytes_eq name (codes "down") then of_port PortGoesDown arguments
+    else if bytes_eq name (codes "up") then of_port PortComesUp arguments
     else router_command name arguments
 
 -- a command by its first word
-abbrev pub command_meaning : OrderStage → List ℕ → List (List ℕ) → Result Request LineFault
+abbrev pub command_meaning : OrderStage → List ℕ → List (List ℕ) → Result OrderMeaning LineFault
 command_meaning stage name arguments =
     if bytes_eq name (codes "router") then router_meaning stage arguments
     else if bytes_eq name (codes "port") then port_meaning stage arguments
@@ -144,14 +144,14 @@ command_meaning stage name arguments =
     else later_command name arguments
 
 -- a line by its words: without any it is skipped
-abbrev pub words_meaning : OrderStage → List (List ℕ) → Result (Option Request) LineFault
+abbrev pub words_meaning : OrderStage → List (List ℕ) → Result (Option OrderMeaning) LineFault
 words_meaning stage [] = Ok None
 words_meaning stage (name ∷ arguments) = do
-  request ← command_meaning stage name arguments
-  Ok (Some request)
+  order ← command_meaning stage name arguments
+  Ok (Some order)
 
--- what a line says, without its end: nothing, a request, or what is wrong with it
-abbrev pub order_meaning : OrderStage → List ℕ → Result (Option Request) LineFault
+-- what a line says, without its end: nothing, an order, or what is wrong with it
+abbrev pub order_meaning : OrderStage → List ℕ → Result (Option OrderMeaning) LineFault
 order_meaning stage line = do
   found ← line_words line
   words_meaning stage found

@@ -4,7 +4,7 @@ use Rattle.std.specs.Str.{bytes_eq}
 use Rattle.ipx_cmd.specs.declared.lines.command.Stage.{Stage}
 use Rattle.ipx_cmd.specs.declared.lines.fault.LineFault.{LineFault}
 use Rattle.ipx_cmd.specs.declared.lines.fault.LineFault.TheVariants.{Command, Words, Late, Many, Network, Node, Number, Hex}
-use Rattle.ipx_cmd.specs.Instruction.{Instruction, NextPort, Starts, Stops, Passes, Arrives, GoesDown, ComesUp, ShowsRoutes, ShowsServices}
+use Rattle.ipx_cmd.specs.CommandMeaning.{CommandMeaning, NextPort, Starts, Stops, SecondsPass, PacketComes, PortGoesDown, PortComesUp, ShowsRoutes, ShowsServices}
 use Rattle.ipx_cmd.specs.Line.{◌>>=◌, or_fault, line_words, no_more}
 use Rattle.ipx_wire.specs.Digits.{network_of, node_of}
 use Rattle.ipx_cmd.specs.Words.{only_one, only_two, port_words, number_of, number_between, bytes_of}
@@ -55,7 +55,7 @@ port_of network_word node_word cost_word longest_word share_words = do
   })
 
 -- `port NET NODE COST LONGEST`, or with ROUTES SERVICES behind it, by the words after the first
-abbrev pub port_meaning : Stage → List (List ℕ) → Result Instruction LineFault
+abbrev pub port_meaning : Stage → List (List ℕ) → Result CommandMeaning LineFault
 port_meaning stage arguments = do
   named ← or_fault Words (port_words arguments)
   _ ← port_allowed stage
@@ -69,10 +69,10 @@ count_meaning arguments = do
   or_fault Number (number_between 1 most_seconds word)
 
 -- `second N`: so long a time passes
-abbrev pub second_meaning : List (List ℕ) → Result Instruction LineFault
+abbrev pub second_meaning : List (List ℕ) → Result CommandMeaning LineFault
 second_meaning arguments = do
   count ← count_meaning arguments
-  Ok (Passes count)
+  Ok (SecondsPass count)
 
 -- the one number behind `down` and `up`
 abbrev pub number_meaning : List (List ℕ) → Result ℕ LineFault
@@ -81,41 +81,41 @@ number_meaning arguments = do
   or_fault Number (number_of most_number word)
 
 -- `down PORT` or `up PORT`
-abbrev pub of_port : (ℕ → Instruction) → List (List ℕ) → Result Instruction LineFault
-of_port instruction arguments = do
+abbrev pub of_port : (ℕ → CommandMeaning) → List (List ℕ) → Result CommandMeaning LineFault
+of_port command arguments = do
   port ← number_meaning arguments
-  Ok (instruction port)
+  Ok (command port)
 
 -- the packet that two words name
-abbrev pub packet_of : List ℕ → List ℕ → Result Instruction LineFault
+abbrev pub packet_of : List ℕ → List ℕ → Result CommandMeaning LineFault
 packet_of port_word bytes_word = do
   port ← or_fault Number (number_of most_number port_word)
   bytes ← or_fault Hex (bytes_of bytes_word)
-  Ok (Arrives port bytes)
+  Ok (PacketComes port bytes)
 
 -- `in PORT HEX`
-abbrev pub in_meaning : List (List ℕ) → Result Instruction LineFault
+abbrev pub in_meaning : List (List ℕ) → Result CommandMeaning LineFault
 in_meaning arguments = do
   two ← or_fault Words (only_two arguments)
   packet_of two.0 two.1
 
 -- a command of one word
-abbrev pub alone : Instruction → List (List ℕ) → Result Instruction LineFault
-alone instruction arguments = do
+abbrev pub alone : CommandMeaning → List (List ℕ) → Result CommandMeaning LineFault
+alone command arguments = do
   _ ← no_more arguments
-  Ok instruction
+  Ok command
 
 -- a command of a port that goes down or comes up, or of what is shown
-abbrev pub later_meaning : List ℕ → List (List ℕ) → Result Instruction LineFault
+abbrev pub later_meaning : List ℕ → List (List ℕ) → Result CommandMeaning LineFault
 later_meaning name arguments =
-    if bytes_eq name (codes "down") then of_port GoesDown arguments
-    else if bytes_eq name (codes "up") then of_port ComesUp arguments
+    if bytes_eq name (codes "down") then of_port PortGoesDown arguments
+    else if bytes_eq name (codes "up") then of_port PortComesUp arguments
     else if bytes_eq name (codes "routes") then alone ShowsRoutes arguments
     else if bytes_eq name (codes "services") then alone ShowsServices arguments
     else Err Command
 
 -- a command by its first word
-abbrev pub command_meaning : Stage → List ℕ → List (List ℕ) → Result Instruction LineFault
+abbrev pub command_meaning : Stage → List ℕ → List (List ℕ) → Result CommandMeaning LineFault
 command_meaning stage name arguments =
     if bytes_eq name (codes "port") then port_meaning stage arguments
     else if bytes_eq name (codes "start") then alone Starts arguments
@@ -125,14 +125,14 @@ command_meaning stage name arguments =
     else later_meaning name arguments
 
 -- a line by its words: without any it is skipped
-abbrev pub words_meaning : Stage → List (List ℕ) → Result (Option Instruction) LineFault
+abbrev pub words_meaning : Stage → List (List ℕ) → Result (Option CommandMeaning) LineFault
 words_meaning stage [] = Ok None
 words_meaning stage (name ∷ arguments) = do
-  instruction ← command_meaning stage name arguments
-  Ok (Some instruction)
+  command ← command_meaning stage name arguments
+  Ok (Some command)
 
--- what a line says, without its end: nothing, an instruction, or what is wrong with it
-abbrev pub line_meaning : Stage → List ℕ → Result (Option Instruction) LineFault
+-- what a line says, without its end: nothing, a command, or what is wrong with it
+abbrev pub line_meaning : Stage → List ℕ → Result (Option CommandMeaning) LineFault
 line_meaning stage line = do
   found ← line_words line
   words_meaning stage found

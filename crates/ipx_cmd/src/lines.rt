@@ -1,4 +1,4 @@
-//! How a line of a script is read.
+//! The lines of scripts.
 //! Comes in: the bytes of a line, and how far the script's machine is.
 //! Goes out: a command or an order, or the first fault of the line.
 //! Touches: the buffer that the machine lends for the bytes of a packet.

@@ -2,7 +2,7 @@
 use Rattle.std.proofs.Common.{◌≡◌, ℕ, ◌<◌, true, false, nat_le, Bool, if◌then◌else◌, List, [], ◌∷◌, codes, refl, sym, ap, ◌∙◌, inl, inr, Option, None, Some, Result, is_ok, Ok, Err}
 use Rattle.std.proofs.lemmas.Bool.{cases_Bool, true≢false, leb-false}
 use Rattle.std.specs.Str.{bytes_eq}
-use Rattle.ipx_cmd.specs.Instruction.{Instruction, NextPort, Starts, Stops, ShowsRoutes, ShowsServices, next_port}
+use Rattle.ipx_cmd.specs.CommandMeaning.{CommandMeaning, NextPort, Starts, Stops, ShowsRoutes, ShowsServices, next_port}
 use Rattle.ipx_cmd.specs.Line.{◌>>=◌, or_fault, no_more, line_words}
 use Rattle.ipx_cmd.specs.Script.{line_meaning, words_meaning, command_meaning, port_meaning, port_allowed, port_of, count_meaning, second_meaning, number_meaning, in_meaning, alone, later_meaning, most_number}
 use Rattle.ipx_cmd.specs.Words.{only_two, port_words, number_of, bytes_of}
@@ -11,24 +11,24 @@ use Rattle.ipx_cmd.specs.declared.lines.command.Stage.{Stage}
 use Rattle.ipx_cmd.specs.declared.lines.fault.LineFault.{LineFault}
 use Rattle.ipx_cmd.specs.declared.lines.fault.LineFault.TheVariants.{Words, Number, Hex}
 
-abbrev is_next : Instruction → Bool
+abbrev is_next : CommandMeaning → Bool
 is_next (NextPort values) = true
 is_next i = false
 
-abbrev names : Result Instruction LineFault → Bool
+abbrev names : Result CommandMeaning LineFault → Bool
 names (Ok i) = is_next i
 names (Err fault) = false
 
-abbrev names_some : Result (Option Instruction) LineFault → Bool
+abbrev names_some : Result (Option CommandMeaning) LineFault → Bool
 names_some (Ok (Some i)) = is_next i
 names_some (Ok None) = false
 names_some (Err fault) = false
 
-bind_never : {A : Type 0} (x : Result A LineFault) (next : A → Result Instruction LineFault) → ((a : A) → names (next a) ≡ false) → names (x >>= next) ≡ false
+bind_never : {A : Type 0} (x : Result A LineFault) (next : A → Result CommandMeaning LineFault) → ((a : A) → names (next a) ≡ false) → names (x >>= next) ≡ false
 bind_never (Ok a) next never = never a
 bind_never (Err fault) next never = refl
 
-if_never : (b : Bool) (x y : Result Instruction LineFault) → names x ≡ false → names y ≡ false → names (if b then x else y) ≡ false
+if_never : (b : Bool) (x y : Result CommandMeaning LineFault) → names x ≡ false → names y ≡ false → names (if b then x else y) ≡ false
 if_never true x y one other = one
 if_never false x y one other = other
 
@@ -39,7 +39,7 @@ in_never : (arguments : List (List ℕ)) → names (in_meaning arguments) ≡ fa
 in_never arguments = bind_never (or_fault Words (only_two arguments)) _ (λ two.
     bind_never (or_fault Number (number_of most_number two.0)) _ (λ port. bind_never (or_fault Hex (bytes_of two.1)) _ (λ bytes. refl)))
 
-alone_never : (i : Instruction) → is_next i ≡ false → (arguments : List (List ℕ)) → names (alone i arguments) ≡ false
+alone_never : (i : CommandMeaning) → is_next i ≡ false → (arguments : List (List ℕ)) → names (alone i arguments) ≡ false
 alone_never i never arguments = bind_never (no_more arguments) _ (λ none. never)
 
 later_never : (name : List ℕ) (arguments : List (List ℕ)) → names (later_meaning name arguments) ≡ false
@@ -62,13 +62,13 @@ other_never name arguments =
     (if_never (bytes_eq name (codes "second")) _ _ (second_never arguments)
     (if_never (bytes_eq name (codes "in")) _ _ (in_never arguments) (later_never name arguments))))
 
-allowed_inside : {A : Type 0} (x : Result A LineFault) (allowed : Result (Unit {0}) LineFault) (next : A → Unit {0} → Result Instruction LineFault)
+allowed_inside : {A : Type 0} (x : Result A LineFault) (allowed : Result (Unit {0}) LineFault) (next : A → Unit {0} → Result CommandMeaning LineFault)
     → names (x >>= (λ a. allowed >>= next a)) ≡ true → allowed ≡ Ok tt
 allowed_inside x (Ok done) next e = refl
 allowed_inside (Ok a) (Err fault) next e = absurd (true≢false (sym e))
 allowed_inside (Err other) (Err fault) next e = absurd (true≢false (sym e))
 
-port_or_other : (b : Bool) (x y : Result Instruction LineFault) → names y ≡ false → names (if b then x else y) ≡ true → names x ≡ true
+port_or_other : (b : Bool) (x y : Result CommandMeaning LineFault) → names y ≡ false → names (if b then x else y) ≡ true → names x ≡ true
 port_or_other true x y never e = e
 port_or_other false x y never e = absurd (true≢false (sym e ∙ never))
 
@@ -77,7 +77,7 @@ command_allowed stage name arguments e =
     allowed_inside (or_fault Words (port_words arguments)) (port_allowed stage) (λ named _. port_of named.0 named.1 named.2 named.3 named.4 >>= (λ values. Ok (NextPort values)))
     (port_or_other (bytes_eq name (codes "port")) (port_meaning stage arguments) _ (other_never name arguments) e)
 
-some_names : (r : Result Instruction LineFault) → names_some (r >>= (λ i. Ok (Some i))) ≡ true → names r ≡ true
+some_names : (r : Result CommandMeaning LineFault) → names_some (r >>= (λ i. Ok (Some i))) ≡ true → names r ≡ true
 some_names (Ok i) e = e
 some_names (Err fault) e = e
 

@@ -4,7 +4,7 @@ use Rattle.std.proofs.lemmas.Bool.{cases_Bool, true≢false, leb-false, eqb-fals
 use Rattle.std.specs.Str.{bytes_eq}
 use Rattle.ipx_cmd.specs.Line.{◌>>=◌, or_fault, no_more, line_words}
 use Rattle.ipx_cmd.specs.OrderLine.{order_meaning, words_meaning, command_meaning, later_command, router_command, router_meaning, port_meaning, router_allowed, port_allowed, in_meaning, trace_meaning, of_router, place_meaning, place_of, limit_meaning, most_limit}
-use Rattle.ipx_cmd.specs.Request.{Request, NextRouter, NextPort, Starts, Stops, ShowsRoutes, ShowsServices, next_port}
+use Rattle.ipx_cmd.specs.OrderMeaning.{OrderMeaning, NextRouter, NextPort, Starts, Stops, ShowsRoutes, ShowsServices, next_port}
 use Rattle.ipx_cmd.specs.Script.{port_of, count_meaning, number_meaning}
 use Rattle.ipx_cmd.specs.Words.{only_three, only_four, port_words, number_of, bytes_of}
 use Rattle.ipx_cmd.specs.declared.lines.command.NamedPort.{NamedPort}
@@ -14,36 +14,36 @@ use Rattle.ipx_cmd.specs.declared.lines.fault.LineFault.TheVariants.{Words, Numb
 
 -- ---- the naming of a router, or of a port
 
--- a request names a router, or a port
-abbrev is_named : Bool → Request → Bool
+-- an order names a router, or a port
+abbrev is_named : Bool → OrderMeaning → Bool
 is_named router NextRouter = router
 is_named router (NextPort values) = not router
 is_named router r = false
 
-abbrev names : Bool → Result Request LineFault → Bool
+abbrev names : Bool → Result OrderMeaning LineFault → Bool
 names router (Ok r) = is_named router r
 names router (Err fault) = false
 
-abbrev names_some : Bool → Result (Option Request) LineFault → Bool
+abbrev names_some : Bool → Result (Option OrderMeaning) LineFault → Bool
 names_some router (Ok (Some r)) = is_named router r
 names_some router (Ok None) = false
 names_some router (Err fault) = false
 
-bind_never : {A : Type 0} (router : Bool) (x : Result A LineFault) (next : A → Result Request LineFault)
+bind_never : {A : Type 0} (router : Bool) (x : Result A LineFault) (next : A → Result OrderMeaning LineFault)
     → ((a : A) → names router (next a) ≡ false) → names router (x >>= next) ≡ false
 bind_never router (Ok a) next never = never a
 bind_never router (Err fault) next never = refl
 
-if_never : (router b : Bool) (x y : Result Request LineFault) → names router x ≡ false → names router y ≡ false
+if_never : (router b : Bool) (x y : Result OrderMeaning LineFault) → names router x ≡ false → names router y ≡ false
     → names router (if b then x else y) ≡ false
 if_never router true x y one other = one
 if_never router false x y one other = other
 
 -- ---- no other line names them
 
-alone_never : (r : Bool) (request : ℕ → Request) → ((n : ℕ) → is_named r (request n) ≡ false) → (arguments : List (List ℕ))
-    → names r (of_router request arguments) ≡ false
-alone_never r request never arguments = bind_never r (number_meaning arguments) (λ n. Ok (request n)) never
+alone_never : (r : Bool) (order : ℕ → OrderMeaning) → ((n : ℕ) → is_named r (order n) ≡ false) → (arguments : List (List ℕ))
+    → names r (of_router order arguments) ≡ false
+alone_never r order never arguments = bind_never r (number_meaning arguments) (λ n. Ok (order n)) never
 
 router_never : (r : Bool) (name : List ℕ) (arguments : List (List ℕ)) → names r (router_command name arguments) ≡ false
 router_never r name arguments =
@@ -86,17 +86,17 @@ router_names stage arguments = bind_never false (no_more arguments) _ (λ none. 
 
 -- ---- the line that does
 
-allowed_inside : {A : Type 0} (r : Bool) (x : Result A LineFault) (allowed : Result (Unit {0}) LineFault) (next : A → Unit {0} → Result Request LineFault)
+allowed_inside : {A : Type 0} (r : Bool) (x : Result A LineFault) (allowed : Result (Unit {0}) LineFault) (next : A → Unit {0} → Result OrderMeaning LineFault)
     → names r (x >>= (λ a. allowed >>= next a)) ≡ true → allowed ≡ Ok tt
 allowed_inside r x (Ok done) next e = refl
 allowed_inside r (Ok a) (Err fault) next e = absurd (true≢false (sym e))
 allowed_inside r (Err other) (Err fault) next e = absurd (true≢false (sym e))
 
-first_or_other : (r b : Bool) (x y : Result Request LineFault) → names r y ≡ false → names r (if b then x else y) ≡ true → names r x ≡ true
+first_or_other : (r b : Bool) (x y : Result OrderMeaning LineFault) → names r y ≡ false → names r (if b then x else y) ≡ true → names r x ≡ true
 first_or_other r true x y never e = e
 first_or_other r false x y never e = absurd (true≢false (sym e ∙ never))
 
-behind_first : (r b : Bool) (x y : Result Request LineFault) → names r x ≡ false → names r (if b then x else y) ≡ true → names r y ≡ true
+behind_first : (r b : Bool) (x y : Result OrderMeaning LineFault) → names r x ≡ false → names r (if b then x else y) ≡ true → names r y ≡ true
 behind_first r true x y never e = absurd (true≢false (sym e ∙ never))
 behind_first r false x y never e = e
 
@@ -115,7 +115,7 @@ port_command_allowed stage name arguments e =
     (first_or_other false (bytes_eq name (codes "port")) (port_meaning stage arguments) _ (other_never false name arguments)
     (behind_first false (bytes_eq name (codes "router")) (router_meaning stage arguments) _ (router_names stage arguments) e))
 
-some_names : (router : Bool) (r : Result Request LineFault) → names_some router (r >>= (λ i. Ok (Some i))) ≡ true → names router r ≡ true
+some_names : (router : Bool) (r : Result OrderMeaning LineFault) → names_some router (r >>= (λ i. Ok (Some i))) ≡ true → names router r ≡ true
 some_names router (Ok i) e = e
 some_names router (Err fault) e = e
 

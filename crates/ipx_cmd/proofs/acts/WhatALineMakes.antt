@@ -7,7 +7,7 @@ use Rattle.ipx_router.specs.History.{History}
 use Rattle.ipx_router.specs.Port.{Port}
 use Rattle.ipx_router.specs.Stands.{State}
 use Rattle.ipx_cmd.specs.inside.Acted.{Acted, Halted}
-use Rattle.ipx_cmd.specs.Instruction.{Instruction, instruction_of, next_port, values_of}
+use Rattle.ipx_cmd.specs.CommandMeaning.{CommandMeaning, command_says, next_port, values_of}
 use Rattle.ipx_cmd.specs.Line.{◌>>=◌, Stops}
 use Rattle.ipx_cmd.specs.Machine.{Standing, Led, acts, does, obeys, past_of, stage_of}
 use Rattle.ipx_cmd.specs.inside.MachineStands.{Machine, RouterStands, IsSame, IsStanding, Leads, Makes, reached}
@@ -15,7 +15,7 @@ use Rattle.ipx_cmd.specs.Making.{named_port}
 use Rattle.ipx_cmd.specs.Script.{line_meaning}
 use Rattle.ipx_cmd.specs.WroteFront.{IsFaultOf}
 use Rattle.ipx_cmd.specs.declared.lines.command.Command.{Command}
-use Rattle.ipx_cmd.specs.declared.lines.command.Command.TheVariants.{Port as PortCommand, Start, Stop, Second, In, Down, Up, Routes, Services}
+use Rattle.ipx_cmd.specs.declared.lines.command.Command.TheVariants.{Port as PortCommand, Start, Stop, Second, Packet, PortDown, PortUp, Routes, Services}
 use Rattle.ipx_cmd.specs.declared.lines.command.NamedPort.{NamedPort}
 use Rattle.ipx_cmd.specs.declared.lines.command.Stage.{Stage}
 use Rattle.ipx_cmd.specs.declared.ended.RunFault.{RunFault}
@@ -39,14 +39,14 @@ same_stage m s is =
     ap (λ (b : Bool). record { made = b; ports = length m.ports }) (same_made s.ports m.router s.past is.router)
     ∙ ap (λ (l : List Port). record { made = is_some s.past; ports = length l }) is.ports
 
-meaning_there : (m : Machine) (s : Standing) (line : List ℕ) (meant : Result (Option Instruction) LineFault) → IsStanding m s → line_meaning (reached m) line ≡ meant
+meaning_there : (m : Machine) (s : Standing) (line : List ℕ) (meant : Result (Option CommandMeaning) LineFault) → IsStanding m s → line_meaning (reached m) line ≡ meant
     → line_meaning (stage_of s) line ≡ meant
 meaning_there m s line meant is e = ap (λ (stage : Stage). line_meaning stage line) (sym (same_stage m s is)) ∙ e
 
-pub acts_by : (m : Machine) (s : Standing) (line : List ℕ) (meant : Result (Option Instruction) LineFault) → IsStanding m s → line_meaning (reached m) line ≡ meant
+pub acts_by : (m : Machine) (s : Standing) (line : List ℕ) (meant : Result (Option CommandMeaning) LineFault) → IsStanding m s → line_meaning (reached m) line ≡ meant
     → acts s line ≡ (meant >>= does s)
 unfolding acts
-acts_by m s line meant is e = ap (λ (r : Result (Option Instruction) LineFault). r >>= does s) (meaning_there m s line meant is e)
+acts_by m s line meant is e = ap (λ (r : Result (Option CommandMeaning) LineFault). r >>= does s) (meaning_there m s line meant is e)
 
 -- it is still what the lines led to
 pub still : (m n : Machine) (s : Standing) → IsSame m n → IsStanding m s → IsStanding n s
@@ -56,7 +56,7 @@ still m n s same is = record { ports = same.ports ∙ is.ports; router = subst (
 abbrev port_led : Standing → Result Port LineFault → Led
 port_led s made = made >>= (λ port. Ok (record { ports = s.ports ++ port ∷ []; past = s.past }, []))
 
-abbrev router_led : Standing → Instruction → Result History LineFault → Led
+abbrev router_led : Standing → CommandMeaning → Result History LineFault → Led
 router_led s i past = past >>= (λ h. obeys s.ports h i)
 
 -- ---- a line that is wrong, or that memory was wanting for
@@ -112,31 +112,31 @@ abbrev is_port : Command → Bool
 is_port (PortCommand named) = true
 is_port command = false
 
-router_does : (s : Standing) (buffer : List ℕ) (c : Command) → is_port c ≡ false → does s (Some (instruction_of buffer c)) ≡ router_led s (instruction_of buffer c) (past_of s)
+router_does : (s : Standing) (buffer : List ℕ) (c : Command) → is_port c ≡ false → does s (Some (command_says buffer c)) ≡ router_led s (command_says buffer c) (past_of s)
 router_does s buffer (PortCommand named) unlike = absurd (true≢false unlike)
 router_does s buffer Start unlike = refl
 router_does s buffer Stop unlike = refl
 router_does s buffer (Second count) unlike = refl
-router_does s buffer (In port) unlike = refl
-router_does s buffer (Down port) unlike = refl
-router_does s buffer (Up port) unlike = refl
+router_does s buffer (Packet port) unlike = refl
+router_does s buffer (PortDown port) unlike = refl
+router_does s buffer (PortUp port) unlike = refl
 router_does s buffer Routes unlike = refl
 router_does s buffer Services unlike = refl
 
 -- what the line does, where its router has this history
 router_line : (m : Machine) (s : Standing) (line buffer : List ℕ) (c : Command) (past : Result History LineFault) → is_port c ≡ false → IsStanding m s
-    → line_meaning (reached m) line ≡ Ok (Some (instruction_of buffer c)) → past_of s ≡ past → acts s line ≡ router_led s (instruction_of buffer c) past
+    → line_meaning (reached m) line ≡ Ok (Some (command_says buffer c)) → past_of s ≡ past → acts s line ≡ router_led s (command_says buffer c) past
 router_line m s line buffer c past unlike is e made =
-    acts_by m s line (Ok (Some (instruction_of buffer c))) is e ∙ router_does s buffer c unlike ∙ ap (router_led s (instruction_of buffer c)) made
+    acts_by m s line (Ok (Some (command_says buffer c))) is e ∙ router_does s buffer c unlike ∙ ap (router_led s (command_says buffer c)) made
 
 pub unmade_line : (m : Machine) (s : Standing) (line buffer : List ℕ) (c : Command) (o : Output) (text : List ℕ) (fault : LineFault) → is_port c ≡ false → IsStanding m s
-    → line_meaning (reached m) line ≡ Ok (Some (instruction_of buffer c)) → past_of s ≡ Err fault → Halted (acts s line) o o text text (Line fault)
+    → line_meaning (reached m) line ≡ Ok (Some (command_says buffer c)) → past_of s ≡ Err fault → Halted (acts s line) o o text text (Line fault)
 unmade_line m s line buffer c o text fault unlike is e made = (router_line m s line buffer c (Err fault) unlike is e made, refl, refl)
 
 -- the machine whose router is made obeyed
 pub obeyed_line : (m k p : Machine) (s : Standing) (line buffer : List ℕ) (c : Command) (from to : Output) (old new : List ℕ) → is_port c ≡ false → IsStanding m s
-    → line_meaning (reached m) line ≡ Ok (Some (instruction_of buffer c)) → Makes k s → k.buffer ≡ buffer
-    → ((ports : List Port) (h : History) → IsStanding k (record { ports = ports; past = Some h }) → Leads p (obeys ports h (instruction_of k.buffer c)) from to old new)
+    → line_meaning (reached m) line ≡ Ok (Some (command_says buffer c)) → Makes k s → k.buffer ≡ buffer
+    → ((ports : List Port) (h : History) → IsStanding k (record { ports = ports; past = Some h }) → Leads p (obeys ports h (command_says k.buffer c)) from to old new)
     → Acted acts (IsStanding p) s line from to old new
 obeyed_line m k p s line buffer c from to old new unlike is e made same obeyed =
     let leads = obeyed s.ports made.past made.stands in
@@ -144,17 +144,17 @@ obeyed_line m k p s line buffer c from to old new unlike is e made same obeyed =
     record {
       after = leads.after;
       said = leads.said;
-      does = does ∙ ap (λ (b : List ℕ). obeys s.ports made.past (instruction_of b c)) (sym same) ∙ leads.does;
+      does = does ∙ ap (λ (b : List ℕ). obeys s.ports made.past (command_says b c)) (sym same) ∙ leads.does;
       now = leads.now;
       added = leads.added;
     }
 
 pub halted_line : (m k : Machine) (s : Standing) (line buffer : List ℕ) (c : Command) (from to : Output) (old new : List ℕ) (halt : Halt) → is_port c ≡ false → IsStanding m s
-    → line_meaning (reached m) line ≡ Ok (Some (instruction_of buffer c)) → Makes k s → k.buffer ≡ buffer
-    → ((ports : List Port) (h : History) → IsStanding k (record { ports = ports; past = Some h }) → Halted (obeys ports h (instruction_of k.buffer c)) from to old new halt)
+    → line_meaning (reached m) line ≡ Ok (Some (command_says buffer c)) → Makes k s → k.buffer ≡ buffer
+    → ((ports : List Port) (h : History) → IsStanding k (record { ports = ports; past = Some h }) → Halted (obeys ports h (command_says k.buffer c)) from to old new halt)
     → Halted (acts s line) from to old new halt
 halted_line m k s line buffer c from to old new halt unlike is e made same obeyed =
-    let does = router_line m s line buffer c (Ok made.past) unlike is e made.is ∙ ap (λ (b : List ℕ). obeys s.ports made.past (instruction_of b c)) (sym same) in
+    let does = router_line m s line buffer c (Ok made.past) unlike is e made.is ∙ ap (λ (b : List ℕ). obeys s.ports made.past (command_says b c)) (sym same) in
     subst (λ (led : Led). Halted led from to old new halt) (sym does) (obeyed s.ports made.past made.stands)
 
 -- ---- what the last call of a line leaves
@@ -164,22 +164,22 @@ unlike_port (PortCommand named) differs = absurd (differs named refl)
 unlike_port Start differs = refl
 unlike_port Stop differs = refl
 unlike_port (Second count) differs = refl
-unlike_port (In port) differs = refl
-unlike_port (Down port) differs = refl
-unlike_port (Up port) differs = refl
+unlike_port (Packet port) differs = refl
+unlike_port (PortDown port) differs = refl
+unlike_port (PortUp port) differs = refl
 unlike_port Routes differs = refl
 unlike_port Services differs = refl
 
 pub line_acted : (m k p : Machine) (line buffer : List ℕ) (c : Command) (from to : Output) (old new : List ℕ) (r : Result (Unit {0}) Halt) → is_port c ≡ false
-    → line_meaning (reached m) line ≡ Ok (Some (instruction_of buffer c)) → ((s : Standing) → IsStanding m s → Makes k s) → k.buffer ≡ buffer
-    → OnOk r ((ports : List Port) (h : History) → IsStanding k (record { ports = ports; past = Some h }) → Leads p (obeys ports h (instruction_of k.buffer c)) from to old new)
+    → line_meaning (reached m) line ≡ Ok (Some (command_says buffer c)) → ((s : Standing) → IsStanding m s → Makes k s) → k.buffer ≡ buffer
+    → OnOk r ((ports : List Port) (h : History) → IsStanding k (record { ports = ports; past = Some h }) → Leads p (obeys ports h (command_says k.buffer c)) from to old new)
     → OnOk r ((s : Standing) → IsStanding m s → Acted acts (IsStanding p) s line from to old new)
 line_acted m k p line buffer c from to old new (Ok done) unlike e makes same obeyed = λ s is. obeyed_line m k p s line buffer c from to old new unlike is e (makes s is) same obeyed
 line_acted m k p line buffer c from to old new (Err halt) unlike e makes same obeyed = tt
 
 pub line_halted : (m k : Machine) (line buffer : List ℕ) (c : Command) (from to : Output) (old new : List ℕ) (r : Result (Unit {0}) Halt) → is_port c ≡ false
-    → line_meaning (reached m) line ≡ Ok (Some (instruction_of buffer c)) → ((s : Standing) → IsStanding m s → Makes k s) → k.buffer ≡ buffer
-    → IfErr r (λ halt. (ports : List Port) (h : History) → IsStanding k (record { ports = ports; past = Some h }) → Halted (obeys ports h (instruction_of k.buffer c)) from to old new halt)
+    → line_meaning (reached m) line ≡ Ok (Some (command_says buffer c)) → ((s : Standing) → IsStanding m s → Makes k s) → k.buffer ≡ buffer
+    → IfErr r (λ halt. (ports : List Port) (h : History) → IsStanding k (record { ports = ports; past = Some h }) → Halted (obeys ports h (command_says k.buffer c)) from to old new halt)
     → IfErr r (λ halt. (s : Standing) → IsStanding m s → Halted (acts s line) from to old new halt)
 line_halted m k line buffer c from to old new (Ok done) unlike e makes same obeyed = tt
 line_halted m k line buffer c from to old new (Err halt) unlike e makes same obeyed = λ s is. halted_line m k s line buffer c from to old new halt unlike is e (makes s is) same obeyed

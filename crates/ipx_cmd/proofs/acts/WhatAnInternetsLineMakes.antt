@@ -8,14 +8,14 @@ use Rattle.ipx_internet.specs.Internet.{Internet}
 use Rattle.ipx_internet.specs.Moment.{Moment, StandsFor, net_at}
 use Rattle.ipx_internet.specs.Queue.{Queued}
 use Rattle.ipx_cmd.specs.inside.Acted.{Acted, Added, Halted}
+use Rattle.ipx_cmd.specs.CommandMeaning.{values_of}
 use Rattle.ipx_cmd.specs.EventText.{most_routes, most_services}
-use Rattle.ipx_cmd.specs.Instruction.{values_of}
 use Rattle.ipx_cmd.specs.InternetMachine.{Standing, Led, acts, does, internet_made, latest, obeys, order_fault, order_text, ordered, past_of, stage_of, untouched, with_port}
 use Rattle.ipx_cmd.specs.inside.InternetStands.{InternetMachine, InternetStands, IsSame, IsStanding, Leads, Makes, reached}
 use Rattle.ipx_cmd.specs.Line.{◌>>=◌, Stops}
 use Rattle.ipx_cmd.specs.Making.{named_port}
 use Rattle.ipx_cmd.specs.OrderLine.{order_meaning}
-use Rattle.ipx_cmd.specs.Request.{Request, NextRouter, next_port, request_of}
+use Rattle.ipx_cmd.specs.OrderMeaning.{OrderMeaning, NextRouter, next_port, order_says}
 use Rattle.ipx_cmd.specs.inside.Said.{Says}
 use Rattle.ipx_cmd.specs.WroteFront.{IsFaultOf}
 use Rattle.ipx_cmd.specs.declared.lines.command.NamedPort.{NamedPort}
@@ -25,7 +25,7 @@ use Rattle.ipx_cmd.specs.declared.lines.fault.LineFault.{LineFault}
 use Rattle.ipx_cmd.specs.declared.lines.halt.Halt.{Halt}
 use Rattle.ipx_cmd.specs.declared.lines.halt.Halt.TheVariants.{Line, Run}
 use Rattle.ipx_cmd.specs.declared.lines.order.Order.{Order}
-use Rattle.ipx_cmd.specs.declared.lines.order.Order.TheVariants.{Router as RouterOrder, Port as PortOrder, Start, Stop, Second, In, Down, Up, Settle, Trace, Routes, Services}
+use Rattle.ipx_cmd.specs.declared.lines.order.Order.TheVariants.{Router as RouterOrder, Port as PortOrder, Start, Stop, Second, Packet, PortDown, PortUp, Settle, Trace, Routes, Services}
 use Rattle.ipx_cmd.specs.declared.lines.order.OrderStage.{OrderStage}
 use Rattle.ipx_cmd.proofs.acts.AnotherRouterMayBeNamed.{port_line, router_line}
 use Rattle.ipx_cmd.proofs.written.AddedOneAfterAnother.{added_kept}
@@ -43,14 +43,14 @@ same_stage m s is =
     ap (λ (b : Bool). record { made = b; routers = length m.net; ports = length (latest m.net) }) (same_made s.net m.internet s.past is.internet)
     ∙ ap (λ (l : Internet). record { made = is_some s.past; routers = length l; ports = length (latest l) }) is.net
 
-meaning_there : (m : InternetMachine) (s : Standing) (line : List ℕ) (meant : Result (Option Request) LineFault) → IsStanding m s → order_meaning (reached m) line ≡ meant
+meaning_there : (m : InternetMachine) (s : Standing) (line : List ℕ) (meant : Result (Option OrderMeaning) LineFault) → IsStanding m s → order_meaning (reached m) line ≡ meant
     → order_meaning (stage_of s) line ≡ meant
 meaning_there m s line meant is e = ap (λ (stage : OrderStage). order_meaning stage line) (sym (same_stage m s is)) ∙ e
 
-pub acts_by : (m : InternetMachine) (s : Standing) (line : List ℕ) (meant : Result (Option Request) LineFault) → IsStanding m s → order_meaning (reached m) line ≡ meant
+pub acts_by : (m : InternetMachine) (s : Standing) (line : List ℕ) (meant : Result (Option OrderMeaning) LineFault) → IsStanding m s → order_meaning (reached m) line ≡ meant
     → acts s line ≡ (meant >>= does s)
 unfolding acts
-acts_by m s line meant is e = ap (λ (r : Result (Option Request) LineFault). r >>= does s) (meaning_there m s line meant is e)
+acts_by m s line meant is e = ap (λ (r : Result (Option OrderMeaning) LineFault). r >>= does s) (meaning_there m s line meant is e)
 
 -- it is still what the lines led to
 pub still : (m n : InternetMachine) (s : Standing) → IsSame m n → IsStanding m s → IsStanding n s
@@ -60,7 +60,7 @@ still m n s same is = record { net = same.net ∙ is.net; internet = subst (λ (
 abbrev port_led : Standing → Result Port LineFault → Led
 port_led s made = made >>= (λ port. Ok (record { net = with_port s.net port; past = s.past }, []))
 
-abbrev order_led : Standing → Request → Result Queued LineFault → Led
+abbrev order_led : Standing → OrderMeaning → Result Queued LineFault → Led
 order_led s r past = past >>= (λ q. obeys s.net q r)
 
 -- ---- a line that is wrong, or that memory was wanting for
@@ -145,15 +145,15 @@ is_naming RouterOrder = true
 is_naming (PortOrder named) = true
 is_naming order = false
 
-order_does : (s : Standing) (buffer : List ℕ) (o : Order) → is_naming o ≡ false → does s (Some (request_of buffer o)) ≡ order_led s (request_of buffer o) (past_of s)
+order_does : (s : Standing) (buffer : List ℕ) (o : Order) → is_naming o ≡ false → does s (Some (order_says buffer o)) ≡ order_led s (order_says buffer o) (past_of s)
 order_does s buffer RouterOrder unlike = absurd (true≢false unlike)
 order_does s buffer (PortOrder named) unlike = absurd (true≢false unlike)
 order_does s buffer (Start router) unlike = refl
 order_does s buffer (Stop router) unlike = refl
 order_does s buffer (Second count) unlike = refl
-order_does s buffer (In router port) unlike = refl
-order_does s buffer (Down router port) unlike = refl
-order_does s buffer (Up router port) unlike = refl
+order_does s buffer (Packet router port) unlike = refl
+order_does s buffer (PortDown router port) unlike = refl
+order_does s buffer (PortUp router port) unlike = refl
 order_does s buffer (Settle limit) unlike = refl
 order_does s buffer (Trace router port limit) unlike = refl
 order_does s buffer (Routes router) unlike = refl
@@ -161,20 +161,20 @@ order_does s buffer (Services router) unlike = refl
 
 -- what the line does, where this is what happened
 order_line : (m : InternetMachine) (s : Standing) (line buffer : List ℕ) (o : Order) (past : Result Queued LineFault) → is_naming o ≡ false → IsStanding m s
-    → order_meaning (reached m) line ≡ Ok (Some (request_of buffer o)) → past_of s ≡ past → acts s line ≡ order_led s (request_of buffer o) past
+    → order_meaning (reached m) line ≡ Ok (Some (order_says buffer o)) → past_of s ≡ past → acts s line ≡ order_led s (order_says buffer o) past
 order_line m s line buffer o past unlike is e made =
-    acts_by m s line (Ok (Some (request_of buffer o))) is e ∙ order_does s buffer o unlike ∙ ap (order_led s (request_of buffer o)) made
+    acts_by m s line (Ok (Some (order_says buffer o))) is e ∙ order_does s buffer o unlike ∙ ap (order_led s (order_says buffer o)) made
 
 pub unmade_line : (m : InternetMachine) (s : Standing) (line buffer : List ℕ) (r : Order) (o : Output) (text : List ℕ) (halt : Halt) → o.failed ≡ false → is_naming r ≡ false
-    → IsStanding m s → order_meaning (reached m) line ≡ Ok (Some (request_of buffer r)) → Stops (past_of s) halt → Halted (acts s line) o o text text halt
+    → IsStanding m s → order_meaning (reached m) line ≡ Ok (Some (order_says buffer r)) → Stops (past_of s) halt → Halted (acts s line) o o text text halt
 unmade_line m s line buffer r o text halt fine unlike is e stops =
     subst (λ (led : Led). Halted led o o text text halt) (sym (order_line m s line buffer r (past_of s) unlike is e refl))
-    (stops_line o text (past_of s) (λ q. obeys s.net q (request_of buffer r)) halt fine stops)
+    (stops_line o text (past_of s) (λ q. obeys s.net q (order_says buffer r)) halt fine stops)
 
 -- the machine whose internet is made obeyed
 obeyed_line : (m k p : InternetMachine) (s : Standing) (line buffer : List ℕ) (r : Order) (from to : Output) (old new : List ℕ) → is_naming r ≡ false → IsStanding m s
-    → order_meaning (reached m) line ≡ Ok (Some (request_of buffer r)) → Makes k s → k.buffer ≡ buffer
-    → ((net : Internet) (q : Queued) → IsStanding k (record { net = net; past = Some q }) → Leads p (obeys net q (request_of k.buffer r)) from to old new)
+    → order_meaning (reached m) line ≡ Ok (Some (order_says buffer r)) → Makes k s → k.buffer ≡ buffer
+    → ((net : Internet) (q : Queued) → IsStanding k (record { net = net; past = Some q }) → Leads p (obeys net q (order_says k.buffer r)) from to old new)
     → Acted acts (IsStanding p) s line from to old new
 obeyed_line m k p s line buffer r from to old new unlike is e made same obeyed =
     let leads = obeyed s.net made.past made.stands in
@@ -182,17 +182,17 @@ obeyed_line m k p s line buffer r from to old new unlike is e made same obeyed =
       after = leads.after;
       said = leads.said;
       does = order_line m s line buffer r (Ok made.past) unlike is e made.is
-          ∙ ap (λ (b : List ℕ). obeys s.net made.past (request_of b r)) (sym same) ∙ leads.does;
+          ∙ ap (λ (b : List ℕ). obeys s.net made.past (order_says b r)) (sym same) ∙ leads.does;
       now = leads.now;
       added = leads.added;
     }
 
 halted_line : (m k : InternetMachine) (s : Standing) (line buffer : List ℕ) (r : Order) (from to : Output) (old new : List ℕ) (halt : Halt) → is_naming r ≡ false → IsStanding m s
-    → order_meaning (reached m) line ≡ Ok (Some (request_of buffer r)) → Makes k s → k.buffer ≡ buffer
-    → ((net : Internet) (q : Queued) → IsStanding k (record { net = net; past = Some q }) → Halted (obeys net q (request_of k.buffer r)) from to old new halt)
+    → order_meaning (reached m) line ≡ Ok (Some (order_says buffer r)) → Makes k s → k.buffer ≡ buffer
+    → ((net : Internet) (q : Queued) → IsStanding k (record { net = net; past = Some q }) → Halted (obeys net q (order_says k.buffer r)) from to old new halt)
     → Halted (acts s line) from to old new halt
 halted_line m k s line buffer r from to old new halt unlike is e made same obeyed =
-    let does = order_line m s line buffer r (Ok made.past) unlike is e made.is ∙ ap (λ (b : List ℕ). obeys s.net made.past (request_of b r)) (sym same) in
+    let does = order_line m s line buffer r (Ok made.past) unlike is e made.is ∙ ap (λ (b : List ℕ). obeys s.net made.past (order_says b r)) (sym same) in
     subst (λ (led : Led). Halted led from to old new halt) (sym does) (obeyed s.net made.past made.stands)
 
 -- ---- what the last call of a line leaves
@@ -203,24 +203,24 @@ unlike_naming (PortOrder named) router port = absurd (port named refl)
 unlike_naming (Start number) router port = refl
 unlike_naming (Stop number) router port = refl
 unlike_naming (Second count) router port = refl
-unlike_naming (In number place) router port = refl
-unlike_naming (Down number place) router port = refl
-unlike_naming (Up number place) router port = refl
+unlike_naming (Packet number place) router port = refl
+unlike_naming (PortDown number place) router port = refl
+unlike_naming (PortUp number place) router port = refl
 unlike_naming (Settle limit) router port = refl
 unlike_naming (Trace number place limit) router port = refl
 unlike_naming (Routes number) router port = refl
 unlike_naming (Services number) router port = refl
 
 pub line_acted : (m k p : InternetMachine) (line buffer : List ℕ) (o : Order) (from to : Output) (old new : List ℕ) (r : Result (Unit {0}) Halt) → is_naming o ≡ false
-    → order_meaning (reached m) line ≡ Ok (Some (request_of buffer o)) → ((s : Standing) → IsStanding m s → Makes k s) → k.buffer ≡ buffer
-    → OnOk r ((net : Internet) (q : Queued) → IsStanding k (record { net = net; past = Some q }) → Leads p (obeys net q (request_of k.buffer o)) from to old new)
+    → order_meaning (reached m) line ≡ Ok (Some (order_says buffer o)) → ((s : Standing) → IsStanding m s → Makes k s) → k.buffer ≡ buffer
+    → OnOk r ((net : Internet) (q : Queued) → IsStanding k (record { net = net; past = Some q }) → Leads p (obeys net q (order_says k.buffer o)) from to old new)
     → OnOk r ((s : Standing) → IsStanding m s → Acted acts (IsStanding p) s line from to old new)
 line_acted m k p line buffer o from to old new (Ok done) unlike e makes same obeyed = λ s is. obeyed_line m k p s line buffer o from to old new unlike is e (makes s is) same obeyed
 line_acted m k p line buffer o from to old new (Err halt) unlike e makes same obeyed = tt
 
 pub line_halted : (m k : InternetMachine) (line buffer : List ℕ) (o : Order) (from to : Output) (old new : List ℕ) (r : Result (Unit {0}) Halt) → is_naming o ≡ false
-    → order_meaning (reached m) line ≡ Ok (Some (request_of buffer o)) → ((s : Standing) → IsStanding m s → Makes k s) → k.buffer ≡ buffer
-    → IfErr r (λ halt. (net : Internet) (q : Queued) → IsStanding k (record { net = net; past = Some q }) → Halted (obeys net q (request_of k.buffer o)) from to old new halt)
+    → order_meaning (reached m) line ≡ Ok (Some (order_says buffer o)) → ((s : Standing) → IsStanding m s → Makes k s) → k.buffer ≡ buffer
+    → IfErr r (λ halt. (net : Internet) (q : Queued) → IsStanding k (record { net = net; past = Some q }) → Halted (obeys net q (order_says k.buffer o)) from to old new halt)
     → IfErr r (λ halt. (s : Standing) → IsStanding m s → Halted (acts s line) from to old new halt)
 line_halted m k line buffer o from to old new (Ok done) unlike e makes same obeyed = tt
 line_halted m k line buffer o from to old new (Err halt) unlike e makes same obeyed = λ s is. halted_line m k s line buffer o from to old new halt unlike is e (makes s is) same obeyed
@@ -266,7 +266,7 @@ not_made m s halt none is stops = subst (λ r. Stops r halt) (sym (past_made m s
 -- ---- an order of the internet
 
 -- the order did what it asks for
-pub ordered_leads : (m p : InternetMachine) (old now : Moment) (net : Internet) (q : Queued) (r : Request) (from to : Output) (before after : List ℕ) → m.internet ≡ Some old
+pub ordered_leads : (m p : InternetMachine) (old now : Moment) (net : Internet) (q : Queued) (r : OrderMeaning) (from to : Output) (before after : List ℕ) → m.internet ≡ Some old
     → IsStanding m (record { net = net; past = Some q }) → p.net ≡ m.net → p.internet ≡ Some now → order_fault (net_at old) r ≡ None → net_at now ≡ net_at old
     → ((q : Queued) → StandsFor most_routes most_services old q → StandsFor most_routes most_services now (ordered (net_at old) q r))
     → ((q : Queued) → StandsFor most_routes most_services old q → Added from to before after (order_text (net_at old) q r))
@@ -287,7 +287,7 @@ ordered_leads m p old now net q r from to before after internet is same new ther
     }
 
 -- the run was given up in it
-pub ordered_halts : (m : InternetMachine) (old : Moment) (net : Internet) (q : Queued) (r : Request) (from to : Output) (before after : List ℕ) (why : RunFault)
+pub ordered_halts : (m : InternetMachine) (old : Moment) (net : Internet) (q : Queued) (r : OrderMeaning) (from to : Output) (before after : List ℕ) (why : RunFault)
     → m.internet ≡ Some old → IsStanding m (record { net = net; past = Some q }) → order_fault (net_at old) r ≡ None
     → ((q : Queued) → StandsFor most_routes most_services old q → Says from to before after (order_text (net_at old) q r) (Err why)) → Halted (obeys net q r) from to before after (Run why)
 ordered_halts m old net q r from to before after why internet is there says =
@@ -298,7 +298,7 @@ ordered_halts m old net q r from to before after why internet is there says =
     (subst (λ (n : Internet). Says from to before after (order_text n q r) (Err why)) was.0 (says q was.1))
 
 -- what it names isn't there
-pub order_wrong : (m : InternetMachine) (old : Moment) (net : Internet) (q : Queued) (r : Request) (o : Output) (text : List ℕ) (fault : LineFault) → m.internet ≡ Some old
+pub order_wrong : (m : InternetMachine) (old : Moment) (net : Internet) (q : Queued) (r : OrderMeaning) (o : Output) (text : List ℕ) (fault : LineFault) → m.internet ≡ Some old
     → IsStanding m (record { net = net; past = Some q }) → order_fault (net_at old) r ≡ Some fault → Halted (obeys net q r) o o text text (Line fault)
 order_wrong m old net q r o text fault internet is wrong =
     let was : InternetStands net (Some old) (Some q) = subst (λ (x : Option Moment). InternetStands net x (Some q)) internet is.internet in
@@ -307,21 +307,21 @@ order_wrong m old net q r o text fault internet is wrong =
 
 -- the same of an order whose bytes lie in a buffer
 pub obey_leads : (m p : InternetMachine) (old now : Moment) (o : Order) (bytes : List ℕ) (from to : Output) (before after : List ℕ) → m.internet ≡ Some old → bytes ≡ m.buffer
-    → p.net ≡ m.net → p.internet ≡ Some now → ((buffer : List ℕ) → order_fault (net_at old) (request_of buffer o) ≡ None) → net_at now ≡ net_at old
-    → ((q : Queued) → StandsFor most_routes most_services old q → StandsFor most_routes most_services now (ordered (net_at old) q (request_of bytes o)))
-    → ((q : Queued) → StandsFor most_routes most_services old q → Added from to before after (order_text (net_at old) q (request_of bytes o)))
-    → (net : Internet) (q : Queued) → IsStanding m (record { net = net; past = Some q }) → Leads p (obeys net q (request_of m.buffer o)) from to before after
+    → p.net ≡ m.net → p.internet ≡ Some now → ((buffer : List ℕ) → order_fault (net_at old) (order_says buffer o) ≡ None) → net_at now ≡ net_at old
+    → ((q : Queued) → StandsFor most_routes most_services old q → StandsFor most_routes most_services now (ordered (net_at old) q (order_says bytes o)))
+    → ((q : Queued) → StandsFor most_routes most_services old q → Added from to before after (order_text (net_at old) q (order_says bytes o)))
+    → (net : Internet) (q : Queued) → IsStanding m (record { net = net; past = Some q }) → Leads p (obeys net q (order_says m.buffer o)) from to before after
 obey_leads m p old now o bytes from to before after internet same net new there kept stands says = λ of q is.
-    subst (λ (b : List ℕ). Leads p (obeys of q (request_of b o)) from to before after) same
-    (ordered_leads m p old now of q (request_of bytes o) from to before after internet is net new (there bytes) kept stands says)
+    subst (λ (b : List ℕ). Leads p (obeys of q (order_says b o)) from to before after) same
+    (ordered_leads m p old now of q (order_says bytes o) from to before after internet is net new (there bytes) kept stands says)
 
 pub obey_halts : (m : InternetMachine) (old : Moment) (o : Order) (bytes : List ℕ) (from to : Output) (before after : List ℕ) (why : RunFault) → m.internet ≡ Some old
-    → bytes ≡ m.buffer → ((buffer : List ℕ) → order_fault (net_at old) (request_of buffer o) ≡ None)
-    → ((q : Queued) → StandsFor most_routes most_services old q → Says from to before after (order_text (net_at old) q (request_of bytes o)) (Err why))
-    → (net : Internet) (q : Queued) → IsStanding m (record { net = net; past = Some q }) → Halted (obeys net q (request_of m.buffer o)) from to before after (Run why)
+    → bytes ≡ m.buffer → ((buffer : List ℕ) → order_fault (net_at old) (order_says buffer o) ≡ None)
+    → ((q : Queued) → StandsFor most_routes most_services old q → Says from to before after (order_text (net_at old) q (order_says bytes o)) (Err why))
+    → (net : Internet) (q : Queued) → IsStanding m (record { net = net; past = Some q }) → Halted (obeys net q (order_says m.buffer o)) from to before after (Run why)
 obey_halts m old o bytes from to before after why internet same there says = λ of q is.
-    subst (λ (b : List ℕ). Halted (obeys of q (request_of b o)) from to before after (Run why)) same
-    (ordered_halts m old of q (request_of bytes o) from to before after why internet is (there bytes) says)
+    subst (λ (b : List ℕ). Halted (obeys of q (order_says b o)) from to before after (Run why)) same
+    (ordered_halts m old of q (order_says bytes o) from to before after why internet is (there bytes) says)
 
 -- ---- how far the script has come
 

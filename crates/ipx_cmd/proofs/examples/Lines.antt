@@ -2,7 +2,7 @@ use Rattle.std.proofs.Common.{◌≡◌, ℕ, true, false, [], ◌∷◌, ◌++�
 use Rattle.hex.proofs.OnLiterals.{hex_on_literals}
 use Rattle.ipx_cmd.specs.declared.lines.command.Stage.{Stage}
 use Rattle.ipx_cmd.specs.declared.lines.fault.LineFault.TheVariants.{Text, Command, Words, Late, Many, Network, Node, Number, Hex}
-use Rattle.ipx_cmd.specs.Instruction.{NextPort, Starts, Arrives, ShowsRoutes}
+use Rattle.ipx_cmd.specs.CommandMeaning.{NextPort, Starts, PacketComes, ShowsRoutes}
 use Rattle.ipx_cmd.specs.Script.{line_meaning}
 
 -- before the making, after so many ports
@@ -30,11 +30,11 @@ pub start_among_blanks : line_meaning (before 2) ((9 ∷ 32 ∷ []) ++ codes "st
 start_among_blanks = refl
 
 -- `-` is no bytes
-pub no_bytes : line_meaning after (codes "in 255 -") ≡ Ok (Some (Arrives 255 []))
+pub no_bytes : line_meaning after (codes "in 255 -") ≡ Ok (Some (PacketComes 255 []))
 no_bytes = refl
 
 -- two digits a byte
-pub two_bytes : line_meaning after (codes "in 0000001 aAfF") ≡ Ok (Some (Arrives 1 (170 ∷ 255 ∷ [])))
+pub two_bytes : line_meaning after (codes "in 0000001 aAfF") ≡ Ok (Some (PacketComes 1 (170 ∷ 255 ∷ [])))
 unfolding hex_on_literals
 two_bytes = refl
 

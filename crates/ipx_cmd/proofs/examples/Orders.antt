@@ -3,8 +3,8 @@ use Rattle.std.proofs.Common.{◌≡◌, ℕ, true, false, [], ◌∷◌, ◌++�
 use Rattle.hex.proofs.OnLiterals.{hex_on_literals}
 use Rattle.ipx_cmd.specs.declared.lines.order.OrderStage.{OrderStage}
 use Rattle.ipx_cmd.specs.declared.lines.fault.LineFault.TheVariants.{Text, Command, Words, Late, Many, Network, Number, Hex, Router, Routers}
-use Rattle.ipx_cmd.specs.Request.{NextRouter, NextPort, Starts, Stops, Passes, Arrives, GoesDown, ComesUp, Settles, Traces, ShowsRoutes, ShowsServices}
 use Rattle.ipx_cmd.specs.OrderLine.{order_meaning}
+use Rattle.ipx_cmd.specs.OrderMeaning.{NextRouter, NextPort, Starts, Stops, SecondsPass, PacketComes, PortGoesDown, PortComesUp, Settles, Traces, ShowsRoutes, ShowsServices}
 
 -- before the making, after so many routers, the latest with so many ports
 abbrev before : ℕ → ℕ → OrderStage
@@ -41,11 +41,11 @@ a_start = refl
 pub a_stop : order_meaning after (codes "stop 0") ≡ Ok (Some (Stops 0))
 a_stop = refl
 
-pub a_day : order_meaning after (codes "second 86400") ≡ Ok (Some (Passes 86400))
+pub a_day : order_meaning after (codes "second 86400") ≡ Ok (Some (SecondsPass 86400))
 a_day = refl
 
 -- `-` is no bytes
-pub no_bytes : order_meaning after (codes "in 1 0 -") ≡ Ok (Some (Arrives 1 0 []))
+pub no_bytes : order_meaning after (codes "in 1 0 -") ≡ Ok (Some (PacketComes 1 0 []))
 no_bytes = refl
 
 -- the router stands before the port, and that before the limit
@@ -60,10 +60,10 @@ no_limit = refl
 pub largest_limit : order_meaning after (codes "settle 1000000") ≡ Ok (Some (Settles 1000000))
 largest_limit = refl
 
-pub goes_down : order_meaning after (codes "down 1 2") ≡ Ok (Some (GoesDown 1 2))
+pub goes_down : order_meaning after (codes "down 1 2") ≡ Ok (Some (PortGoesDown 1 2))
 goes_down = refl
 
-pub comes_up : order_meaning after (codes "up 1 2") ≡ Ok (Some (ComesUp 1 2))
+pub comes_up : order_meaning after (codes "up 1 2") ≡ Ok (Some (PortComesUp 1 2))
 comes_up = refl
 
 pub routes : order_meaning after (codes "routes 1") ≡ Ok (Some (ShowsRoutes 1))

@@ -1,4 +1,4 @@
--- What the machine of a script is by the lines so far, and what an instruction makes of it.
+-- What the machine of a script is by the lines so far, and what a command makes of it.
 use Rattle.std.specs.Prelude.{◌≡◌, ℕ, List, length, Option, None, Some, Ok, is_some}
 use Rattle.ipx_wire.specs.Ends.{Output}
 use Rattle.ipx_router.specs.History.{History}

@@ -1,4 +1,4 @@
-//! How a line of a script is read: what is wrong with it, or the command that it gives.
+//! A line of a script for one router: what is wrong with it, or the command that it gives.
 //!
 //! The order of judging: a comment is skipped; then `text`; a line without words is skipped; then
 //! `command`, `words`, `late`, `many`, and the words from left to right.
@@ -6,7 +6,7 @@ ghost use Rattle.std.specs.Prelude.{◌≡◌, ℕ, List, codes, IsTrue, IsErrOf
 ghost use Rattle.std.specs.Str.{bytes_eq};
 ghost use Rattle.std.specs.Option.{option_map};
 ghost use Rattle.ipx_cmd.specs.declared.ended.RunFault.{RunFault};
-ghost use Rattle.ipx_cmd.specs.Instruction.{instruction_of, next_port, values_of};
+ghost use Rattle.ipx_cmd.specs.CommandMeaning.{command_says, next_port, values_of};
 ghost use Rattle.ipx_cmd.specs.Line.{Answers, AnswersInMemory, Stops};
 ghost use Rattle.ipx_cmd.specs.Script.{line_meaning, command_meaning, port_allowed, shares_of, port_of, port_meaning, count_meaning, number_meaning, later_meaning, packet_of, in_meaning, brings_bytes};
 ghost use Rattle.ipx_cmd.specs.Words.{words};
@@ -62,11 +62,11 @@ pub(crate) enum Command {
     /// This many seconds pass, one after the other.
     Second { count: u32 },
     /// The packet in the buffer comes in by a port.
-    In { port: u8 },
+    Packet { port: u8 },
     /// A port goes down.
-    Down { port: u8 },
+    PortDown { port: u8 },
     /// A port comes up.
-    Up { port: u8 },
+    PortUp { port: u8 },
     /// The route table is shown.
     Routes,
     /// The service table is shown.
@@ -146,16 +146,16 @@ pub(crate) fn one_number(arguments: &[u8]) -> Result<u8, LineFault>
 
 /// The packet that two words name, read from left to right; its bytes go into the buffer.
 fn packet_of(buffer: &mut Vec<u8>, port_word: &[u8], bytes_word: &[u8]) -> Result<Command, Halt>
-    ensures { AnswersInMemory (instruction_of buffer.new.items) result (packet_of port_word.now bytes_word.now) }
+    ensures { AnswersInMemory (command_says buffer.new.items) result (packet_of port_word.now bytes_word.now) }
 {
     let port = number_u8(port_word).ok_or(LineFault::Number)?;
     read_bytes(buffer, bytes_word)?;
-    Ok(Command::In { port })
+    Ok(Command::Packet { port })
 }
 
 /// `in PORT HEX`, by the words after the first.
 fn in_command(buffer: &mut Vec<u8>, arguments: &[u8]) -> Result<Command, Halt>
-    ensures { AnswersInMemory (instruction_of buffer.new.items) result (in_meaning (words arguments.now)) }
+    ensures { AnswersInMemory (command_says buffer.new.items) result (in_meaning (words arguments.now)) }
 {
     let (port, bytes) = two_words(arguments).ok_or(LineFault::Words)?;
     packet_of(buffer, port, bytes)
@@ -168,7 +168,7 @@ fn read_command(
     name: &[u8],
     arguments: &[u8],
 ) -> Result<Command, Halt>
-    ensures meaning { AnswersInMemory (instruction_of buffer.new.items) result (command_meaning stage name.now (words arguments.now)) }
+    ensures meaning { AnswersInMemory (command_says buffer.new.items) result (command_meaning stage name.now (words arguments.now)) }
     ensures memory { IsErrOf result (Halt.Run RunFault.Memory) → IsTrue (bytes_eq name.now (codes "in")) }
 {
     if is_word(name, b"port") {
@@ -196,16 +196,16 @@ fn read_command(
 
 /// The commands behind `in`.
 fn read_later_command(name: &[u8], arguments: &[u8]) -> Result<Command, LineFault>
-    ensures command { IfOk result (λ command. (buffer : List ℕ) → later_meaning name.now (words arguments.now) ≡ Ok (instruction_of buffer command)) }
+    ensures command { IfOk result (λ command. (buffer : List ℕ) → later_meaning name.now (words arguments.now) ≡ Ok (command_says buffer command)) }
     ensures fault { IfErr result (λ fault. later_meaning name.now (words arguments.now) ≡ Err fault) }
 {
     if is_word(name, b"down") {
         let port = one_number(arguments)?;
-        return Ok(Command::Down { port });
+        return Ok(Command::PortDown { port });
     }
     if is_word(name, b"up") {
         let port = one_number(arguments)?;
-        return Ok(Command::Up { port });
+        return Ok(Command::PortUp { port });
     }
     if is_word(name, b"routes") {
         no_more(arguments)?;
@@ -227,7 +227,7 @@ pub(crate) fn read_line(
     line: &[u8],
     stage: Stage,
 ) -> Result<Option<Command>, Halt>
-    ensures command { IfOk result (λ command. line_meaning stage line.now ≡ Ok (option_map (instruction_of buffer.new.items) command)) }
+    ensures command { IfOk result (λ command. line_meaning stage line.now ≡ Ok (option_map (command_says buffer.new.items) command)) }
     ensures refused { IfErr result (Stops (line_meaning stage line.now)) }
     ensures memory { IsErrOf result (Halt.Run RunFault.Memory) → IsTrue (brings_bytes (words line.now)) }
 {

@@ -1,4 +1,4 @@
-//! How a line of an internet's script is read: what is wrong with it, or the order that it gives.
+//! A line of a script for an internet: what is wrong with it, or the order that it gives.
 //!
 //! The order of judging: a comment is skipped; then `text`; a line without words is skipped; then
 //! `command`, `words`, `late`, `routers`, `router`, `many`, and the words from left to right.
@@ -8,7 +8,7 @@ ghost use Rattle.std.specs.Option.{option_map};
 ghost use Rattle.ipx_cmd.specs.declared.ended.RunFault.{RunFault};
 ghost use Rattle.ipx_cmd.specs.Line.{Answers, AnswersInMemory, Stops};
 ghost use Rattle.ipx_cmd.specs.OrderLine.{router_allowed, port_allowed, port_meaning, place_of, place_meaning, limit_meaning, packet_of, in_meaning, traced_of, trace_meaning, router_command, later_command, command_meaning, order_meaning, brings_bytes};
-ghost use Rattle.ipx_cmd.specs.Request.{next_port, request_of};
+ghost use Rattle.ipx_cmd.specs.OrderMeaning.{next_port, order_says};
 ghost use Rattle.ipx_cmd.specs.Words.{words};
 
 use crate::lines::command::{MOST_PORTS, NamedPort, one_number, port_of, seconds};
@@ -50,11 +50,11 @@ pub(crate) enum Order {
     /// This many seconds pass for all routers, one after the other.
     Second { count: u32 },
     /// The packet in the buffer comes in by a port of a router.
-    In { router: u8, port: u8 },
+    Packet { router: u8, port: u8 },
     /// A port of a router goes down.
-    Down { router: u8, port: u8 },
+    PortDown { router: u8, port: u8 },
     /// A port of a router comes up.
-    Up { router: u8, port: u8 },
+    PortUp { router: u8, port: u8 },
     /// What waits is delivered, that many deliveries at most.
     Settle { limit: u32 },
     /// What becomes of the packet in the buffer, in that many receptions at most.
@@ -135,16 +135,16 @@ fn packet_of(
     port_word: &[u8],
     bytes_word: &[u8],
 ) -> Result<Order, Halt>
-    ensures { AnswersInMemory (request_of buffer.new.items) result (packet_of router_word.now port_word.now bytes_word.now) }
+    ensures { AnswersInMemory (order_says buffer.new.items) result (packet_of router_word.now port_word.now bytes_word.now) }
 {
     let (router, port) = place_of(router_word, port_word)?;
     read_bytes(buffer, bytes_word)?;
-    Ok(Order::In { router, port })
+    Ok(Order::Packet { router, port })
 }
 
 /// `in ROUTER PORT HEX`, by the words after the first.
 fn in_order(buffer: &mut Vec<u8>, arguments: &[u8]) -> Result<Order, Halt>
-    ensures { AnswersInMemory (request_of buffer.new.items) result (in_meaning (words arguments.now)) }
+    ensures { AnswersInMemory (order_says buffer.new.items) result (in_meaning (words arguments.now)) }
 {
     let (router, port, bytes) = three_words(arguments).ok_or(LineFault::Words)?;
     packet_of(buffer, router, port, bytes)
@@ -158,7 +158,7 @@ fn traced_of(
     limit_word: &[u8],
     bytes_word: &[u8],
 ) -> Result<Order, Halt>
-    ensures { AnswersInMemory (request_of buffer.new.items) result (traced_of router_word.now port_word.now limit_word.now bytes_word.now) }
+    ensures { AnswersInMemory (order_says buffer.new.items) result (traced_of router_word.now port_word.now limit_word.now bytes_word.now) }
 {
     let (router, port) = place_of(router_word, port_word)?;
     let limit = number(limit_word, MOST_LIMIT).ok_or(LineFault::Number)?;
@@ -172,7 +172,7 @@ fn traced_of(
 
 /// `trace ROUTER PORT LIMIT HEX`, by the words after the first.
 fn trace_order(buffer: &mut Vec<u8>, arguments: &[u8]) -> Result<Order, Halt>
-    ensures { AnswersInMemory (request_of buffer.new.items) result (trace_meaning (words arguments.now)) }
+    ensures { AnswersInMemory (order_says buffer.new.items) result (trace_meaning (words arguments.now)) }
 {
     let (router, port, limit, bytes) = four_words(arguments).ok_or(LineFault::Words)?;
     traced_of(buffer, router, port, limit, bytes)
@@ -185,7 +185,7 @@ fn read_order(
     name: &[u8],
     arguments: &[u8],
 ) -> Result<Order, Halt>
-    ensures meaning { AnswersInMemory (request_of buffer.new.items) result (command_meaning stage name.now (words arguments.now)) }
+    ensures meaning { AnswersInMemory (order_says buffer.new.items) result (command_meaning stage name.now (words arguments.now)) }
     ensures memory { IsErrOf result (Halt.Run RunFault.Memory) → IsTrue (bytes_eq name.now (codes "in") || bytes_eq name.now (codes "trace")) }
 {
     if is_word(name, b"router") {
@@ -209,7 +209,7 @@ fn read_order(
 
 /// The orders of a port or of all routers, and those behind them.
 fn read_later_order(name: &[u8], arguments: &[u8]) -> Result<Order, LineFault>
-    ensures order { IfOk result (λ order. (buffer : List ℕ) → later_command name.now (words arguments.now) ≡ Ok (request_of buffer order)) }
+    ensures order { IfOk result (λ order. (buffer : List ℕ) → later_command name.now (words arguments.now) ≡ Ok (order_says buffer order)) }
     ensures fault { IfErr result (λ fault. later_command name.now (words arguments.now) ≡ Err fault) }
 {
     if is_word(name, b"second") {
@@ -222,18 +222,18 @@ fn read_later_order(name: &[u8], arguments: &[u8]) -> Result<Order, LineFault>
     }
     if is_word(name, b"down") {
         let (router, port) = place(arguments)?;
-        return Ok(Order::Down { router, port });
+        return Ok(Order::PortDown { router, port });
     }
     if is_word(name, b"up") {
         let (router, port) = place(arguments)?;
-        return Ok(Order::Up { router, port });
+        return Ok(Order::PortUp { router, port });
     }
     read_router_order(name, arguments)
 }
 
 /// The orders of one router, by its number alone.
 fn read_router_order(name: &[u8], arguments: &[u8]) -> Result<Order, LineFault>
-    ensures order { IfOk result (λ order. (buffer : List ℕ) → router_command name.now (words arguments.now) ≡ Ok (request_of buffer order)) }
+    ensures order { IfOk result (λ order. (buffer : List ℕ) → router_command name.now (words arguments.now) ≡ Ok (order_says buffer order)) }
     ensures fault { IfErr result (λ fault. router_command name.now (words arguments.now) ≡ Err fault) }
 {
     if is_word(name, b"start") {
@@ -264,7 +264,7 @@ pub(crate) fn read_order_line(
     line: &[u8],
     stage: OrderStage,
 ) -> Result<Option<Order>, Halt>
-    ensures order { IfOk result (λ order. order_meaning stage line.now ≡ Ok (option_map (request_of buffer.new.items) order)) }
+    ensures order { IfOk result (λ order. order_meaning stage line.now ≡ Ok (option_map (order_says buffer.new.items) order)) }
     ensures refused { IfErr result (Stops (order_meaning stage line.now)) }
     ensures memory { IsErrOf result (Halt.Run RunFault.Memory) → IsTrue (brings_bytes (words line.now)) }
 {

@@ -1,16 +1,16 @@
-//! What the lines of an internet's script act on: the routers named so far, and then the internet that they make.
+//! The machine of an internet: the routers named so far, and then the internet that they make.
 ghost use Rattle.std.specs.Prelude.{◌≡◌, ◌<◌, ◌++◌, ◌∷◌, [], ℕ, List, false, length, IsSome, IfErr, IfOk, OnOk, Ok, Some, None, option_map};
 ghost use Rattle.ipx_internet.specs.Internet.{Internet};
 ghost use Rattle.ipx_internet.specs.Moment.{StandsFor, net_at};
 ghost use Rattle.ipx_internet.specs.Queue.{Queued};
 ghost use Rattle.ipx_cmd.specs.inside.Acted.{Halted};
-ghost use Rattle.ipx_cmd.specs.Instruction.{values_of};
+ghost use Rattle.ipx_cmd.specs.CommandMeaning.{values_of};
 ghost use Rattle.ipx_cmd.specs.InternetMachine.{Standing, latest, nothing_yet, obeys, order_fault, order_text, ordered, past_of, port_fault, router_fault, with_port};
 ghost use Rattle.ipx_cmd.specs.inside.InternetStands.{IsSame, IsStanding, Leads, Makes, reached};
 ghost use Rattle.ipx_cmd.specs.Line.{Stops};
 ghost use Rattle.ipx_cmd.specs.Making.{named_port};
 ghost use Rattle.ipx_cmd.specs.OrderLine.{order_meaning};
-ghost use Rattle.ipx_cmd.specs.Request.{request_of};
+ghost use Rattle.ipx_cmd.specs.OrderMeaning.{order_says};
 ghost use Rattle.ipx_cmd.specs.inside.Said.{Says};
 ghost use Rattle.ipx_cmd.specs.declared.ended.RunFault.TheVariants.{Memory};
 ghost use Rattle.ipx_cmd.specs.declared.lines.halt.Halt.TheVariants.{Run};
@@ -96,7 +96,7 @@ impl Act for InternetMachine {
 impl InternetMachine {
     /// Reads a line; the bytes of a packet go into the buffer.
     fn read(&mut self, line: &[u8]) -> Result<Option<Order>, Halt>
-        ensures order { IfOk result (λ order. order_meaning (reached self.old) line.now ≡ Ok (option_map (request_of self.new.buffer) order)) }
+        ensures order { IfOk result (λ order. order_meaning (reached self.old) line.now ≡ Ok (option_map (order_says self.new.buffer) order)) }
         ensures refused { IfErr result (Stops (order_meaning (reached self.old) line.now)) }
         ensures same { IsSame self.old self.new }
     {
@@ -188,9 +188,9 @@ impl InternetMachine {
         requires made { IsSome self.old.internet }
         ensures fine { OnOk result (outlet.new.failed ≡ false) }
         ensures acted { OnOk result ((net : Internet) (past : Queued) → IsStanding self.old (record { net = net; past = Some past })
-            → Leads self.new (obeys net past (request_of self.old.buffer order)) outlet.old outlet.new text.old.items text.new.items) }
+            → Leads self.new (obeys net past (order_says self.old.buffer order)) outlet.old outlet.new text.old.items text.new.items) }
         ensures halted { IfErr result (λ halt. (net : Internet) (past : Queued) → IsStanding self.old (record { net = net; past = Some past })
-            → Halted (obeys net past (request_of self.old.buffer order)) outlet.old outlet.new text.old.items text.new.items halt) }
+            → Halted (obeys net past (order_says self.old.buffer order)) outlet.old outlet.new text.old.items text.new.items halt) }
     {
         match &mut self.internet {
             Some(internet) => {
@@ -209,17 +209,17 @@ impl InternetMachine {
 
 /// Whether the router and the port that an order names are there, if it names them.
 fn check(internet: &ScriptInternet, order: Order) -> Result<(), LineFault>
-    ensures fine { OnOk result ((buffer : List ℕ) → order_fault (net_at internet.now) (request_of buffer order) ≡ None) }
-    ensures fault { IfErr result (λ fault. (buffer : List ℕ) → order_fault (net_at internet.now) (request_of buffer order) ≡ Some fault) }
+    ensures fine { OnOk result ((buffer : List ℕ) → order_fault (net_at internet.now) (order_says buffer order) ≡ None) }
+    ensures fault { IfErr result (λ fault. (buffer : List ℕ) → order_fault (net_at internet.now) (order_says buffer order) ≡ Some fault) }
 {
     match order {
         Order::Start { router }
         | Order::Stop { router }
         | Order::Routes { router }
         | Order::Services { router } => check_router(internet, router),
-        Order::In { router, port }
-        | Order::Down { router, port }
-        | Order::Up { router, port }
+        Order::Packet { router, port }
+        | Order::PortDown { router, port }
+        | Order::PortUp { router, port }
         | Order::Trace { router, port, .. } => check_port(internet, router, port),
         _ => Ok(()),
     }
@@ -257,29 +257,29 @@ fn run<W: Write>(
     text: &mut Vec<u8>,
     outlet: &mut Outlet<W>,
 ) -> Result<(), RunFault>
-    requires there { order_fault (net_at internet.old) (request_of buffer.now order) ≡ None }
+    requires there { order_fault (net_at internet.old) (order_says buffer.now order) ≡ None }
     requires outlet { outlet.old.failed ≡ false }
     ensures net { net_at internet.new ≡ net_at internet.old }
     ensures fine { OnOk result (outlet.new.failed ≡ false) }
-    ensures stands { OnOk result ((q : Queued) → StandsFor MOST_ROUTES MOST_SERVICES internet.old q → StandsFor MOST_ROUTES MOST_SERVICES internet.new (ordered (net_at internet.old) q (request_of buffer.now order))) }
-    ensures says { (q : Queued) → StandsFor MOST_ROUTES MOST_SERVICES internet.old q → Says outlet.old outlet.new text.old.items text.new.items (order_text (net_at internet.old) q (request_of buffer.now order)) result }
+    ensures stands { OnOk result ((q : Queued) → StandsFor MOST_ROUTES MOST_SERVICES internet.old q → StandsFor MOST_ROUTES MOST_SERVICES internet.new (ordered (net_at internet.old) q (order_says buffer.now order))) }
+    ensures says { (q : Queued) → StandsFor MOST_ROUTES MOST_SERVICES internet.old q → Says outlet.old outlet.new text.old.items text.new.items (order_text (net_at internet.old) q (order_says buffer.now order)) result }
 {
     match order {
         Order::Router | Order::Port(_) => Ok(()),
         Order::Start { router } => happen(internet, router, Event::Start, text, outlet),
         Order::Stop { router } => happen(internet, router, Event::Stop, text, outlet),
         Order::Second { count } => pass(internet, count),
-        Order::In { router, port } => {
+        Order::Packet { router, port } => {
             let event = Event::Packet {
                 port,
                 bytes: buffer,
             };
             happen(internet, router, event, text, outlet)
         }
-        Order::Down { router, port } => {
+        Order::PortDown { router, port } => {
             happen(internet, router, Event::PortDown { port }, text, outlet)
         }
-        Order::Up { router, port } => happen(
+        Order::PortUp { router, port } => happen(
             internet,
             router,
             Event::PortUp { port },

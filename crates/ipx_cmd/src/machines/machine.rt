@@ -1,12 +1,12 @@
-//! What the lines of a script act on: the ports named so far, and then the router that they make.
+//! The machine of one router: the ports named so far, and then the router that they make.
 ghost use Rattle.std.specs.Prelude.{◌≡◌, ◌<◌, ◌++◌, ◌∷◌, [], ℕ, List, false, length, IsSome, IsTrue, IfErr, IfOk, OnOk, Ok, Err, Some, None, option_map};
 ghost use Rattle.ipx_router.specs.History.{History};
 ghost use Rattle.ipx_router.specs.Port.{Port as PortValues};
 ghost use Rattle.ipx_router.specs.Stands.{StandsFor};
 ghost use Rattle.ipx_cmd.specs.inside.Acted.{Halted};
-ghost use Rattle.ipx_cmd.specs.Instruction.{instruction_of, values_of};
+ghost use Rattle.ipx_cmd.specs.CommandMeaning.{command_says, values_of};
 ghost use Rattle.ipx_cmd.specs.Line.{Stops};
-ghost use Rattle.ipx_cmd.specs.Machine.{Standing, events_of, has_ports, instruction_text, nothing_yet, obeys, past_of};
+ghost use Rattle.ipx_cmd.specs.Machine.{Standing, command_text, events_of, has_ports, nothing_yet, obeys, past_of};
 ghost use Rattle.ipx_cmd.specs.inside.MachineStands.{IsSame, IsStanding, Leads, Makes, reached};
 ghost use Rattle.ipx_cmd.specs.Making.{named_port};
 ghost use Rattle.ipx_cmd.specs.inside.Said.{Says};
@@ -89,7 +89,7 @@ impl Act for Machine {
 impl Machine {
     /// Reads a line; the bytes of a packet go into the buffer.
     fn read(&mut self, line: &[u8]) -> Result<Option<Command>, Halt>
-        ensures command { IfOk result (λ command. line_meaning (reached self.old) line.now ≡ Ok (option_map (instruction_of self.new.buffer) command)) }
+        ensures command { IfOk result (λ command. line_meaning (reached self.old) line.now ≡ Ok (option_map (command_says self.new.buffer) command)) }
         ensures refused { IfErr result (Stops (line_meaning (reached self.old) line.now)) }
         ensures same { IsSame self.old self.new }
     {
@@ -155,9 +155,9 @@ impl Machine {
         requires made { IsSome self.old.router }
         ensures fine { OnOk result (outlet.new.failed ≡ false) }
         ensures acted { OnOk result ((ports : List PortValues) (history : History) → IsStanding self.old (record { ports = ports; past = Some history })
-            → Leads self.new (obeys ports history (instruction_of self.old.buffer command)) outlet.old outlet.new text.old.items text.new.items) }
+            → Leads self.new (obeys ports history (command_says self.old.buffer command)) outlet.old outlet.new text.old.items text.new.items) }
         ensures halted { IfErr result (λ halt. (ports : List PortValues) (history : History) → IsStanding self.old (record { ports = ports; past = Some history })
-            → Halted (obeys ports history (instruction_of self.old.buffer command)) outlet.old outlet.new text.old.items text.new.items halt) }
+            → Halted (obeys ports history (command_says self.old.buffer command)) outlet.old outlet.new text.old.items text.new.items halt) }
     {
         match &mut self.router {
             Some(router) => {
@@ -183,12 +183,11 @@ impl Machine {
 
 /// Whether the router has the port that a command names, if it names one.
 fn has_ports(router: &ScriptRouter, command: Command) -> bool
-    ensures { (buffer : List ℕ) → result ≡ has_ports (length router.now.ports) (instruction_of buffer command) }
+    ensures { (buffer : List ℕ) → result ≡ has_ports (length router.now.ports) (command_says buffer command) }
 {
     match command {
-        Command::In { port } | Command::Down { port } | Command::Up { port } => router.has_port(
-            port,
-        ),
+        Command::Packet { port } | Command::PortDown { port } | Command::PortUp { port } =>
+            router.has_port(port),
         _ => true,
     }
 }
@@ -202,28 +201,34 @@ fn run<W: Write>(
     text: &mut Vec<u8>,
     outlet: &mut Outlet<W>,
 ) -> Result<(), RunFault>
-    requires port { IsTrue (has_ports (length router.old.ports) (instruction_of buffer.now command)) }
+    requires port { IsTrue (has_ports (length router.old.ports) (command_says buffer.now command)) }
     requires outlet { outlet.old.failed ≡ false }
     ensures ports { router.new.ports ≡ router.old.ports }
     ensures fine { OnOk result (outlet.new.failed ≡ false) }
-    ensures stands { OnOk result ((h : History) → StandsFor MOST_ROUTES MOST_SERVICES router.old h → StandsFor MOST_ROUTES MOST_SERVICES router.new (h ++ events_of (instruction_of buffer.now command))) }
+    ensures stands { OnOk result ((h : History) → StandsFor MOST_ROUTES MOST_SERVICES router.old h → StandsFor MOST_ROUTES MOST_SERVICES router.new (h ++ events_of (command_says buffer.now command))) }
     ensures says { (h : History) → StandsFor MOST_ROUTES MOST_SERVICES router.old h
-        → Says outlet.old outlet.new text.old.items text.new.items (instruction_text router.old.ports h (instruction_of buffer.now command)) result }
+        → Says outlet.old outlet.new text.old.items text.new.items (command_text router.old.ports h (command_says buffer.now command)) result }
 {
     match command {
         Command::Port(_) => Ok(()),
         Command::Start => happen(router, outbox, Event::Start, text, outlet),
         Command::Stop => happen(router, outbox, Event::Stop, text, outlet),
         Command::Second { count } => pass(router, outbox, count, text, outlet),
-        Command::In { port } => {
+        Command::Packet { port } => {
             let event = Event::Packet {
                 port,
                 bytes: buffer,
             };
             happen(router, outbox, event, text, outlet)
         }
-        Command::Down { port } => happen(router, outbox, Event::PortDown { port }, text, outlet),
-        Command::Up { port } => happen(router, outbox, Event::PortUp { port }, text, outlet),
+        Command::PortDown { port } => happen(
+            router,
+            outbox,
+            Event::PortDown { port },
+            text,
+            outlet,
+        ),
+        Command::PortUp { port } => happen(router, outbox, Event::PortUp { port }, text, outlet),
         Command::Routes => show_routes(router, text, outlet),
         Command::Services => show_services(router, text, outlet),
     }

@@ -1,7 +1,7 @@
-//! The ports and the router that a script makes.
+//! The router of a script, its ports and its sizes.
 ghost use Rattle.std.specs.Prelude.{◌≡◌, [], IfErr, IfOk, Ok, Err};
 ghost use Rattle.ipx_router.specs.Stands.{StandsFor};
-ghost use Rattle.ipx_cmd.specs.Instruction.{values_of};
+ghost use Rattle.ipx_cmd.specs.CommandMeaning.{values_of};
 ghost use Rattle.ipx_cmd.specs.Making.{named_port, named_router};
 ghost use Rattle.ipx_cmd.specs.PortWord.{port_fault, ports_fault};
 

@@ -17,7 +17,7 @@ pub(crate) const HEAD: usize = 128;
 pub(crate) const LONGEST_COUNT: usize = 20;
 
 /// How many bytes the word of a name has at most.
-pub(crate) const LONGEST_NAME: usize = 141;
+pub(crate) const LONGEST_NAME: usize = ServiceName::LONGEST_WORD;
 
 /// Text that is put together.
 #[derive(Drop)]

@@ -11,13 +11,11 @@ ghost use Rattle.ipx_cmd.specs.ServiceWords.{offered_words};
 use crate::texts::put::{
     number_at, put_hex, put_hex_16, put_hex_32, put_name, put_number, put_text,
 };
+use crate::texts::service_words::LONGEST_OFFERED;
 use ipx_wire::ServiceName;
 
 /// How many bytes the line of an entry has at most.
 pub(crate) const LONGEST_ENTRY: usize = 188;
-
-/// How many bytes an address and hops have at most, each behind a space.
-const LONGEST_OFFERED: usize = 33;
 
 /// Where the name of an entry stands.
 const NAME: usize = 2;

@@ -1,4 +1,4 @@
-//! A service as words, for the lines of captures and of tables.
+//! A service as words, for the lines of tables.
 ghost use Rattle.std.specs.Prelude.{◌≡◌, ◌++◌, OnOk, ◌+◌, ◌<◌, ◌≤◌, length, OnErr};
 ghost use Rattle.std.specs.Vec.{vec_capacity};
 ghost use Rattle.ipx_cmd.specs.ServiceWords.{offered_words, service_words};
@@ -11,7 +11,7 @@ use std::alloc::AllocError;
 pub(crate) const LONGEST_SERVICE: usize = 187;
 
 /// How many bytes its address and its hops have at most, each behind a space.
-const LONGEST_OFFERED: usize = 33;
+pub(crate) const LONGEST_OFFERED: usize = 33;
 
 /// Appends the words of a service: its type, its name, where it is offered and how far away.
 ///

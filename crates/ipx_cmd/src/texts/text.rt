@@ -1,4 +1,4 @@
-//! Numbers and bytes as text, put behind the text that is there.
+//! Numbers and bytes as text, appended to a buffer that may have to grow.
 //!
 //! Text is put together as bytes in a buffer: a part is refused only where the buffer has no room for it and gets none. What
 //! is refused may have put some of its bytes.

@@ -1,5 +1,5 @@
 use Rattle.std.proofs.Common.{sym, ap, ◌∙◌, Err}
-use Rattle.ipx_cmd.specs.Instruction.{values_of}
+use Rattle.ipx_cmd.specs.CommandMeaning.{values_of}
 use Rattle.ipx_cmd.proofs.acts.ValuesMakeARouter.{port_answer, port_bad}
 use Rattle.ipx_cmd.proofs.making.router.port_of.Goals as goal
 

@@ -1,7 +1,7 @@
 use Rattle.std.proofs.Common.{ap, ◌∙◌, [], ◌∷◌, ◌++◌, map}
 use Rattle.std.specs.Option.{option_to_list}
 use Rattle.ipx_router.specs.Port.{Port}
-use Rattle.ipx_cmd.specs.Instruction.{values_of}
+use Rattle.ipx_cmd.specs.CommandMeaning.{values_of}
 use Rattle.ipx_cmd.specs.InternetMachine.{with_port}
 use Rattle.ipx_cmd.specs.inside.InternetStands.{InternetMachine}
 use Rattle.ipx_cmd.proofs.acts.LatestNamed.{with_port_seen}

@@ -1,6 +1,6 @@
 use Rattle.std.proofs.Common.{ap, ◌∙◌, arith, length, option_map, Option, Some, Ok}
 use Rattle.std.proofs.lemmas.Result.{err_from_is_err_and}
-use Rattle.ipx_cmd.specs.Instruction.{instruction_of}
+use Rattle.ipx_cmd.specs.CommandMeaning.{command_says}
 use Rattle.ipx_cmd.specs.Machine.{Standing}
 use Rattle.ipx_cmd.specs.inside.MachineStands.{IsStanding, reached}
 use Rattle.ipx_cmd.specs.declared.lines.command.Command.{Command}
@@ -17,12 +17,12 @@ returns-in_err-command-clause-halted g c =
 pub returns-in_default-clause-acted : goal.returns-in_default-clause-acted
 returns-in_default-clause-acted g c = λ state stands.
     skipped c.args.self.now c.read.new.self state c.args.line.now c.args.outlet.now c.args.text.now.items c.requires stands c.read.ensures.same
-    (c.in_ok-command.ensures.command ∙ ap (λ (o : Option Command). Ok (option_map (instruction_of c.read.new.self.buffer) o)) c.in_default.is)
+    (c.in_ok-command.ensures.command ∙ ap (λ (o : Option Command). Ok (option_map (command_says c.read.new.self.buffer) o)) c.in_default.is)
 
 pub name_port-requires : goal.name_port-requires
 name_port-requires g c =
     let meaning = c.in_ok-command.ensures.command
-    ∙ ap (λ (o : Option Command). Ok (option_map (instruction_of c.read.new.self.buffer) o)) (c.in-Some.is ∙ ap Some c.in-Port.is) in
+    ∙ ap (λ (o : Option Command). Ok (option_map (command_says c.read.new.self.buffer) o)) (c.in-Some.is ∙ ap Some c.in-Port.is) in
     let early = port_line (reached c.args.self.now) c.args.line.now c.in-Port.named meaning in
     omega (arith, early.1, ap length c.read.ensures.same.ports)
 
@@ -30,14 +30,14 @@ pub returns-in_err-name_port-clause-halted : goal.returns-in_err-name_port-claus
 returns-in_err-name_port-clause-halted g c =
     let p = err_from_is_err_and c.from_residual-in_err-name_port.result c.from_residual-in_err-name_port.ensures.1 in
     let meaning = c.in_ok-command.ensures.command
-    ∙ ap (λ (o : Option Command). Ok (option_map (instruction_of c.read.new.self.buffer) o)) (c.in-Some.is ∙ ap Some c.in-Port.is) in
+    ∙ ap (λ (o : Option Command). Ok (option_map (command_says c.read.new.self.buffer) o)) (c.in-Some.is ∙ ap Some c.in-Port.is) in
     rw (p.1, p.2) (λ state stands.
     unnamed_line c.args.self.now state c.args.line.now c.in-Port.named c.args.outlet.now c.args.text.now.items _ stands meaning c.in_err-name_port.ensures.refused)
 
 pub returns-in-Port-clause-acted : goal.returns-in-Port-clause-acted
 returns-in-Port-clause-acted g c = λ state stands.
     let meaning = c.in_ok-command.ensures.command
-    ∙ ap (λ (o : Option Command). Ok (option_map (instruction_of c.read.new.self.buffer) o)) (c.in-Some.is ∙ ap Some c.in-Port.is) in
+    ∙ ap (λ (o : Option Command). Ok (option_map (command_says c.read.new.self.buffer) o)) (c.in-Some.is ∙ ap Some c.in-Port.is) in
     named_line c.args.self.now c.read.new.self c.name_port.new.self state c.args.line.now c.in-Port.named c.args.outlet.now c.args.text.now.items c.requires stands
     c.read.ensures.same meaning c.in_ok-name_port.ensures.named c.in_ok-name_port.ensures.ports c.name_port.ensures.router
 
@@ -45,7 +45,7 @@ pub returns-in_err-make_router : goal.returns-in_err-make_router
 returns-in_err-make_router g c =
     let p = err_from_is_err_and c.from_residual-in_err-make_router.result c.from_residual-in_err-make_router.ensures.1 in
     let meaning = c.in_ok-command.ensures.command
-    ∙ ap (λ (o : Option Command). Ok (option_map (instruction_of c.read.new.self.buffer) o)) c.in-Some.is in
+    ∙ ap (λ (o : Option Command). Ok (option_map (command_says c.read.new.self.buffer) o)) c.in-Some.is in
     rw (p.1, p.2) (record {
       fine = tt;
       acted = tt;
@@ -58,7 +58,7 @@ returns-in_err-make_router g c =
 pub returns : goal.returns
 returns g c =
     let meaning = c.in_ok-command.ensures.command
-    ∙ ap (λ (o : Option Command). Ok (option_map (instruction_of c.read.new.self.buffer) o)) c.in-Some.is in
+    ∙ ap (λ (o : Option Command). Ok (option_map (command_says c.read.new.self.buffer) o)) c.in-Some.is in
     let makes = λ (state : Standing) (stands : IsStanding c.args.self.now state). c.in_ok-make_router.ensures.stands state (still c.args.self.now c.read.new.self state c.read.ensures.same stands) in
     let unlike = unlike_port c.in-Some.command c.in_default-command.not-Port in
     record {
