@@ -6,7 +6,7 @@ use Rattle.std.proofs.lemmas.Option.{get_or_from_slice_get}
 use Rattle.ipx_router.specs.Port.{Port, broadcast}
 use Rattle.ipx_router.specs.Relays.{Sent}
 use Rattle.ipx_internet.specs.inside.Stations.{hearers}
-use Rattle.ipx_internet.specs.inside.Batches.{arriving, deliveries_in, AreWithin, delivery_in, pending_at, reaching, heard}
+use Rattle.ipx_internet.specs.Batches.{arriving, deliveries_in, AreWithin, delivery_in, pending_at, reaching, heard}
 use Rattle.ipx_internet.specs.Queue.{Delivery}
 use Rattle.ipx_internet.specs.declared.batch.Pending.{Pending}
 use Rattle.ipx_internet.specs.declared.stations.Station.{Station}

@@ -4,7 +4,7 @@ use Rattle.std.proofs.lemmas.List.{append-nil, map-append, get_or_append_left, g
 use Rattle.std.proofs.lemmas.Option.{get_or_from_slice_get, slice_get_within}
 use Rattle.ipx_router.specs.Relays.{Sent}
 use Rattle.ipx_router.specs.declared.outcome.Outcome.{Outcome}
-use Rattle.ipx_internet.specs.inside.Batches.{sent_at}
+use Rattle.ipx_internet.specs.Batches.{sent_at}
 use Rattle.ipx_internet.specs.Listed.{bytes_in, copy_in, IsIn, AreKept, into_odd, outbox_of, source_in, child, listed_from, Listing, copy_at, waits_next, receivers_by, children_by, GoesOn, IsCut}
 use Rattle.ipx_internet.specs.inside.Stations.{place_of, hearers}
 use Rattle.ipx_internet.specs.Traced.{outcome_of}

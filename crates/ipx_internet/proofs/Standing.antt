@@ -13,7 +13,7 @@ use Rattle.ipx_router.specs.RouterOf.{HasPast}
 use Rattle.ipx_router.specs.Sends.{sends}
 use Rattle.ipx_router.specs.Stands.{State, StandsFor as RouterStandsFor}
 use Rattle.ipx_router.specs.declared.outcome.Outcome.{Outcome}
-use Rattle.ipx_internet.specs.inside.Batches.{heard, reaching}
+use Rattle.ipx_internet.specs.Batches.{heard, reaching}
 use Rattle.ipx_internet.specs.Delivery.{receives, delivered}
 use Rattle.ipx_internet.specs.Internet.{Internet, Place, IsInternet, NodesDiffer, IsPlace, ports_of}
 use Rattle.ipx_internet.specs.Moment.{StandsFor}

@@ -33,6 +33,7 @@ pub mod Least
 -- Arriving
 pub mod Arriving
 -- Moment, Settled, Refused
+pub mod Batches
 pub mod Moment
 pub mod Settled
 pub mod Refused

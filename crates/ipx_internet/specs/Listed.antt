@@ -4,7 +4,7 @@ use Rattle.std.specs.List.{AllByRecursion, flat_map}
 use Rattle.ipx_router.specs.Port.{Port}
 use Rattle.ipx_router.specs.Relays.{Sent}
 use Rattle.ipx_router.specs.declared.outcome.Outcome.{Outcome}
-use Rattle.ipx_internet.specs.inside.Batches.{sent_at}
+use Rattle.ipx_internet.specs.Batches.{sent_at}
 use Rattle.ipx_internet.specs.Internet.{IsPlace}
 use Rattle.ipx_internet.specs.inside.Stations.{place_of, hearers}
 use Rattle.ipx_internet.specs.Traced.{Traced, outcome_of, tree, outcome_at}

@@ -1,5 +1,4 @@
 -- Definitions that only clauses inside the crate and its proofs speak of: nobody needs to believe them.
-pub mod Batches
 pub mod Scales
 pub mod Simulated
 pub mod Stations

@@ -11,7 +11,7 @@ ghost use Rattle.ipx_router.specs.Outcomes.{outcome};
 ghost use Rattle.ipx_router.specs.RouterOf.{HasPast};
 ghost use Rattle.ipx_router.specs.Sends.{sends};
 ghost use Rattle.ipx_router.specs.Stands.{StandsFor};
-ghost use Rattle.ipx_internet.specs.inside.Batches.{AreWithin, deliveries_in, delivery_of, heard, pending_at};
+ghost use Rattle.ipx_internet.specs.Batches.{AreWithin, deliveries_in, delivery_of, heard, pending_at};
 ghost use Rattle.ipx_internet.specs.inside.Stations.{hears};
 
 use crate::stations::{Station, Stations, network_of};
@@ -46,7 +46,7 @@ pub(crate) struct Batch {
 impl Model for Batch {
     ghost use Rattle.std.specs.Prelude.{◌-◌};
     ghost use Rattle.std.specs.Vec.{vec_len, vec_capacity};
-    ghost use Rattle.ipx_internet.specs.inside.Batches.{Pile, AreWithin, deliveries_in};
+    ghost use Rattle.ipx_internet.specs.Batches.{Pile, AreWithin, deliveries_in};
 
     ghost Value = { Pile };
 

@@ -3,7 +3,7 @@
 //! Numbers are counted up to `usize::MAX`, which stands for all that are greater.
 ghost use Rattle.std.specs.Prelude.{◌≡◌, ◌-◌, ◌^◌, ◌<◌, ◌≤◌, min, drop};
 ghost use Rattle.std.specs.List.{sum_by};
-ghost use Rattle.ipx_internet.specs.inside.Batches.{delivery_of};
+ghost use Rattle.ipx_internet.specs.Batches.{delivery_of};
 ghost use Rattle.ipx_internet.specs.Internet.{network_of as network_at_place};
 ghost use Rattle.ipx_internet.specs.InternetWeight.{delivery_weight, records_at, internet_weight};
 ghost use Rattle.ipx_internet.specs.Most.{most_ports as ports_at_most};

@@ -60,7 +60,7 @@ pub(crate) fn introduce_all<const R: usize, const S: usize>(
     }
 }
 
-/// Advertises the network of a port on another one.
+/// Broadcasts on a port the network of another one.
 fn announce(outbox: &mut Outbox, ports: &[Port], port: u8, number: u8)
     requires port { port < length ports.now }
     requires number { number < length ports.now }

@@ -1,4 +1,4 @@
-//! From the tables and the ports straight into pages of the outbox: no list of all routes or services is made.
+//! What a port advertises goes from tables and ports straight into pages of the outbox: no list of all of it is made.
 ghost use Rattle.std.specs.Prelude.{◌≡◌, ◌<◌, ◌≤◌, List, [], ◌∷◌, ◌++◌, length, take, false, Some};
 ghost use Rattle.std.specs.List.{AllByRecursion, flat_map};
 ghost use Rattle.std.specs.Option.{option_to_list};

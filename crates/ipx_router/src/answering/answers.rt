@@ -1,4 +1,4 @@
-//! Answers of any number of packets: the routes that a request asks for, and the services of a type.
+//! Answers: the routes that a request asks for, and the services of a type or the nearest one.
 ghost use Rattle.std.specs.Prelude.{◌≡◌, ◌<◌, ◌≤◌, if◌then◌else◌, List, length};
 ghost use Rattle.std.specs.List.{AllByRecursion, flat_map};
 ghost use Rattle.ipx_wire.specs.declared.rip.RipEntry.{RipEntry};

@@ -1,4 +1,4 @@
-//! Both tables at once: what a second or the end of a port ends in them, handed to each port that is up.
+//! Both tables at once: what a second or the end of a port ends in them, advertised on the ports that are up.
 ghost use Rattle.std.specs.Prelude.{◌≡◌, ◌<◌, ◌≤◌, List, [], ◌∷◌, ◌++◌, length, true, false};
 ghost use Rattle.std.specs.List.{AllByRecursion, flat_map, list_any};
 ghost use Rattle.ipx_table.specs.Facts.{Fact, Second, PortEnd};

@@ -2,7 +2,7 @@ use Rattle.std.proofs.Common.{rules, ◌≡◌, ◌<◌, ◌++◌, ap, ◌∙◌
 use Rattle.std.specs.List.{filter, flat_map}
 use Rattle.std.specs.Vec.{vec_len, vec_capacity}
 use Rattle.ipx_router.specs.Relays.{Sent}
-use Rattle.ipx_internet.specs.inside.Batches.{deliveries_in, pending_at, heard}
+use Rattle.ipx_internet.specs.Batches.{deliveries_in, pending_at, heard}
 use Rattle.ipx_internet.specs.inside.Stations.{hears, stations_on, hearers}
 use Rattle.ipx_internet.proofs.Batched.{one_packet, still_within, room_for_one, room_for_others}
 use Rattle.ipx_internet.proofs.batch.deliver.Goals as goal

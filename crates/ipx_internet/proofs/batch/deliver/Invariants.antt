@@ -1,7 +1,7 @@
 use Rattle.std.proofs.Common.{◌≡◌, ◌+◌, ◌-◌, ◌*◌, ◌≤◌, ◌++◌, drop, length}
 use Rattle.std.specs.List.{flat_map}
 use Rattle.std.specs.Vec.{vec_len, vec_capacity}
-use Rattle.ipx_internet.specs.inside.Batches.{AreWithin, deliveries_in, heard}
+use Rattle.ipx_internet.specs.Batches.{AreWithin, deliveries_in, heard}
 use Rattle.ipx_internet.proofs.batch.deliver.Given as goal
 
 abbrev pub invariant-loop-packet : goal.invariant-loop-packet

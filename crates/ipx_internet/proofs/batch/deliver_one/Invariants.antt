@@ -1,7 +1,7 @@
 use Rattle.std.proofs.Common.{◌≡◌, ◌+◌, ◌≤◌, ◌++◌, map, drop}
 use Rattle.std.specs.List.{filter}
 use Rattle.std.specs.Vec.{vec_len, vec_capacity}
-use Rattle.ipx_internet.specs.inside.Batches.{pending_at}
+use Rattle.ipx_internet.specs.Batches.{pending_at}
 use Rattle.ipx_internet.specs.inside.Stations.{hears}
 use Rattle.ipx_internet.proofs.batch.deliver_one.Given as goal
 

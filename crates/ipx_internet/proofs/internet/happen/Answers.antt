@@ -6,7 +6,7 @@ use Rattle.ipx_router.specs.Outbox.{HasRoom}
 use Rattle.ipx_router.specs.Port.{Port}
 use Rattle.ipx_router.specs.RouterOf.{HasPast}
 use Rattle.ipx_router.specs.Sends.{sends}
-use Rattle.ipx_internet.specs.inside.Batches.{heard}
+use Rattle.ipx_internet.specs.Batches.{heard}
 use Rattle.ipx_internet.specs.Queue.{Delivery}
 use Rattle.ipx_table.proofs.Pairs.{set-same}
 use Rattle.ipx_internet.proofs.Handing.{at_error}

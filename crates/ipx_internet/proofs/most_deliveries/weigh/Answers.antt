@@ -1,6 +1,6 @@
 use Rattle.std.proofs.Common.{drop, arith}
 use Rattle.std.specs.List.{sum_by}
-use Rattle.ipx_internet.specs.inside.Batches.{delivery_of}
+use Rattle.ipx_internet.specs.Batches.{delivery_of}
 use Rattle.ipx_internet.specs.InternetWeight.{delivery_weight}
 use Rattle.ipx_internet.specs.inside.Simulated.{net_among}
 use Rattle.ipx_internet.proofs.Measuring.{sum_next, sum_whole}

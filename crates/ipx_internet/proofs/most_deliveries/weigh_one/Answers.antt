@@ -1,6 +1,6 @@
 use Rattle.std.proofs.Common.{◌≡◌, sym, ap, ◌∙◌, Ok}
 use Rattle.ipx_wire.specs.Packet.{Parts, packet_of}
-use Rattle.ipx_internet.specs.inside.Batches.{delivery_of}
+use Rattle.ipx_internet.specs.Batches.{delivery_of}
 use Rattle.ipx_internet.specs.Internet.{Internet, port_of}
 use Rattle.ipx_internet.specs.Queue.{Delivery}
 use Rattle.ipx_internet.specs.inside.Simulated.{net_among}

@@ -3,7 +3,7 @@ use Rattle.std.specs.Vec.{vec_len, vec_capacity}
 use Rattle.ipx_router.specs.Happened.{happened}
 use Rattle.ipx_router.specs.Needs.{HasRoomFor, packets_needed}
 use Rattle.ipx_router.specs.Sends.{sends}
-use Rattle.ipx_internet.specs.inside.Batches.{Pile}
+use Rattle.ipx_internet.specs.Batches.{Pile}
 use Rattle.ipx_internet.proofs.Batched.{room_for_all, within_longer, event_delivers}
 use Rattle.ipx_internet.proofs.batch.Batch.happen.Goals as goal
 

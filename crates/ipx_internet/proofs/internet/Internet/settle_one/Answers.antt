@@ -1,5 +1,5 @@
 use Rattle.std.proofs.Common.{arith, ◌≡◌, ◌+◌, ◌<◌, ◌++◌, length, sym, ap, ap₂, ◌∙◌, subst, drop}
-use Rattle.ipx_internet.specs.inside.Batches.{delivery_of}
+use Rattle.ipx_internet.specs.Batches.{delivery_of}
 use Rattle.ipx_router.specs.RouterOf.{HasPast}
 use Rattle.ipx_internet.specs.Moment.{Moment, net_at}
 use Rattle.ipx_internet.specs.inside.Simulated.{moment, net_among, IsComing}
