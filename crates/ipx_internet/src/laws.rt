@@ -300,8 +300,8 @@ pub fn ticks_pass()
 /// What is gone is gone everywhere after 2,880 ticks, whatever was in the tables before: where nobody has a port up on a network,
 /// no router has a route to it; and no router has any service, as no router announces one of its own.
 ///
-/// Nothing waits when they begin. In a tick each router has one second, in any order, deliveries happen in between, and in the end nothing waits. Nothing
-/// else happens: packets of hosts, starts and stops, and ports that go down or come up aren't in it.
+/// Nothing waits when they begin. In a tick each router has one second, in any order, deliveries happen in between, and in the end nothing
+/// waits. Nothing else happens: packets of hosts, starts and stops, and ports that go down or come up aren't in it.
 pub fn gone()
     ensures networks { (net : Internet) (most_routes most_services : ℕ) (histories : List History) (ticks : List (List Step)) (router : ℕ) (network : Network)
         → IsInternet net → AreHistories net histories → AreTicks net most_routes most_services (begun histories) ticks → most_ticks_gone ≤ length ticks
@@ -322,9 +322,9 @@ pub fn gone()
 /// What is gone stays gone, whatever else happens meanwhile: starts and stops, ports that go down and come up, packets of hosts.
 ///
 /// After 2,880 ticks no router has a route to a network on which no port was up since they began, if no packet of a host said that it
-/// is reached; and no router has a service that no host announced since then. Nothing waits when they begin. In a tick each router has one second, everything else
-/// happens in any order, and in the end nothing waits. A host may ask what it likes, but a request for routes is not sent from the socket
-/// of SAP, nor a query for services from that of RIP: the answer would be read as what it is not.
+/// is reached; and no router has a service that no host announced since then. Nothing waits when they begin. In a tick each router has one
+/// second, everything else happens in any order, and in the end nothing waits. A host may ask what it likes, but a request for routes is
+/// not sent from the socket of SAP, nor a query for services from that of RIP: the answer would be read as what it is not.
 pub fn gone_meanwhile()
     ensures networks { (net : Internet) (most_routes most_services : ℕ) (histories : List History) (ticks : List (List Step)) (router : ℕ) (network : Network)
         → IsInternet net → AreHistories net histories
@@ -373,9 +373,9 @@ pub fn announced()
     ipx_router::laws::packets();
 }
 
-/// Every route is of a real way after 2,880 ticks as of `gone`, whatever was in the tables before, where nothing waits at first: each came
-/// by a port that is up from a router that has the network on another port, or has such a route by another one. All those ports are up,
-/// neighbour by neighbour, and hops and ticks are those of that way.
+/// Every route is of a real way after 2,880 ticks in which nothing else happens, as in `gone`, whatever was in the tables before: each
+/// came by a port that is up from a router that has the network on another port, or has such a route by another one. All those ports are
+/// up, neighbour by neighbour, and hops and ticks are those of that way. Nothing waits when the ticks begin.
 ///
 /// So no route is of a way that leads over a port that has been down that long (`down`). The port by which a route came is up after
 /// any number of ticks (`own_ports`).

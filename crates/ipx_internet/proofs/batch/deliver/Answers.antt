@@ -4,8 +4,8 @@ use Rattle.std.specs.Vec.{vec_len, vec_capacity}
 use Rattle.ipx_router.specs.Relays.{Sent}
 use Rattle.ipx_internet.specs.Batches.{deliveries_in, pending_at, heard}
 use Rattle.ipx_internet.specs.inside.Stations.{hears, stations_on, hearers}
-use Rattle.ipx_internet.proofs.Batched.{one_packet, still_within, room_for_one, room_for_others}
 use Rattle.ipx_internet.proofs.batch.deliver.Goals as goal
+use Rattle.ipx_internet.proofs.deliveries.BatchPacketByPacket.{one_packet, still_within, room_for_one, room_for_others}
 
 pub deliver_one-requires : goal.deliver_one-requires
 deliver_one-requires g c =

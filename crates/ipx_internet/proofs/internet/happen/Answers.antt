@@ -9,8 +9,8 @@ use Rattle.ipx_router.specs.Sends.{sends}
 use Rattle.ipx_internet.specs.Batches.{heard}
 use Rattle.ipx_internet.specs.Queue.{Delivery}
 use Rattle.ipx_table.proofs.Pairs.{set-same}
-use Rattle.ipx_internet.proofs.Handing.{at_error}
-use Rattle.ipx_internet.proofs.Standing.{all_got, got_at, its_ports, same_net, routers_after, coming_after, stands_after, outcome_after}
+use Rattle.ipx_internet.proofs.deliveries.FirstIsHandedOut.{at_error}
+use Rattle.ipx_internet.proofs.deliveries.OtherRoutersStay.{all_got, got_at, its_ports, same_net, routers_after, coming_after, stands_after, outcome_after}
 use Rattle.ipx_internet.proofs.internet.happen.Goals as goal
 
 pub happen-requires : goal.happen-requires

@@ -1,9 +1,9 @@
 use Rattle.std.proofs.Common.{refl}
 use Rattle.ipx_internet.specs.Run.{begun, run_of}
-use Rattle.ipx_internet.proofs.Announcing.{announced}
-use Rattle.ipx_internet.proofs.Clearing.{are_after}
-use Rattle.ipx_internet.proofs.Replying.{Layouts}
 use Rattle.ipx_internet.proofs.laws.announced.Goals as goal
+use Rattle.ipx_internet.proofs.packets.RepliesAskNothing.{Layouts}
+use Rattle.ipx_internet.proofs.ticks.FirstTickClears.{are_after}
+use Rattle.ipx_internet.proofs.ticks.ServicesWereAnnounced.{announced}
 
 -- the laws of packets and routers
 layouts : goal.After-packets → Layouts

@@ -9,13 +9,13 @@ use Rattle.ipx_internet.specs.Run.{Step, Run, AreHistories, begun, run_of}
 use Rattle.ipx_internet.specs.Ticks.{AreTicks, ticked, ups, most_ticks_gone}
 use Rattle.ipx_internet.specs.Traced.{routers_after}
 use Rattle.ipx_internet.specs.Tree.{tree_to}
-use Rattle.ipx_internet.proofs.Becoming.{AtRest, at_first}
-use Rattle.ipx_internet.proofs.Clearing.{rests_from}
-use Rattle.ipx_internet.proofs.Homing.{goes, one_each, ends, nobody_after}
-use Rattle.ipx_internet.proofs.Replying.{Layouts}
-use Rattle.ipx_internet.proofs.Righting.{ups_within, climbs}
-use Rattle.ipx_internet.proofs.Ticking.{quiet_rests}
 use Rattle.ipx_internet.proofs.laws.arrives.Goals as goal
+use Rattle.ipx_internet.proofs.packets.RepliesAskNothing.{Layouts}
+use Rattle.ipx_internet.proofs.tables.PacketsArrive.{goes, one_each, ends, nobody_after}
+use Rattle.ipx_internet.proofs.tables.RightAndKept.{ups_within, climbs}
+use Rattle.ipx_internet.proofs.tables.RightTickByTick.{AtRest, at_first}
+use Rattle.ipx_internet.proofs.ticks.FirstTickClears.{rests_from}
+use Rattle.ipx_internet.proofs.ticks.TickAfterTick.{quiet_rests}
 
 -- the laws of packets and routers
 layouts : goal.After-packets → Layouts

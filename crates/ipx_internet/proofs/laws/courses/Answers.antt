@@ -1,7 +1,7 @@
-use Rattle.ipx_internet.proofs.Courses.{one_network}
-use Rattle.ipx_internet.proofs.Paths.{all_networks, no_network_twice, fewer_than_networks}
-use Rattle.ipx_internet.proofs.Wire.{Wire}
 use Rattle.ipx_internet.proofs.laws.courses.Goals as goal
+use Rattle.ipx_internet.proofs.packets.LawsOfLayouts.{Wire}
+use Rattle.ipx_internet.proofs.trees.NoNetworkTwice.{all_networks, no_network_twice, fewer_than_networks}
+use Rattle.ipx_internet.proofs.trees.SixteenForwardsAtMost.{one_network}
 
 -- the laws of packets
 wire : goal.After-same_offers → Wire

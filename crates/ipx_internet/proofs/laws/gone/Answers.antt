@@ -3,10 +3,10 @@ use Rattle.ipx_router.specs.History.{History}
 use Rattle.ipx_internet.specs.Internet.{Internet, IsInternet}
 use Rattle.ipx_internet.specs.Run.{Step, AreHistories, begun}
 use Rattle.ipx_internet.specs.Ticks.{AreTicks, ticked, ups}
-use Rattle.ipx_internet.proofs.Gone.{no_network, no_service}
-use Rattle.ipx_internet.proofs.Replying.{Layouts}
-use Rattle.ipx_internet.proofs.Ticking.{Rests, rested}
 use Rattle.ipx_internet.proofs.laws.gone.Goals as goal
+use Rattle.ipx_internet.proofs.packets.RepliesAskNothing.{Layouts}
+use Rattle.ipx_internet.proofs.ticks.NoRouteToTheGone.{no_network, no_service}
+use Rattle.ipx_internet.proofs.ticks.TickAfterTick.{Rests, rested}
 
 -- the laws of packets and routers
 layouts : goal.After-packets → Layouts

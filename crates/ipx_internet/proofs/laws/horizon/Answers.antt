@@ -1,5 +1,5 @@
-use Rattle.ipx_internet.proofs.Departing.{run_observes, all_delivered}
-use Rattle.ipx_internet.proofs.Sends.{Routing}
+use Rattle.ipx_internet.proofs.packets.ForwardsOnOtherPorts.{Routing}
+use Rattle.ipx_internet.proofs.packets.NothingGoesBack.{run_observes, all_delivered}
 use Rattle.ipx_internet.specs.Run.{begun}
 use Rattle.ipx_internet.proofs.laws.horizon.Goals as goal
 

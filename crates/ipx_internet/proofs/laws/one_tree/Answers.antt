@@ -1,8 +1,8 @@
 use Rattle.std.proofs.Common.{arith, ◌<◌}
 use Rattle.ipx_router.specs.Numbers.{most_routers}
 use Rattle.ipx_internet.specs.Traced.{most_levels, tree}
-use Rattle.ipx_internet.proofs.Reaching.{one_tree}
 use Rattle.ipx_internet.proofs.laws.one_tree.Goals as goal
+use Rattle.ipx_internet.proofs.trees.ListedIsTheTree.{one_tree}
 
 pub returns : goal.returns
 unfolding tree

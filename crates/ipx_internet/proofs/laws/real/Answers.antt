@@ -3,10 +3,10 @@ use Rattle.ipx_router.specs.History.{History}
 use Rattle.ipx_internet.specs.Internet.{Internet, IsInternet}
 use Rattle.ipx_internet.specs.Run.{Step, AreHistories, begun}
 use Rattle.ipx_internet.specs.Ticks.{AreTicks, ticked, ups}
-use Rattle.ipx_internet.proofs.Gone.{all_real, all_on, none_over}
-use Rattle.ipx_internet.proofs.Replying.{Layouts}
-use Rattle.ipx_internet.proofs.Ticking.{Rests, rested}
 use Rattle.ipx_internet.proofs.laws.real.Goals as goal
+use Rattle.ipx_internet.proofs.packets.RepliesAskNothing.{Layouts}
+use Rattle.ipx_internet.proofs.ticks.NoRouteToTheGone.{all_real, all_on, none_over}
+use Rattle.ipx_internet.proofs.ticks.TickAfterTick.{Rests, rested}
 
 -- the laws of packets and routers
 layouts : goal.After-packets → Layouts

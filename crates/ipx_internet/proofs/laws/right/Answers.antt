@@ -11,13 +11,13 @@ use Rattle.ipx_internet.specs.Real.{IsReal}
 use Rattle.ipx_internet.specs.Rounds.{IsDelivery}
 use Rattle.ipx_internet.specs.Run.{Step, Run, AreHistories, begun, run_of}
 use Rattle.ipx_internet.specs.Ticks.{AreTicks, ticked, ups, most_ticks_gone}
-use Rattle.ipx_internet.proofs.Becoming.{AtRest, at_first}
-use Rattle.ipx_internet.proofs.Clearing.{rests_from}
-use Rattle.ipx_internet.proofs.Replying.{Layouts}
-use Rattle.ipx_internet.proofs.Righting.{some_ticks, soon_enough, ups_within, climbs, table_is, stays, first_ticks, ticked_on}
-use Rattle.ipx_internet.proofs.Starting.{rests_at_once}
-use Rattle.ipx_internet.proofs.Ticking.{quiet_rests}
 use Rattle.ipx_internet.proofs.laws.right.Goals as goal
+use Rattle.ipx_internet.proofs.packets.RepliesAskNothing.{Layouts}
+use Rattle.ipx_internet.proofs.tables.RightAndKept.{some_ticks, soon_enough, ups_within, climbs, table_is, stays, first_ticks, ticked_on}
+use Rattle.ipx_internet.proofs.tables.RightTickByTick.{AtRest, at_first}
+use Rattle.ipx_internet.proofs.ticks.FirstTickClears.{rests_from}
+use Rattle.ipx_internet.proofs.ticks.RealFromTheFirst.{rests_at_once}
+use Rattle.ipx_internet.proofs.ticks.TickAfterTick.{quiet_rests}
 
 -- the laws of packets and routers
 layouts : goal.After-packets → Layouts

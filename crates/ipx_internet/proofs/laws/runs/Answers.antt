@@ -1,7 +1,7 @@
-use Rattle.ipx_internet.proofs.Queues.{events, deliveries, many_deliveries}
-use Rattle.ipx_internet.proofs.Runs.{listed}
-use Rattle.ipx_internet.proofs.Sends.{Routing}
+use Rattle.ipx_internet.proofs.deliveries.QueueOfARun.{events, deliveries, many_deliveries}
 use Rattle.ipx_internet.proofs.laws.runs.Goals as goal
+use Rattle.ipx_internet.proofs.packets.ForwardsOnOtherPorts.{Routing}
+use Rattle.ipx_internet.proofs.trees.RunIsALog.{listed}
 
 -- the laws of routers
 routing : goal.After-packets → Routing

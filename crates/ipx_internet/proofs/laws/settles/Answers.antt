@@ -1,9 +1,9 @@
-use Rattle.ipx_internet.proofs.Fanning.{Sending}
-use Rattle.ipx_internet.proofs.QuietSooner.{own_quiet}
-use Rattle.ipx_internet.proofs.Quieting.{quiet, enough, all_settled}
-use Rattle.ipx_internet.proofs.Replying.{Layouts}
-use Rattle.ipx_internet.proofs.Totalling.{Rooms, all_few}
+use Rattle.ipx_internet.proofs.deliveries.DeliveriesOfAnEvent.{Sending}
 use Rattle.ipx_internet.proofs.laws.settles.Goals as goal
+use Rattle.ipx_internet.proofs.packets.RepliesAskNothing.{Layouts}
+use Rattle.ipx_internet.proofs.rounds.DeliveriesOfRounds.{Rooms, all_few}
+use Rattle.ipx_internet.proofs.rounds.QuietAfterRounds.{quiet, enough, all_settled}
+use Rattle.ipx_internet.proofs.rounds.QuietSooner.{own_quiet}
 
 -- the laws of packets and routers
 layouts : goal.After-within_capacity → Layouts

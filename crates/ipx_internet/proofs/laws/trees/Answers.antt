@@ -1,10 +1,10 @@
-use Rattle.ipx_internet.proofs.Bytes.{SentOn}
-use Rattle.ipx_internet.proofs.Ending as ending
-use Rattle.ipx_internet.proofs.Following as following
-use Rattle.ipx_internet.proofs.Spreading as spreading
-use Rattle.ipx_internet.proofs.Trees.{Relaying, is_forward, is_sent_on}
-use Rattle.ipx_internet.proofs.Wire.{Wire}
 use Rattle.ipx_internet.proofs.laws.trees.Goals as goal
+use Rattle.ipx_internet.proofs.packets.LawsOfLayouts.{Wire}
+use Rattle.ipx_internet.proofs.packets.SentOnIsBytes.{SentOn}
+use Rattle.ipx_internet.proofs.trees.DirectedIsBounded as following
+use Rattle.ipx_internet.proofs.trees.PropagatedIsBounded as spreading
+use Rattle.ipx_internet.proofs.trees.SeventeenLevelsAtMost as ending
+use Rattle.ipx_internet.proofs.trees.TreeIsBounded.{Relaying, is_forward, is_sent_on}
 
 -- the laws of packets and routers
 wire : goal.After-relays → Wire

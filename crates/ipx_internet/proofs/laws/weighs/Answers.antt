@@ -1,5 +1,5 @@
-use Rattle.ipx_internet.proofs.Falling.{Weighed, lighter, quiet}
 use Rattle.ipx_internet.proofs.laws.weighs.Goals as goal
+use Rattle.ipx_internet.proofs.weights.EachMakesLighter.{Weighed, lighter, quiet}
 
 -- the laws of packets and routers
 laws : goal.After-within_capacity → Weighed

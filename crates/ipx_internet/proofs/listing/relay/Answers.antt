@@ -1,7 +1,7 @@
 use Rattle.std.proofs.Common.{sym, ◌∙◌}
 use Rattle.ipx_internet.specs.Traced.{router_of}
-use Rattle.ipx_internet.proofs.SendingOn.{of_packet, outcome_of_packet}
 use Rattle.ipx_internet.proofs.listing.relay.Goals as goal
+use Rattle.ipx_internet.proofs.trees.SentOnAsTreesSay.{of_packet, outcome_of_packet}
 
 pub returns-in-Ok-clause-sent : goal.returns-in-Ok-clause-sent
 returns-in-Ok-clause-sent g c =

@@ -2,8 +2,8 @@ use Rattle.std.proofs.Common.{◌≡◌, ap, ◌∙◌, ◌+◌, ℕ, max, List,
 use Rattle.ipx_router.specs.Stands.{State}
 use Rattle.ipx_internet.specs.Most.{most_ports}
 use Rattle.ipx_internet.specs.inside.Simulated.{net_among}
-use Rattle.ipx_internet.proofs.Measuring.{next_left}
 use Rattle.ipx_internet.proofs.most_deliveries.most_ports.Goals as goal
+use Rattle.ipx_internet.proofs.weights.WeighedOneByOne.{next_left}
 
 pub loop-router-preserved : goal.loop-router-preserved
 loop-router-preserved g c =

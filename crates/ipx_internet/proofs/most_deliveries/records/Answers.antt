@@ -2,8 +2,8 @@ use Rattle.std.proofs.Common.{ap, drop, length, ◌+◌, arith}
 use Rattle.std.proofs.lemmas.List.Sums.{sum_by-cons}
 use Rattle.ipx_router.specs.Stands.{State}
 use Rattle.ipx_internet.specs.InternetWeight.{records_at}
-use Rattle.ipx_internet.proofs.Measuring.{next_left}
 use Rattle.ipx_internet.proofs.most_deliveries.records.Goals as goal
+use Rattle.ipx_internet.proofs.weights.WeighedOneByOne.{next_left}
 
 pub loop-router-preserved : goal.loop-router-preserved
 loop-router-preserved g c =

@@ -3,8 +3,8 @@ use Rattle.std.specs.List.{sum_by}
 use Rattle.ipx_internet.specs.Batches.{delivery_of}
 use Rattle.ipx_internet.specs.InternetWeight.{delivery_weight}
 use Rattle.ipx_internet.specs.inside.Simulated.{net_among}
-use Rattle.ipx_internet.proofs.Measuring.{sum_next, sum_whole}
 use Rattle.ipx_internet.proofs.most_deliveries.weigh.Goals as goal
+use Rattle.ipx_internet.proofs.weights.WeighedOneByOne.{sum_next, sum_whole}
 
 pub loop-k-preserved : goal.loop-k-preserved
 loop-k-preserved g c =

@@ -1,5 +1,5 @@
 use Rattle.std.proofs.Common.{refl, ◌+◌}
-use Rattle.ipx_internet.proofs.Saturating.{reach_next}
+use Rattle.ipx_internet.proofs.lists.CountedToTheGreatest.{reach_next}
 use Rattle.ipx_internet.proofs.scale.reach.Goals as goal
 
 pub loop-preserved : goal.loop-preserved

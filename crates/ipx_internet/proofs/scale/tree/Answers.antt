@@ -1,5 +1,5 @@
 use Rattle.std.proofs.Common.{refl, ◌+◌}
-use Rattle.ipx_internet.proofs.Saturating.{tree_next}
+use Rattle.ipx_internet.proofs.lists.CountedToTheGreatest.{tree_next}
 use Rattle.ipx_internet.proofs.scale.tree.Goals as goal
 
 pub loop-preserved : goal.loop-preserved

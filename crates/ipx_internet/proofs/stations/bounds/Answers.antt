@@ -1,6 +1,6 @@
 use Rattle.std.proofs.Common.{rules, ltb, leb}
 use Rattle.std.proofs.lemmas.List.Sorted.{IsPartitionPoint-from_clause, IsPartitionedBy-leb, IsPartitionedBy-ltb}
-use Rattle.ipx_internet.proofs.Sorting.{IsPoint, ordered, part_is}
+use Rattle.ipx_internet.proofs.lists.SortedByNumber.{IsPoint, ordered, part_is}
 use Rattle.ipx_internet.proofs.stations.bounds.Goals as goal
 
 below : (c : goal.After-partition_point-end) → IsPoint (λ y. ltb y.network.0 c.args.network.0) c.args.list.now c.partition_point-first.result

@@ -4,8 +4,8 @@ use Rattle.ipx_router.specs.Happened.{happened}
 use Rattle.ipx_router.specs.Needs.{HasRoomFor, packets_needed}
 use Rattle.ipx_router.specs.Sends.{sends}
 use Rattle.ipx_internet.specs.Batches.{Pile}
-use Rattle.ipx_internet.proofs.Batched.{room_for_all, within_longer, event_delivers}
 use Rattle.ipx_internet.proofs.batch.Batch.happen.Goals as goal
+use Rattle.ipx_internet.proofs.deliveries.BatchPacketByPacket.{room_for_all, within_longer, event_delivers}
 
 pub handle-outcome-requires : goal.handle-outcome-requires
 handle-outcome-requires g c = (

@@ -6,8 +6,8 @@ use Rattle.ipx_internet.specs.Refused.{IsNotAdded}
 use Rattle.ipx_internet.specs.inside.Simulated.{net_among, IsSimulated}
 use Rattle.ipx_internet.specs.inside.Stations.{AreOf}
 use Rattle.ipx_internet.specs.declared.stations.Station.{Station}
-use Rattle.ipx_internet.proofs.Widening.{wider_simulated}
 use Rattle.ipx_internet.proofs.internet.Internet.add.Goals as goal
+use Rattle.ipx_internet.proofs.places.InternetOfOneMore.{wider_simulated}
 
 pub returns-in-Err-clause-fault : goal.returns-in-Err-clause-fault
 returns-in-Err-clause-fault g c =

@@ -4,8 +4,8 @@ use Rattle.ipx_router.specs.Stands.{State}
 use Rattle.ipx_internet.specs.Internet.{IsPlace}
 use Rattle.ipx_internet.specs.Moment.{Moment}
 use Rattle.ipx_internet.specs.inside.Simulated.{net_among}
-use Rattle.ipx_internet.proofs.Traced.{has_none}
 use Rattle.ipx_internet.proofs.internet.Internet.has_place.Goals as goal
+use Rattle.ipx_internet.proofs.trees.ListedOfStations.{has_none}
 
 pub proves_sized-requires : goal.proves_sized-requires
 proves_sized-requires g c =

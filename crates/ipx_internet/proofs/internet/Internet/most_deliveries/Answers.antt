@@ -9,9 +9,9 @@ use Rattle.ipx_internet.specs.Most.{most_ports, most_on_network}
 use Rattle.ipx_internet.specs.Queue.{Delivery}
 use Rattle.ipx_internet.specs.inside.Scales.{saturated, IsScale}
 use Rattle.ipx_internet.specs.inside.Simulated.{moment, net_among}
-use Rattle.ipx_internet.proofs.Measuring.{nothing_weighs}
-use Rattle.ipx_internet.proofs.Saturating.{scaled}
 use Rattle.ipx_internet.proofs.internet.Internet.most_deliveries.Goals as goal
+use Rattle.ipx_internet.proofs.lists.CountedToTheGreatest.{scaled}
+use Rattle.ipx_internet.proofs.weights.WeighedOneByOne.{nothing_weighs}
 
 pub returns-then-is_empty-clause-value : goal.returns-then-is_empty-clause-value
 returns-then-is_empty-clause-value g c =

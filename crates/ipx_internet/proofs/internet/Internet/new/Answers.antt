@@ -1,8 +1,8 @@
 use Rattle.std.proofs.Common.{List, sym, subst}
 use Rattle.ipx_router.specs.Stands.{State}
 use Rattle.ipx_internet.specs.inside.Simulated.{IsSimulated}
-use Rattle.ipx_internet.proofs.Beginning.{begins}
 use Rattle.ipx_internet.proofs.internet.Internet.new.Goals as goal
+use Rattle.ipx_internet.proofs.places.WithoutRouters.{begins}
 
 pub invariant_of-result : goal.invariant_of-result
 invariant_of-result g c =

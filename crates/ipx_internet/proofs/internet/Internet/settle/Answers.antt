@@ -1,9 +1,9 @@
 use Rattle.std.proofs.Common.{rules, arith, ap, ◌∙◌, ◌≡◌, ◌+◌, ◌<◌, ◌≤◌, length}
 use Rattle.ipx_internet.specs.InternetWeight.{internet_weight}
 use Rattle.ipx_internet.specs.Settled.{HasSettled}
-use Rattle.ipx_internet.proofs.Reckoning.{weightless, quiet_told}
-use Rattle.ipx_internet.proofs.Settling.{one_more, no_more, none_of}
+use Rattle.ipx_internet.proofs.deliveries.NoneWaitsAtTheEnd.{one_more, no_more, none_of}
 use Rattle.ipx_internet.proofs.internet.Internet.settle.Goals as goal
+use Rattle.ipx_internet.proofs.weights.WeightOfHistories.{weightless, quiet_told}
 
 pub returns-then-waiting-eq0-clause-settled : goal.returns-then-waiting-eq0-clause-settled
 returns-then-waiting-eq0-clause-settled g c =

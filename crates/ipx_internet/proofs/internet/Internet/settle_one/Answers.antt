@@ -4,9 +4,9 @@ use Rattle.ipx_router.specs.RouterOf.{HasPast}
 use Rattle.ipx_internet.specs.Moment.{Moment, net_at}
 use Rattle.ipx_internet.specs.inside.Simulated.{moment, net_among, IsComing}
 use Rattle.std.specs.List.{AllByRecursion}
-use Rattle.ipx_internet.proofs.Handing.{first, some_router, it_is_there, left_coming, coming_front, coming_behind, settled_next, still_simulated, at_error, at_moment}
-use Rattle.ipx_internet.proofs.Reckoning.{falls_at}
+use Rattle.ipx_internet.proofs.deliveries.FirstIsHandedOut.{first, some_router, it_is_there, left_coming, coming_front, coming_behind, settled_next, still_simulated, at_error, at_moment}
 use Rattle.ipx_internet.proofs.internet.Internet.settle_one.Goals as goal
+use Rattle.ipx_internet.proofs.weights.WeightOfHistories.{falls_at}
 
 pub proves_sized-requires : goal.proves_sized-requires
 proves_sized-requires g c = subst (λ xs. 0 < length xs) (sym c.deref.ensures.value)

@@ -8,9 +8,9 @@ use Rattle.ipx_internet.specs.inside.Simulated.{net_among}
 use Rattle.ipx_internet.specs.Traced.{routers_of, tree, outcome_at}
 use Rattle.ipx_internet.specs.Tree.{Copy, IsRouter, root}
 use Rattle.ipx_internet.specs.Weight.{weight}
-use Rattle.ipx_internet.proofs.Tellings.{as_many, each_has_one, told_whole, told_each}
-use Rattle.ipx_internet.proofs.Traced.{some_state}
 use Rattle.ipx_internet.proofs.internet.Internet.trace.Goals as goal
+use Rattle.ipx_internet.proofs.trees.ListedOfStations.{some_state}
+use Rattle.ipx_internet.proofs.trees.ToldOfEach.{as_many, each_has_one, told_whole, told_each}
 
 pub proves_sized-requires : goal.proves_sized-requires
 proves_sized-requires g c =

@@ -1,8 +1,8 @@
 use Rattle.std.proofs.Common.{arith}
 use Rattle.ipx_wire.specs.declared.sap_entries.SapEntry.{SapEntry}
 use Rattle.ipx_internet.specs.InternetWeight.{entry_weight, services_weight}
-use Rattle.ipx_internet.proofs.Measuring.{sum_next, sum_whole}
 use Rattle.ipx_internet.proofs.scale.Scale.offered.Goals as goal
+use Rattle.ipx_internet.proofs.weights.WeighedOneByOne.{sum_next, sum_whole}
 
 pub loop-k-preserved : goal.loop-k-preserved
 loop-k-preserved c =

@@ -1,8 +1,8 @@
 use Rattle.std.proofs.Common.{arith}
 use Rattle.ipx_wire.specs.declared.rip.RipEntry.{RipEntry}
 use Rattle.ipx_internet.specs.InternetWeight.{entry_weight, routes_weight}
-use Rattle.ipx_internet.proofs.Measuring.{sum_next, sum_whole}
 use Rattle.ipx_internet.proofs.scale.Scale.routes.Goals as goal
+use Rattle.ipx_internet.proofs.weights.WeighedOneByOne.{sum_next, sum_whole}
 
 pub loop-k-preserved : goal.loop-k-preserved
 loop-k-preserved c =

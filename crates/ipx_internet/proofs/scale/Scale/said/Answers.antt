@@ -6,8 +6,8 @@ use Rattle.ipx_wire.specs.declared.header.Header.{Header}
 use Rattle.ipx_router.specs.Numbers.{propagated_type}
 use Rattle.ipx_router.specs.Why.{is_for_rip}
 use Rattle.ipx_internet.specs.inside.Scales.{saturated}
-use Rattle.ipx_internet.proofs.Measuring.{rip_said}
 use Rattle.ipx_internet.proofs.scale.Scale.said.Goals as goal
+use Rattle.ipx_internet.proofs.weights.WeighedOneByOne.{rip_said}
 
 pub returns-in-Ok : goal.returns-in-Ok
 returns-in-Ok c = λ net routes services is.

@@ -4,8 +4,8 @@ use Rattle.ipx_wire.specs.declared.node.Node.{Node}
 use Rattle.ipx_router.specs.Port.{Port, port_at}
 use Rattle.ipx_internet.specs.inside.Stations.{station}
 use Rattle.ipx_internet.specs.declared.stations.Station.{Station}
-use Rattle.ipx_internet.proofs.Taking.{port_found, no_port}
-use Rattle.ipx_internet.proofs.Adding.{HasFirst, none_yet, one_more, are_wider}
+use Rattle.ipx_internet.proofs.places.NodeIsTaken.{port_found, no_port}
+use Rattle.ipx_internet.proofs.places.StationsOfOneMore.{HasFirst, none_yet, one_more, are_wider}
 use Rattle.ipx_internet.proofs.stations.Stations.add.Goals as goal
 use Rattle.ipx_internet.proofs.stations.Stations.add.Goals.{in-Some, in_default}
 

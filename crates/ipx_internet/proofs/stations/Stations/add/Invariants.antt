@@ -1,5 +1,5 @@
 use Rattle.std.proofs.Common.{◌+◌, ◌≤◌, length}
-use Rattle.ipx_internet.proofs.Adding.{HasFirst}
+use Rattle.ipx_internet.proofs.places.StationsOfOneMore.{HasFirst}
 use Rattle.ipx_internet.proofs.stations.Stations.add.Given as goal
 
 abbrev pub invariant-loop-k : goal.invariant-loop-k

@@ -1,6 +1,6 @@
 use Rattle.std.proofs.Common.{sym, subst}
 use Rattle.ipx_internet.specs.inside.Stations.{Index, AreOf}
-use Rattle.ipx_internet.proofs.Fullest.{most_stations}
+use Rattle.ipx_internet.proofs.places.MostOnANetwork.{most_stations}
 use Rattle.ipx_internet.proofs.stations.Stations.most.Goals as goal
 
 pub returns-clause-exact : goal.returns-clause-exact

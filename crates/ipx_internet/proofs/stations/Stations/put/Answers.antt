@@ -3,8 +3,8 @@ use Rattle.std.proofs.lemmas.Bool.{cases_lt}
 use Rattle.std.specs.List.{insert}
 use Rattle.ipx_internet.specs.inside.Stations.{stations_on, IsIndex}
 use Rattle.ipx_internet.specs.declared.stations.Station.{Station}
-use Rattle.ipx_internet.proofs.Sorting.{IsPoint}
-use Rattle.ipx_internet.proofs.Stationed.{on_networks, index_put}
+use Rattle.ipx_internet.proofs.lists.SortedByNumber.{IsPoint}
+use Rattle.ipx_internet.proofs.places.IndexOfStations.{on_networks, index_put}
 use Rattle.ipx_internet.proofs.stations.Stations.put.Goals as goal
 
 put : (c : goal.After-self-1) → c.insert_at.new.list.items ≡ insert c.args.self.now.list c.bounds-place.result.1 c.args.station

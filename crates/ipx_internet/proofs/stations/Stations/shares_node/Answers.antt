@@ -4,7 +4,7 @@ use Rattle.std.proofs.lemmas.Option.{slice_get_within}
 use Rattle.std.specs.List.{list_any}
 use Rattle.ipx_router.specs.Port.{port_at, same_node}
 use Rattle.ipx_internet.specs.inside.Stations.{stations_on}
-use Rattle.ipx_internet.proofs.Taking.{port_found, no_port, is_taken, taken_has, shares_none}
+use Rattle.ipx_internet.proofs.places.NodeIsTaken.{port_found, no_port, is_taken, taken_has, shares_none}
 use Rattle.ipx_internet.proofs.stations.Stations.shares_node.Goals as goal
 use Rattle.ipx_internet.proofs.stations.Stations.shares_node.Goals.{in-Some+else-has_node, in_default}
 

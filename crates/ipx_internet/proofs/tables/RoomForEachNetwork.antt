@@ -1,0 +1,291 @@
+-- Where every route is of a real way, there is room: no more routes are held than there are networks that the router has no port on; and
+-- which of two routes is worse.
+use Rattle.std.proofs.Common.{◌≡◌, ◌≢◌, refl, sym, ap, ◌∙◌, subst, ℕ, zero, suc, ◌<◌, ◌≤◌, ◌==◌, nat_lt, Bool, true, false, not, List, [], ◌∷◌, length, map, filter, find, flat_map, get_or, None, Some, inl, inr, arith, true≢false, Less, Equal, Greater, is_eq}
+use Rattle.std.specs.List.{AllByRecursion, list_any}
+use Rattle.std.specs.Ordering.{nat_cmp, is_gt}
+use Rattle.std.specs.Cmp.{nat_cmp_is}
+use Rattle.std.proofs.lemmas.Bool.{cases_Bool, cases_eq, cases_lt, or_left, or_right, or_cases, eq-eqb, eqb-true, lt-ltb, both_ways}
+use Rattle.std.proofs.lemmas.List.{length-map}
+use Rattle.ipx_table.specs.Accepted.{has_share, may_replace}
+use Rattle.ipx_table.specs.Reading.{count_by, rank_order, share_of}
+use Rattle.ipx_table.specs.declared.held.Held.{Held}
+use Rattle.ipx_table.proofs.Singles.{length-filter}
+use Rattle.ipx_wire.specs.Crossed.{is_among}
+use Rattle.ipx_wire.specs.declared.network.Network.{Network}
+use Rattle.ipx_router.specs.Port.{Port, port_at, is_up}
+use Rattle.ipx_router.specs.Routes.{route_rules, network_order}
+use Rattle.ipx_router.specs.declared.route_offer.RouteOffer.{RouteOffer}
+use Rattle.ipx_internet.specs.Different.{AreDifferent}
+use Rattle.ipx_internet.specs.Internet.{Internet, Place, IsPlace, ports_of, network_of}
+use Rattle.ipx_internet.specs.Least.{Way, is_on, each_once, networks_of, others_of, HasRoom}
+use Rattle.ipx_internet.specs.Real.{IsReal, next, farther}
+use Rattle.ipx_internet.proofs.lists.EachElement.{all_at, all_mapped, no_more_than}
+use Rattle.ipx_internet.proofs.lists.SomeElement.{AnyIs, any-map, any-flat_map, passes_any}
+use Rattle.ipx_internet.proofs.places.OneReceiverOfANode.{same_number}
+use Rattle.ipx_internet.proofs.tables.LeastWays.{NoWorse}
+use Rattle.ipx_internet.proofs.tables.NoneBeatsTheLeast.{off_where_wanted}
+use Rattle.ipx_internet.proofs.trees.OnePlaceToGo.{it_is, nothing}
+use Rattle.ipx_internet.proofs.trees.RunIsALog.{router_there}
+
+-- ---- numbers and ranks in order
+
+less_is : (x y : ℕ) → x < y → nat_cmp x y ≡ Less
+less_is x y less = sym (nat_cmp_is x y Less less)
+
+equal_is : (x y : ℕ) → x ≡ y → nat_cmp x y ≡ Equal
+equal_is x y same = sym (nat_cmp_is x y Equal same)
+
+greater_is : (x y : ℕ) → y < x → nat_cmp x y ≡ Greater
+greater_is x y greater = sym (nat_cmp_is x y Greater greater)
+
+-- two numbers are the same where neither comes first
+pub same_where_equal : (x y : ℕ) → is_eq (nat_cmp x y) ≡ true → x ≡ y
+same_where_equal x y e = elim (cases_eq x y) [
+  | inl same ↦ same
+  | inr off ↦ elim (cases_lt x y) [
+    | inl less ↦ absurd (true≢false (sym e ∙ ap is_eq (less_is x y less)))
+    | inr most ↦ absurd (true≢false (sym e ∙ ap is_eq (greater_is x y (omega (arith, most, off)))))
+  ]
+]
+
+pub equal_where_same : (x y : ℕ) → x ≡ y → is_eq (nat_cmp x y) ≡ true
+equal_where_same x y same = ap is_eq (equal_is x y same)
+
+-- a way that isn't worse
+pub not_worse : (a b : Way) → is_gt (rank_order (a.ticks, a.hops) (b.ticks, b.hops)) ≡ false → NoWorse a b
+not_worse a b e = elim (cases_lt a.ticks b.ticks) [
+  | inl less ↦ record { ticks = omega (arith, less); hops = λ same. absurd (omega (arith, less, same)) }
+  | inr most ↦ elim (cases_eq a.ticks b.ticks) [
+    | inr off ↦
+        let greater = greater_is a.ticks b.ticks (omega (arith, most, off)) in
+        absurd (true≢false (rw greater at e))
+    | inl same ↦ elim (cases_lt b.hops a.hops) [
+      | inr few ↦ record { ticks = omega (arith, same); hops = λ also. few }
+      | inl more ↦
+          let equal = equal_is a.ticks b.ticks same in
+          let greater = greater_is a.hops b.hops more in
+          absurd (true≢false (rw (equal, greater) at e))
+    ]
+  ]
+]
+
+-- and one that is, is worse
+pub worse : (a b : Way) → is_gt (rank_order (a.ticks, a.hops) (b.ticks, b.hops)) ≡ true → NoWorse a b → ⊥
+worse a b e less = elim (cases_lt a.ticks b.ticks) [
+  | inl fewer ↦
+      let first = less_is a.ticks b.ticks fewer in
+      true≢false (sym (rw first at e))
+  | inr most ↦
+      let bound = less.ticks in
+      let same : a.ticks ≡ b.ticks = omega (arith, most, bound) in
+      let equal = equal_is a.ticks b.ticks same in
+      let hops = less.hops same in
+      elim (cases_eq a.hops b.hops) [
+        | inl also ↦ let second = equal_is a.hops b.hops also in true≢false (sym (rw (equal, second) at e))
+        | inr off ↦ let second = less_is a.hops b.hops (omega (arith, hops, off)) in true≢false (sym (rw (equal, second) at e))
+      ]
+]
+
+-- ---- networks
+
+still_among : (network : Network) (networks : List Network) → is_among network networks ≡ true → is_among network (each_once networks) ≡ true
+still_among network [] among = among
+still_among network (n ∷ networks) among = elim (cases_Bool (is_among n networks)) [
+  | inl again ↦ rw again (elim (or_cases (n.0 == network.0) (is_among network networks) among) [
+    | inr behind ↦ still_among network networks behind
+    | inl here ↦
+        let same : n ≡ network = same_number n network (eqb-true n.0 network.0 here) in
+        still_among network networks (subst (λ (m : Network). is_among m networks ≡ true) same again)
+  ])
+  | inr once ↦ rw once (elim (or_cases (n.0 == network.0) (is_among network networks) among) [
+    | inr behind ↦ or_right (n.0 == network.0) (is_among network (each_once networks)) (still_among network networks behind)
+    | inl here ↦ or_left (n.0 == network.0) (is_among network (each_once networks)) here
+  ])
+]
+
+in_list : {X : Type 0} (xs : List X) (k : ℕ) (d : X) (P : X → Type 0) → k < length xs → P (get_or xs k d) → AnyIs P xs
+in_list [] k d P less it = absurd (omega (arith, less))
+in_list (x ∷ xs) zero d P less it = inl it
+in_list (x ∷ xs) (suc k) d P less it = inr (in_list xs k d P (omega (arith, less)) it)
+
+-- the network of each port is named
+pub named : (net : Internet) (place : Place) → IsPlace net place → is_among (network_of net place) (networks_of net) ≡ true
+named net place there =
+    let network = network_of net place in
+    still_among network (flat_map (λ ports. map (λ p. p.network) ports) net)
+    (passes_any (λ n. n.0 == network.0) (flat_map (λ ports. map (λ p. p.network) ports) net)
+    (any-flat_map (λ ports. AnyIs (λ p. (p.network.0 == network.0) ≡ true) ports) (λ n. (n.0 == network.0) ≡ true) (λ ports. map (λ p. p.network) ports)
+    (λ ports any. any-map (λ p. (p.network.0 == network.0) ≡ true) (λ n. (n.0 == network.0) ≡ true) (λ p. p.network) (λ p is. is) ports any) net
+    (in_list net place.router [] (λ ports. AnyIs (λ p. (p.network.0 == network.0) ≡ true) ports) (router_there net place.router place.port there)
+    (in_list (ports_of net place.router) place.port (port_at [] 0) (λ p. (p.network.0 == network.0) ≡ true) there (eq-eqb network.0 network.0 refl)))))
+
+-- ---- lists that pass a test
+
+-- what passes stays among those that do
+still_passes : {X : Type 0} (test keep : X → Bool) (x : X) → ((y : X) → test y ≡ true → y ≡ x) → keep x ≡ true → (xs : List X) → list_any test xs ≡ true
+    → list_any test (filter keep xs) ≡ true
+still_passes test keep x same kept [] any = any
+still_passes test keep x same kept (y ∷ xs) any = elim (cases_Bool (test y)) [
+  | inl here ↦
+      let stays : keep y ≡ true = ap keep (same y here) ∙ kept in
+      rw stays (or_left (test y) (list_any test (filter keep xs)) here)
+  | inr off ↦
+      let rest = still_passes test keep x same kept xs (rw off at any) in
+      elim (cases_Bool (keep y)) [
+        | inl stays ↦ rw stays (or_right (test y) (list_any test (filter keep xs)) rest)
+        | inr goes ↦ rw goes rest
+      ]
+]
+
+-- a filter that leaves one out keeps fewer
+left_out : {X : Type 0} (test keep : X → Bool) (x : X) (xs : List X) → find test xs ≡ Some x → keep x ≡ false → length (filter keep xs) < length xs
+left_out test keep x [] is_x out = nothing is_x
+left_out test keep x (y ∷ xs) is_x out = elim (cases_Bool (test y)) [
+  | inl here ↦
+      let goes : keep y ≡ false = it_is (λ z. keep z ≡ false) y x (sym (rw here at is_x)) out in
+      let most = length-filter keep xs in
+      rw goes (omega (arith, most))
+  | inr off ↦
+      let rest = left_out test keep x xs (rw off at is_x) out in
+      elim (cases_Bool (keep y)) [
+        | inl stays ↦ rw stays (omega (arith, rest))
+        | inr goes ↦ rw goes (omega (arith, rest))
+      ]
+]
+
+-- ---- numbers of shares
+
+share_of_all : (n capacity : ℕ) (shares : List ℕ) (port : ℕ) → n ≤ capacity → AllByRecursion (λ s. n ≤ s) shares → n ≤ share_of capacity shares port
+share_of_all n capacity [] port most all = most
+share_of_all n capacity (s ∷ shares) zero most all = all.0
+share_of_all n capacity (s ∷ shares) (suc port) most all = share_of_all n capacity shares port most all.1
+
+-- ---- routes of real ways are to such networks
+
+module _ (net : Internet) (up : ℕ → List ℕ) (there_where_up : (router port : ℕ) → is_up (up router) port ≡ true → port < length (ports_of net router)) where
+  real_named : {router : ℕ} {r : RouteOffer} → IsReal net up router r → is_among r.network (networks_of net) ≡ true
+  real_named (next from beside on apart taken) =
+      subst (λ (n : Network). is_among n (networks_of net) ≡ true) (sym (ap (λ (x : RouteOffer). x.network) taken.offer))
+      (named net (record { router = from.router; port = beside }) (there_where_up from.router beside on))
+  real_named (farther from s apart taken near real) =
+      subst (λ (n : Network). is_among n (networks_of net) ≡ true) (sym (ap (λ (x : RouteOffer). x.network) taken.offer)) (real_named real)
+
+  pub real_wanted : {router : ℕ} {r : RouteOffer} → IsReal net up router r → is_on (ports_of net router) r.network ≡ false
+  real_wanted {router} {r} (next from beside on apart taken) = off_where_wanted (ports_of net router) r.network taken.wanted
+  real_wanted {router} {r} (farther from s apart taken near real) = off_where_wanted (ports_of net router) r.network taken.wanted
+
+  -- ---- how many are held
+
+  abbrev of_key : RouteOffer → Held RouteOffer → Bool
+  of_key o h = is_eq (network_order h.offer.network o.network)
+
+  networks_differ : (records : List (Held RouteOffer)) → ((o : RouteOffer) → length (filter (of_key o) records) ≤ 1)
+      → AreDifferent (map (λ h. h.offer.network) records)
+  networks_differ [] distinct = tt
+  networks_differ (x ∷ records) distinct = (others records (alone records (distinct x.offer)), networks_differ records (λ o. fewer o (distinct o)))
+    where
+      alone : (rest : List (Held RouteOffer)) → length (filter (of_key x.offer) (x ∷ rest)) ≤ 1 → length (filter (of_key x.offer) rest) ≤ 0
+      alone rest few =
+          let here : is_eq (nat_cmp x.offer.network.0 x.offer.network.0) ≡ true = equal_where_same x.offer.network.0 x.offer.network.0 refl in
+          let less : suc (length (filter (of_key x.offer) rest)) ≤ 1 = rw here at few in
+          omega (arith, less)
+
+      others : (rest : List (Held RouteOffer)) → length (filter (of_key x.offer) rest) ≤ 0 → AllByRecursion (λ n. n ≢ x.offer.network) (map
+          (λ h. h.offer.network) rest)
+      others [] few = tt
+      others (y ∷ rest) few = elim (cases_Bool (is_eq (nat_cmp y.offer.network.0 x.offer.network.0))) [
+        | inl e ↦ let less : suc (length (filter (of_key x.offer) rest)) ≤ 0 = rw e at few in absurd (omega (arith, less))
+        | inr e ↦ (
+          (λ same. both_ways (is_eq (nat_cmp y.offer.network.0 x.offer.network.0)) e
+              (equal_where_same y.offer.network.0 x.offer.network.0 (ap (λ (n : Network). n.0) same))),
+          others rest (rw e at few),
+        )
+      ]
+
+      fewer : (o : RouteOffer) → length (filter (of_key o) (x ∷ records)) ≤ 1 → length (filter (of_key o) records) ≤ 1
+      fewer o few = elim (cases_Bool (is_eq (nat_cmp x.offer.network.0 o.network.0))) [
+        | inl e ↦ let less : suc (length (filter (of_key o) records)) ≤ 1 = rw e at few in omega (arith, less)
+        | inr e ↦ rw e at few
+      ]
+
+  -- those a router may have a route to
+  is_other : (router : ℕ) {r : RouteOffer} → IsReal net up router r → list_any (λ n. n.0 == r.network.0) (others_of net (ports_of net router)) ≡ true
+  is_other router {r} real =
+      still_passes (λ n. n.0 == r.network.0) (λ n. not (is_on (ports_of net router) n)) r.network
+      (λ n e. same_number n r.network (eqb-true n.0 r.network.0 e)) (let wanted = real_wanted real in rw wanted refl) (networks_of net) (real_named real)
+
+  are_others : (router : ℕ) (records : List (Held RouteOffer)) → AllByRecursion (λ h. IsReal net up router h.offer) records
+      → AllByRecursion (λ n. list_any (λ y. y.0 == n.0) (others_of net (ports_of net router)) ≡ true) (map (λ h. h.offer.network) records)
+  are_others router [] all = tt
+  are_others router (h ∷ records) all = (is_other router all.0, are_others router records all.1)
+
+  module _ (router : ℕ) (records : List (Held RouteOffer)) (distinct : (o : RouteOffer) → length (filter (of_key o) records) ≤ 1)
+      (all : AllByRecursion (λ h. IsReal net up router h.offer) records) where
+    abbrev others : List Network
+    others = others_of net (ports_of net router)
+
+    -- no more than there are such networks
+    few_held : length records ≤ length others
+    few_held =
+        let same = length-map records (λ h. h.offer.network) in
+        let most = no_more_than (λ n. n.0) same_number (map (λ h. h.offer.network) records) others (networks_differ records distinct) (are_others router records all) in
+        omega (arith, same, most)
+
+    -- and fewer, where there is none to one of them
+    fewer_held : (o : RouteOffer) → IsReal net up router o → find (of_key o) records ≡ None → length records < length others
+    fewer_held o real none =
+        let same = length-map records (λ h. h.offer.network) in
+        let most = no_more_than (λ n. n.0) same_number (o.network ∷ map (λ h. h.offer.network) records) others (apart records none, networks_differ records distinct)
+        (is_other router real, are_others router records all) in
+        omega (arith, same, most)
+      where
+        apart : (rest : List (Held RouteOffer)) → find (of_key o) rest ≡ None → AllByRecursion (λ n. n ≢ o.network) (map (λ h. h.offer.network) rest)
+        apart [] none = tt
+        apart (h ∷ rest) none = elim (cases_Bool (is_eq (nat_cmp h.offer.network.0 o.network.0))) [
+          | inl e ↦ nothing (sym (rw e at none))
+          | inr e ↦ (
+            (λ same. both_ways (is_eq (nat_cmp h.offer.network.0 o.network.0)) e
+                (equal_where_same h.offer.network.0 o.network.0 (ap (λ (n : Network). n.0) same))),
+            apart rest (rw e at none),
+          )
+        ]
+
+    -- ---- room and shares
+
+    module _ (most_routes : ℕ) (room : HasRoom net most_routes) (inside : router < length net) where
+      abbrev ports : List Port
+      ports = ports_of net router
+
+      table : length others ≤ most_routes
+      table = all_at (λ ps. length (others_of net ps) ≤ most_routes) net router [] room.table inside
+
+      share : (port : ℕ) → length others ≤ share_of most_routes (map (λ p. p.route_share) ports) port
+      share port =
+          share_of_all (length others) most_routes (map (λ p. p.route_share) ports) port table
+          (all_mapped (λ s. length others ≤ s) (λ p. p.route_share) ports
+          (all_at (λ ps. AllByRecursion (λ p. length (others_of net ps) ≤ p.route_share) ps) net router [] room.shares inside))
+
+      pub has_room : (o : RouteOffer) → IsReal net up router o → find (of_key o) records ≡ None → nat_lt (length records) most_routes ≡ true
+      has_room o real none =
+          let few = fewer_held o real none in
+          let most = table in
+          lt-ltb (length records) most_routes (omega (arith, few, most))
+
+      pub shares : (o : RouteOffer) → IsReal net up router o → find (of_key o) records ≡ None → has_share (route_rules ports most_routes) o records ≡ true
+      shares o real none =
+          let few = fewer_held o real none in
+          let some = length-filter (λ h. h.offer.port == o.port) records in
+          let most = share o.port in
+          lt-ltb (count_by (λ r. r.port) o.port records) (share_of most_routes (map (λ p. p.route_share) ports) o.port) (omega (arith, few, some, most))
+
+      -- the one that it replaces came by the same port, or isn't counted
+      pub may : (o : RouteOffer) (h : Held RouteOffer) → find (of_key o) records ≡ Some h → may_replace (route_rules ports most_routes) o records h ≡ true
+      may o h is_h = elim (cases_Bool (h.offer.port == o.port)) [
+        | inl same ↦ or_left (h.offer.port == o.port) (has_share (route_rules ports most_routes) o records) same
+        | inr off ↦
+            let few = few_held in
+            let some = left_out (of_key o) (λ x. x.offer.port == o.port) h records is_h off in
+            let most = share o.port in
+            or_right (h.offer.port == o.port) (has_share (route_rules ports most_routes) o records)
+            (lt-ltb (count_by (λ r. r.port) o.port records) (share_of most_routes (map (λ p. p.route_share) ports) o.port) (omega (arith, few, some, most)))
+      ]
