@@ -3,6 +3,7 @@ pub mod examples
 pub mod lists
 pub mod packets
 pub mod places
+pub mod records
 pub mod rounds
 pub mod tables
 pub mod ticks

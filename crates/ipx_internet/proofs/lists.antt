@@ -1,7 +1,6 @@
--- What holds of lists and of numbers, whatever they stand for.
-pub mod CountedToTheGreatest
+-- What holds of lists and of their elements, whatever they are.
 pub mod EachElement
-pub mod FilledToALimit
+pub mod FoundInAList
 pub mod HowManyPass
 pub mod SomeElement
 pub mod SortedByNumber

@@ -1,12 +1,12 @@
--- What packets say: those that are sent on, a router's own, and what is read of them again.
+-- What packets say: those that are sent on, a router's own, and what is read and heard of them; in whole runs, too.
 pub mod AdvertisedIsHeld
 pub mod BroadcastEachSecond
-pub mod ForwardsOnOtherPorts
-pub mod LawsOfLayouts
-pub mod LeavesByAPort
+pub mod ForwardsDiffer
 pub mod NothingGoesBack
-pub mod OwnEventsBroadcast
-pub mod PagesAskNothing
-pub mod RepliesAskNothing
-pub mod SaysWhatWasWritten
+pub mod PagesAreHeard
+pub mod PagesReadAgain
+pub mod ResponsesAskNothing
 pub mod SentOnIsBytes
+pub mod SentOnOrReply
+pub mod SentOnReadAgain
+pub mod SentOnSaysTheSame

@@ -1,6 +1,6 @@
--- Ports and the stations that hear them, and what one router more changes of that.
-pub mod BroadcastIsHeard
+-- Ports and the stations that hear them, and what one router more changes of an internet.
 pub mod EachPortOnce
+pub mod FewOnANetwork
 pub mod IndexOfStations
 pub mod InternetOfOneMore
 pub mod MostOnANetwork

@@ -1,16 +1,15 @@
--- Tables become right: each router comes to hold the route of its least way, and keeps it.
+-- Tables become right: each router comes to hold the route of its least way, and keeps it; so packets arrive.
 pub mod ComputedIsLeast
-pub mod DeliveryInATick
 pub mod FifteenHopsSuffice
 pub mod GoodRoutesStay
-pub mod KeptOfOnePacket
+pub mod LeastRouteSurvives
 pub mod LeastWays
-pub mod NoneBeatsTheLeast
+pub mod NoRouteIsBetter
 pub mod PacketsArrive
-pub mod RecordAfterAFact
+pub mod RightAfterADelivery
+pub mod RightAfterASecond
 pub mod RightAndKept
 pub mod RightTickByTick
+pub mod RightWithinATick
 pub mod RoomForEachNetwork
 pub mod SaysItsLeastWay
-pub mod SecondInATick
-pub mod WhileATickGoesOn

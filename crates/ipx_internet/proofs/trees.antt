@@ -1,18 +1,21 @@
--- The tree of a packet: where it goes, how far and how often; and how a trace lists it.
+-- The tree of a packet, and logs of any run: where a packet goes, how far and how often; and how a trace lists it.
 pub mod DirectedIsBounded
+pub mod ForwardsWeighNoMore
 pub mod ListedIsTheTree
 pub mod ListedOfStations
-pub mod ListedStepByStep
+pub mod ListingUpToALimit
 pub mod LogStays
+pub mod NextLevelIsBounded
 pub mod NoNetworkTwice
 pub mod NoTwoNameTheSame
 pub mod OnePlaceToGo
+pub mod OneStepOfListing
+pub mod OutcomeOfEachReception
+pub mod PropagatedGoesElsewhere
 pub mod PropagatedIsBounded
+pub mod RootOutweighsItsList
 pub mod RoutersAsTreesSee
 pub mod RunIsALog
 pub mod SentOnAsTreesSay
 pub mod SeventeenLevelsAtMost
 pub mod SixteenForwardsAtMost
-pub mod TablesOfThePast
-pub mod ToldOfEach
-pub mod TreeIsBounded

@@ -1,18 +1,16 @@
--- What an internet weighs: each delivery makes it lighter, so deliveries come to an end.
+-- What an internet weighs, and how that is counted: each delivery makes it lighter, so deliveries come to an end.
 pub mod AnswersWeighLess
+pub mod ChangesWeighPerHearer
+pub mod CountedUpToAWord
 pub mod EachMakesLighter
 pub mod EntriesWeighEnough
 pub mod HeardMakesLighter
+pub mod HeardPaysItsChanges
 pub mod HeardWeighsEnough
-pub mod PagesWeigh
-pub mod ReceptionsWeigh
-pub mod RecordsGained
+pub mod OffersPayTheirCost
+pub mod PagesAtEitherProcess
+pub mod PagesAtTheirProcess
+pub mod PagesWeighTheirItems
 pub mod SentOnMakesLighter
-pub mod SentOnWeighsNoMore
 pub mod WeighedOneByOne
 pub mod WeightOfHistories
-pub mod WeightOnItsNetwork
-pub mod WeightWhoeverReads
-pub mod WhatAPacketCosts
-pub mod WhatChangesCost
-pub mod WhatOffersCost

@@ -10,7 +10,7 @@ use Rattle.ipx_internet.specs.Moment.{Moment, StandsFor, IsThere, net_at}
 use Rattle.ipx_internet.specs.Queue.{Delivery, Queued, queued, settled_one}
 use Rattle.ipx_internet.specs.inside.Simulated.{moment, net_among, IsComing, AreRouters, IsSimulated}
 use Rattle.ipx_internet.specs.declared.stations.Station.{Station}
-use Rattle.ipx_internet.proofs.deliveries.EventOfOneRouter.{all_front, all_behind}
+use Rattle.ipx_internet.proofs.deliveries.AllThatWaitsStands.{all_front, all_behind}
 use Rattle.ipx_internet.proofs.lists.EachElement.{all-append}
 
 -- ---- lists

@@ -2,8 +2,8 @@
 use Rattle.std.proofs.Common.{◌≡◌, refl, sym, ◌⊎◌, ℕ, ◌==◌, Bool, true, false, List, [], ◌∷◌, ◌++◌, map, filter, find, flat_map, Option, None, Some, ap, inl, inr, true≢false}
 use Rattle.std.specs.List.{AllByRecursion, list_any}
 use Rattle.std.proofs.lemmas.Bool.{cases_Bool, or_cases, eqb-true}
-use Rattle.ipx_internet.proofs.trees.OnePlaceToGo.{nothing, it_is}
 use Rattle.ipx_router.specs.Sorted.{put, put_all, sorted}
+use Rattle.ipx_internet.proofs.lists.FoundInAList.{nothing, it_is}
 
 module _ {X : Type 0} where
   -- some element is such

@@ -18,8 +18,8 @@ use Rattle.ipx_router.proofs.sending.OwnPacketsAreValid.{Writable}
 use Rattle.ipx_router.proofs.port_values.PortOfEachNumber.{ports_up-within}
 use Rattle.ipx_router.proofs.telling.ToldFitsFields.{told_fits, told_services_fit}
 use Rattle.ipx_internet.proofs.lists.EachElement.{all-append}
-use Rattle.ipx_internet.proofs.packets.PagesAskNothing.{Tellable}
-use Rattle.ipx_internet.proofs.packets.RepliesAskNothing.{Layouts, IsCast, broadcast_cast, each_cast}
+use Rattle.ipx_internet.proofs.packets.PagesReadAgain.{Tellable}
+use Rattle.ipx_internet.proofs.packets.SentOnOrReply.{Layouts, IsCast, broadcast_cast, each_cast}
 
 module _ (laws : Layouts) (ports : List Port) (are : AllByRecursion IsPort ports) (most_routes most_services : ℕ) (history : History)
     (of_bytes : AllByRecursion IsOfBytes history) (P : ℕ → RipEntry → Type 0) (Q : ℕ → Service → Type 0) where

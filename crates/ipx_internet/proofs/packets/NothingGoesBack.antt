@@ -16,7 +16,7 @@ use Rattle.ipx_internet.specs.Queue.{Delivery, Queued, deliveries_of, history_of
 use Rattle.ipx_internet.specs.Run.{Step, Happens, Settles, IsStep, AreHistories, Waiting, Run, begun, happens, stepped, run_of}
 use Rattle.ipx_internet.proofs.deliveries.QueueOfARun.{events}
 use Rattle.ipx_internet.proofs.lists.EachElement.{all-append, all-map}
-use Rattle.ipx_internet.proofs.packets.ForwardsOnOtherPorts.{Routing}
+use Rattle.ipx_internet.proofs.packets.ForwardsDiffer.{Routing}
 use Rattle.ipx_internet.proofs.places.OneReceiverOfANode.{ports_at}
 use Rattle.ipx_internet.proofs.trees.RunIsALog.{IsWaiting, Good, step_well, begun_well}
 

@@ -11,8 +11,9 @@ use Rattle.ipx_internet.specs.Most.{on_network}
 use Rattle.ipx_internet.specs.inside.Stations.{stations_on, station_at, AreOf}
 use Rattle.ipx_internet.specs.declared.stations.Station.{Station}
 use Rattle.ipx_internet.proofs.lists.EachElement.{all_passed}
-use Rattle.ipx_internet.proofs.lists.HowManyPass.{IsIn, place_in}
+use Rattle.ipx_internet.proofs.lists.HowManyPass.{IsIn}
 use Rattle.ipx_internet.proofs.places.EachPortOnce.{places_within}
+use Rattle.ipx_internet.proofs.places.FewOnANetwork.{place_in}
 use Rattle.ipx_internet.proofs.places.OneReceiverOfANode.{same_number}
 
 -- a port that is found is the one of that number, and where none is found there is none

@@ -8,7 +8,7 @@ use Rattle.ipx_router.specs.Port.{Port, IsPort, AreApart, broadcast, port_at, sa
 use Rattle.ipx_internet.specs.Delivery.{receives}
 use Rattle.ipx_internet.specs.Internet.{Internet, Place, ports_of, port_of, network_of, IsPlace, IsInternet, NodesDiffer}
 use Rattle.ipx_internet.proofs.lists.EachElement.{all_or, all_at}
-use Rattle.ipx_internet.proofs.packets.LawsOfLayouts.{Wire}
+use Rattle.ipx_internet.proofs.packets.SentOnReadAgain.{Wire}
 
 -- ---- ports of one router
 

@@ -19,12 +19,12 @@ use Rattle.ipx_router.specs.inside.Touched.{offer_at}
 use Rattle.ipx_router.specs.declared.route_offer.RouteOffer.{RouteOffer}
 use Rattle.ipx_router.specs.declared.service_offer.ServiceOffer.{ServiceOffer}
 use Rattle.ipx_router.proofs.telling.LawsOfTold.{route-same, service-same}
-use Rattle.ipx_internet.proofs.deliveries.ChangedWasOffered.{ToldOf, changed}
-use Rattle.ipx_internet.proofs.deliveries.KeyAfterOffers.{Told, Left}
-use Rattle.ipx_internet.proofs.deliveries.TablesAfterAPacket.{EachHeard, routes_left, services_left}
 use Rattle.ipx_internet.proofs.lists.EachElement.{all-flat_map}
+use Rattle.ipx_internet.proofs.lists.FoundInAList.{nothing, it_is}
 use Rattle.ipx_internet.proofs.packets.AdvertisedIsHeld.{unless}
-use Rattle.ipx_internet.proofs.trees.OnePlaceToGo.{nothing, it_is}
+use Rattle.ipx_internet.proofs.records.ChangedWasOffered.{ToldOf, changed}
+use Rattle.ipx_internet.proofs.records.HeardChangesItsKeys.{EachHeard, routes_left, services_left}
+use Rattle.ipx_internet.proofs.records.KeptOrOffered.{Told, Left}
 
 -- ---- what is said of each change
 

@@ -10,10 +10,10 @@ use Rattle.ipx_internet.specs.Rounds.{IsDelivery, rounds}
 use Rattle.ipx_internet.specs.Run.{AreHistories}
 use Rattle.ipx_wire.specs.declared.rip.RipEntry.{RipEntry}
 use Rattle.ipx_wire.specs.declared.service.Service.{Service}
-use Rattle.ipx_internet.proofs.deliveries.TablesAfterAPacket.{EachHeard}
 use Rattle.ipx_internet.proofs.deliveries.WaitsAfterDelivery.{keeps_histories}
 use Rattle.ipx_internet.proofs.lists.EachElement.{all_of, all_then}
-use Rattle.ipx_internet.proofs.packets.RepliesAskNothing.{Layouts}
+use Rattle.ipx_internet.proofs.packets.SentOnOrReply.{Layouts}
+use Rattle.ipx_internet.proofs.records.HeardChangesItsKeys.{EachHeard}
 use Rattle.ipx_internet.proofs.rounds.ChangesAreOneHopMore.{Live, news_farther, news_services_farther}
 use Rattle.ipx_internet.proofs.rounds.OneRound.{sent_for, Steps, Holds, rounded}
 use Rattle.ipx_internet.proofs.rounds.RepliesTellChanges.{Says, IsTold, ports, history, tells_says, heard_says, telling}

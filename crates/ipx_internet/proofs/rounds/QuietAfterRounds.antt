@@ -6,10 +6,10 @@ use Rattle.ipx_internet.specs.Internet.{Internet, IsInternet}
 use Rattle.ipx_internet.specs.Queue.{Queued, settled}
 use Rattle.ipx_internet.specs.Rounds.{IsDelivery, round, rounds, handed_out, most_rounds}
 use Rattle.ipx_internet.specs.Run.{AreHistories}
-use Rattle.ipx_internet.proofs.deliveries.NoneWaitsAtTheEnd.{settled_then, none_settle}
+use Rattle.ipx_internet.proofs.deliveries.SettledOneByOne.{settled_then, none_settle}
 use Rattle.ipx_internet.proofs.lists.EachElement.{all_then}
-use Rattle.ipx_internet.proofs.packets.RepliesAskNothing.{Layouts}
-use Rattle.ipx_internet.proofs.rounds.HeldByOneLess.{Dying, died, ebbed_out, nothing_waits}
+use Rattle.ipx_internet.proofs.packets.SentOnOrReply.{Layouts}
+use Rattle.ipx_internet.proofs.rounds.OneHolderLessARound.{Dying, died, ebbed_out, nothing_waits}
 use Rattle.ipx_internet.proofs.rounds.OneHopMoreARound.{Ebbs, ebbed}
 use Rattle.ipx_internet.proofs.rounds.SentOnRunsOut.{all_calm}
 

@@ -8,12 +8,12 @@ use Rattle.ipx_internet.specs.Queue.{Queued}
 use Rattle.ipx_internet.specs.Rounds.{IsOwnStep, rounds, most_own_rounds}
 use Rattle.ipx_internet.specs.Run.{Step, AreHistories, begun, forgotten, run_of}
 use Rattle.ipx_internet.proofs.lists.EachElement.{all_then}
-use Rattle.ipx_internet.proofs.packets.OwnEventsBroadcast.{steps_open, ebbs_soon}
-use Rattle.ipx_internet.proofs.packets.RepliesAskNothing.{Layouts}
-use Rattle.ipx_internet.proofs.rounds.HeldByOneLess.{Dying, died, ebbed_out, nothing_waits}
+use Rattle.ipx_internet.proofs.packets.SentOnOrReply.{Layouts}
+use Rattle.ipx_internet.proofs.rounds.OneHolderLessARound.{Dying, died, ebbed_out, nothing_waits}
 use Rattle.ipx_internet.proofs.rounds.OneHopMoreARound.{Ebbs, ebbing}
 use Rattle.ipx_internet.proofs.rounds.OneRound.{Holds, rounded}
 use Rattle.ipx_internet.proofs.rounds.QuietAfterRounds.{rounds_more}
+use Rattle.ipx_internet.proofs.rounds.RepliesAfterOneRound.{steps_open, ebbs_soon}
 
 -- one more than that
 abbrev later : ℕ → ℕ

@@ -30,15 +30,16 @@ use Rattle.ipx_internet.specs.Internet.{Internet, IsInternet, ports_of, port_of}
 use Rattle.ipx_internet.specs.Queue.{Delivery, history_of}
 use Rattle.ipx_internet.specs.Rounds.{IsDelivery}
 use Rattle.ipx_internet.specs.Run.{AreHistories}
-use Rattle.ipx_internet.proofs.deliveries.TablesAfterAPacket.{EachHeard}
 use Rattle.ipx_internet.proofs.deliveries.WaitsAfterDelivery.{all_wait}
 use Rattle.ipx_internet.proofs.lists.EachElement.{all_then, all_mapped}
-use Rattle.ipx_internet.proofs.packets.PagesAskNothing.{IsRipPage, IsSapPage, answering}
-use Rattle.ipx_internet.proofs.packets.RepliesAskNothing.{Layouts, IsReply, IsNewsSent, IsCast, IsOnward, news_reply, no_reply, unsaid, answered}
+use Rattle.ipx_internet.proofs.lists.FoundInAList.{nothing, it_is}
+use Rattle.ipx_internet.proofs.packets.PagesReadAgain.{IsRipPage, IsSapPage}
+use Rattle.ipx_internet.proofs.packets.ResponsesAskNothing.{answering}
+use Rattle.ipx_internet.proofs.packets.SentOnOrReply.{Layouts, IsReply, IsNewsSent, IsCast, IsOnward, news_reply, no_reply, unsaid, answered}
 use Rattle.ipx_internet.proofs.places.OneReceiverOfANode.{ports_at}
+use Rattle.ipx_internet.proofs.records.HeardChangesItsKeys.{EachHeard}
 use Rattle.ipx_internet.proofs.rounds.OneRound.{sents, sent_for}
 use Rattle.ipx_internet.proofs.rounds.SentOnRunsOut.{Calm, reply_moves}
-use Rattle.ipx_internet.proofs.trees.OnePlaceToGo.{nothing, it_is}
 
 -- all that may be heard of the bytes, by whatever reader, has such entries
 abbrev pub Says : (RipEntry → Type 0) → (SapEntry → Type 0) → List ℕ → Type 0

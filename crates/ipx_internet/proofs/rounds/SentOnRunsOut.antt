@@ -14,7 +14,7 @@ use Rattle.ipx_internet.specs.Run.{AreHistories}
 use Rattle.ipx_router.proofs.bytes.ReadInOneWay.{one_read}
 use Rattle.ipx_internet.proofs.deliveries.WaitsAfterDelivery.{keeps_histories, all_wait}
 use Rattle.ipx_internet.proofs.lists.EachElement.{all_then}
-use Rattle.ipx_internet.proofs.packets.RepliesAskNothing.{Layouts, IsReply, IsOnward, no_reply, unsaid, all_reply}
+use Rattle.ipx_internet.proofs.packets.SentOnOrReply.{Layouts, IsReply, IsOnward, no_reply, unsaid, all_reply}
 use Rattle.ipx_internet.proofs.places.OneReceiverOfANode.{ports_at}
 use Rattle.ipx_internet.proofs.rounds.OneRound.{sents, Steps, Holds, rounded}
 

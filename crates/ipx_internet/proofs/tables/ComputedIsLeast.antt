@@ -6,8 +6,8 @@ use Rattle.ipx_wire.specs.declared.network.Network.{Network}
 use Rattle.ipx_router.proofs.port_values.PortOfEachNumber.{one_up}
 use Rattle.ipx_internet.specs.Internet.{Internet, Place, ports_of, port_of}
 use Rattle.ipx_internet.specs.Least.{Way, is_better, own_way, by_port, least, IsWay, direct, further}
+use Rattle.ipx_internet.proofs.lists.FoundInAList.{nothing}
 use Rattle.ipx_internet.proofs.tables.LeastWays.{NoWorse, itself, no_worse_then, goes_on, none_of_own, own_is, IsNeighbour, within, first, own, is_there, came, none_better, many_more, few, on_or_off, OnOrOff}
-use Rattle.ipx_internet.proofs.trees.OnePlaceToGo.{nothing}
 use Rattle.ipx_internet.proofs.trees.RunIsALog.{router_there}
 
 -- what is no worse isn't beaten

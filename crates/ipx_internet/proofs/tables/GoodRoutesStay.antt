@@ -22,12 +22,12 @@ use Rattle.ipx_router.proofs.bounds.PacketsOfEachEvent.{network_total}
 use Rattle.ipx_internet.specs.Internet.{Internet, Place, IsInternet, NodesDiffer, ports_of, port_of, network_of}
 use Rattle.ipx_internet.specs.Least.{Way, is_on, by_port, way_of, AreCheap, HasRoom}
 use Rattle.ipx_internet.specs.Real.{IsReal}
+use Rattle.ipx_internet.proofs.lists.FoundInAList.{nothing, it_is}
 use Rattle.ipx_internet.proofs.places.OneReceiverOfANode.{one_port, apart_at, same_place}
+use Rattle.ipx_internet.proofs.records.OneFactOnARecord.{admitted, renewed, replaced, not_ended, not_replaced, left_with}
 use Rattle.ipx_internet.proofs.tables.LeastWays.{NoWorse, itself, both_no_worse, same_way, IsNeighbour, within, same_some}
-use Rattle.ipx_internet.proofs.tables.NoneBeatsTheLeast.{there_where_up, real_way, none_beats, came_from, Source}
-use Rattle.ipx_internet.proofs.tables.RecordAfterAFact.{admitted, renewed, replaced, not_ended, not_replaced, left_with}
+use Rattle.ipx_internet.proofs.tables.NoRouteIsBetter.{there_where_up, real_way, none_beats, came_from, Source}
 use Rattle.ipx_internet.proofs.tables.RoomForEachNetwork.{not_worse, worse, has_room, shares, may}
-use Rattle.ipx_internet.proofs.trees.OnePlaceToGo.{nothing, it_is}
 use Rattle.ipx_internet.proofs.trees.RunIsALog.{router_there}
 
 -- ---- sources

@@ -9,11 +9,11 @@ use Rattle.ipx_router.proofs.port_values.PortOfEachNumber.{members, one_up}
 use Rattle.ipx_internet.specs.Internet.{Internet, Place, IsPlace, ports_of, port_of, network_of, places}
 use Rattle.ipx_internet.specs.Least.{Way, is_better, better_of, best, is_on, is_up_on, own_way, neighbours, by_port, way_by, nearest, ways_within}
 use Rattle.ipx_internet.proofs.lists.EachElement.{all_passed}
+use Rattle.ipx_internet.proofs.lists.FoundInAList.{nothing, it_is}
 use Rattle.ipx_internet.proofs.lists.HowManyPass.{length-numbers}
 use Rattle.ipx_internet.proofs.lists.SomeElement.{AnyIs, any_then, any_passes, passes_any, found_with, found_some, any_and_all, the_one, any-map, any_mapped, any_in_front, any_behind, any-filter, any-flat_map}
 use Rattle.ipx_internet.proofs.places.EachPortOnce.{places_within}
 use Rattle.ipx_internet.proofs.places.OneReceiverOfANode.{same_number}
-use Rattle.ipx_internet.proofs.trees.OnePlaceToGo.{nothing, it_is}
 use Rattle.ipx_internet.proofs.trees.RunIsALog.{router_there}
 
 -- ---- the best of ways

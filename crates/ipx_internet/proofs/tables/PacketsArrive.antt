@@ -34,17 +34,17 @@ use Rattle.ipx_internet.specs.Traced.{routers_after}
 use Rattle.ipx_internet.specs.Tree.{Router, Copy, router_now, net_of, router_at, sent_on, forwards, receivers, children, levels, joined, tree_to}
 use Rattle.ipx_internet.proofs.lists.EachElement.{all_then, holds_of}
 use Rattle.ipx_internet.proofs.lists.SomeElement.{number_any, found_with, found_some, AnyIs, any_then, any_and_all, the_one}
-use Rattle.ipx_internet.proofs.packets.RepliesAskNothing.{Layouts}
-use Rattle.ipx_internet.proofs.places.BroadcastIsHeard.{nodes_apart}
+use Rattle.ipx_internet.proofs.packets.PagesAreHeard.{nodes_apart}
+use Rattle.ipx_internet.proofs.packets.SentOnOrReply.{Layouts}
 use Rattle.ipx_internet.proofs.places.EachPortOnce.{places_within, places_differ}
 use Rattle.ipx_internet.proofs.places.OneReceiverOfANode.{port_is, same_number, same_place, receives_is}
 use Rattle.ipx_internet.proofs.tables.GoodRoutesStay.{same_bytes, bytes_same}
 use Rattle.ipx_internet.proofs.tables.LeastWays.{IsNeighbour, within, own, own_is, on_or_off, OnOrOff, came, is_there, at_numbers, port_on, port_up, all_places, in_neighbours}
-use Rattle.ipx_internet.proofs.tables.NoneBeatsTheLeast.{Source}
+use Rattle.ipx_internet.proofs.tables.NoRouteIsBetter.{Source}
+use Rattle.ipx_internet.proofs.tables.RightAfterASecond.{runs_where}
 use Rattle.ipx_internet.proofs.tables.RightAndKept.{route_is, by_number}
 use Rattle.ipx_internet.proofs.tables.RightTickByTick.{AtRest, find_none}
-use Rattle.ipx_internet.proofs.tables.SecondInATick.{runs_where}
-use Rattle.ipx_internet.proofs.tables.WhileATickGoesOn.{some_port}
+use Rattle.ipx_internet.proofs.tables.RightWithinATick.{some_port}
 use Rattle.ipx_internet.proofs.ticks.RealOrSoonEnded.{Endures}
 use Rattle.ipx_internet.proofs.trees.PropagatedIsBounded.{ports_same}
 use Rattle.ipx_internet.proofs.trees.RoutersAsTreesSee.{numbers_front, joint}

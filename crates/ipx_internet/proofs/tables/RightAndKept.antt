@@ -18,17 +18,17 @@ use Rattle.ipx_internet.specs.Real.{IsReal}
 use Rattle.ipx_internet.specs.Run.{Step, Run, run_of}
 use Rattle.ipx_internet.specs.Ticks.{AreTicks, ticked, ups, most_ticks_gone}
 use Rattle.ipx_internet.proofs.lists.EachElement.{all_then}
-use Rattle.ipx_internet.proofs.packets.RepliesAskNothing.{Layouts}
+use Rattle.ipx_internet.proofs.lists.FoundInAList.{nothing}
+use Rattle.ipx_internet.proofs.packets.SentOnOrReply.{Layouts}
 use Rattle.ipx_internet.proofs.places.OneReceiverOfANode.{same_number}
+use Rattle.ipx_internet.proofs.records.RecordsGrowOld.{at_last}
 use Rattle.ipx_internet.proofs.tables.GoodRoutesStay.{right_way, right_node}
 use Rattle.ipx_internet.proofs.tables.LeastWays.{within, on_or_off, OnOrOff, same_some, few}
-use Rattle.ipx_internet.proofs.tables.NoneBeatsTheLeast.{there_where_up, real_way, none_beats}
+use Rattle.ipx_internet.proofs.tables.NoRouteIsBetter.{there_where_up, real_way, none_beats}
 use Rattle.ipx_internet.proofs.tables.RightTickByTick.{AtRest, at_first, tick_rests, route_of, route_stays, find_same, find_none, tied}
+use Rattle.ipx_internet.proofs.tables.RightWithinATick.{SourceOf, Wants, wants, found_there}
 use Rattle.ipx_internet.proofs.tables.RoomForEachNetwork.{real_wanted, same_where_equal}
-use Rattle.ipx_internet.proofs.tables.WhileATickGoesOn.{SourceOf, Wants, wants, found_there}
-use Rattle.ipx_internet.proofs.ticks.RecordsGrowOld.{at_last}
 use Rattle.ipx_internet.proofs.ticks.TickAfterTick.{Rests, ticks_rest}
-use Rattle.ipx_internet.proofs.trees.OnePlaceToGo.{nothing}
 
 -- the ports that are up are ports
 pub ups_within : (net : Internet) (histories : List History) (router : ℕ) → AllByRecursion (λ j. j < length (ports_of net router)) (ups net histories router)

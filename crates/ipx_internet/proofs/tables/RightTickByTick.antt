@@ -1,4 +1,4 @@
--- Ticks in which tables become right, one after the other: after that many, every router holds the route of its least way.
+-- One tick after the other: how far each router is on its way to the route of its least way, and that a right route stays.
 use Rattle.std.proofs.Common.{◌≡◌, refl, sym, ap, ◌∙◌, subst, ◌⊎◌, ℕ, suc, ◌+◌, ◌%◌, ◌<◌, ◌≤◌, ◌==◌, Bool, true, false, List, [], ◌∷◌, length, map, find, Option, None, Some, inl, inr, arith, true≢false, is_eq}
 use Rattle.std.specs.List.{AllByRecursion}
 use Rattle.std.proofs.lemmas.Bool.{cases_Bool, cases_eq, cases_lt, eq-eqb, ne_eqb, both_ways}
@@ -18,14 +18,14 @@ use Rattle.ipx_internet.specs.Run.{Step, Happens, Settles, Run, Waiting, forgott
 use Rattle.ipx_internet.specs.Ticks.{seconds_of, IsOfTick, IsTick, most_ticks_gone}
 use Rattle.ipx_internet.proofs.deliveries.QueueOfARun.{events, deliveries}
 use Rattle.ipx_internet.proofs.lists.SomeElement.{AnyIs}
-use Rattle.ipx_internet.proofs.packets.RepliesAskNothing.{Layouts}
-use Rattle.ipx_internet.proofs.tables.DeliveryInATick.{delivery_rights}
+use Rattle.ipx_internet.proofs.packets.SentOnOrReply.{Layouts}
 use Rattle.ipx_internet.proofs.tables.GoodRoutesStay.{right_way}
 use Rattle.ipx_internet.proofs.tables.LeastWays.{is_there, came}
-use Rattle.ipx_internet.proofs.tables.NoneBeatsTheLeast.{there_where_up, a_source}
+use Rattle.ipx_internet.proofs.tables.NoRouteIsBetter.{there_where_up, a_source}
+use Rattle.ipx_internet.proofs.tables.RightAfterADelivery.{delivery_rights}
+use Rattle.ipx_internet.proofs.tables.RightAfterASecond.{Righted, StateIn, second_rights}
+use Rattle.ipx_internet.proofs.tables.RightWithinATick.{Wants, start, StateFor, known_of, SourceOf, RightFor, found_there, Due, Fresh, Late, LateFrom, holds_right}
 use Rattle.ipx_internet.proofs.tables.RoomForEachNetwork.{same_where_equal, equal_where_same}
-use Rattle.ipx_internet.proofs.tables.SecondInATick.{Righted, StateIn, second_rights}
-use Rattle.ipx_internet.proofs.tables.WhileATickGoesOn.{Wants, start, StateFor, known_of, SourceOf, RightFor, found_there, Due, Fresh, Late, LateFrom, holds_right}
 use Rattle.ipx_internet.proofs.ticks.RealOrSoonEnded.{Endures}
 use Rattle.ipx_internet.proofs.ticks.TickAfterTick.{Going, Rests, ticks_rest}
 use Rattle.ipx_internet.proofs.trees.RunIsALog.{router_there}

@@ -20,11 +20,11 @@ use Rattle.ipx_internet.specs.Internet.{Internet, Place, IsPlace, ports_of, netw
 use Rattle.ipx_internet.specs.Least.{Way, is_on, each_once, networks_of, others_of, HasRoom}
 use Rattle.ipx_internet.specs.Real.{IsReal, next, farther}
 use Rattle.ipx_internet.proofs.lists.EachElement.{all_at, all_mapped, no_more_than}
+use Rattle.ipx_internet.proofs.lists.FoundInAList.{it_is, nothing}
 use Rattle.ipx_internet.proofs.lists.SomeElement.{AnyIs, any-map, any-flat_map, passes_any}
 use Rattle.ipx_internet.proofs.places.OneReceiverOfANode.{same_number}
 use Rattle.ipx_internet.proofs.tables.LeastWays.{NoWorse}
-use Rattle.ipx_internet.proofs.tables.NoneBeatsTheLeast.{off_where_wanted}
-use Rattle.ipx_internet.proofs.trees.OnePlaceToGo.{it_is, nothing}
+use Rattle.ipx_internet.proofs.tables.NoRouteIsBetter.{off_where_wanted}
 use Rattle.ipx_internet.proofs.trees.RunIsALog.{router_there}
 
 -- ---- numbers and ranks in order

@@ -25,9 +25,9 @@ use Rattle.ipx_internet.specs.Least.{Way, way_of}
 use Rattle.ipx_internet.proofs.lists.EachElement.{all_of, all_then, all_passed, all-append, all-filter, all-map, all-flat_map}
 use Rattle.ipx_internet.proofs.lists.SomeElement.{found_with, AnyIs, any_and_all, any_in_front, any_behind, any-map, any-filter, any-flat_map, any-sorted}
 use Rattle.ipx_internet.proofs.packets.AdvertisedIsHeld.{unless}
-use Rattle.ipx_internet.proofs.packets.PagesAskNothing.{IsRipPage, everyone_is, rip_again}
+use Rattle.ipx_internet.proofs.packets.PagesReadAgain.{IsRipPage, everyone_is, rip_again}
 use Rattle.ipx_internet.proofs.places.OneReceiverOfANode.{same_number}
-use Rattle.ipx_internet.proofs.tables.NoneBeatsTheLeast.{told_ticks}
+use Rattle.ipx_internet.proofs.tables.NoRouteIsBetter.{told_ticks}
 use Rattle.ipx_internet.proofs.tables.RoomForEachNetwork.{same_where_equal}
 
 -- entries with the same fields

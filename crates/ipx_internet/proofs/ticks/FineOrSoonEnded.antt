@@ -27,11 +27,11 @@ use Rattle.ipx_router.proofs.tables.OffersOfAMessage.{facts_from-more}
 use Rattle.ipx_router.proofs.tables.HeldCameByPortsUp.{held_routes_up, held_services_up}
 use Rattle.ipx_internet.specs.Announces.{service_of}
 use Rattle.ipx_internet.specs.Meanwhile.{message_of}
-use Rattle.ipx_internet.proofs.deliveries.KeyAfterOffers.{OffersOf}
-use Rattle.ipx_internet.proofs.deliveries.TablesAfterAPacket.{service_offer, routes_are, services_are}
 use Rattle.ipx_internet.proofs.lists.EachElement.{all_then}
-use Rattle.ipx_internet.proofs.packets.SaysWhatWasWritten.{heard_message}
-use Rattle.ipx_internet.proofs.ticks.RecordsGrowOld.{Aged, IsOldOffer, passed, at_first, after_event}
+use Rattle.ipx_internet.proofs.packets.SentOnSaysTheSame.{heard_message}
+use Rattle.ipx_internet.proofs.records.HeardChangesItsKeys.{service_offer, routes_are, services_are}
+use Rattle.ipx_internet.proofs.records.KeptOrOffered.{OffersOf}
+use Rattle.ipx_internet.proofs.records.RecordsGrowOld.{Aged, IsOldOffer, passed, at_first, after_event}
 
 -- nothing is there by a port of which there is none
 none_by : {O : Type 0} (port_of : O → ℕ) (up : List ℕ) (xs : List O) → up ≡ [] → AllByRecursion (λ o. is_up up (port_of o) ≡ true) xs → AllByRecursion (λ o. ⊥) xs

@@ -10,10 +10,10 @@ use Rattle.ipx_internet.specs.Rounds.{IsDelivery}
 use Rattle.ipx_internet.specs.Run.{Step, Happens, Settles, AreHistories, Run, forgotten, stepped, run_of}
 use Rattle.ipx_internet.specs.Ticks.{IsOfTick, AreTicks, ticked, most_ticks_gone, ups}
 use Rattle.ipx_internet.proofs.deliveries.QueueOfARun.{deliveries}
-use Rattle.ipx_internet.proofs.packets.RepliesAskNothing.{Layouts}
+use Rattle.ipx_internet.proofs.packets.SentOnOrReply.{Layouts}
+use Rattle.ipx_internet.proofs.ticks.BusyTickAfterTick.{each_so}
 use Rattle.ipx_internet.proofs.ticks.TickAfterTick.{Rests, rested}
 use Rattle.ipx_internet.proofs.ticks.TickCanBeHad.{Sound, step_sound, steps_sound, sound_run, of_tick}
-use Rattle.ipx_internet.proofs.ticks.TicksMeanwhile.{each_so}
 use Rattle.ipx_internet.proofs.trees.RunIsALog.{router_there}
 
 module _ (net : Internet) (laws : Layouts) (is : IsInternet net) (most_routes most_services : ℕ) where

@@ -30,12 +30,13 @@ use Rattle.ipx_router.proofs.bytes.LawsOfLayouts.{alone}
 use Rattle.ipx_internet.specs.Announces.{service_of}
 use Rattle.ipx_internet.specs.Meanwhile.{message_in}
 use Rattle.ipx_internet.proofs.lists.EachElement.{all_of, all_then, all-append, all_mapped}
-use Rattle.ipx_internet.proofs.packets.PagesAskNothing.{IsRipPage, IsSapPage, Tellable, Answers, rip_answers, sap_answers, IsAnswering, answering, own_is, services_is, everyone_is, every_server_is, rip_pages, sap_pages}
-use Rattle.ipx_internet.proofs.packets.RepliesAskNothing.{Layouts}
-use Rattle.ipx_internet.proofs.packets.SaysWhatWasWritten.{of_packet, for_rip, for_sap, message_heard}
+use Rattle.ipx_internet.proofs.lists.FoundInAList.{nothing, it_is}
+use Rattle.ipx_internet.proofs.packets.PagesReadAgain.{IsRipPage, IsSapPage, Tellable, own_is, services_is, everyone_is, every_server_is, rip_pages, sap_pages}
+use Rattle.ipx_internet.proofs.packets.ResponsesAskNothing.{Answers, rip_answers, sap_answers, IsAnswering, answering}
+use Rattle.ipx_internet.proofs.packets.SentOnOrReply.{Layouts}
+use Rattle.ipx_internet.proofs.packets.SentOnSaysTheSame.{of_packet, for_rip, for_sap, message_heard}
 use Rattle.ipx_internet.proofs.rounds.RepliesTellChanges.{page_heard, services_heard_of}
 use Rattle.ipx_internet.proofs.ticks.FineOrSoonEnded.{IsFineService, RouteSaid, ServiceSaid, EntrySaid, RipSaid, Said, Tells, AllFine, AllServed}
-use Rattle.ipx_internet.proofs.trees.OnePlaceToGo.{nothing, it_is}
 
 module _ (IsFine : Network → Type 0) (IsServed : Service → Type 0) (begun : ℕ) where
   abbrev pub Entry : RipEntry → Type 0

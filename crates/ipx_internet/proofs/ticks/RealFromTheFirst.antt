@@ -16,9 +16,9 @@ use Rattle.ipx_internet.specs.Real.{IsReal}
 use Rattle.ipx_internet.specs.Run.{AreHistories, begun}
 use Rattle.ipx_internet.specs.Ticks.{most_ticks_gone, ups}
 use Rattle.ipx_internet.proofs.lists.EachElement.{all_then}
-use Rattle.ipx_internet.proofs.packets.RepliesAskNothing.{Layouts}
+use Rattle.ipx_internet.proofs.packets.SentOnOrReply.{Layouts}
+use Rattle.ipx_internet.proofs.records.RecordsGrowOld.{where_none}
 use Rattle.ipx_internet.proofs.ticks.RealOrSoonEnded.{Endures}
-use Rattle.ipx_internet.proofs.ticks.RecordsGrowOld.{where_none}
 use Rattle.ipx_internet.proofs.ticks.TickAfterTick.{Rests}
 
 -- what holds of the offers of records holds of each record's

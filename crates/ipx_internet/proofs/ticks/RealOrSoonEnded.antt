@@ -31,13 +31,13 @@ use Rattle.ipx_internet.specs.Internet.{Internet, Place, ports_of, port_of, netw
 use Rattle.ipx_internet.specs.Queue.{Delivery}
 use Rattle.ipx_internet.specs.Real.{IsReal, next, farther}
 use Rattle.ipx_internet.specs.Rounds.{IsDelivery}
-use Rattle.ipx_internet.proofs.deliveries.KeyAfterOffers.{OffersOf}
 use Rattle.ipx_internet.proofs.lists.EachElement.{all_then}
+use Rattle.ipx_internet.proofs.lists.FoundInAList.{nothing, it_is}
 use Rattle.ipx_internet.proofs.packets.AdvertisedIsHeld.{told_all, news_told, told_services_all, news_services_told}
-use Rattle.ipx_internet.proofs.packets.RepliesAskNothing.{IsNewsSent}
+use Rattle.ipx_internet.proofs.packets.SentOnOrReply.{IsNewsSent}
+use Rattle.ipx_internet.proofs.records.KeptOrOffered.{OffersOf}
+use Rattle.ipx_internet.proofs.records.RecordsGrowOld.{Aged, IsOldOffer, IsOldHeld, at_first, where_none, after_second, after_offers, old_held}
 use Rattle.ipx_internet.proofs.rounds.RepliesTellChanges.{page_heard, services_heard_of}
-use Rattle.ipx_internet.proofs.ticks.RecordsGrowOld.{Aged, IsOldOffer, IsOldHeld, at_first, where_none, after_second, after_offers, old_held}
-use Rattle.ipx_internet.proofs.trees.OnePlaceToGo.{nothing, it_is}
 
 module _ (net : Internet) (up : ℕ → List ℕ) where
   -- ---- what is said

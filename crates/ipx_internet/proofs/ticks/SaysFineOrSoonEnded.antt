@@ -35,12 +35,12 @@ use Rattle.ipx_router.proofs.tables.HeldWasOffered.{source_of}
 use Rattle.ipx_router.proofs.telling.ToldFitsFields.{told_at_fits, direct_fits, dead_fits, down_fits, told_fits, told_services_fit}
 use Rattle.ipx_internet.proofs.lists.EachElement.{all_then, all-append, all-map, all-filter, all-flat_map}
 use Rattle.ipx_internet.proofs.packets.AdvertisedIsHeld.{told_all, news_told, told_services_all, news_services_told}
-use Rattle.ipx_internet.proofs.packets.PagesAskNothing.{Tellable}
-use Rattle.ipx_internet.proofs.packets.RepliesAskNothing.{Layouts, IsOnward, unsaid, said}
-use Rattle.ipx_internet.proofs.packets.SaysWhatWasWritten.{heard_message, sent_on_message}
+use Rattle.ipx_internet.proofs.packets.PagesReadAgain.{Tellable}
+use Rattle.ipx_internet.proofs.packets.SentOnOrReply.{Layouts, IsOnward, unsaid, said}
+use Rattle.ipx_internet.proofs.packets.SentOnSaysTheSame.{heard_message, sent_on_message}
+use Rattle.ipx_internet.proofs.records.RecordsGrowOld.{IsOldHeld, passed, old_held}
 use Rattle.ipx_internet.proofs.ticks.FineOrSoonEnded.{IsFineService, farther_fine, RipSaid, Said, EventTells, FineRoute, FineService, Abides}
 use Rattle.ipx_internet.proofs.ticks.OwnPagesSayFine.{Entry, Named, Say, entries_tell, services_tell, rip_broadcast_tells, sap_broadcast_tells, broadcasts_tell, request_tells, query_tells}
-use Rattle.ipx_internet.proofs.ticks.RecordsGrowOld.{IsOldHeld, passed, old_held}
 
 -- one of two lists, and the nearest service of a list
 pub either : (P : Service → Type 0) (c : Bool) (xs ys : List Service) → AllByRecursion P xs → AllByRecursion P ys → AllByRecursion P (if c then xs else ys)

@@ -21,11 +21,11 @@ use Rattle.ipx_internet.specs.Queue.{history_of}
 use Rattle.ipx_internet.specs.Run.{Step, Happens, Settles, AreHistories, Run}
 use Rattle.ipx_internet.specs.Ticks.{ticked, most_ticks_gone}
 use Rattle.ipx_internet.proofs.lists.EachElement.{all_of, all_then, all_listed}
-use Rattle.ipx_internet.proofs.packets.RepliesAskNothing.{Layouts}
+use Rattle.ipx_internet.proofs.packets.SentOnOrReply.{Layouts}
+use Rattle.ipx_internet.proofs.records.RecordsGrowOld.{at_last}
+use Rattle.ipx_internet.proofs.ticks.BusyTickAfterTick.{ticks_rest, quiet_rests}
 use Rattle.ipx_internet.proofs.ticks.FineOrSoonEnded.{IsFineService, RouteSaid, EntrySaid, RipSaid, Said}
-use Rattle.ipx_internet.proofs.ticks.GoneMeanwhile.{EveryNetwork, each_always}
-use Rattle.ipx_internet.proofs.ticks.RecordsGrowOld.{at_last}
-use Rattle.ipx_internet.proofs.ticks.TicksMeanwhile.{ticks_rest, quiet_rests}
+use Rattle.ipx_internet.proofs.ticks.GoneWhateverHappens.{EveryNetwork, each_always}
 
 -- what holds of each element, where one knows of which it is said
 each_with : {X : Type 0} (P Q : X → Type 0) (xs : List X) → AllByRecursion P xs → ((k : ℕ) (x : X) → slice_get xs k ≡ Some x → P x → Q x) → AllByRecursion Q xs

@@ -20,8 +20,8 @@ use Rattle.ipx_internet.proofs.deliveries.QueueOfARun.{events, deliveries}
 use Rattle.ipx_internet.proofs.deliveries.WaitsAfterDelivery.{there}
 use Rattle.ipx_internet.proofs.lists.EachElement.{all_then, all-append}
 use Rattle.ipx_internet.proofs.packets.BroadcastEachSecond.{all_cast}
-use Rattle.ipx_internet.proofs.packets.PagesAskNothing.{answering}
-use Rattle.ipx_internet.proofs.packets.RepliesAskNothing.{Layouts, IsReply, IsCast, IsOnward, news_reply, no_reply, unsaid, answered}
+use Rattle.ipx_internet.proofs.packets.ResponsesAskNothing.{answering}
+use Rattle.ipx_internet.proofs.packets.SentOnOrReply.{Layouts, IsReply, IsCast, IsOnward, news_reply, no_reply, unsaid, answered}
 use Rattle.ipx_internet.proofs.places.OneReceiverOfANode.{ports_at, receives_is}
 use Rattle.ipx_internet.proofs.rounds.OneRound.{sents, sent_for, each_delivery}
 use Rattle.ipx_internet.proofs.rounds.RepliesTellChanges.{heard_from}

@@ -14,7 +14,7 @@ use Rattle.ipx_internet.specs.Run.{Step, Happens, Settles, IsStep, AreHistories,
 use Rattle.ipx_internet.specs.Ticks.{is_second_of, seconds_of, IsOfTick, IsTick, AreTicks, a_tick_by, a_tick, IsOrder}
 use Rattle.ipx_internet.proofs.deliveries.QueueOfARun.{events, deliveries, many_deliveries}
 use Rattle.ipx_internet.proofs.lists.EachElement.{all_mapped, all_then, all-append, all-map, numbers_below}
-use Rattle.ipx_internet.proofs.packets.RepliesAskNothing.{Layouts}
+use Rattle.ipx_internet.proofs.packets.SentOnOrReply.{Layouts}
 use Rattle.ipx_internet.proofs.places.OneReceiverOfANode.{ports_at}
 use Rattle.ipx_internet.proofs.rounds.OneRound.{each_delivery}
 use Rattle.ipx_internet.proofs.rounds.QuietAfterRounds.{enough}

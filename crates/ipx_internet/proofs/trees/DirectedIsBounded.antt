@@ -1,4 +1,5 @@
--- How large the tree of a packet for one network gets.
+-- How large the tree of a packet for one network gets. It goes on to one router, sixteen times at most, and then perhaps to all on
+-- the network that it is for.
 use Rattle.std.proofs.Common.{◌≡◌, refl, sym, ap, ◌∙◌, subst, ℕ, zero, suc, ◌+◌, ◌-◌, ◌<◌, ◌≤◌, ◌⊎◌, not, Some, None, Ok, Err, Option, Result, true, false, List, [], ◌∷◌, ◌++◌, length, flat_map, inl, inr, arith, length-append, append-nil}
 use Rattle.std.specs.List.{AllByRecursion}
 use Rattle.std.proofs.lemmas.Bool.{and_parts, or_parts, not-true, both_ways, eqb-false}
@@ -21,14 +22,14 @@ use Rattle.ipx_internet.specs.Internet.{Internet, Place, network_of, IsPlace, Is
 use Rattle.ipx_internet.specs.Most.{most_on_network}
 use Rattle.ipx_internet.specs.Tree.{Router, IsRouter, Copy, net_of, router_at, forwards, receivers, children, next_level, levels, joined, tree_to}
 use Rattle.ipx_internet.proofs.lists.EachElement.{all_then, all-map, at_most_one, holds_of, differ-unmap}
-use Rattle.ipx_internet.proofs.lists.HowManyPass.{delivered_few, some_on_network}
-use Rattle.ipx_internet.proofs.packets.LawsOfLayouts.{Wire, read_forwarded}
 use Rattle.ipx_internet.proofs.packets.SentOnIsBytes.{SentOn, forwarded_bytes}
+use Rattle.ipx_internet.proofs.packets.SentOnReadAgain.{Wire, read_forwarded}
 use Rattle.ipx_internet.proofs.places.EachPortOnce.{delivered_differ, delivered_within}
+use Rattle.ipx_internet.proofs.places.FewOnANetwork.{delivered_few, some_on_network}
 use Rattle.ipx_internet.proofs.places.OneReceiverOfANode.{receives_is, one_receiver}
+use Rattle.ipx_internet.proofs.trees.NextLevelIsBounded.{Relaying, Sends, sends, none_behind}
 use Rattle.ipx_internet.proofs.trees.OnePlaceToGo.{by_port_or_node, one_sent}
 use Rattle.ipx_internet.proofs.trees.PropagatedIsBounded.{ports_same, router_is}
-use Rattle.ipx_internet.proofs.trees.TreeIsBounded.{Relaying, Sends, sends, none_behind}
 
 -- ---- receptions that send nothing on
 

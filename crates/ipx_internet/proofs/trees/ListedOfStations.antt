@@ -17,10 +17,10 @@ use Rattle.ipx_internet.specs.Weight.{weight, IsBounded}
 use Rattle.ipx_internet.specs.declared.fault.TraceFault.{TraceFault}
 use Rattle.ipx_internet.specs.declared.stations.Station.{Station}
 use Rattle.ipx_internet.proofs.lists.EachElement.{all_at}
-use Rattle.ipx_internet.proofs.lists.FilledToALimit.{cut_more}
 use Rattle.ipx_internet.proofs.trees.ListedIsTheTree.{tree_grown, begins as tree_begins, ends as tree_ends, goes_on as tree_goes_on, more_no_longer, children_are}
-use Rattle.ipx_internet.proofs.weights.ReceptionsWeigh as weighed
-use Rattle.ipx_internet.proofs.weights.ReceptionsWeigh.{there_at}
+use Rattle.ipx_internet.proofs.trees.ListingUpToALimit.{cut_more}
+use Rattle.ipx_internet.proofs.trees.RootOutweighsItsList as weighed
+use Rattle.ipx_internet.proofs.trees.RootOutweighsItsList.{there_at}
 
 -- the ports of routers as they are are their ports
 pub nets_same : (states : List State) → net_of (routers_of states) ≡ net_among states

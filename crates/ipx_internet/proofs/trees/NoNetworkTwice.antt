@@ -16,9 +16,9 @@ use Rattle.ipx_internet.specs.Different.{AreDifferent}
 use Rattle.ipx_internet.specs.Internet.{Internet, Place, network_of, IsPlace, IsInternet}
 use Rattle.ipx_internet.specs.Log.{Sending, Reception, reception_at, outlet, IsForward, IsLog}
 use Rattle.ipx_internet.proofs.lists.EachElement.{all_then, all_mapped, none_joined, none_of_both, no_more_than}
-use Rattle.ipx_internet.proofs.packets.LawsOfLayouts.{Wire}
-use Rattle.ipx_internet.proofs.packets.LeavesByAPort.{Spreads, outlet_is, is_network, spreads, elsewhere, received}
+use Rattle.ipx_internet.proofs.packets.SentOnReadAgain.{Wire}
 use Rattle.ipx_internet.proofs.places.OneReceiverOfANode.{same_number, receives_is}
+use Rattle.ipx_internet.proofs.trees.PropagatedGoesElsewhere.{Spreads, outlet_is, is_network, spreads, elsewhere, received}
 
 -- a network that isn't among others isn't the one behind them
 not_last : (network other : Network) (networks : List Network) → is_among network (networks ++ other ∷ []) ≡ false → network ≢ other

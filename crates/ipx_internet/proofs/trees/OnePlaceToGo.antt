@@ -1,7 +1,7 @@
 -- Where a packet for another network goes: to a port's network, or to one neighbour.
-use Rattle.std.proofs.Common.{◌≡◌, refl, sym, ap, ap₂, ◌∙◌, subst, ℕ, ◌==◌, ◌⊎◌, if◌then◌else◌, Bool, true, false, List, [], ◌∷◌, Option, None, Some, find, inl, inr, true≢false, is_some, option_map}
+use Rattle.std.proofs.Common.{◌≡◌, refl, sym, ap, ap₂, ◌∙◌, ℕ, ◌==◌, ◌⊎◌, Bool, true, false, List, [], ◌∷◌, Option, None, Some, inl, inr, option_map, if◌then◌else◌}
 use Rattle.std.specs.List.{AllByRecursion}
-use Rattle.std.proofs.lemmas.Bool.{cases_Bool, eqb-true}
+use Rattle.std.proofs.lemmas.Bool.{eqb-true}
 use Rattle.ipx_wire.specs.declared.address.Address.{Address}
 use Rattle.ipx_wire.specs.declared.network.Network.{Network}
 use Rattle.ipx_router.specs.Numbers.{default_route}
@@ -9,21 +9,7 @@ use Rattle.ipx_router.specs.Outgoing.{Way, port_to, route_to, serving, way_to}
 use Rattle.ipx_router.specs.Port.{Port, broadcast, port_at, same_node, takes_no_route}
 use Rattle.ipx_router.specs.Relays.{Sent, IsTableRoute}
 use Rattle.ipx_router.specs.declared.route_offer.RouteOffer.{RouteOffer}
-
-pub nothing : {X : Type 0} {x : X} {A : Type 0} → None ≡ Some x → A
-nothing e = absurd (true≢false (sym (ap is_some e)))
-
--- what holds of one element holds of any that is the same
-pub it_is : {X : Type 0} (P : X → Type 0) (x y : X) → Some y ≡ Some x → P y → P x
-it_is {X} P x y e is = subst (λ (z : X). P z) (ap (λ (o : Option _). elim o [ None ↦ y | Some z ↦ z ]) e) is
-
--- the first that passes a test is one of the list, and passes it
-pub found : {X : Type 0} (P : X → Type 0) (test : X → Bool) (xs : List X) (x : X) → AllByRecursion P xs → find test xs ≡ Some x → P x × (test x ≡ true)
-found P test [] x all e = nothing e
-found P test (y ∷ ys) x all e = elim (cases_Bool (test y)) [
-  | inl it ↦ it_is (λ z. P z × (test z ≡ true)) x y (rw it at e) (all.0, it)
-  | inr other ↦ found P test ys x all.1 (rw other at e)
-]
+use Rattle.ipx_internet.proofs.lists.FoundInAList.{nothing, it_is, found}
 
 -- all elements are elements
 any_of : {X : Type 0} (xs : List X) → AllByRecursion (λ x. Unit {0}) xs

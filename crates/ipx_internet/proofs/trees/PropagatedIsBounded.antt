@@ -1,4 +1,5 @@
--- How large the tree of a propagated packet gets.
+-- How large the tree of a propagated packet gets. All receptions of one level have the same transport control. It goes on to each
+-- other port of a router and each other port of its network, at most, and eight times at most.
 use Rattle.std.proofs.Common.{◌≡◌, ◌≢◌, refl, sym, subst, ℕ, zero, suc, ◌+◌, ◌-◌, ◌*◌, ◌<◌, ◌≤◌, ◌==◌, Some, true, false, List, [], ◌∷◌, length, map, flat_map, inl, inr, arith, length-append, mul-le-mul_right, mul-one, mul-zero, one-mul}
 use Rattle.std.specs.List.{AllByRecursion, list_any}
 use Rattle.std.proofs.lemmas.Bool.{and_parts, not-true, both_ways}
@@ -20,11 +21,12 @@ use Rattle.ipx_internet.specs.Internet.{Internet, Place, ports_of, IsPlace, IsIn
 use Rattle.ipx_internet.specs.Most.{most, most_of, most_ports, most_on_network}
 use Rattle.ipx_internet.specs.Tree.{Router, IsRouter, Copy, net_of, router_at, forwards, receivers, children, next_level, levels, joined, tree_to}
 use Rattle.ipx_internet.proofs.lists.EachElement.{all_of, all_or, all_then, all-map, all-flat_map, all_mapped, holds_of, no_more_than}
-use Rattle.ipx_internet.proofs.lists.HowManyPass.{flat_map_few, is_number, length-numbers, delivered_few, router_small}
-use Rattle.ipx_internet.proofs.packets.LawsOfLayouts.{Wire, read_propagated}
-use Rattle.ipx_internet.proofs.packets.LeavesByAPort.{place_network}
+use Rattle.ipx_internet.proofs.lists.HowManyPass.{flat_map_few, is_number, length-numbers}
 use Rattle.ipx_internet.proofs.packets.SentOnIsBytes.{SentOn, propagated_bytes}
-use Rattle.ipx_internet.proofs.trees.TreeIsBounded.{Relaying, Sends, sends, next_few, next_all, grown}
+use Rattle.ipx_internet.proofs.packets.SentOnReadAgain.{Wire, read_propagated}
+use Rattle.ipx_internet.proofs.places.FewOnANetwork.{delivered_few, router_small}
+use Rattle.ipx_internet.proofs.trees.NextLevelIsBounded.{Relaying, Sends, sends, next_few, next_all, grown}
+use Rattle.ipx_internet.proofs.trees.PropagatedGoesElsewhere.{place_network}
 
 -- the ports of a router of the internet are its ports
 pub ports_same : (routers : List Router) (number : ℕ) → ports_of (net_of routers) number ≡ (router_at routers number).ports

@@ -1,18 +1,20 @@
 -- The routers of an internet that stands for histories, as a tree sees them.
-use Rattle.std.proofs.Common.{◌≡◌, refl, sym, ap, ap₂, ◌∙◌, ℕ, zero, suc, Bool, List, [], ◌∷◌, ◌++◌, length, map, slice_get, Some}
+use Rattle.std.proofs.Common.{◌≡◌, refl, sym, ap, ap₂, ◌∙◌, ℕ, zero, suc, Bool, List, [], ◌∷◌, ◌++◌, length, map, slice_get, Some, subst}
 use Rattle.std.proofs.lemmas.List.{length-map, map-append, get_or-map}
 use Rattle.std.proofs.lemmas.Option.{get_or_from_slice_get, slice_get_within}
+use Rattle.std.specs.List.{AllByRecursion}
 use Rattle.ipx_table.specs.declared.held.Held.{Held}
 use Rattle.ipx_router.specs.Facts.{offers}
-use Rattle.ipx_router.specs.History.{History, running, ports_up}
+use Rattle.ipx_router.specs.History.{History, running, ports_up, IsOnPort}
 use Rattle.ipx_router.specs.Port.{Port, numbers}
+use Rattle.ipx_router.specs.RouterOf.{HasPast}
 use Rattle.ipx_router.specs.Stands.{State, StandsFor as RouterStandsFor}
 use Rattle.ipx_router.specs.declared.route_offer.RouteOffer.{RouteOffer}
 use Rattle.ipx_internet.specs.Internet.{ports_of}
 use Rattle.ipx_internet.specs.Moment.{Moment, StandsFor, net_at}
 use Rattle.ipx_internet.specs.Queue.{Queued, history_of}
 use Rattle.ipx_internet.specs.Traced.{router_of, routers_of, routers_after}
-use Rattle.ipx_internet.specs.Tree.{Router, router_now}
+use Rattle.ipx_internet.specs.Tree.{Router, router_now, IsRouter}
 
 -- a router that stands for a history is as it is after it
 pub stands_now : (most_routes most_services : ℕ) (s : State) (history : History) → RouterStandsFor most_routes most_services s history
@@ -58,3 +60,12 @@ module _ (most_routes most_services : ℕ) (m : Moment) (q : Queued) (stands : S
   pub after_histories : routers_of m.routers ≡ routers_after (net_at m) most_routes q.histories
   after_histories =
       mapped now m.routers one ∙ ap (λ (n : ℕ). map now (numbers n)) (sym (length-map m.routers (λ (s : State). s.ports)))
+
+-- routers with pasts have tables such as a tree is said of
+module _ (most_routes most_services : ℕ)
+    (as_they_are : (ports : List Port) (most : ℕ) (history : History) → AllByRecursion (IsOnPort ports) history → IsRouter (router_now ports most history)) where
+  pub are_tabled : (routers : List State) → AllByRecursion (HasPast most_routes most_services) routers → AllByRecursion IsRouter (routers_of routers)
+  are_tabled [] all = tt
+  are_tabled (s ∷ routers) all =
+      let now : IsRouter (router_now s.ports most_routes all.0.past) = as_they_are s.ports most_routes all.0.past all.0.on_ports in
+      (subst (λ (r : Router). IsRouter r) (sym (stands_now most_routes most_services s all.0.past all.0.stands)) now, are_tabled routers all.1)

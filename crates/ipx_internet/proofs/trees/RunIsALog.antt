@@ -20,12 +20,12 @@ use Rattle.ipx_internet.specs.Log.{Sending, Reception, reception_at, outlet, IsF
 use Rattle.ipx_internet.specs.Queue.{deliveries_of, history_of, with_event, sends_at}
 use Rattle.ipx_internet.specs.Run.{Step, Happens, Settles, IsStep, AreHistories, Waiting, Run, begun, is_for_others, forward_of, happens, stepped, run_of}
 use Rattle.ipx_internet.proofs.lists.EachElement.{all_of, all_then, all-append, all-map, all-flat_map, all_apart, differ-append, differ-front}
-use Rattle.ipx_internet.proofs.packets.ForwardsOnOtherPorts.{Routing, AreForwards, goes_on, are_forwards}
+use Rattle.ipx_internet.proofs.lists.FoundInAList.{nothing, it_is}
+use Rattle.ipx_internet.proofs.packets.ForwardsDiffer.{Routing, AreForwards, goes_on, are_forwards}
 use Rattle.ipx_internet.proofs.places.EachPortOnce.{delivered_within}
 use Rattle.ipx_internet.proofs.places.OneReceiverOfANode.{ports_at}
 use Rattle.ipx_internet.proofs.trees.LogStays.{Comes, IsSound, same_reception, comes_lasts, sound_lasts}
 use Rattle.ipx_internet.proofs.trees.NoTwoNameTheSame.{Name, named, names, names_waiting, named_once, all_names, all_names_of_log, waits, names_differ}
-use Rattle.ipx_internet.proofs.trees.OnePlaceToGo.{nothing, it_is}
 
 -- the last reception
 reception_last : (log : List Reception) (r : Reception) → reception_at (log ++ r ∷ []) (length log) ≡ r

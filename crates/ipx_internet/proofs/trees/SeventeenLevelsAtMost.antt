@@ -15,12 +15,12 @@ use Rattle.ipx_internet.specs.Delivery.{delivered}
 use Rattle.ipx_internet.specs.Internet.{Place, IsPlace, IsInternet}
 use Rattle.ipx_internet.specs.Tree.{Router, IsRouter, Copy, net_of, router_at, forwards, receivers, children, next_level, levels, joined, tree_to, IsTree}
 use Rattle.ipx_internet.proofs.lists.EachElement.{all_of, all_then, all-map, all-flat_map, holds_of}
-use Rattle.ipx_internet.proofs.packets.LawsOfLayouts.{Wire, read_forwarded, read_propagated}
-use Rattle.ipx_internet.proofs.packets.LeavesByAPort.{place_network}
 use Rattle.ipx_internet.proofs.packets.SentOnIsBytes.{SentOn, forwarded_bytes, propagated_bytes}
+use Rattle.ipx_internet.proofs.packets.SentOnReadAgain.{Wire, read_forwarded, read_propagated}
 use Rattle.ipx_internet.proofs.trees.DirectedIsBounded.{IsLast, nothing_next, unread}
+use Rattle.ipx_internet.proofs.trees.NextLevelIsBounded.{Relaying, sends, next_all}
+use Rattle.ipx_internet.proofs.trees.PropagatedGoesElsewhere.{place_network}
 use Rattle.ipx_internet.proofs.trees.PropagatedIsBounded.{ports_same, router_is}
-use Rattle.ipx_internet.proofs.trees.TreeIsBounded.{Relaying, sends, next_all}
 
 module _ (w : Wire) (laws : Relaying) (over : SentOn) (routers : List Router) (made : IsInternet (net_of routers)) (right : AllByRecursion IsRouter routers) where
   abbrev router_of : Copy → Router

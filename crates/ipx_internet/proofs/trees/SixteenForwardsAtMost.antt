@@ -18,7 +18,7 @@ use Rattle.ipx_internet.specs.Different.{AreDifferent}
 use Rattle.ipx_internet.specs.Internet.{Internet, ports_of, port_of, network_of, IsInternet, NodesDiffer}
 use Rattle.ipx_internet.specs.Log.{Sending, Reception, reception_at, outlet, IsForward, IsLog}
 use Rattle.ipx_internet.proofs.lists.EachElement.{all_then, all_passed, differ-filter, length_parted, at_most_one}
-use Rattle.ipx_internet.proofs.packets.LawsOfLayouts.{Wire, read_forwarded}
+use Rattle.ipx_internet.proofs.packets.SentOnReadAgain.{Wire, read_forwarded}
 use Rattle.ipx_internet.proofs.places.OneReceiverOfANode.{receives_is, one_receiver}
 use Rattle.ipx_internet.proofs.trees.OnePlaceToGo.{by_port_or_node, one_sent}
 

@@ -25,14 +25,14 @@ use Rattle.ipx_internet.specs.Internet.{Internet, Place, IsInternet, IsPlace, No
 use Rattle.ipx_internet.specs.InternetWeight.{entry_weight, routes_weight, entries_a_service, most_answered, request_weight, query_weight}
 use Rattle.ipx_internet.specs.Queue.{deliveries_of}
 use Rattle.ipx_internet.proofs.lists.EachElement.{all_of, all_then, all-map, at_most_one}
-use Rattle.ipx_internet.proofs.packets.LawsOfLayouts.{Wire}
-use Rattle.ipx_internet.proofs.packets.PagesAskNothing.{Tellable}
-use Rattle.ipx_internet.proofs.packets.RepliesAskNothing.{Layouts}
+use Rattle.ipx_internet.proofs.packets.PagesReadAgain.{Tellable}
+use Rattle.ipx_internet.proofs.packets.SentOnOrReply.{Layouts}
+use Rattle.ipx_internet.proofs.packets.SentOnReadAgain.{Wire}
 use Rattle.ipx_internet.proofs.places.EachPortOnce.{delivered_within, delivered_differ}
 use Rattle.ipx_internet.proofs.places.OneReceiverOfANode.{ports_at, receives_is, one_receiver}
-use Rattle.ipx_internet.proofs.weights.PagesWeigh.{sum_one_more, sum_few, paged}
-use Rattle.ipx_internet.proofs.weights.WeightOnItsNetwork.{w, farther_lighter, pages_land, lists_land}
-use Rattle.ipx_internet.proofs.weights.WeightWhoeverReads.{IsTold, IsToldService, short, rip_page_lands, sap_page_lands, nearest_lands}
+use Rattle.ipx_internet.proofs.weights.PagesAtEitherProcess.{IsTold, IsToldService, short, rip_page_lands, sap_page_lands, nearest_lands}
+use Rattle.ipx_internet.proofs.weights.PagesAtTheirProcess.{w, farther_lighter, pages_land, lists_land}
+use Rattle.ipx_internet.proofs.weights.PagesWeighTheirItems.{sum_one_more, sum_few, paged}
 
 -- ---- what is told
 

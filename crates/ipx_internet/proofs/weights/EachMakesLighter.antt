@@ -12,18 +12,18 @@ use Rattle.ipx_internet.specs.Queue.{Delivery, Queued, history_of, settled}
 use Rattle.ipx_internet.specs.Rounds.{IsDelivery}
 use Rattle.ipx_internet.specs.Run.{AreHistories}
 use Rattle.ipx_internet.specs.Tree.{IsRouter, router_now}
-use Rattle.ipx_internet.proofs.deliveries.NoneWaitsAtTheEnd.{none_settle}
+use Rattle.ipx_internet.proofs.deliveries.SettledOneByOne.{none_settle}
 use Rattle.ipx_internet.proofs.deliveries.WaitsAfterDelivery.{there}
-use Rattle.ipx_internet.proofs.packets.LawsOfLayouts.{Wire}
-use Rattle.ipx_internet.proofs.packets.RepliesAskNothing.{Layouts}
 use Rattle.ipx_internet.proofs.packets.SentOnIsBytes.{SentOn}
-use Rattle.ipx_internet.proofs.rounds.DeliveriesOfRounds.{Rooms}
+use Rattle.ipx_internet.proofs.packets.SentOnOrReply.{Layouts}
+use Rattle.ipx_internet.proofs.packets.SentOnReadAgain.{Wire}
+use Rattle.ipx_internet.proofs.rounds.FewDeliveriesARound.{Rooms}
 use Rattle.ipx_internet.proofs.rounds.OneRound.{happened, sent_for}
 use Rattle.ipx_internet.proofs.ticks.TickCanBeHad.{Sound, delivery_sound}
-use Rattle.ipx_internet.proofs.trees.TreeIsBounded.{Relaying}
+use Rattle.ipx_internet.proofs.trees.NextLevelIsBounded.{Relaying}
 use Rattle.ipx_internet.proofs.weights.HeardMakesLighter.{OnUps, heard_lighter}
+use Rattle.ipx_internet.proofs.weights.HeardPaysItsChanges as outlays
 use Rattle.ipx_internet.proofs.weights.SentOnMakesLighter.{unheard_lighter}
-use Rattle.ipx_internet.proofs.weights.WhatAPacketCosts as outlays
 
 -- where one number changes, the sum changes by it
 module _ (f g : ℕ → ℕ) (one : ℕ) (same : (k : ℕ) → k ≢ one → g k ≡ f k) where

@@ -19,8 +19,8 @@ use Rattle.ipx_router.proofs.bounds.PacketsOfEachEvent.{network_total, service_t
 use Rattle.ipx_router.proofs.telling.LawsOfTold.{route-same, service-same}
 use Rattle.ipx_internet.specs.Internet.{Internet}
 use Rattle.ipx_internet.specs.InternetWeight.{most_hearers, weight_in_reach, entry_weight, routes_weight, services_weight}
-use Rattle.ipx_internet.proofs.deliveries.TablesAfterAPacket.{service_offer}
-use Rattle.ipx_internet.proofs.weights.WhatOffersCost as costs
+use Rattle.ipx_internet.proofs.records.HeardChangesItsKeys.{service_offer}
+use Rattle.ipx_internet.proofs.weights.OffersPayTheirCost as costs
 
 module _ (net : Internet) where
   -- what is told of an offer weighs, at each that hears it: the packet, and the entry a hop farther

@@ -43,21 +43,22 @@ use Rattle.ipx_internet.specs.Queue.{Delivery, deliveries_of, history_of}
 use Rattle.ipx_internet.specs.Rounds.{IsDelivery}
 use Rattle.ipx_internet.specs.Run.{AreHistories}
 use Rattle.ipx_internet.proofs.lists.EachElement.{all_then, all-append, all-filter}
-use Rattle.ipx_internet.proofs.lists.HowManyPass.{router_small}
-use Rattle.ipx_internet.proofs.packets.LawsOfLayouts.{Wire}
-use Rattle.ipx_internet.proofs.packets.PagesAskNothing.{IsAnswering, Tellable}
-use Rattle.ipx_internet.proofs.packets.RepliesAskNothing.{Layouts, said}
+use Rattle.ipx_internet.proofs.packets.PagesReadAgain.{Tellable}
+use Rattle.ipx_internet.proofs.packets.ResponsesAskNothing.{IsAnswering}
+use Rattle.ipx_internet.proofs.packets.SentOnOrReply.{Layouts, said}
+use Rattle.ipx_internet.proofs.packets.SentOnReadAgain.{Wire}
+use Rattle.ipx_internet.proofs.places.FewOnANetwork.{router_small}
 use Rattle.ipx_internet.proofs.places.OneReceiverOfANode.{ports_at}
-use Rattle.ipx_internet.proofs.rounds.DeliveriesOfRounds.{Rooms}
+use Rattle.ipx_internet.proofs.rounds.FewDeliveriesARound.{Rooms}
 use Rattle.ipx_internet.proofs.rounds.OneRound.{sents, sent_for}
 use Rattle.ipx_internet.proofs.weights.AnswersWeighLess.{all_told, all_told_services, nearest_such, one_nearest, entries_answer, services_answer, nearest_answer}
+use Rattle.ipx_internet.proofs.weights.ChangesWeighPerHearer.{routes_told, services_told, route_change, service_change, all_changes, on_ports}
 use Rattle.ipx_internet.proofs.weights.EntriesWeighEnough.{route_told_weight, service_told_weight, brings, service_brings}
+use Rattle.ipx_internet.proofs.weights.HeardPaysItsChanges as outlays
 use Rattle.ipx_internet.proofs.weights.HeardWeighsEnough.{IsHeardOf, heard_of, message_weighs, entries_weight, response_weighs, entries_pay}
-use Rattle.ipx_internet.proofs.weights.WeightOnItsNetwork.{w}
-use Rattle.ipx_internet.proofs.weights.WeightWhoeverReads.{IsTold, IsToldService}
-use Rattle.ipx_internet.proofs.weights.WhatAPacketCosts as outlays
-use Rattle.ipx_internet.proofs.weights.WhatChangesCost.{routes_told, services_told, route_change, service_change, all_changes, on_ports}
-use Rattle.ipx_internet.proofs.weights.WhatOffersCost.{telling}
+use Rattle.ipx_internet.proofs.weights.OffersPayTheirCost.{telling}
+use Rattle.ipx_internet.proofs.weights.PagesAtEitherProcess.{IsTold, IsToldService}
+use Rattle.ipx_internet.proofs.weights.PagesAtTheirProcess.{w}
 
 -- the records of a router came by ports that are up
 pub record OnUps : Type 0 where

@@ -22,10 +22,10 @@ use Rattle.ipx_router.proofs.tables.HeldWasOffered.{source_of, came_in, near_sou
 use Rattle.ipx_internet.specs.Internet.{Internet, port_of}
 use Rattle.ipx_internet.specs.InternetWeight.{most_hearers, routes_weight, services_weight, is_for_process, message_weight}
 use Rattle.ipx_internet.specs.Queue.{Delivery}
-use Rattle.ipx_internet.proofs.packets.PagesAskNothing.{IsAnswering}
-use Rattle.ipx_internet.proofs.trees.OnePlaceToGo.{nothing, it_is}
+use Rattle.ipx_internet.proofs.lists.FoundInAList.{nothing, it_is}
+use Rattle.ipx_internet.proofs.packets.ResponsesAskNothing.{IsAnswering}
 use Rattle.ipx_internet.proofs.weights.EntriesWeighEnough.{brings, service_brings, routes_bring, services_bring}
-use Rattle.ipx_internet.proofs.weights.WeightOnItsNetwork.{w, said, plain_weighs}
+use Rattle.ipx_internet.proofs.weights.PagesAtTheirProcess.{w, said, plain_weighs}
 
 -- ---- what passed all checks
 

@@ -28,22 +28,22 @@ use Rattle.ipx_internet.specs.Tree.{Router, IsRouter, Copy, router_now, net_of, 
 use Rattle.ipx_internet.specs.Weight.{weight, weights, CanCome}
 use Rattle.ipx_internet.proofs.deliveries.WaitsAfterDelivery.{there}
 use Rattle.ipx_internet.proofs.lists.EachElement.{all_then, all-map}
-use Rattle.ipx_internet.proofs.packets.LawsOfLayouts.{Wire}
-use Rattle.ipx_internet.proofs.packets.RepliesAskNothing.{Layouts}
 use Rattle.ipx_internet.proofs.packets.SentOnIsBytes.{SentOn}
+use Rattle.ipx_internet.proofs.packets.SentOnOrReply.{Layouts}
+use Rattle.ipx_internet.proofs.packets.SentOnReadAgain.{Wire}
 use Rattle.ipx_internet.proofs.places.EachPortOnce.{delivered_within}
 use Rattle.ipx_internet.proofs.places.OneReceiverOfANode.{receives_is}
 use Rattle.ipx_internet.proofs.rounds.OneRound.{sents, sent_for}
 use Rattle.ipx_internet.proofs.trees.DirectedIsBounded as following
 use Rattle.ipx_internet.proofs.trees.DirectedIsBounded.{unread}
+use Rattle.ipx_internet.proofs.trees.ForwardsWeighNoMore.{all_weighs, never_rises}
+use Rattle.ipx_internet.proofs.trees.NextLevelIsBounded.{Relaying}
 use Rattle.ipx_internet.proofs.trees.OnePlaceToGo.{by_port_or_node}
 use Rattle.ipx_internet.proofs.trees.PropagatedIsBounded as spreading
 use Rattle.ipx_internet.proofs.trees.PropagatedIsBounded.{ports_same}
-use Rattle.ipx_internet.proofs.trees.TreeIsBounded.{Relaying}
-use Rattle.ipx_internet.proofs.weights.PagesWeigh.{sum_few}
-use Rattle.ipx_internet.proofs.weights.SentOnWeighsNoMore.{all_weighs, never_rises}
-use Rattle.ipx_internet.proofs.weights.WeightOnItsNetwork.{w, said, as_read, plain_weighs, at_least_one}
-use Rattle.ipx_internet.proofs.weights.WhatAPacketCosts as outlays
+use Rattle.ipx_internet.proofs.weights.HeardPaysItsChanges as outlays
+use Rattle.ipx_internet.proofs.weights.PagesAtTheirProcess.{w, said, as_read, plain_weighs, at_least_one}
+use Rattle.ipx_internet.proofs.weights.PagesWeighTheirItems.{sum_few}
 
 -- ---- the routers of an internet after histories
 

@@ -18,7 +18,7 @@ use Rattle.ipx_internet.specs.Moment.{Moment, net_at}
 use Rattle.ipx_internet.specs.inside.Simulated.{IsComing}
 use Rattle.ipx_internet.specs.inside.Scales.{saturated}
 use Rattle.ipx_internet.proofs.deliveries.FirstIsHandedOut.{first_left, some_router}
-use Rattle.ipx_internet.proofs.deliveries.NoneWaitsAtTheEnd.{none_of}
+use Rattle.ipx_internet.proofs.deliveries.SettledOneByOne.{none_of}
 
 module _ {X : Type 0} where
   -- behind the last there is none

@@ -19,8 +19,8 @@ use Rattle.ipx_internet.specs.Settled.{HasSettled, IsToldOf}
 use Rattle.ipx_internet.specs.inside.Simulated.{moment, net_among}
 use Rattle.ipx_internet.specs.declared.internet.Settled.{Settled}
 use Rattle.ipx_internet.specs.declared.internet.Settled.TheVariants.{Quiet, Left}
-use Rattle.ipx_internet.proofs.trees.OnePlaceToGo.{nothing, it_is}
-use Rattle.ipx_internet.proofs.weights.WeightOnItsNetwork.{at_least_one}
+use Rattle.ipx_internet.proofs.lists.FoundInAList.{nothing, it_is}
+use Rattle.ipx_internet.proofs.weights.PagesAtTheirProcess.{at_least_one}
 
 -- ---- sums by number
 

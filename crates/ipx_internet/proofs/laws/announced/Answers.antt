@@ -1,7 +1,7 @@
 use Rattle.std.proofs.Common.{refl}
 use Rattle.ipx_internet.specs.Run.{begun, run_of}
 use Rattle.ipx_internet.proofs.laws.announced.Goals as goal
-use Rattle.ipx_internet.proofs.packets.RepliesAskNothing.{Layouts}
+use Rattle.ipx_internet.proofs.packets.SentOnOrReply.{Layouts}
 use Rattle.ipx_internet.proofs.ticks.FirstTickClears.{are_after}
 use Rattle.ipx_internet.proofs.ticks.ServicesWereAnnounced.{announced}
 

@@ -10,7 +10,7 @@ use Rattle.ipx_internet.specs.Ticks.{AreTicks, ticked, ups, most_ticks_gone}
 use Rattle.ipx_internet.specs.Traced.{routers_after}
 use Rattle.ipx_internet.specs.Tree.{tree_to}
 use Rattle.ipx_internet.proofs.laws.arrives.Goals as goal
-use Rattle.ipx_internet.proofs.packets.RepliesAskNothing.{Layouts}
+use Rattle.ipx_internet.proofs.packets.SentOnOrReply.{Layouts}
 use Rattle.ipx_internet.proofs.tables.PacketsArrive.{goes, one_each, ends, nobody_after}
 use Rattle.ipx_internet.proofs.tables.RightAndKept.{ups_within, climbs}
 use Rattle.ipx_internet.proofs.tables.RightTickByTick.{AtRest, at_first}

@@ -1,5 +1,5 @@
 use Rattle.ipx_internet.proofs.laws.courses.Goals as goal
-use Rattle.ipx_internet.proofs.packets.LawsOfLayouts.{Wire}
+use Rattle.ipx_internet.proofs.packets.SentOnReadAgain.{Wire}
 use Rattle.ipx_internet.proofs.trees.NoNetworkTwice.{all_networks, no_network_twice, fewer_than_networks}
 use Rattle.ipx_internet.proofs.trees.SixteenForwardsAtMost.{one_network}
 

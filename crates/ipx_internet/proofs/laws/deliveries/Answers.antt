@@ -1,6 +1,6 @@
-use Rattle.ipx_internet.proofs.deliveries.DeliveriesOfAnEvent.{Sending, few_deliveries}
+use Rattle.ipx_internet.proofs.deliveries.FewDeliveriesAnEvent.{Sending, few_deliveries}
 use Rattle.ipx_internet.proofs.laws.deliveries.Goals as goal
-use Rattle.ipx_internet.proofs.lists.HowManyPass.{delivered_few}
+use Rattle.ipx_internet.proofs.places.FewOnANetwork.{delivered_few}
 
 pub returns-clause-one_packet : goal.returns-clause-one_packet
 returns-clause-one_packet c = delivered_few

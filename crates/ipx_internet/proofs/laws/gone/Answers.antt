@@ -4,8 +4,8 @@ use Rattle.ipx_internet.specs.Internet.{Internet, IsInternet}
 use Rattle.ipx_internet.specs.Run.{Step, AreHistories, begun}
 use Rattle.ipx_internet.specs.Ticks.{AreTicks, ticked, ups}
 use Rattle.ipx_internet.proofs.laws.gone.Goals as goal
-use Rattle.ipx_internet.proofs.packets.RepliesAskNothing.{Layouts}
-use Rattle.ipx_internet.proofs.ticks.NoRouteToTheGone.{no_network, no_service}
+use Rattle.ipx_internet.proofs.packets.SentOnOrReply.{Layouts}
+use Rattle.ipx_internet.proofs.ticks.RoutesBecomeReal.{no_network, no_service}
 use Rattle.ipx_internet.proofs.ticks.TickAfterTick.{Rests, rested}
 
 -- the laws of packets and routers

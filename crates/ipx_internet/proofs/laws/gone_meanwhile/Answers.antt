@@ -1,8 +1,8 @@
 use Rattle.std.proofs.Common.{refl}
 use Rattle.ipx_internet.specs.Run.{begun}
 use Rattle.ipx_internet.proofs.laws.gone_meanwhile.Goals as goal
-use Rattle.ipx_internet.proofs.packets.RepliesAskNothing.{Layouts}
-use Rattle.ipx_internet.proofs.ticks.GoneMeanwhile.{no_route, no_such_service}
+use Rattle.ipx_internet.proofs.packets.SentOnOrReply.{Layouts}
+use Rattle.ipx_internet.proofs.ticks.GoneWhateverHappens.{no_route, no_such_service}
 
 -- the laws of packets and routers
 layouts : goal.After-packets → Layouts

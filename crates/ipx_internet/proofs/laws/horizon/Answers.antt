@@ -1,7 +1,7 @@
-use Rattle.ipx_internet.proofs.packets.ForwardsOnOtherPorts.{Routing}
-use Rattle.ipx_internet.proofs.packets.NothingGoesBack.{run_observes, all_delivered}
 use Rattle.ipx_internet.specs.Run.{begun}
 use Rattle.ipx_internet.proofs.laws.horizon.Goals as goal
+use Rattle.ipx_internet.proofs.packets.ForwardsDiffer.{Routing}
+use Rattle.ipx_internet.proofs.packets.NothingGoesBack.{run_observes, all_delivered}
 
 pub returns-clause-split_horizon : goal.returns-clause-split_horizon
 returns-clause-split_horizon c net most_routes most_services histories steps is are all =

@@ -4,8 +4,8 @@ use Rattle.ipx_internet.specs.Internet.{Internet, IsInternet}
 use Rattle.ipx_internet.specs.Run.{Step, AreHistories, begun}
 use Rattle.ipx_internet.specs.Ticks.{AreTicks, ticked, ups}
 use Rattle.ipx_internet.proofs.laws.real.Goals as goal
-use Rattle.ipx_internet.proofs.packets.RepliesAskNothing.{Layouts}
-use Rattle.ipx_internet.proofs.ticks.NoRouteToTheGone.{all_real, all_on, none_over}
+use Rattle.ipx_internet.proofs.packets.SentOnOrReply.{Layouts}
+use Rattle.ipx_internet.proofs.ticks.RoutesBecomeReal.{all_real, all_on, none_over}
 use Rattle.ipx_internet.proofs.ticks.TickAfterTick.{Rests, rested}
 
 -- the laws of packets and routers

@@ -12,7 +12,7 @@ use Rattle.ipx_internet.specs.Rounds.{IsDelivery}
 use Rattle.ipx_internet.specs.Run.{Step, Run, AreHistories, begun, run_of}
 use Rattle.ipx_internet.specs.Ticks.{AreTicks, ticked, ups, most_ticks_gone}
 use Rattle.ipx_internet.proofs.laws.right.Goals as goal
-use Rattle.ipx_internet.proofs.packets.RepliesAskNothing.{Layouts}
+use Rattle.ipx_internet.proofs.packets.SentOnOrReply.{Layouts}
 use Rattle.ipx_internet.proofs.tables.RightAndKept.{some_ticks, soon_enough, ups_within, climbs, table_is, stays, first_ticks, ticked_on}
 use Rattle.ipx_internet.proofs.tables.RightTickByTick.{AtRest, at_first}
 use Rattle.ipx_internet.proofs.ticks.FirstTickClears.{rests_from}

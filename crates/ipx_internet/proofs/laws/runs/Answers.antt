@@ -1,6 +1,6 @@
 use Rattle.ipx_internet.proofs.deliveries.QueueOfARun.{events, deliveries, many_deliveries}
 use Rattle.ipx_internet.proofs.laws.runs.Goals as goal
-use Rattle.ipx_internet.proofs.packets.ForwardsOnOtherPorts.{Routing}
+use Rattle.ipx_internet.proofs.packets.ForwardsDiffer.{Routing}
 use Rattle.ipx_internet.proofs.trees.RunIsALog.{listed}
 
 -- the laws of routers

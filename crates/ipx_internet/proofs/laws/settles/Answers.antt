@@ -1,7 +1,7 @@
-use Rattle.ipx_internet.proofs.deliveries.DeliveriesOfAnEvent.{Sending}
+use Rattle.ipx_internet.proofs.deliveries.FewDeliveriesAnEvent.{Sending}
 use Rattle.ipx_internet.proofs.laws.settles.Goals as goal
-use Rattle.ipx_internet.proofs.packets.RepliesAskNothing.{Layouts}
-use Rattle.ipx_internet.proofs.rounds.DeliveriesOfRounds.{Rooms, all_few}
+use Rattle.ipx_internet.proofs.packets.SentOnOrReply.{Layouts}
+use Rattle.ipx_internet.proofs.rounds.FewDeliveriesARound.{Rooms, all_few}
 use Rattle.ipx_internet.proofs.rounds.QuietAfterRounds.{quiet, enough, all_settled}
 use Rattle.ipx_internet.proofs.rounds.QuietSooner.{own_quiet}
 

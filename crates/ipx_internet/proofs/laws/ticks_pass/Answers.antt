@@ -1,5 +1,5 @@
 use Rattle.ipx_internet.proofs.laws.ticks_pass.Goals as goal
-use Rattle.ipx_internet.proofs.packets.RepliesAskNothing.{Layouts}
+use Rattle.ipx_internet.proofs.packets.SentOnOrReply.{Layouts}
 use Rattle.ipx_internet.proofs.ticks.TickCanBeHad.{stays, can_pass, as_many, in_order, in_between, can_be_busy}
 
 -- the laws of packets and routers

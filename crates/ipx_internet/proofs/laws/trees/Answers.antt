@@ -1,10 +1,10 @@
 use Rattle.ipx_internet.proofs.laws.trees.Goals as goal
-use Rattle.ipx_internet.proofs.packets.LawsOfLayouts.{Wire}
 use Rattle.ipx_internet.proofs.packets.SentOnIsBytes.{SentOn}
+use Rattle.ipx_internet.proofs.packets.SentOnReadAgain.{Wire}
 use Rattle.ipx_internet.proofs.trees.DirectedIsBounded as following
+use Rattle.ipx_internet.proofs.trees.NextLevelIsBounded.{Relaying, is_forward, is_sent_on}
 use Rattle.ipx_internet.proofs.trees.PropagatedIsBounded as spreading
 use Rattle.ipx_internet.proofs.trees.SeventeenLevelsAtMost as ending
-use Rattle.ipx_internet.proofs.trees.TreeIsBounded.{Relaying, is_forward, is_sent_on}
 
 -- the laws of packets and routers
 wire : goal.After-relays → Wire

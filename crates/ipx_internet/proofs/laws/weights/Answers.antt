@@ -1,10 +1,10 @@
 use Rattle.std.proofs.Common.{arith}
 use Rattle.ipx_internet.proofs.laws.weights.Goals as goal
-use Rattle.ipx_internet.proofs.packets.LawsOfLayouts.{Wire}
 use Rattle.ipx_internet.proofs.packets.SentOnIsBytes.{SentOn}
-use Rattle.ipx_internet.proofs.trees.TreeIsBounded.{Relaying}
-use Rattle.ipx_internet.proofs.weights.ReceptionsWeigh as weighed
-use Rattle.ipx_internet.proofs.weights.SentOnWeighsNoMore as weighing
+use Rattle.ipx_internet.proofs.packets.SentOnReadAgain.{Wire}
+use Rattle.ipx_internet.proofs.trees.ForwardsWeighNoMore as weighing
+use Rattle.ipx_internet.proofs.trees.NextLevelIsBounded.{Relaying}
+use Rattle.ipx_internet.proofs.trees.RootOutweighsItsList as weighed
 
 -- the laws of packets and routers
 wire : goal.After-relays → Wire

@@ -1,10 +1,10 @@
 use Rattle.ipx_internet.specs.Run.{run_of}
 use Rattle.ipx_internet.specs.Ticks.{ticked}
 use Rattle.ipx_internet.proofs.laws.whatever_waits.Goals as goal
-use Rattle.ipx_internet.proofs.packets.RepliesAskNothing.{Layouts}
+use Rattle.ipx_internet.proofs.packets.SentOnOrReply.{Layouts}
 use Rattle.ipx_internet.proofs.ticks.FirstTickClears.{rests_later, are_after}
-use Rattle.ipx_internet.proofs.ticks.GoneMeanwhile.{no_route, no_such_service}
-use Rattle.ipx_internet.proofs.ticks.NoRouteToTheGone.{all_real, no_network, no_service}
+use Rattle.ipx_internet.proofs.ticks.GoneWhateverHappens.{no_route, no_such_service}
+use Rattle.ipx_internet.proofs.ticks.RoutesBecomeReal.{all_real, no_network, no_service}
 
 -- the laws of packets and routers
 layouts : goal.After-packets → Layouts

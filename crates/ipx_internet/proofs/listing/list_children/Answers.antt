@@ -4,7 +4,7 @@ use Rattle.ipx_router.specs.Relays.{Sent}
 use Rattle.ipx_internet.specs.Listed.{child, listed_from}
 use Rattle.ipx_internet.specs.inside.Stations.{hears}
 use Rattle.ipx_internet.proofs.listing.list_children.Goals as goal
-use Rattle.ipx_internet.proofs.lists.FilledToALimit.{cut_short, goes_on, packet_fills}
+use Rattle.ipx_internet.proofs.trees.ListingUpToALimit.{cut_short, goes_on, packet_fills}
 
 pub returns-in_err-list_receivers-clause-refused : goal.returns-in_err-list_receivers-clause-refused
 returns-in_err-list_receivers-clause-refused g c =

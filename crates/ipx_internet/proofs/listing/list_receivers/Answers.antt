@@ -4,7 +4,7 @@ use Rattle.ipx_internet.specs.Listed.{child, Fills}
 use Rattle.ipx_internet.specs.inside.Stations.{hears}
 use Rattle.ipx_internet.specs.declared.listing.Listed.{Listed}
 use Rattle.ipx_internet.proofs.listing.list_receivers.Goals as goal
-use Rattle.ipx_internet.proofs.lists.FilledToALimit.{cut_short, one_hears, some_station}
+use Rattle.ipx_internet.proofs.trees.ListingUpToALimit.{cut_short, one_hears, some_station}
 
 pub returns-in_err-add-clause-refused : goal.returns-in_err-add-clause-refused
 returns-in_err-add-clause-refused c =

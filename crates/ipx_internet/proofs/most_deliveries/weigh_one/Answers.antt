@@ -4,9 +4,9 @@ use Rattle.ipx_internet.specs.Batches.{delivery_of}
 use Rattle.ipx_internet.specs.Internet.{Internet, port_of}
 use Rattle.ipx_internet.specs.Queue.{Delivery}
 use Rattle.ipx_internet.specs.inside.Simulated.{net_among}
-use Rattle.ipx_internet.proofs.weights.WeightOnItsNetwork.{as_read}
 use Rattle.ipx_internet.specs.inside.Scales.{saturated}
 use Rattle.ipx_internet.proofs.most_deliveries.weigh_one.Goals as goal
+use Rattle.ipx_internet.proofs.weights.PagesAtTheirProcess.{as_read}
 
 pub returns-in-Ok : goal.returns-in-Ok
 returns-in-Ok g c =

@@ -1,6 +1,6 @@
 use Rattle.std.proofs.Common.{refl, ◌+◌}
-use Rattle.ipx_internet.proofs.lists.CountedToTheGreatest.{reach_next}
 use Rattle.ipx_internet.proofs.scale.reach.Goals as goal
+use Rattle.ipx_internet.proofs.weights.CountedUpToAWord.{reach_next}
 
 pub loop-preserved : goal.loop-preserved
 loop-preserved c = λ net is.

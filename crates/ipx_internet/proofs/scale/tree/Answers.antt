@@ -1,6 +1,6 @@
 use Rattle.std.proofs.Common.{refl, ◌+◌}
-use Rattle.ipx_internet.proofs.lists.CountedToTheGreatest.{tree_next}
 use Rattle.ipx_internet.proofs.scale.tree.Goals as goal
+use Rattle.ipx_internet.proofs.weights.CountedUpToAWord.{tree_next}
 
 pub loop-preserved : goal.loop-preserved
 loop-preserved c = λ d is.

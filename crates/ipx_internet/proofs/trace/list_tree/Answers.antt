@@ -3,9 +3,9 @@ use Rattle.std.proofs.lemmas.Result.{err_from_is_err_and}
 use Rattle.ipx_internet.specs.Listed.{copy_at, waits_next}
 use Rattle.ipx_internet.specs.Traced.{routers_of, tree}
 use Rattle.ipx_internet.specs.Tree.{Copy, root, IsTree}
-use Rattle.ipx_internet.proofs.lists.FilledToALimit.{cut_more}
 use Rattle.ipx_internet.proofs.trace.list_tree.Goals as goal
 use Rattle.ipx_internet.proofs.trees.ListedOfStations.{is_tree, root_there, begins, router_there, port_there, goes_on, one_more, cut, ends, fewer_left, begins_bounded, cut_first, no_more, stays_bounded, cut_bounded}
+use Rattle.ipx_internet.proofs.trees.ListingUpToALimit.{cut_more}
 
 pub returns-in_err-listing-clause-refused : goal.returns-in_err-listing-clause-refused
 returns-in_err-listing-clause-refused g c =

@@ -6,7 +6,7 @@ use Rattle.ipx_internet.specs.Internet.{ports_of}
 use Rattle.ipx_internet.specs.Moment.{Moment, IsThere, StandsFor, net_at}
 use Rattle.ipx_internet.specs.Queue.{history_of}
 use Rattle.ipx_internet.specs.inside.Simulated.{moment, net_among}
-use Rattle.ipx_internet.proofs.deliveries.EventOfOneRouter.{still_coming, stands_then}
+use Rattle.ipx_internet.proofs.deliveries.AllThatWaitsStands.{still_coming, stands_then}
 use Rattle.ipx_internet.proofs.internet.Internet.event.Goals as goal
 
 pub happen-requires : goal.happen-requires

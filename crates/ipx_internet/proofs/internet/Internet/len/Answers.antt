@@ -5,7 +5,7 @@ use Rattle.ipx_internet.specs.Moment.{Moment, net_at}
 use Rattle.ipx_internet.specs.Traced.{routers_of}
 use Rattle.ipx_internet.specs.Tree.{IsRouter}
 use Rattle.ipx_internet.proofs.internet.Internet.len.Goals as goal
-use Rattle.ipx_internet.proofs.trees.TablesOfThePast.{are_tabled}
+use Rattle.ipx_internet.proofs.trees.RoutersAsTreesSee.{are_tabled}
 
 pub returns-clause-internet : goal.returns-clause-internet
 returns-clause-internet g c = subst (λ (m : Moment). IsInternet (net_at m)) c.self.view_is c.self.invariant.sound.internet

@@ -10,7 +10,7 @@ use Rattle.ipx_internet.specs.Queue.{Delivery}
 use Rattle.ipx_internet.specs.inside.Scales.{saturated, IsScale}
 use Rattle.ipx_internet.specs.inside.Simulated.{moment, net_among}
 use Rattle.ipx_internet.proofs.internet.Internet.most_deliveries.Goals as goal
-use Rattle.ipx_internet.proofs.lists.CountedToTheGreatest.{scaled}
+use Rattle.ipx_internet.proofs.weights.CountedUpToAWord.{scaled}
 use Rattle.ipx_internet.proofs.weights.WeighedOneByOne.{nothing_weighs}
 
 pub returns-then-is_empty-clause-value : goal.returns-then-is_empty-clause-value

@@ -1,7 +1,7 @@
 use Rattle.std.proofs.Common.{rules, arith, ap, ◌∙◌, ◌≡◌, ◌+◌, ◌<◌, ◌≤◌, length}
 use Rattle.ipx_internet.specs.InternetWeight.{internet_weight}
 use Rattle.ipx_internet.specs.Settled.{HasSettled}
-use Rattle.ipx_internet.proofs.deliveries.NoneWaitsAtTheEnd.{one_more, no_more, none_of}
+use Rattle.ipx_internet.proofs.deliveries.SettledOneByOne.{one_more, no_more, none_of}
 use Rattle.ipx_internet.proofs.internet.Internet.settle.Goals as goal
 use Rattle.ipx_internet.proofs.weights.WeightOfHistories.{weightless, quiet_told}
 

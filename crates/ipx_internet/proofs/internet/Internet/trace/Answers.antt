@@ -10,7 +10,7 @@ use Rattle.ipx_internet.specs.Tree.{Copy, IsRouter, root}
 use Rattle.ipx_internet.specs.Weight.{weight}
 use Rattle.ipx_internet.proofs.internet.Internet.trace.Goals as goal
 use Rattle.ipx_internet.proofs.trees.ListedOfStations.{some_state}
-use Rattle.ipx_internet.proofs.trees.ToldOfEach.{as_many, each_has_one, told_whole, told_each}
+use Rattle.ipx_internet.proofs.trees.OutcomeOfEachReception.{as_many, each_has_one, told_whole, told_each}
 
 pub proves_sized-requires : goal.proves_sized-requires
 proves_sized-requires g c =

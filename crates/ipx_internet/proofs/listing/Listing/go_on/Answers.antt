@@ -3,8 +3,8 @@ use Rattle.std.proofs.lemmas.Result.{err_from_is_err_and}
 use Rattle.ipx_internet.specs.Listed.{IsIn, outbox_of}
 use Rattle.ipx_internet.specs.Traced.{router_of}
 use Rattle.ipx_internet.proofs.listing.Listing.go_on.Goals as goal
-use Rattle.ipx_internet.proofs.lists.FilledToALimit.{no_memory}
-use Rattle.ipx_internet.proofs.trees.ListedStepByStep.{after, port_is, there_is, cut, kept_all, few_all, went_on}
+use Rattle.ipx_internet.proofs.trees.ListingUpToALimit.{no_memory}
+use Rattle.ipx_internet.proofs.trees.OneStepOfListing.{after, port_is, there_is, cut, kept_all, few_all, went_on}
 
 pub send_on-requires : goal.send_on-requires
 send_on-requires g c =

@@ -3,8 +3,8 @@ use Rattle.ipx_router.specs.Numbers.{rip_socket, sap_socket, services_a_page}
 use Rattle.ipx_router.specs.Pages.{sheets}
 use Rattle.ipx_internet.specs.InternetWeight.{entry_weight, entries_a_service, query_weight}
 use Rattle.ipx_internet.specs.inside.Scales.{saturated}
-use Rattle.ipx_internet.proofs.lists.CountedToTheGreatest.{scaled_more}
 use Rattle.ipx_internet.proofs.scale.Scale.query.Goals as goal
+use Rattle.ipx_internet.proofs.weights.CountedUpToAWord.{scaled_more}
 
 pub returns-then-eq : goal.returns-then-eq
 returns-then-eq c = λ net routes services is.

@@ -2,8 +2,8 @@ use Rattle.std.proofs.Common.{◌≡◌, refl, sym, ◌∙◌, ◌+◌, ◌*◌,
 use Rattle.ipx_router.specs.Numbers.{rip_socket, sap_socket, entries_a_page}
 use Rattle.ipx_router.specs.Pages.{sheets}
 use Rattle.ipx_internet.specs.InternetWeight.{entry_weight, most_answered, entries_a_service, request_weight}
-use Rattle.ipx_internet.proofs.lists.CountedToTheGreatest.{scaled_more}
 use Rattle.ipx_internet.proofs.scale.Scale.request.Goals as goal
+use Rattle.ipx_internet.proofs.weights.CountedUpToAWord.{scaled_more}
 
 pub returns-then-eq : goal.returns-then-eq
 returns-then-eq c = λ net routes services is.

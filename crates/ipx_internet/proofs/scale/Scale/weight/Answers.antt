@@ -7,8 +7,8 @@ use Rattle.ipx_router.specs.Port.{is_local}
 use Rattle.ipx_router.specs.Why.{is_propagated}
 use Rattle.ipx_internet.specs.InternetWeight.{said_weight, packet_weight}
 use Rattle.ipx_internet.specs.Most.{most_on_network}
-use Rattle.ipx_internet.proofs.lists.CountedToTheGreatest.{scaled_more}
 use Rattle.ipx_internet.proofs.scale.Scale.weight.Goals as goal
+use Rattle.ipx_internet.proofs.weights.CountedUpToAWord.{scaled_more}
 
 pub returns : goal.returns
 returns c = λ net routes services port is same.

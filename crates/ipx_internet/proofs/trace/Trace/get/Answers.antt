@@ -1,7 +1,7 @@
 use Rattle.std.proofs.Common.{sym, ◌<◌, ap, ◌∙◌, arith, length, List, slice_get}
 use Rattle.ipx_internet.specs.Traced.{Traced}
 use Rattle.ipx_internet.proofs.trace.Trace.get.Goals as goal
-use Rattle.ipx_internet.proofs.trees.ToldOfEach.{as_many, told_at}
+use Rattle.ipx_internet.proofs.trees.OutcomeOfEachReception.{as_many, told_at}
 
 pub get-lent-requires : goal.get-lent-requires
 get-lent-requires c =

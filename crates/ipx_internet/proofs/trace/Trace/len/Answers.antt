@@ -1,7 +1,7 @@
 use Rattle.std.proofs.Common.{sym, ap, ◌∙◌, List, length}
 use Rattle.ipx_internet.specs.Traced.{Traced}
 use Rattle.ipx_internet.proofs.trace.Trace.len.Goals as goal
-use Rattle.ipx_internet.proofs.trees.ToldOfEach.{as_many}
+use Rattle.ipx_internet.proofs.trees.OutcomeOfEachReception.{as_many}
 
 pub returns : goal.returns
 returns c =

@@ -1,0 +1,7 @@
+-- The record of a key: what offers, packets, seconds and ports make of it, and how old it gets.
+pub mod ChangedWasOffered
+pub mod HeardChangesItsKeys
+pub mod KeptOrOffered
+pub mod OneFactOnARecord
+pub mod RecordsGained
+pub mod RecordsGrowOld

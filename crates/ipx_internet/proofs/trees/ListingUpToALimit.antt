@@ -1,0 +1,99 @@
+-- A listing that grows up to a limit, piece by piece.
+use Rattle.std.proofs.Common.{◌≡◌, refl, sym, ap, ◌∙◌, subst, ℕ, zero, suc, ◌+◌, ◌<◌, ◌≤◌, Bool, true, false, List, [], ◌∷◌, ◌++◌, length, map, filter, drop, get_or, Some, slice_get, arith, length-append}
+use Rattle.std.proofs.Math.Seq.{drop-cons}
+use Rattle.std.proofs.lemmas.List.{append_assoc, append-nil}
+use Rattle.std.proofs.lemmas.Option.{get_or_from_slice_get, slice_get_within}
+use Rattle.ipx_wire.specs.declared.network.Network.{Network}
+use Rattle.ipx_router.specs.Port.{Port, port_at}
+use Rattle.ipx_router.specs.Relays.{Sent}
+use Rattle.ipx_internet.specs.Listed.{child, listed_from, IsCut, Fills}
+use Rattle.ipx_internet.specs.inside.Stations.{stations_on, hears, hearers}
+use Rattle.ipx_internet.specs.declared.fault.TraceFault.{TraceFault}
+use Rattle.ipx_internet.specs.declared.fault.TraceFault.TheVariants.{NoSuchPort, Limit, Memory}
+use Rattle.ipx_internet.specs.declared.listing.Listed.{Listed}
+use Rattle.ipx_internet.specs.declared.listing.Parent.{Parent}
+use Rattle.ipx_internet.specs.declared.stations.Station.{Station}
+
+-- what cuts so many short cuts more short too
+pub cut_more : (limit a b : ℕ) (fault : TraceFault) → a ≤ b → IsCut limit a fault → IsCut limit b fault
+cut_more limit a b NoSuchPort more cut = cut
+cut_more limit a b Limit more cut = omega (arith, more, cut)
+cut_more limit a b Memory more cut = cut
+
+-- no memory is a reason for any number, where one is allowed
+pub no_memory : (limit count : ℕ) (fault : TraceFault) → 0 < limit → fault ≡ Memory → IsCut limit count fault
+no_memory limit count fault some is = subst (λ (f : TraceFault). IsCut limit count f) (sym is) some
+
+module _ (limit : ℕ) (first now all : List Listed) where
+  pub begins : Fills limit first first all all
+  begins = record { whole = refl; few = λ h. h }
+
+  pub goes_on : (piece rest next : List Listed) → Fills limit first now all (piece ++ rest) → next ≡ now ++ piece
+      → (length now ≤ limit → length next ≤ limit) → Fills limit first next all rest
+  goes_on piece rest next fills is few = record {
+    whole = ap (λ (xs : List Listed). xs ++ rest) is ∙ append_assoc now piece rest ∙ fills.whole;
+    few = λ h. few (fills.few h);
+  }
+
+  pub ends : Fills limit first now all [] → now ≡ first ++ all
+  ends fills = sym (append-nil now) ∙ fills.whole
+
+  -- a piece that is cut short cuts the whole short
+  pub cut_short : (piece rest : List Listed) (fault : TraceFault) → Fills limit first now all (piece ++ rest)
+      → IsCut limit (length now + length piece) fault → IsCut limit (length first + length all) fault
+  cut_short piece rest fault fills cut =
+      let a : length (now ++ (piece ++ rest)) ≡ length (first ++ all) = ap (λ (xs : List Listed). length xs) fills.whole in
+      let b = length-append now (piece ++ rest) in
+      let d = length-append piece rest in
+      let e = length-append first all in
+      cut_more limit (length now + length piece) (length first + length all) fault (omega (arith, a, b, d, e)) cut
+
+-- ---- what is left of some stations
+
+module _ {X Y : Type 0} (f : X → Y) (hears : X → Bool) (xs : List X) (k : ℕ) (d : X) (within : k < length xs) where
+  abbrev left : ℕ → List Y
+  left n = map f (filter hears (drop n xs))
+
+  pub one_hears : hears (get_or xs k d) ≡ true → left k ≡ f (get_or xs k d) ∷ left (suc k)
+  one_hears on = rw (drop-cons xs k d within) (rw on refl)
+
+  pub none_hears : hears (get_or xs k d) ≡ false → left k ≡ left (suc k)
+  none_hears off = rw (drop-cons xs k d within) (rw off refl)
+
+-- behind the last there is nothing
+pub drop_all : {X : Type 0} (xs : List X) (k : ℕ) → length xs ≤ k → drop k xs ≡ []
+drop_all [] zero past = refl
+drop_all [] (suc k) past = refl
+drop_all (x ∷ xs) zero past = absurd (omega (arith, past))
+drop_all (x ∷ xs) (suc k) past = drop_all xs k (omega (arith, past))
+
+-- ---- what is left of some packets
+
+module _ (stations : List Station) (ports : List Port) (parent : Parent) where
+  pub next_packet : (sents : List Sent) (k : ℕ) (s : Sent) → slice_get sents k ≡ Some s
+      → listed_from stations ports parent k (drop k sents)
+      ≡ map (child parent k) (hearers stations ports parent.router s) ++ listed_from stations ports parent (k + 1) (drop (k + 1) sents)
+  next_packet sents k s there =
+      let within : k < length sents = slice_get_within sents k s there in
+      let e : drop k sents ≡ s ∷ drop (suc k) sents =
+      drop-cons sents k s within ∙ ap (λ (x : Sent). x ∷ drop (suc k) sents) (get_or_from_slice_get sents k s s there) in
+      let n : suc k ≡ k + 1 = omega arith in
+      ap (λ (xs : List Sent). listed_from stations ports parent k xs) e
+      ∙ ap (λ (m : ℕ). map (child parent k) (hearers stations ports parent.router s) ++ listed_from stations ports parent (k + 1) (drop m sents)) n
+
+-- a station, where none is asked for
+abbrev pub some_station : Station
+some_station = record { network = record { 0 = 0 }; node = record { 0 = [] }; router = 0; port = 0 }
+
+-- what is left before a packet is asked, over the stations that are on its network
+pub packet_fills : (limit : ℕ) (first now all : List Listed) (stations : List Station) (ports : List Port) (parent : Parent) (sents : List Sent) (k : ℕ) (s : Sent)
+    (network : Network) (near : List Station) → near ≡ stations_on stations network → network ≡ (port_at ports s.port).network → slice_get sents k ≡ Some s
+    → Fills limit first now all (listed_from stations ports parent k (drop k sents))
+    → Fills limit first now all (map (child parent k) (filter (hears parent.router s.link) near) ++ listed_from stations ports parent (k + 1) (drop (k + 1) sents))
+packet_fills limit first now all stations ports parent sents k s network near on of there fills =
+    let same : near ≡ stations_on stations (port_at ports s.port).network = on ∙ ap (λ (n : Network). stations_on stations n) of in
+    subst (λ (rest : List Listed). Fills limit first now all rest)
+    (next_packet stations ports parent sents k s there
+    ∙ ap (λ (xs : List Station).
+    map (child parent k) (filter (hears parent.router s.link) xs) ++ listed_from stations ports parent (k + 1) (drop (k + 1) sents)) (sym same))
+    fills
