@@ -19,7 +19,7 @@ use crate::ends::copied;
 use crate::offers::TimeServer;
 use anyhow::Result;
 use ipx_internet::Internet;
-use ipx_router::{Event, Outbox, Outcome, Port, Router, Why};
+use ipx_router::{Event, Outbox, Outcome, Port, PortFault, Router, Why};
 use ipx_table::Table;
 use ipx_wire::{Address, Network, Node, Packet, ServiceName, Socket};
 
@@ -173,9 +173,12 @@ fn at(node: u8) -> Address {
 
 /// Ports on a network and on the one whose number is greater by 10h, with this node and the next.
 fn ports(network: u32, node: u8) -> Result<[Port; 2]> {
-    let second = Network(network.wrapping_add(0x10));
-    Ok([
-        Port::new(Network(network), Node([0, 0, 0, 0, 0, node]), 1, 576)?,
-        Port::new(second, Node([0, 0, 0, 0, 0, node.wrapping_add(1)]), 1, 576)?,
-    ])
+    let first = port(network, node)?;
+    let second = port(network.wrapping_add(0x10), node.wrapping_add(1))?;
+    Ok([first, second])
+}
+
+/// A port of a network with this number, whose node ends so.
+fn port(network: u32, node: u8) -> Result<Port, PortFault> {
+    Port::new(Network(network), Node([0, 0, 0, 0, 0, node]), 1, 576)
 }
