@@ -112,9 +112,16 @@ type Together = Internet<3, 64, 8>;
 fn together(heap: Global) -> Option<Together> {
     let mut internet = Together::new(heap);
     for k in 0..ROUTERS {
-        let ports = [port(1, k + 1)?, port(2, k + 1)?, port(3, k + 1)?];
-        let number = internet.add(Router::new(&ports).ok()?).ok()?;
+        let number = internet.add(on_three_networks(k + 1)?).ok()?;
         internet.event(number, Event::Start).ok()?;
     }
     Some(internet)
+}
+
+/// A router on networks 1, 2 and 3, with this node on each.
+fn on_three_networks(node: u32) -> Option<Router<3, 64, 8>> {
+    let first = port(1, node)?;
+    let second = port(2, node)?;
+    let third = port(3, node)?;
+    Router::new(&[first, second, third]).ok()
 }

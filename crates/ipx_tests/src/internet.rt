@@ -18,8 +18,10 @@ fn port(network: u32, node: u8) -> Result<Port, PortFault> {
     Port::new(Network(network), Node([0, 0, 0, 0, 0, node]), 1, 576)
 }
 
-/// A router on two networks.
-fn between(first: Port, second: Port) -> Result<Router<2, 50, 8>, Fail> {
+/// A router on two networks: of each port the number of the network, and how the node ends.
+fn between(west: (u32, u8), east: (u32, u8)) -> Result<Router<2, 50, 8>, Fail> {
+    let first = port(west.0, west.1)?;
+    let second = port(east.0, east.1)?;
     Ok(Router::new(&[first, second])?)
 }
 
@@ -34,8 +36,8 @@ fn add(internet: &mut Small, router: Router<2, 50, 8>) -> Result<usize, Internet
 /// Networks 10, 20 and 30 in a line: routers 0 and 1 meet on network 20. Both are started, and nothing has settled.
 fn line(heap: Global) -> Result<Small, Fail> {
     let mut internet = Small::new(heap);
-    added(&mut internet, between(port(0x10, 1)?, port(0x20, 2)?)?)?;
-    added(&mut internet, between(port(0x20, 3)?, port(0x30, 4)?)?)?;
+    added(&mut internet, between((0x10, 1), (0x20, 2))?)?;
+    added(&mut internet, between((0x20, 3), (0x30, 4))?)?;
     happened(&mut internet, 0, Event::Start)?;
     happened(&mut internet, 1, Event::Start)?;
     Ok(internet)
@@ -84,7 +86,7 @@ fn an_internet_that_weighs_more_than_a_word_tells_the_greatest(
     let mut internet = Small::new(rt.alloc());
     for number in 1..=24 {
         let own = u32::from(number) + 0x100;
-        added(&mut internet, between(port(0x10, number)?, port(own, 1)?)?)?;
+        added(&mut internet, between((0x10, number), (own, 1))?)?;
     }
     same(&rt, internet.most_deliveries(), 0);
     happened(&mut internet, 0, Event::Start)?;
@@ -200,9 +202,9 @@ const TO_ALL: [u8; 62] = [
 /// Networks 10, 20 and 30 in a ring of three routers that were started.
 fn ring(heap: Global) -> Result<Small, Fail> {
     let mut internet = Small::new(heap);
-    add(&mut internet, between(port(0x10, 1)?, port(0x20, 2)?)?)?;
-    add(&mut internet, between(port(0x20, 3)?, port(0x30, 4)?)?)?;
-    add(&mut internet, between(port(0x30, 5)?, port(0x10, 6)?)?)?;
+    add(&mut internet, between((0x10, 1), (0x20, 2))?)?;
+    add(&mut internet, between((0x20, 3), (0x30, 4))?)?;
+    add(&mut internet, between((0x30, 5), (0x10, 6))?)?;
     for number in 0..3 {
         internet.event(number, Event::Start)?;
     }
@@ -250,20 +252,20 @@ fn a_node_that_two_routers_claim_is_refused(rt: HostRuntime) -> Result<(), Fail>
     assert!(rt; internet.is_empty());
     same(
         &rt,
-        add(&mut internet, between(port(0x10, 1)?, port(0x20, 2)?)?),
+        add(&mut internet, between((0x10, 1), (0x20, 2))?),
         Ok(0),
     );
     let same_node = Err(InternetFault::SameNode);
     same(
         &rt,
-        add(&mut internet, between(port(0x30, 1)?, port(0x20, 2)?)?),
+        add(&mut internet, between((0x30, 1), (0x20, 2))?),
         same_node,
     );
     same(&rt, internet.len(), 1);
     // (one node on two networks is no such)
     same(
         &rt,
-        add(&mut internet, between(port(0x30, 1)?, port(0x20, 1)?)?),
+        add(&mut internet, between((0x30, 1), (0x20, 1))?),
         Ok(1),
     );
     same(&rt, internet.len(), 2);
@@ -297,7 +299,7 @@ fn is_shown_by_its_routers_and_what_waits(rt: HostRuntime) -> Result<(), Fail> {
         shown.as_str(),
         "Internet { routers: 2, waiting: 6, .. }",
     );
-    let refused = internet.add(between(port(0x10, 1)?, port(0x40, 1)?)?).err();
+    let refused = internet.add(between((0x10, 1), (0x40, 1))?).err();
     let shown = format!(in rt.alloc(); "{refused:?}")?;
     same(
         &rt,

@@ -55,7 +55,9 @@ const RESPONSE: [u8; 72] = [
 
 /// A router of two ports with room for two routes, before its start.
 fn small() -> Result<Router<2, 2, 2>, Fail> {
-    Ok(Router::new(&[port(0x10)?, port(0x20)?])?)
+    let first = port(0x10)?;
+    let second = port(0x20)?;
+    Ok(Router::new(&[first, second])?)
 }
 
 /// What becomes of that response on port 0.
@@ -119,8 +121,9 @@ fn what_a_neighbour_advertises_is_kept_and_passed_on(rt: HostRuntime) -> Result<
 
 #[test]
 fn an_event_needs_room_for_the_most_that_it_may_send(rt: HostRuntime) -> Result<(), Fail> {
-    let ports = [port(0x10)?, port(0x20)?];
-    let mut router = Router::<2, 50, 8>::new(&ports)?;
+    let first = port(0x10)?;
+    let second = port(0x20)?;
+    let mut router = Router::<2, 50, 8>::new(&[first, second])?;
     let mut outbox = Outbox::new(rt.alloc());
     let start = router.need(&Event::Start);
     same(&rt, (start.packets, start.bytes), (6, 2880));

@@ -44,7 +44,8 @@ fn row(heap: Global) -> Result<Row, Fail> {
     for number in 0..ROUTERS {
         let first = port(network, 1)?;
         network = network.wrapping_add(1);
-        let router = Router::new(&[first, port(network, 2)?])?;
+        let second = port(network, 2)?;
+        let router = Router::new(&[first, second])?;
         if let Err(refused) = internet.add(router) {
             return Err(Fail::from(refused.fault));
         }

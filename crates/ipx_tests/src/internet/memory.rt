@@ -1,6 +1,6 @@
 //! Memory that is refused to an internet: the same call, made again, does what it would have done.
 
-use crate::internet::{FAR, Small, between, first_route, line, looped, port, row};
+use crate::internet::{FAR, Small, between, first_route, line, looped, row};
 use crate::same::same;
 use ipx_internet::{InternetFault, Settled, Trace, TraceFault};
 use ipx_router::{Event, Outcome, Router, Why};
@@ -61,11 +61,11 @@ fn traced(internet: &Small) -> Result<Trace<'static>, Fail> {
 #[test]
 fn a_router_without_memory_is_added_again(rt: HostRuntime) -> Result<(), Fail> {
     let mut internet = Small::new(rt.alloc());
-    let first = added(&mut internet, between(port(0x10, 1)?, port(0x20, 2)?)?)?;
-    let second = added(&mut internet, between(port(0x20, 3)?, port(0x30, 4)?)?)?;
+    let first = added(&mut internet, between((0x10, 1), (0x20, 2))?)?;
+    let second = added(&mut internet, between((0x20, 3), (0x30, 4))?)?;
     same(&rt, (first, second, internet.len()), (0, 1, 2));
     // (its ports are known, but once)
-    let third = internet.add(between(port(0x40, 5)?, port(0x30, 4)?)?);
+    let third = internet.add(between((0x40, 5), (0x30, 4))?);
     same(
         &rt,
         third.err().map(|it| it.fault),

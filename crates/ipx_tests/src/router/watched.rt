@@ -32,10 +32,9 @@ pub fn node(last: u8) -> Node {
 /// Ports 0 and 1, with nodes 1 and 2, at a cost of one tick each.
 pub fn ports() -> Result<[Port; 2], PortFault> {
     let [first, second] = NETWORKS;
-    Ok([
-        Port::new(first, node(1), 1, 576)?,
-        Port::new(second, node(2), 1, 576)?,
-    ])
+    let first = Port::new(first, node(1), 1, 576)?;
+    let second = Port::new(second, node(2), 1, 576)?;
+    Ok([first, second])
 }
 
 /// An entry of a response.
