@@ -41,7 +41,7 @@ const SNAP: [u8; 10] = [0, 70, 0xAA, 0xAA, 0x03, 0, 0, 0, 0x81, 0x37];
 const OTHER: [u8; 2] = [0x08, 0x00];
 
 /// What was measured of a capture.
-#[derive(Clone, Copy, Debug)]
+#[derive(Clone, Copy)]
 pub struct Timed {
     /// The bytes of the file.
     pub bytes: u64,

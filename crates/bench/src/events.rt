@@ -25,7 +25,7 @@ const PERIOD: u32 = 60;
 const BLOCKS: u32 = 3_000;
 
 /// A kind of event.
-#[derive(Clone, Copy, Debug, PartialEq, Eq)]
+#[derive(Clone, Copy, PartialEq, Eq)]
 pub enum Kind {
     Forward,
     Unchanged,
@@ -70,7 +70,7 @@ impl Kind {
 }
 
 /// How long the fastest block of events took, and the fastest one of what they are compared with.
-#[derive(Clone, Copy, Debug, PartialEq, Eq)]
+#[derive(Clone, Copy)]
 pub struct Timed {
     /// How many events a block has.
     pub count: u32,

@@ -41,7 +41,7 @@ const NEAR: u16 = 2;
 const GONE: u16 = 16;
 
 /// A kind of event.
-#[derive(Clone, Copy, Debug, PartialEq, Eq)]
+#[derive(Clone, Copy, PartialEq, Eq)]
 pub enum Grown {
     Forward,
     Unchanged,
@@ -83,7 +83,7 @@ impl Grown {
 }
 
 /// How long the fastest block of events took.
-#[derive(Clone, Copy, Debug, PartialEq, Eq)]
+#[derive(Clone, Copy)]
 pub struct Timed {
     /// How many events a block has.
     pub count: u32,

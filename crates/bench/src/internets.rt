@@ -21,7 +21,7 @@ const TRACES: u32 = 10;
 const LIMIT: usize = 1_000_000_000;
 
 /// What was measured.
-#[derive(Clone, Copy, Debug)]
+#[derive(Clone, Copy)]
 pub struct Timed {
     /// The deliveries or the receptions.
     pub count: u64,

@@ -8,7 +8,7 @@ use crate::work::{
 };
 
 /// What is done with a packet.
-#[derive(Clone, Copy, Debug, PartialEq, Eq)]
+#[derive(Clone, Copy)]
 pub enum Kind {
     ReadHeader,
     ReadRip,

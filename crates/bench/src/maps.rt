@@ -24,7 +24,7 @@ const BLOCKS: u32 = 100;
 const STEP: u32 = 40_503;
 
 /// What is done with a full table.
-#[derive(Clone, Copy, Debug, PartialEq, Eq)]
+#[derive(Clone, Copy)]
 pub enum Kept {
     LookUp,
     Exchange,
@@ -44,7 +44,7 @@ impl Kept {
 }
 
 /// How long the fastest blocks took.
-#[derive(Clone, Copy, Debug, PartialEq, Eq)]
+#[derive(Clone, Copy)]
 pub struct Timed {
     /// How many calls a block has.
     pub count: u32,

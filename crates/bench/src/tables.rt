@@ -66,7 +66,7 @@ const BLOCKS: u32 = 3_000;
 pub const CALLS: u32 = BLOCKS * BLOCK;
 
 /// What is done with a full table.
-#[derive(Clone, Copy, Debug, PartialEq, Eq)]
+#[derive(Clone, Copy)]
 pub enum Call {
     Second,
     Refresh,
@@ -99,7 +99,7 @@ impl Call {
 }
 
 /// How long the calls took, and the readings beside them.
-#[derive(Clone, Copy, Debug, PartialEq, Eq)]
+#[derive(Clone, Copy)]
 pub struct Timed {
     pub calls: u128,
     pub readings: u128,

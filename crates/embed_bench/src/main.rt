@@ -38,7 +38,7 @@ const TO_FAR: [u8; 30] = [
 ];
 
 /// How long the fastest run took, in nanoseconds, and a number that depends on what was copied.
-#[derive(Clone, Copy, Debug)]
+#[derive(Clone, Copy)]
 struct Timed {
     run: u128,
     seen: u64,

@@ -12,7 +12,7 @@ use ipx_router::{Event, Outbox, Outcome, Router};
 pub(crate) type SizedRouter = Router<MOST_PORTS, MOST_ROUTES, MOST_SERVICES>;
 
 /// A router and the packets that it sends.
-#[derive(Debug, Drop)]
+#[derive(Drop)]
 pub struct Machine {
     pub router: SizedRouter,
     pub outbox: Outbox,

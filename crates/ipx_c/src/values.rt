@@ -2,7 +2,7 @@
 
 /// A port, as C gives it.
 #[repr(C)]
-#[derive(Clone, Copy, Debug)]
+#[derive(Clone, Copy)]
 pub struct PortValues {
     pub network: u32,
     pub node: [u8; 6],
@@ -18,7 +18,7 @@ pub struct PortValues {
 
 /// A packet that is to be sent, without its bytes.
 #[repr(C)]
-#[derive(Clone, Copy, Debug)]
+#[derive(Clone, Copy)]
 pub struct PacketSent {
     /// How many bytes it has.
     pub length: usize,
@@ -29,7 +29,7 @@ pub struct PacketSent {
 
 /// A route that was learned.
 #[repr(C)]
-#[derive(Clone, Copy, Debug)]
+#[derive(Clone, Copy)]
 pub struct RouteRecord {
     pub network: u32,
     pub hops: u16,
@@ -43,7 +43,7 @@ pub struct RouteRecord {
 
 /// A service that was learned.
 #[repr(C)]
-#[derive(Clone, Copy, Debug)]
+#[derive(Clone, Copy)]
 pub struct ServiceRecord {
     /// Its name, and zeros behind.
     pub name: [u8; 48],

@@ -21,7 +21,7 @@ use std::alloc::Global;
 use std::marker::Model;
 
 /// A port that receives a packet: the port of that number of a router, and the number of the packet.
-#[derive(Clone, Copy, Debug)]
+#[derive(Clone, Copy)]
 pub(crate) struct Pending {
     pub router: usize,
     pub port: u8,
@@ -29,7 +29,7 @@ pub(crate) struct Pending {
 }
 
 /// Bytes that come to a port.
-#[derive(Clone, Copy, Debug)]
+#[derive(Clone, Copy)]
 pub(crate) struct Coming<'a> {
     pub router: usize,
     pub port: u8,
@@ -37,7 +37,7 @@ pub(crate) struct Coming<'a> {
 }
 
 /// Packets that routers sent, and who receives them. A packet that several ports receive stands there once.
-#[derive(Debug, Drop)]
+#[derive(Drop)]
 pub(crate) struct Batch {
     outbox: Outbox,
     pending: Vec<Pending>,

@@ -37,7 +37,7 @@ pub(crate) struct Listed {
 }
 
 /// A reception whose router sends on: its number, its router, and whether what is sent on goes into the odd outbox.
-#[derive(Clone, Copy, Debug)]
+#[derive(Clone, Copy)]
 pub(crate) struct Parent {
     pub number: usize,
     pub router: usize,
@@ -69,7 +69,7 @@ impl<'a> Model for Listing<'a> {
 }
 
 /// A reception that is listed, lent.
-#[derive(Clone, Copy, Debug)]
+#[derive(Clone, Copy)]
 pub(crate) struct Lent<'a> {
     pub parent: Option<usize>,
     pub router: usize,

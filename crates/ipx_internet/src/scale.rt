@@ -19,7 +19,7 @@ use ipx_wire::{
 const ENTRIES_A_SERVICE: usize = SapEntry::SIZE / RipEntry::SIZE;
 
 /// What the weights of an internet are made of.
-#[derive(Clone, Copy, Debug)]
+#[derive(Clone, Copy)]
 pub(crate) struct Scale {
     /// The most ports that hear what a router says of a record.
     pub hearers: usize,

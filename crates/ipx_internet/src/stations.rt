@@ -17,7 +17,7 @@ use std::alloc::Global;
 use std::marker::Model;
 
 /// A port of an internet.
-#[derive(Clone, Copy, Debug)]
+#[derive(Clone, Copy)]
 pub(crate) struct Station {
     pub network: Network,
     pub node: Node,
@@ -35,7 +35,7 @@ impl Station {
 }
 
 /// The ports of an internet, by network, and on each network by router and port.
-#[derive(Debug, Drop)]
+#[derive(Drop)]
 pub(crate) struct Stations {
     list: Vec<Station>,
     /// The most that are on one network.

@@ -8,7 +8,7 @@ use crate::clock::has_slot;
 use crate::offer::Offer;
 
 /// The records that end.
-#[derive(Clone, Copy, Debug)]
+#[derive(Clone, Copy)]
 pub(crate) enum Ending {
     /// Those that were accepted last at that slot of the clock.
     Slot(u8),

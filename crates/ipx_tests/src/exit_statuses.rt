@@ -1,10 +1,9 @@
-//! The exit status of each end of a run, and the name of each fault.
+//! The exit status of each end of a run, and the fault of one whose memory is refused.
 
 use crate::same::same;
 use ipx_cmd::{Ended, RunFault, status};
 use ipx_wire::OutOfMemory;
 use std::alloc::AllocError;
-use std::test::Fail;
 
 #[test]
 fn tells_each_end(rt: HostRuntime) {
@@ -16,16 +15,7 @@ fn tells_each_end(rt: HostRuntime) {
 }
 
 #[test]
-fn names_each_fault(rt: HostRuntime) -> Result<(), Fail> {
-    let faults = [
-        (RunFault::Read, "read"),
-        (RunFault::Write, "write"),
-        (RunFault::from(OutOfMemory), "memory"),
-        (RunFault::from(AllocError), "memory"),
-    ];
-    for (fault, name) in faults {
-        let text = format!(in rt.alloc(); "{fault}")?;
-        same(&rt, text.as_str(), name);
-    }
-    Ok(())
+fn tells_that_memory_was_missing(rt: HostRuntime) {
+    same(&rt, RunFault::from(OutOfMemory), RunFault::Memory);
+    same(&rt, RunFault::from(AllocError), RunFault::Memory);
 }

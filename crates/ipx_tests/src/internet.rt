@@ -6,7 +6,7 @@ mod memory;
 use crate::internet::memory::{added, happened, settled};
 use crate::same::same;
 use ipx_internet::{Internet, InternetFault, Settled, Trace, TraceFault};
-use ipx_router::{Event, Outcome, Port, PortFault, Router, Why};
+use ipx_router::{Event, Outcome, Port, PortFault, Router};
 use ipx_wire::{Network, Node};
 use std::alloc::Global;
 use std::test::Fail;
@@ -23,14 +23,6 @@ fn between(west: (u32, u8), east: (u32, u8)) -> Result<Router<2, 50, 8>, Fail> {
     let first = port(west.0, west.1)?;
     let second = port(east.0, east.1)?;
     Ok(Router::new(&[first, second])?)
-}
-
-/// Adds a router, and forgets it where it is refused.
-fn add(internet: &mut Small, router: Router<2, 50, 8>) -> Result<usize, InternetFault> {
-    match internet.add(router) {
-        Ok(number) => Ok(number),
-        Err(refused) => Err(refused.fault),
-    }
 }
 
 /// Networks 10, 20 and 30 in a line: routers 0 and 1 meet on network 20. Both are started, and nothing has settled.
@@ -147,21 +139,6 @@ fn row(trace: &Trace<'_>, number: usize) -> Option<Row> {
 }
 
 #[test]
-fn a_packet_goes_round_a_loop_sixteen_times(rt: HostRuntime) -> Result<(), Fail> {
-    let internet = looped(rt.alloc())?;
-    let trace = internet.trace(0, 0, &FAR, 17)?;
-    same(&rt, trace.len(), 17);
-    let on = Outcome::Forwarded;
-    same(&rt, row(&trace, 0), Some((None, 0, Some(0), on)));
-    same(&rt, row(&trace, 1), Some((Some(0), 1, Some(1), on)));
-    same(&rt, row(&trace, 15), Some((Some(14), 1, Some(15), on)));
-    let last = Outcome::Dropped(Why::TooManyRouters);
-    same(&rt, row(&trace, 16), Some((Some(15), 0, Some(16), last)));
-    same(&rt, row(&trace, 17), None);
-    Ok(())
-}
-
-#[test]
 fn routers_and_receptions_come_one_by_one(rt: HostRuntime) -> Result<(), Fail> {
     let internet = looped(rt.alloc())?;
     let trace = internet.trace(0, 0, &FAR, 17)?;
@@ -177,98 +154,6 @@ fn routers_and_receptions_come_one_by_one(rt: HostRuntime) -> Result<(), Fail> {
     }
     // Each has learned the other's far network, and the one behind the loop.
     same(&rt, routes, 22);
-    Ok(())
-}
-
-#[test]
-fn a_limit_below_the_receptions_is_told(rt: HostRuntime) -> Result<(), Fail> {
-    let internet = looped(rt.alloc())?;
-    for limit in [0, 1, 16] {
-        match internet.trace(0, 0, &FAR, limit) {
-            Ok(trace) => same(&rt, trace.len(), limit.wrapping_add(1)),
-            Err(fault) => same(&rt, fault, TraceFault::Limit),
-        }
-    }
-    Ok(())
-}
-
-/// A packet of type 20 to all of network 10, from node AA there.
-const TO_ALL: [u8; 62] = [
-    0xFF, 0xFF, 0, 62, 0, 20, 0, 0, 0, 0x10, 0xFF, 0xFF, 0xFF, 0xFF, 0xFF, 0xFF, 4, 0x55, 0, 0, 0,
-    0x10, 0, 0, 0, 0, 0, 0xAA, 4, 0x55, 0, 0, 0, 0, 0, 0, 0, 0, 0, 0, 0, 0, 0, 0, 0, 0, 0, 0, 0, 0,
-    0, 0, 0, 0, 0, 0, 0, 0, 0, 0, 0, 0,
-];
-
-/// Networks 10, 20 and 30 in a ring of three routers that were started.
-fn ring(heap: Global) -> Result<Small, Fail> {
-    let mut internet = Small::new(heap);
-    add(&mut internet, between((0x10, 1), (0x20, 2))?)?;
-    add(&mut internet, between((0x20, 3), (0x30, 4))?)?;
-    add(&mut internet, between((0x30, 5), (0x10, 6))?)?;
-    for number in 0..3 {
-        internet.event(number, Event::Start)?;
-    }
-    Ok(internet)
-}
-
-#[test]
-fn a_propagated_packet_visits_each_network_of_a_ring_once(rt: HostRuntime) -> Result<(), Fail> {
-    let internet = ring(rt.alloc())?;
-    let trace = internet.trace(0, 0, &TO_ALL, 9)?;
-    same(&rt, trace.len(), 3);
-    let on = Outcome::Propagated;
-    same(&rt, row(&trace, 0), Some((None, 0, Some(0), on)));
-    same(&rt, row(&trace, 1), Some((Some(0), 1, Some(1), on)));
-    same(&rt, row(&trace, 2), Some((Some(1), 2, Some(2), on)));
-    Ok(())
-}
-
-#[test]
-fn a_packet_for_all_nodes_of_a_far_network_is_heard_there(rt: HostRuntime) -> Result<(), Fail> {
-    let internet = line(rt.alloc())?;
-    let mut bytes = FAR;
-    bytes[9] = 0x20;
-    for place in 10..16 {
-        bytes[place] = 0xFF;
-    }
-    let trace = internet.trace(0, 0, &bytes, 9)?;
-    same(&rt, trace.len(), 2);
-    same(
-        &rt,
-        row(&trace, 0),
-        Some((None, 0, Some(0), Outcome::Forwarded)),
-    );
-    same(
-        &rt,
-        row(&trace, 1),
-        Some((Some(0), 1, Some(1), Outcome::Local)),
-    );
-    Ok(())
-}
-
-#[test]
-fn a_node_that_two_routers_claim_is_refused(rt: HostRuntime) -> Result<(), Fail> {
-    let mut internet = Small::new(rt.alloc());
-    assert!(rt; internet.is_empty());
-    same(
-        &rt,
-        add(&mut internet, between((0x10, 1), (0x20, 2))?),
-        Ok(0),
-    );
-    let same_node = Err(InternetFault::SameNode);
-    same(
-        &rt,
-        add(&mut internet, between((0x30, 1), (0x20, 2))?),
-        same_node,
-    );
-    same(&rt, internet.len(), 1);
-    // (one node on two networks is no such)
-    same(
-        &rt,
-        add(&mut internet, between((0x30, 1), (0x20, 1))?),
-        Ok(1),
-    );
-    same(&rt, internet.len(), 2);
     Ok(())
 }
 

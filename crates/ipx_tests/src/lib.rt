@@ -3,7 +3,6 @@
 //! Nothing stands on this crate. It is one of its own because a crate with tests is proved twice: here only the tests
 //! are, over what the crates below promise. What a script can show needs no test: see `tests/replay`.
 //!
-//! - `own_offer`: an offer type of one's own, which the documentation of `Offer` quotes.
 //! - `wire`, `table`, `ports`, `router`: packets and devices, offers, what a router is made of, and what it does.
 //! - `internet`: several routers, the deliveries between them, and where a packet gets to.
 //! - `captures`: a capture with a record that there is no memory for.
@@ -28,8 +27,6 @@ mod exit_statuses;
 mod internet;
 #[cfg(test)]
 mod messages;
-#[cfg(test)]
-mod own_offer;
 #[cfg(test)]
 mod ports;
 #[cfg(test)]

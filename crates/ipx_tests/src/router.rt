@@ -1,14 +1,11 @@
 //! The router: which ports make one, what it learns and advertises, and room in an outbox.
 
-mod changes;
-mod full_table;
 mod memory;
 mod needs;
-mod shares;
 pub mod watched;
 
 use crate::same::same;
-use ipx_router::{Event, Outbox, Outcome, Port, PortFault, PortsFault, RouteOffer, Router, Why};
+use ipx_router::{Event, Outbox, Outcome, Port, PortFault, PortsFault, RouteOffer, Router};
 use ipx_table::Held;
 use ipx_wire::{Network, Node};
 use std::test::Fail;
@@ -70,20 +67,6 @@ fn hear(router: &mut Router<2, 2, 2>, outbox: &mut Outbox) -> Result<Outcome, Fa
         bytes: &RESPONSE,
     };
     Ok(router.step(response, outbox)?)
-}
-
-#[test]
-fn a_stopped_router_hears_nothing_and_starts_once(rt: HostRuntime) -> Result<(), Fail> {
-    let mut router = small()?;
-    let mut outbox = Outbox::new(rt.alloc());
-    assert!(rt; outbox.is_empty());
-    let heard = hear(&mut router, &mut outbox)?;
-    same(&rt, heard, Outcome::Dropped(Why::NotRunning));
-    for outcome in [Outcome::Started, Outcome::AlreadyRunning] {
-        same(&rt, router.step(Event::Start, &mut outbox)?, outcome);
-        same(&rt, outbox.len(), 6);
-    }
-    Ok(())
 }
 
 #[test]

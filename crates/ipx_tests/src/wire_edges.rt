@@ -1,15 +1,14 @@
 //! Packets and devices at their edges: the least and the greatest number of each type as text, entries by place and in order,
-//! a writer that recovers, an intake at its limit.
+//! a writer that recovers.
 
 use crate::same::same;
 use ipx_wire::{
-    Address, Crossed, Failed, Header, Intake, MOST_CALLS, Network, Node, NotHex, Outlet, Rip, Sap,
-    ServiceName, Socket,
+    Address, Crossed, Failed, Header, Network, Node, NotHex, Outlet, Rip, Sap, ServiceName, Socket,
 };
 use std::alloc::Global;
 use std::fmt::{Debug, Display};
 use std::io;
-use std::io::{ErrorKind, Read, Write};
+use std::io::{ErrorKind, Write};
 use std::test::Fail;
 
 const ZEROS: Address = Address {
@@ -204,38 +203,4 @@ fn hands_bytes_on_after_a_failure(rt: HostRuntime) {
     assert!(rt; outlet.failed());
     drop(outlet);
     same(&rt, taken.as_slice(), b"abef".as_slice());
-}
-
-/// Gives one byte a call without end, the call's number modulo 256.
-#[derive(Drop)]
-struct Numbered {
-    calls: u32,
-}
-
-impl Read for Numbered {
-    fn read(&mut self, buf: &mut [u8]) -> io::Result<usize> {
-        self.calls = self.calls.wrapping_add(1);
-        if buf.is_empty() {
-            return Ok(0);
-        }
-        buf[0] = self.calls.to_be_bytes()[3];
-        Ok(1)
-    }
-}
-
-#[test]
-fn reads_up_to_the_limit(rt: HostRuntime) {
-    let mut intake = Intake::new(Numbered { calls: 0 });
-    let mut buf = [0; 8];
-    for _ in 0..MOST_CALLS - 2 {
-        assert!(rt; intake.read(&mut buf).is_ok());
-    }
-    same(&rt, intake.read(&mut buf), Ok(1));
-    same(&rt, buf[0], 0xFF);
-    same(&rt, intake.read(&mut buf), Ok(1));
-    same(&rt, buf[0], 0);
-    assert!(rt; !intake.failed());
-    same(&rt, intake.read(&mut buf), Err(Failed));
-    assert!(rt; intake.failed());
-    same(&rt, intake.calls(), MOST_CALLS);
 }

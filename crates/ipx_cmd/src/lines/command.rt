@@ -27,7 +27,7 @@ pub(crate) const MOST_PORTS: usize = 8;
 const MOST_SECONDS: u32 = 86_400;
 
 /// How far a script has come.
-#[derive(Clone, Copy, Debug, PartialEq, Eq)]
+#[derive(Clone, Copy)]
 pub(crate) struct Stage {
     /// Whether the router is made.
     pub made: bool,
@@ -36,7 +36,7 @@ pub(crate) struct Stage {
 }
 
 /// A port as a line names it.
-#[derive(Clone, Copy, Debug, PartialEq, Eq)]
+#[derive(Clone, Copy)]
 pub(crate) struct NamedPort {
     pub network: Network,
     pub node: Node,
@@ -51,7 +51,7 @@ pub(crate) struct NamedPort {
 }
 
 /// What a line of a script asks for.
-#[derive(Clone, Copy, Debug)]
+#[derive(Clone, Copy)]
 pub(crate) enum Command {
     /// The next port of the router.
     Port(NamedPort),

@@ -1,12 +1,9 @@
 //! Why a line of a script is refused.
-ghost use Rattle.std.specs.Prelude.{◌≡◌, Some};
+ghost use Rattle.std.specs.Prelude.{◌≡◌};
 ghost use Rattle.ipx_cmd.specs.Fault.{fault_word};
 
-use std::error::Error;
-use std::fmt;
-
 /// What is wrong with a line of a script.
-#[derive(Clone, Copy, Debug, PartialEq, Eq)]
+#[derive(Clone, Copy)]
 pub(crate) enum LineFault {
     /// The line is too long.
     Long,
@@ -73,14 +70,3 @@ impl LineFault {
         }
     }
 }
-
-/// The word of the fault.
-impl fmt::Display for LineFault {
-    ghost output = { λ fault. Some (fault_word fault) };
-
-    fn fmt<W: fmt::Write>(&self, f: &mut fmt::Formatter<W>) -> fmt::Result {
-        f.write_str(self.word())
-    }
-}
-
-impl Error for LineFault {}

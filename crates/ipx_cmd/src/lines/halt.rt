@@ -9,7 +9,7 @@ use ipx_wire::OutOfMemory;
 use std::alloc::AllocError;
 
 /// Why a line of a script did not act to its end.
-#[derive(Clone, Copy, Debug, PartialEq, Eq)]
+#[derive(Clone, Copy)]
 pub(crate) enum Halt {
     /// The line is wrong.
     Line(LineFault),

@@ -26,7 +26,7 @@ pub(crate) const MOST_ROUTERS: usize = 32;
 const MOST_LIMIT: u32 = 1_000_000;
 
 /// How far an internet's script has come.
-#[derive(Clone, Copy, Debug, PartialEq, Eq)]
+#[derive(Clone, Copy)]
 pub(crate) struct OrderStage {
     /// Whether the internet is made.
     pub made: bool,
@@ -37,7 +37,7 @@ pub(crate) struct OrderStage {
 }
 
 /// What a line of an internet's script asks for.
-#[derive(Clone, Copy, Debug)]
+#[derive(Clone, Copy)]
 pub(crate) enum Order {
     /// The next router of the internet.
     Router,

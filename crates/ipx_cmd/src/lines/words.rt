@@ -13,7 +13,7 @@ use memchr::memchr2;
 use std::str;
 
 /// The words that name a port.
-#[derive(Clone, Copy, Debug)]
+#[derive(Clone, Copy)]
 pub(crate) struct PortWords<'a> {
     pub network: &'a [u8],
     pub node: &'a [u8],

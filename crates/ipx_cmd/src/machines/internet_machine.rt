@@ -31,7 +31,7 @@ use std::io::Write;
 use std::marker::Model;
 
 /// The ports of a script's routers, and its internet once that is made.
-#[derive(Debug, Drop)]
+#[derive(Drop)]
 pub(crate) struct InternetMachine {
     alloc: Global,
     /// The ports of each router, as they were named.

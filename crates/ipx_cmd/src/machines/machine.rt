@@ -28,7 +28,7 @@ use std::io::Write;
 use std::marker::Model;
 
 /// The ports of a script, its router once that is made, and what the router sends.
-#[derive(Debug, Drop)]
+#[derive(Drop)]
 pub(crate) struct Machine {
     ports: ArrayVec<Port, MOST_PORTS>,
     router: Option<ScriptRouter>,

@@ -9,7 +9,7 @@ use crate::ports::addresses::{
 use ipx_wire::Address;
 
 /// What stands on a packet of the router's own, whatever is in it. It is made once for all pages of a list.
-#[derive(Clone, Copy, Debug)]
+#[derive(Clone, Copy)]
 pub(crate) struct Envelope {
     /// The number of the port on which the packet leaves.
     pub port: u8,

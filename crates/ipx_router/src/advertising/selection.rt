@@ -7,7 +7,7 @@ use crate::advertising::hops::{dead, dead_service};
 use ipx_wire::{Network, Rip, RipEntry, Sap, Service};
 
 /// Which routes are sent.
-#[derive(Clone, Copy, Debug)]
+#[derive(Clone, Copy)]
 pub(crate) enum Selection<'a> {
     /// All.
     All,
@@ -18,7 +18,7 @@ pub(crate) enum Selection<'a> {
 }
 
 /// Which services are sent.
-#[derive(Clone, Copy, Debug)]
+#[derive(Clone, Copy)]
 pub(crate) enum ServiceSelection {
     /// All.
     All,

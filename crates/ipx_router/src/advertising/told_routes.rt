@@ -19,7 +19,7 @@ use ipx_wire::RipEntry;
 use std::marker::Model;
 
 /// What is left of the routes that a port advertises. A clause sees them as they are advertised, by network.
-#[derive(Debug, Drop)]
+#[derive(Drop)]
 pub(crate) struct ToldRoutes<'a> {
     // the networks of the other ports as they are advertised, by network
     direct: &'a [RipEntry],

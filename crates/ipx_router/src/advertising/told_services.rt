@@ -11,7 +11,7 @@ use ipx_wire::Service;
 use std::marker::Model;
 
 /// What is left of the services that a port advertises. A clause sees them as they are advertised, by type and name.
-#[derive(Debug, Drop)]
+#[derive(Drop)]
 pub(crate) struct ToldServices<'a> {
     // the services of the table, by type and name
     services: &'a [ServiceOffer],

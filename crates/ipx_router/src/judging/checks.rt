@@ -22,7 +22,7 @@ use ipx_table::Table;
 use ipx_wire::{Address, Crossed, CrossedFault, Header, Network, Node, Packet};
 
 /// How a packet goes on to other networks.
-#[derive(Debug, Drop)]
+#[derive(Drop)]
 pub(crate) enum Onward<'a> {
     /// To every other one, but for those that it has crossed.
     Propagate(Crossed<'a>),

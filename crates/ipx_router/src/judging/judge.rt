@@ -23,7 +23,7 @@ use ipx_table::Table;
 use ipx_wire::{Address, Header, Packet, Rip, Sap, Socket};
 
 /// What is to be done with what came and isn't dropped.
-#[derive(Debug, Drop)]
+#[derive(Drop)]
 pub(crate) enum Verdict<'a> {
     /// Routing information was heard.
     Rip {

@@ -16,7 +16,7 @@ use ipx_wire::{Address, Network, Node};
 use std::marker::Model;
 
 /// The port on which a packet leaves, and the node to which the link sends it.
-#[derive(Clone, Copy, Debug, PartialEq, Eq)]
+#[derive(Clone, Copy)]
 pub(crate) struct Way {
     pub port: u8,
     pub link: Node,

@@ -14,7 +14,7 @@ use ipx_table::{Offer, Table};
 
 /// A key whose offer was changed, by the first offer that did; the offer that it had before the event, and the one that it has
 /// now.
-#[derive(Clone, Copy, Debug, Default)]
+#[derive(Clone, Copy, Default)]
 pub(crate) struct Touched<O> {
     pub offer: O,
     pub before: Option<O>,

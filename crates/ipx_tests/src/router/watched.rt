@@ -1,9 +1,7 @@
 //! What the tests of a router share: a router of two ports that neighbours talk to, and what it sent.
 
 use ipx_router::{Event, Outbox, Outcome, Port, PortFault, Router};
-use ipx_wire::{
-    Address, Network, Node, Operation, OutOfMemory, Packet, Rip, RipEntry, Socket, write_rip,
-};
+use ipx_wire::{Address, Network, Node, Operation, OutOfMemory, RipEntry, Socket, write_rip};
 use std::alloc::Global;
 use std::test::Fail;
 
@@ -14,8 +12,6 @@ const NETWORKS: [Network; 2] = [Network(0x10), Network(0x20)];
 pub const A: u8 = 0xAA;
 
 pub const B: u8 = 0xBB;
-
-pub const C: u8 = 0xCC;
 
 /// A running router with port 0 on network 10 and port 1 on network 20, and what it sent at its last event.
 #[derive(Drop)]
@@ -80,17 +76,12 @@ pub fn response(port: u8, neighbour: u8, entries: &[RipEntry]) -> Option<[u8; 44
 }
 
 impl Watched {
-    /// A router with these ports; nothing is in the outbox but what its start sent.
-    pub fn with(heap: Global, ports: &[Port]) -> Result<Watched, Fail> {
-        let mut router = Router::new(ports)?;
+    /// A router with the two ports above; nothing is in the outbox but what its start sent.
+    pub fn started(heap: Global) -> Result<Watched, Fail> {
+        let mut router = Router::new(&ports()?)?;
         let mut outbox = Outbox::new(heap);
         router.step(Event::Start, &mut outbox)?;
         Ok(Watched { router, outbox })
-    }
-
-    /// A router with the two ports above, started.
-    pub fn started(heap: Global) -> Result<Watched, Fail> {
-        Watched::with(heap, &ports()?)
     }
 
     /// What becomes of a second.
@@ -123,22 +114,6 @@ impl Watched {
     pub fn sent(&self, k: usize) -> Option<(u8, usize)> {
         sent(&self.outbox, k)
     }
-
-    /// Network, hops and ticks of an entry of such a packet.
-    pub fn advertised(&self, packet: usize, k: usize) -> Option<(u32, u16, u16)> {
-        if packet < self.outbox.len() {
-            entry_of(self.outbox.get(packet).bytes, k)
-        } else {
-            None
-        }
-    }
-
-    /// Hops, ticks, the neighbour and the age of the route to a network.
-    pub fn route(&self, network: u32) -> Option<(u16, u16, u8, u8)> {
-        let held = self.router.route(Network(network))?;
-        let [.., neighbour] = held.offer.node.0;
-        Some((held.offer.hops, held.offer.ticks, neighbour, held.age))
-    }
 }
 
 /// The port and the length of the packet in an outbox with exactly `k` others before it.
@@ -146,17 +121,6 @@ pub fn sent(outbox: &Outbox, k: usize) -> Option<(u8, usize)> {
     if k < outbox.len() {
         let sent = outbox.get(k);
         Some((sent.port, sent.bytes.len()))
-    } else {
-        None
-    }
-}
-
-fn entry_of(bytes: &[u8], k: usize) -> Option<(u32, u16, u16)> {
-    let packet = Packet::read(bytes).ok()?;
-    let rip = Rip::read(packet.payload()).ok()?;
-    if k < rip.len() {
-        let entry = rip.entry(k);
-        Some((entry.network.0, entry.hops, entry.ticks))
     } else {
         None
     }

@@ -63,6 +63,7 @@ fn asks_no_more_at_the_limit(rt: HostRuntime) {
     for _ in 0..MOST_CALLS {
         assert!(rt; intake.read(&mut buf) == Ok(1));
     }
+    same(&rt, buf, [7]);
     assert!(rt; !intake.failed());
     for _ in 0..3 {
         same(&rt, intake.read(&mut buf), Err(Failed));

@@ -1,8 +1,8 @@
-//! Numbers as text, there and back, and the texts of failures.
+//! Numbers as text, there and back, and what a refusal of memory becomes.
 
 use crate::same::same;
-use ipx_wire::{Failed, Hex, Network, Node, OutOfMemory, Socket};
-use std::alloc::{AllocError, Global};
+use ipx_wire::{Hex, Network, Node, OutOfMemory, Socket};
+use std::alloc::Global;
 use std::test::Fail;
 
 const NODE: Node = Node([0, 0, 0, 0, 0, 0xAA]);
@@ -43,15 +43,6 @@ fn reads_digits_of_both_cases(rt: HostRuntime) {
     ] {
         assert_eq!(rt; Node::from_hex(text), None, "{text}");
     }
-}
-
-#[test]
-fn says_what_failed(rt: HostRuntime) -> Result<(), Fail> {
-    let memory = format!(in rt.alloc(); "{}", OutOfMemory::from(AllocError))?;
-    same(&rt, memory.as_str(), "memory");
-    let failed = format!(in rt.alloc(); "{}", Failed)?;
-    same(&rt, failed.as_str(), "the device failed");
-    Ok(())
 }
 
 fn kept(alloc: Global) -> Result<Vec<u8>, OutOfMemory> {
