@@ -1,8 +1,13 @@
-use Rattle.std.proofs.Common.{subst}
-use Rattle.ipx_router.specs.inside.Following.{Follows}
+use Rattle.std.proofs.Common.{rules, ◌≡◌, ◌∙◌, sym, ap, subst, Bool, true, false}
+use Rattle.ipx_router.specs.Facts.{offers}
+use Rattle.ipx_router.specs.inside.Following.{Follows, holding_of, is_next_periodic}
 use Rattle.ipx_router.specs.History.{Start}
+use Rattle.ipx_router.specs.Outbox.{Appends}
+use Rattle.ipx_router.specs.Outcomes.{outcome_of}
+use Rattle.ipx_router.specs.Sends.{sends_of}
 use Rattle.ipx_router.specs.Stands.{State}
 use Rattle.ipx_router.proofs.histories.StateAfterEachEvent.{state_of, already_running}
+use Rattle.ipx_router.proofs.sending.OneAfterAnother.{appends_none}
 use Rattle.ipx_router.proofs.router.Router.start.Goals as goal
 
 pub returns-then-self-clause-follows : goal.returns-then-self-clause-follows
@@ -11,8 +16,33 @@ returns-then-self-clause-follows g c =
     let s = state_of i.ports.items i.running i.up.items i.seconds i.routes.records i.services.records in
     subst (λ (v : State). Follows g.row.R g.row.S v v Start) c.self.view_is (already_running g.row.R g.row.S s c.if-self.true)
 
+pub returns-then-self-clause-sends : goal.returns-then-self-clause-sends
+returns-then-self-clause-sends g c =
+    let s = c.args.self.now in
+    let o = c.args.outbox.now in
+    let runs : s.running ≡ true = ap (λ (v : State). v.running) (sym c.self.view_is) ∙ c.if-self.true in
+    subst (Appends o o) (sym (ap (λ (r : Bool). sends_of s.ports (holding_of s) (holding_of s) r (is_next_periodic s) Start) runs)) (appends_none o)
+
+pub returns-then-self-clause-outcome : goal.returns-then-self-clause-outcome
+returns-then-self-clause-outcome g c =
+    let s = c.args.self.now in
+    let runs : s.running ≡ true = ap (λ (v : State). v.running) (sym c.self.view_is) ∙ c.if-self.true in
+    sym (ap (λ (r : Bool). outcome_of s.ports s.up (offers s.routes) r Start) runs)
+
+pub run-requires : goal.run-requires
+run-requires g c =
+    let s = c.args.self.now in
+    let runs : s.running ≡ false = ap (λ (v : State). v.running) (sym c.self.view_is) ∙ c.if-self.false in
+    (search rules, (runs, c.requires.room))
+
 pub returns-clause-follows : goal.returns-clause-follows
 returns-clause-follows g c = c.run.ensures.follows
 
 pub returns-clause-sends : goal.returns-clause-sends
 returns-clause-sends g c = c.run.ensures.sends
+
+pub returns-clause-outcome : goal.returns-clause-outcome
+returns-clause-outcome g c =
+    let s = c.args.self.now in
+    let runs : s.running ≡ false = ap (λ (v : State). v.running) (sym c.self.view_is) ∙ c.if-self.false in
+    sym (ap (λ (r : Bool). outcome_of s.ports s.up (offers s.routes) r Start) runs)

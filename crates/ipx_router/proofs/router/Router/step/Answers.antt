@@ -1,4 +1,4 @@
-use Rattle.std.proofs.Common.{◌∙◌, sym, ap, subst, ℕ, List, ◌++◌, ◌+◌, ◌*◌, ◌≤◌, length, max}
+use Rattle.std.proofs.Common.{rules, ◌∙◌, sym, ap, subst, ℕ, List, ◌++◌, ◌+◌, ◌*◌, ◌≤◌, length, max}
 use Rattle.ipx_router.specs.Happened.{happened}
 use Rattle.ipx_router.specs.Needs.{packets_needed, bytes_needed}
 use Rattle.ipx_router.specs.Outbox.{Memory, HasRoom, TakesRoom, total}
@@ -14,13 +14,7 @@ returns-clause-sends g c = λ h stands.
 
 pub returns-clause-still : goal.returns-clause-still
 returns-clause-still g c = λ room.
-    let s = c.args.self.now in
-    let event = happened c.args.event in
-    let o = c.args.outbox.now in
-    let packets : HasRoom o c.need-need.result.packets (bytes_needed s event) =
-    subst (λ (n : ℕ). HasRoom o n (bytes_needed s event)) (sym c.need-need.ensures.packets) room in
-    let here : HasRoom o c.need-need.result.packets c.need-need.result.bytes =
-    subst (λ (n : ℕ). HasRoom o c.need-need.result.packets n) (sym c.need-need.ensures.bytes) packets in
+    let here : HasRoom c.args.outbox.now c.need-need.result.packets c.need-need.result.bytes = rw (c.need-need.ensures.packets, c.need-need.ensures.bytes) room in
     c.handle.ensures.memory ∙ c.reserve.ensures.still here
 
 pub returns-clause-takes : goal.returns-clause-takes
@@ -40,3 +34,31 @@ returns-clause-takes g c =
       most_places = subst (λ (m : Memory). m.packets ≤ max (2 * o.memory.packets) (length o.sent + packets_needed s event)) (sym memory) taken.most_places;
       most_bytes = subst (λ (m : Memory). m.bytes ≤ max (2 * o.memory.bytes) (total o.sent + bytes_needed s event)) (sym memory) taken.most_bytes;
     }
+
+pub returns-in_err-reserve-clause-there : goal.returns-in_err-reserve-clause-there
+returns-in_err-reserve-clause-there g c = λ room.
+    let here : HasRoom c.args.outbox.now c.need-need.result.packets c.need-need.result.bytes = rw (c.need-need.ensures.packets, c.need-need.ensures.bytes) room in
+    absurd (c.in_err-reserve.ensures.refused here)
+
+pub returns-in_err-reserve-clause-still : goal.returns-in_err-reserve-clause-still
+returns-in_err-reserve-clause-still g c = λ room.
+    let here : HasRoom c.args.outbox.now c.need-need.result.packets c.need-need.result.bytes = rw (c.need-need.ensures.packets, c.need-need.ensures.bytes) room in
+    c.reserve.ensures.still here
+
+pub returns-in_err-reserve-clause-takes : goal.returns-in_err-reserve-clause-takes
+returns-in_err-reserve-clause-takes g c =
+    let s = c.args.self.now in
+    let event = happened c.args.event in
+    let o = c.args.outbox.now in
+    let later = c.reserve.new.self in
+    subst (λ (n : ℕ). TakesRoom o later (packets_needed s event) n) c.need-need.ensures.bytes
+    (subst (λ (n : ℕ). TakesRoom o later n c.need-need.result.bytes) c.need-need.ensures.packets c.reserve.ensures.takes)
+
+pub handle-requires : goal.handle-requires
+handle-requires g c =
+    let s = c.args.self.now in
+    let event = happened c.args.event in
+    let o = c.reserve.new.self in
+    let packets = subst (λ (n : ℕ). HasRoom o n c.need-need.result.bytes) c.need-need.ensures.packets c.in_ok-reserve.ensures.room in
+    let room = subst (λ (n : ℕ). HasRoom o (packets_needed s event) n) c.need-need.ensures.bytes packets in
+    (search rules, (c.requires.port, room))
