@@ -99,6 +99,8 @@ fn what_a_neighbour_advertises_is_kept_and_passed_on(rt: HostRuntime) -> Result<
     };
     same(&rt, router.route_at(1), Some(held));
     same(&rt, router.route_at(2), None);
+    same(&rt, router.route(Network(0x31)), Some(held));
+    same(&rt, router.route(Network(0x32)), None);
     Ok(())
 }
 
@@ -115,6 +117,9 @@ fn an_event_needs_room_for_the_most_that_it_may_send(rt: HostRuntime) -> Result<
     assert!(rt; outbox.has_room(start));
     let started = router.handle(Event::Start, &mut outbox);
     same(&rt, started, Outcome::Started);
+    same(&rt, outbox.len(), 6);
+    let again = router.step(Event::Start, &mut outbox)?;
+    same(&rt, again, Outcome::AlreadyRunning);
     same(&rt, outbox.len(), 6);
     let second = router.need(&Event::Second);
     same(&rt, (second.packets, second.bytes), (2, 960));

@@ -251,10 +251,12 @@ fn no_place_and_one_place(rt: HostRuntime) {
     let mut none: Table<Way, 0> = Table::new();
     assert!(rt; none.is_full());
     same(&rt, none.offer(way_to(1, 0xAA, 1, 1)), Taken::Full);
+    same(&rt, none.offer(way_to(1, 0xAA, 16, 1)), Taken::Nothing);
     assert!(rt; none.second().is_empty());
     let mut one: Table<Way, 1> = Table::new();
     same(&rt, one.offer(way_to(1, 0xAA, 1, 1)), Taken::Admitted);
     same(&rt, one.offer(way_to(2, 0xAA, 1, 1)), Taken::Full);
+    same(&rt, one.offer(way_to(2, 0xAA, 16, 1)), Taken::Nothing);
     same(&rt, one.offer(way_to(1, 0xBB, 0, 1)), Taken::Replaced);
     same(&rt, one.offer(way_to(1, 0xBB, 16, 1)), Taken::Withdrawn);
     same(&rt, one.offer(way_to(2, 0xAA, 1, 1)), Taken::Admitted);

@@ -61,6 +61,7 @@ fn traced(internet: &Small) -> Result<Trace<'static>, Fail> {
 #[test]
 fn a_router_without_memory_is_added_again(rt: HostRuntime) -> Result<(), Fail> {
     let mut internet = Small::new(rt.alloc());
+    assert!(rt; internet.is_empty());
     let first = added(&mut internet, between((0x10, 1), (0x20, 2))?)?;
     let second = added(&mut internet, between((0x20, 3), (0x30, 4))?)?;
     same(&rt, (first, second, internet.len()), (0, 1, 2));
@@ -71,6 +72,9 @@ fn a_router_without_memory_is_added_again(rt: HostRuntime) -> Result<(), Fail> {
         third.err().map(|it| it.fault),
         Some(InternetFault::SameNode),
     );
+    // (and a refused one leaves nothing behind)
+    let free = added(&mut internet, between((0x40, 5), (0x50, 6))?)?;
+    same(&rt, (free, internet.len()), (2, 3));
     Ok(())
 }
 

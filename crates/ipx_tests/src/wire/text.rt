@@ -2,7 +2,7 @@
 
 use crate::same::same;
 use ipx_wire::{Hex, Network, Node, OutOfMemory, Socket};
-use std::alloc::Global;
+use std::alloc::{AllocError, Global};
 use std::test::Fail;
 
 const NODE: Node = Node([0, 0, 0, 0, 0, 0xAA]);
@@ -54,4 +54,5 @@ fn kept(alloc: Global) -> Result<Vec<u8>, OutOfMemory> {
 #[test]
 fn comes_from_each_refusal(rt: HostRuntime) {
     same(&rt, kept(rt.alloc()).map(|bytes| bytes.len()), Ok(1));
+    same(&rt, OutOfMemory::from(AllocError), OutOfMemory);
 }
