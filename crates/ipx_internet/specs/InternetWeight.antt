@@ -64,8 +64,8 @@ request_weight net most_routes socket =
     else if socket == sap_socket then (entries / entries_a_service) * entry_weight net 1
     else 0)
 
--- a query for all services of a type, likewise; the process of routes reads no full page of services. One for the nearest: itself, and
--- an answer that no router takes
+-- a query for all services of a type, likewise; the process of routes reads no full page of services, which is longer than a packet of
+-- entries may be. One for the nearest: itself, and an answer that no router takes
 abbrev pub query_weight : Internet → ℕ → Bool → ℕ → ℕ
 query_weight net most_services nearest socket =
     if nearest then 2

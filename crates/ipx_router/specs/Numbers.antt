@@ -28,7 +28,7 @@ entries_a_page = most_entries
 abbrev pub services_a_page : ℕ
 services_a_page = most_services
 
--- the most bytes of a packet of its own: a full page of services
+-- the most bytes of a packet of its own: a full page of services, which is longer than one of entries
 abbrev pub most_own_length : ℕ
 most_own_length = header_size + operation_size + services_a_page * service_size
 

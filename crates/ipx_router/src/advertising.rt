@@ -1,9 +1,8 @@
 //! What a port advertises, and the packets that carry it.
 //! Comes in: ports, tables, and to whom it goes.
-//! Goes out: packets of at most fifty entries or seven services, in the order of their keys.
+//! Goes out: packets of at most fifty entries or seven services in the order of their keys; requests and queries.
 //! Touches: the outbox. The tables are read item by item and not copied.
-//! `hops` has one route or service as it is advertised, `told_routes` and `told_services` have them all; `selection` chooses how, `told` sends
-//! them. Of either kind of `item`, `pages` puts a list into packets, all in one `envelope`.
+//! `told_routes` and `told_services` have what is advertised, and `selection` chooses of it; `told` and `pages` put it into packets.
 mod broadcasts;
 pub(crate) mod envelope;
 pub(crate) mod hops;

@@ -2,7 +2,7 @@
 //! the default route and shares. It takes events and puts what it sends into an outbox; it has no socket and no clock.
 //!
 //! - `Router` follows its history: after any events its tables have what the definitions say, and each event sends
-//!   exactly the defined packets. `handle` takes no memory; `step` makes the room first, or leaves all as it was.
+//!   exactly the defined packets. `handle` takes no memory; `step` makes the room first, or leaves router and packets as they were.
 //! - Its `specs/` say what a router does, over histories of events, ports, and lists of records: whether it runs, and which of its
 //!   ports are up (`History`), what it holds (`Facts`), where a packet leaves (`Outgoing`), what it drops and
 //!   why (`Why`), what it advertises on which port (`Told`, `News`), which packets each event sends (`Sends`,

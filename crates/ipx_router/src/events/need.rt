@@ -10,7 +10,7 @@ use crate::event::Event;
 use crate::outbox::Need;
 use ipx_wire::{Header, Packet, SapEntry};
 
-/// The bytes of the longest packet of a router's own: a full page of services.
+/// The bytes of the longest packet of a router's own: a full page of services, which is longer than one of entries.
 const MOST_OWN_LENGTH: usize = Header::SIZE + 2 + SERVICES_A_PAGE * SapEntry::SIZE;
 
 /// The most packets that an event sends, and as many times the bytes of the longest.
