@@ -1,4 +1,4 @@
-//! The message of every fault, and the words of every outcome, reason and operation, and of all that a table does with an offer.
+//! The message of every fault, the numbers behind one, and the words of every outcome, reason and operation, and of all that a table does with an offer.
 //!
 //! What is wanted stands in a `match` for each enum, so a variant that is new doesn't compile before it has its text here.
 
@@ -9,7 +9,7 @@ use ipx_internet::{InternetFault, TraceFault};
 use ipx_router::{Outcome, PortFault, PortsFault, Why};
 use ipx_table::Taken;
 use ipx_wire::{
-    CrossedFault, Failed, NotHex, Operation, OutOfMemory, PacketFault, RipFault, SapFault,
+    CrossedFault, Failed, Measure, NotHex, Operation, OutOfMemory, PacketFault, RipFault, SapFault,
 };
 use std::alloc::Global;
 use std::fmt::Display;
@@ -84,6 +84,39 @@ fn says_why_bytes_are_no_packet(rt: HostRuntime) -> Result<(), Fail> {
     for fault in [CrossedFault::Short, CrossedFault::Full] {
         let text = shown(rt.alloc(), fault)?;
         same(&rt, text.as_str(), crossed_message(fault));
+    }
+    Ok(())
+}
+
+fn measure_message(measure: Measure) -> &'static str {
+    match measure {
+        Measure::Bytes { .. } => "29 bytes came, and 30 are needed",
+        Measure::Length { .. } => "34 bytes came, and 60 are counted",
+        Measure::Entries { .. } => {
+            "410 bytes came, with 51 whole entries of at most 50 behind operation 2"
+        }
+        Measure::Crossed { .. } => "8 networks were crossed, of at most 7",
+    }
+}
+
+#[test]
+fn tells_the_numbers_behind_a_fault(rt: HostRuntime) -> Result<(), Fail> {
+    for measure in [
+        Measure::Bytes {
+            came: 29,
+            least: 30,
+        },
+        Measure::Length { said: 60, came: 34 },
+        Measure::Entries {
+            operation: 2,
+            came: 410,
+            whole: 51,
+            most: 50,
+        },
+        Measure::Crossed { said: 8, most: 7 },
+    ] {
+        let text = shown(rt.alloc(), measure)?;
+        same(&rt, text.as_str(), measure_message(measure));
     }
     Ok(())
 }

@@ -1,6 +1,7 @@
 //! Many packets: forged offers that fill a table, and a million damaged ones.
 
 use crate::damaged::given::PACKETS;
+use crate::damaged::is_within_bounds;
 use crate::router::watched::{A, Watched, fifty};
 use crate::same::same;
 use ipx_router::{Event, Outcome};
@@ -93,9 +94,7 @@ fn a_million_damaged_packets_break_no_bound(rt: HostRuntime) -> Result<(), Fail>
         watched.outbox.clear();
         let has_room = watched.outbox.has_room(need);
         let outcome = watched.packet(port, bytes)?;
-        let fits = watched.outbox.len() <= need.packets
-            && watched.router.routes() <= 50
-            && watched.router.services() <= 8;
+        let fits = watched.outbox.len() <= need.packets && is_within_bounds(&watched, bytes);
         if !fits || (number >= FIRST && !has_room) {
             wrong = wrong.wrapping_add(1);
         }
