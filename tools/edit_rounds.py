@@ -11,9 +11,10 @@ from dataclasses import dataclass, field
 
 # A contract that no longer holds, at its place in the code.
 UNPROVED = re.compile(r"note: (?:\./)?(src/\S+?):(\d+):\d+: it is not proved that")
-# An error in a proof whose words all stand for something.
-NAMES = r"not in scope|has no field|has no `|was not admitted|that depend on .* which was rejected"
+# An error in a proof whose words all stand for something, and one about a word that stands for nothing any more.
+NAMES = r"not in scope|has no field|\(nearest: |has no `|was not admitted|that depends? on .* which was rejected"
 PROOF_ERROR = re.compile(rf"(?:\./)?(proofs/\S+?)(?:/[^/\s]+)?\.antt:\d+:\d+: error: (?!.*({NAMES}))")
+NAME_ERROR = re.compile(rf"(?:\./)?(proofs/\S+?)(?:/[^/\s]+)?\.antt:\d+:\d+: error: .*({NAMES})")
 VERDICT = re.compile(r"fn (\S+): (.*)")
 WAITS = re.compile(r"it (calls|passes) ")
 FUNCTION = re.compile(r"( *)(?:pub(?:\([a-z]+\))? )?fn (\w+)")
@@ -176,7 +177,7 @@ class Checked:
         self.status, self.lines, self.found = status, said.split("\n"), found
         self.told = {it[1]: it[2] for it in map(VERDICT.match, self.lines) if it}
         self.errors = [it for it in self.lines if re.match(r"\S+:\d+:\d+: error", it)]
-        is_ended = any(it.startswith("logic=not-proved") for it in self.lines)
+        is_ended = any(it.startswith(("logic=not-proved", "only=")) for it in self.lines)
         self.is_read = status == 1 and is_ended and all(it.lstrip("./").startswith("proofs/") for it in self.errors)
         self.broken = {}
         for line in self.lines:
@@ -188,11 +189,17 @@ class Checked:
         if at := UNPROVED.match(line):
             it = function_at(self.found, at[1], int(at[2]))
             return it.path if it else f"{at[1]}:{at[2]}"
-        if at := PROOF_ERROR.match(line):
-            # (a folder has a + before a name that would stand for something else)
-            folder = at[1].replace("/+", "/")
-            return next((it.path for it in self.found if proof_folder(it) == folder), at[1])
-        return ""
+        return self.owner_of_proof(at[1]) if (at := PROOF_ERROR.match(line)) else ""
+
+    def owner_of_proof(self, folder):
+        """The function to which a folder of proofs belongs; the folder itself where it is no function's."""
+        # (a folder has a + before a name that would stand for something else)
+        return next((it.path for it in self.found if proof_folder(it) == folder.replace("/+", "/")), folder)
+
+    def lost_name(self, path=""):
+        """What the check says of a name that proofs cite and the text has no longer: in the proof of this function, or anywhere."""
+        found = (it for it in self.lines if (at := NAME_ERROR.match(it)) and path in ("", self.owner_of_proof(at[1])))
+        return next(found, "") if self.is_read else ""
 
     def first_broken(self):
         return next(iter(self.broken.values()), "") if self.is_read else ""
