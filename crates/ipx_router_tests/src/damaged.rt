@@ -6,8 +6,8 @@ mod given;
 
 use crate::damaged::decided::{Port, decided, read_alike};
 use crate::damaged::given::{PACKETS, PROPAGATED, RESPONSE};
-use crate::router::watched::{B, Watched, entry};
 use crate::same::same;
+use crate::watched::{B, Watched, entry};
 use ipx_router::Outcome;
 use std::alloc::Global;
 use std::test::Fail;

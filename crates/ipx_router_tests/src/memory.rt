@@ -3,8 +3,8 @@ ghost use Rattle.std.specs.Prelude.{◌≡◌};
 ghost use Rattle.ipx_router.specs.Happened.{happened};
 ghost use Rattle.ipx_router.specs.History.{IsOnPort};
 
-use crate::router::watched::{A, B, entry, node, on, ports, response, sent};
 use crate::same::same;
+use crate::watched::{A, B, entry, node, on, ports, response, sent};
 use ipx_router::{Event, Need, Outbox, Outcome, RouteOffer, Router};
 use ipx_table::Held;
 use ipx_wire::{Network, Node, OutOfMemory, Service, ServiceName, Socket, write_query, write_sap};

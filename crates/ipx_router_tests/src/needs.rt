@@ -1,7 +1,7 @@
 //! The room that an event may take, and packets that are only sent on.
 
-use crate::router::watched::{A, B, Watched, entry, fifty, node, on};
 use crate::same::same;
+use crate::watched::{A, B, Watched, entry, fifty, node, on};
 use ipx_router::{Event, Need, Outcome};
 use ipx_wire::{Network, Node, Operation, Packet, RipEntry, Socket, write_rip};
 use std::test::Fail;

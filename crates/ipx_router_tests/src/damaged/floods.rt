@@ -2,8 +2,8 @@
 
 use crate::damaged::given::PACKETS;
 use crate::damaged::is_within_bounds;
-use crate::router::watched::{A, Watched, fifty};
 use crate::same::same;
+use crate::watched::{A, Watched, fifty};
 use ipx_router::{Event, Outcome};
 use std::test::Fail;
 

@@ -1,9 +1,5 @@
 //! The router: which ports make one, what it learns and advertises, and room in an outbox.
 
-mod memory;
-mod needs;
-pub mod watched;
-
 use crate::same::same;
 use ipx_router::{Event, Outbox, Outcome, Port, PortFault, PortsFault, RouteOffer, Router};
 use ipx_table::Held;

@@ -2,7 +2,8 @@
 
 use crate::same::same;
 use ipx_wire::{
-    Address, Network, Node, Packet, Sap, SapFault, Service, ServiceName, Socket, write_sap,
+    Address, Network, Node, Packet, Sap, SapEntry, SapFault, Service, ServiceName, Socket,
+    write_sap,
 };
 use std::test::Fail;
 
@@ -48,36 +49,55 @@ fn on(network: u32, last: u8, socket: Socket) -> Address {
     }
 }
 
-#[test]
-fn writes_services_that_are_read_again(rt: HostRuntime) -> Result<(), Fail> {
+/// A file server on network 30h, two hops away. What stands behind the zero of its name is ignored.
+fn server() -> Option<Service> {
     let mut field = [0; 48];
     field[..4].copy_from_slice(b"S8\0X");
-    let service = Service {
+    Some(Service {
         kind: 4,
-        name: ServiceName::read(&field).expect(&rt, "a name"),
+        name: ServiceName::read(&field)?,
         address: on(0x30, 1, Socket(0x0451)),
         hops: 2,
-    };
+    })
+}
+
+/// The answer to a query for the nearest service, with two bytes EEh behind it, and the length that is told of it.
+fn told(service: Service) -> ([u8; 98], usize) {
     let mut out = [0xEE; 98];
     let from = on(0x10, 1, Socket::SAP);
     let to = on(0x10, 0xAA, Socket::SAP);
     let count = write_sap(from, to, true, &[service], &mut out);
-    assert_eq!(rt; count, 96);
-    assert_eq!(rt; &out[96..], [0xEE, 0xEE].as_slice());
-    assert_eq!(rt; &out[30..39], [0, 4, 0, 4, b'S', b'8', 0, 0, 0].as_slice());
+    (out, count)
+}
+
+#[test]
+fn writes_services_and_leaves_the_rest(rt: HostRuntime) {
+    let (out, count) = told(server().expect(&rt, "a name"));
+    same(&rt, count, 96);
+    same(&rt, &out[96..], [0xEE, 0xEE].as_slice());
+    let front = [0, 4, 0, 4, b'S', b'8', 0, 0, 0];
+    same(&rt, &out[30..39], front.as_slice());
     let behind = [0, 0, 0, 0x30, 0, 0, 0, 0, 0, 1, 4, 0x51, 0, 2];
-    assert_eq!(rt; &out[82..96], behind.as_slice());
+    same(&rt, &out[82..96], behind.as_slice());
+}
+
+#[test]
+fn reads_services_that_were_written(rt: HostRuntime) -> Result<(), Fail> {
+    let service = server().expect(&rt, "a name");
+    let (out, _) = told(service);
     let packet = Packet::read(&out)?;
-    assert_eq!(rt; packet.header().length, 96);
+    same(&rt, packet.header().length, 96);
     match Sap::read(packet.payload())? {
         Sap::Response { nearest, entries } => {
             assert!(rt; nearest);
-            assert_eq!(rt; entries.len(), 1);
-            let entry = entries.entry(0);
-            assert_eq!(rt; entry.kind, service.kind);
-            assert_eq!(rt; entry.name, Some(service.name));
-            assert_eq!(rt; entry.address, service.address);
-            assert_eq!(rt; entry.hops, service.hops);
+            same(&rt, entries.len(), 1);
+            let entry = SapEntry {
+                kind: service.kind,
+                name: Some(service.name),
+                address: service.address,
+                hops: service.hops,
+            };
+            same(&rt, entries.get(0), Some(entry));
         }
         Sap::Query { .. } => panic!(rt; "a query"),
     }
