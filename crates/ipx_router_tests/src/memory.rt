@@ -14,30 +14,6 @@ use std::test::Fail;
 /// More than any memory has.
 const TOO_MUCH: usize = usize::MAX / 2;
 
-#[test]
-fn a_refused_reservation_can_be_made_again(rt: HostRuntime) -> Result<(), Fail> {
-    let mut router = Router::<2, 50, 8>::new(&ports()?)?;
-    let mut outbox = Outbox::new(rt.alloc());
-    router.step(Event::Start, &mut outbox)?;
-    for (packets, bytes) in [(TOO_MUCH, 1), (1, TOO_MUCH)] {
-        let need = Need { packets, bytes };
-        assert!(rt; !outbox.has_room(need));
-        same(&rt, outbox.reserve(need), Err(OutOfMemory));
-        same(&rt, outbox.len(), 6);
-        same(&rt, sent(&outbox, 0), Some((0, 40)));
-        same(&rt, sent(&outbox, 5), Some((1, 34)));
-    }
-    let need = router.need(&Event::Stop);
-    outbox.reserve(need)?;
-    assert!(rt; outbox.has_room(need));
-    let stopped = router.handle(Event::Stop, &mut outbox);
-    same(&rt, stopped, Outcome::Stopped);
-    same(&rt, outbox.len(), 8);
-    same(&rt, sent(&outbox, 0), Some((0, 40)));
-    same(&rt, sent(&outbox, 7), Some((1, 40)));
-    Ok(())
-}
-
 /// What a refusal may not change: whether the router runs, its route, how many packets there are, and the last of them.
 type Seen = (bool, Option<Held<RouteOffer>>, usize, Option<(u8, usize)>);
 
@@ -89,6 +65,45 @@ fn a_step_without_memory_can_be_taken_again(rt: HostRuntime) -> Result<(), Fail>
     same(&rt, (stopped, outbox.len()), (Outcome::Stopped, 9));
     same(&rt, sent(&outbox, 6), Some((0, 40)));
     same(&rt, sent(&outbox, 7), Some((0, 48)));
+    Ok(())
+}
+
+/// Reserves room. Where memory is refused, router and outbox have to be as they were, and the room is asked for again.
+fn reserved(router: &Router<2, 50, 8>, outbox: &mut Outbox, need: Need) -> Result<(), Fail> {
+    let before = seen(router, outbox);
+    match outbox.reserve(need) {
+        Ok(()) => Ok(()),
+        Err(OutOfMemory) => {
+            if seen(router, outbox) != before {
+                return Err(Fail::new("a refusal changed something"));
+            }
+            Ok(outbox.reserve(need)?)
+        }
+    }
+}
+
+/// More than any memory has is refused, and what is there is reserved; that, too, whichever request is refused.
+#[test]
+fn room_without_memory_can_be_reserved_again(rt: HostRuntime) -> Result<(), Fail> {
+    let mut router = Router::<2, 50, 8>::new(&ports()?)?;
+    let mut outbox = Outbox::new(rt.alloc());
+    stepped(&mut router, &mut outbox, Event::Start)?;
+    for (packets, bytes) in [(TOO_MUCH, 1), (1, TOO_MUCH)] {
+        let need = Need { packets, bytes };
+        assert!(rt; !outbox.has_room(need));
+        same(&rt, outbox.reserve(need), Err(OutOfMemory));
+        same(&rt, outbox.len(), 6);
+        same(&rt, sent(&outbox, 0), Some((0, 40)));
+        same(&rt, sent(&outbox, 5), Some((1, 34)));
+    }
+    let need = router.need(&Event::Stop);
+    reserved(&router, &mut outbox, need)?;
+    assert!(rt; outbox.has_room(need));
+    let stopped = router.handle(Event::Stop, &mut outbox);
+    same(&rt, stopped, Outcome::Stopped);
+    same(&rt, outbox.len(), 8);
+    same(&rt, sent(&outbox, 0), Some((0, 40)));
+    same(&rt, sent(&outbox, 7), Some((1, 40)));
     Ok(())
 }
 

@@ -165,69 +165,8 @@ fn thing_called(kind: u16, letters: [u8; 3], steps: u16) -> Thing {
 }
 
 #[test]
-fn neighbours_compete_for_a_network(rt: HostRuntime) {
-    let mut table: Table<Way, 8> = Table::new();
-    let b = way_to(0x30, 0xBB, 3, 5);
-    let c = way_to(0x30, 0xCC, 2, 5);
-    let d = way_to(0x30, 0xDD, 9, 4);
-    let far = way_to(0x30, 0xDD, 15, 60);
-    let key = Network(0x30);
-    same(&rt, table.offer(b), Taken::Admitted);
-    same(&rt, table.get(&key), Some(Held { offer: b, age: 0 }));
-    same(&rt, table.offer(c), Taken::Replaced);
-    same(&rt, table.get(&key), Some(Held { offer: c, age: 0 }));
-    same(&rt, table.offer(d), Taken::Replaced);
-    same(&rt, table.get(&key), Some(Held { offer: d, age: 0 }));
-    table.second();
-    same(&rt, table.offer(way_to(0x30, 0xEE, 9, 4)), Taken::Worse);
-    same(&rt, table.get(&key), Some(Held { offer: d, age: 1 }));
-    same(&rt, table.offer(far), Taken::Refreshed { changed: true });
-    same(&rt, table.get(&key), Some(Held { offer: far, age: 0 }));
-    let of_another = way_to(0x30, 0xEE, 16, 0xFFFF);
-    same(&rt, table.offer(of_another), Taken::Nothing);
-    same(&rt, table.get(&key), Some(Held { offer: far, age: 0 }));
-    let of_its_own = way_to(0x30, 0xDD, 16, 0xFFFF);
-    same(&rt, table.offer(of_its_own), Taken::Withdrawn);
-    same(&rt, table.get(&key), None);
-    same(&rt, table.len(), 0);
-}
-
-#[test]
-fn a_full_table_waits_for_an_end(rt: HostRuntime) {
-    let mut table: Table<Way, 2> = Table::default();
-    let first = way_to(1, 0xAA, 1, 1);
-    let second = way_to(2, 0xAA, 1, 1);
-    let third = way_to(3, 0xAA, 1, 1);
-    same(&rt, table.offer(second), Taken::Admitted);
-    assert!(rt; !table.is_full());
-    same(&rt, table.offer(first), Taken::Admitted);
-    assert!(rt; table.is_full());
-    same(&rt, table.offer(third), Taken::Full);
-    for _ in 0..179 {
-        assert!(rt; table.second().is_empty());
-    }
-    let held = Held {
-        offer: second,
-        age: 179,
-    };
-    same(&rt, table.get(&Network(2)), Some(held));
-    same(&rt, table.offer(first), Taken::Refreshed { changed: false });
-    same(&rt, table.second().as_slice(), [second].as_slice());
-    same(&rt, table.len(), 1);
-    let held = Held {
-        offer: first,
-        age: 1,
-    };
-    same(&rt, table.get_at(0), Some(held));
-    same(&rt, table.get_at(1), None);
-    same(&rt, table.offer(third), Taken::Admitted);
-    table.clear();
-    assert!(rt; table.is_empty());
-}
-
-#[test]
 fn ended_offers_come_by_key(rt: HostRuntime) {
-    let mut table: Table<Way, 4> = Table::new();
+    let mut table: Table<Way, 4> = Table::default();
     for number in [7, 3, 9, 5] {
         let way = way_to(number, 0xAA, 1, 1);
         same(&rt, table.offer(way), Taken::Admitted);

@@ -3,7 +3,7 @@
 //! Nothing stands on this crate. It is one of its own because a crate with tests is proved twice: here only the tests
 //! are, over what the crates below promise.
 //!
-//! - `packets`, `sap`, `crossed`, `forward`: packets that are read, written and sent on.
+//! - `rip`, `sap`, `crossed`, `forward`: packets that are read, written and sent on.
 //! - `names`, `text`, `edges`: names and numbers as text, at their edges too; entries by place and in order.
 //! - `intake`, `outlet`: how often a device is asked, and that its failures are remembered.
 //! - `captures`: a capture with a record that there is no memory for.
@@ -27,7 +27,7 @@ mod names;
 #[cfg(test)]
 mod outlet;
 #[cfg(test)]
-mod packets;
+mod rip;
 #[cfg(test)]
 mod same;
 #[cfg(test)]

@@ -24,23 +24,6 @@ fn reads_queries(rt: HostRuntime) -> Result<(), Fail> {
     Ok(())
 }
 
-#[test]
-fn reads_one_to_seven_entries(rt: HostRuntime) -> Result<(), Fail> {
-    let mut data = [0; 514];
-    data[1] = 2;
-    same(&rt, Sap::read(&data[..65]).err(), Some(SapFault::NoEntry));
-    same(&rt, Sap::read(&data).err(), Some(SapFault::TooMany));
-    match Sap::read(&data[..513])? {
-        Sap::Response { nearest, entries } => {
-            assert!(rt; !nearest);
-            assert!(rt; entries.len() == 7);
-            assert!(rt; entries.entry(6).name.is_none());
-        }
-        Sap::Query { .. } => panic!(rt; "a query"),
-    }
-    Ok(())
-}
-
 fn on(network: u32, last: u8, socket: Socket) -> Address {
     Address {
         network: Network(network),
@@ -49,21 +32,22 @@ fn on(network: u32, last: u8, socket: Socket) -> Address {
     }
 }
 
-/// A file server on network 30h, two hops away. What stands behind the zero of its name is ignored.
-fn server() -> Option<Service> {
+/// The name of a file server. What stands behind the zero is ignored.
+fn name() -> Option<ServiceName> {
     let mut field = [0; 48];
     field[..4].copy_from_slice(b"S8\0X");
-    Some(Service {
-        kind: 4,
-        name: ServiceName::read(&field)?,
-        address: on(0x30, 1, Socket(0x0451)),
-        hops: 2,
-    })
+    ServiceName::read(&field)
 }
 
-/// The answer to a query for the nearest service, with two bytes EEh behind it, and the length that is told of it.
-fn told(service: Service) -> ([u8; 98], usize) {
+/// The answer that tells the server to a query for the nearest, with two bytes EEh behind it, and the length that is told of it.
+fn told(name: ServiceName) -> ([u8; 98], usize) {
     let mut out = [0xEE; 98];
+    let service = Service {
+        kind: 4,
+        name,
+        address: on(0x30, 1, Socket(0x0451)),
+        hops: 2,
+    };
     let from = on(0x10, 1, Socket::SAP);
     let to = on(0x10, 0xAA, Socket::SAP);
     let count = write_sap(from, to, true, &[service], &mut out);
@@ -71,8 +55,8 @@ fn told(service: Service) -> ([u8; 98], usize) {
 }
 
 #[test]
-fn writes_services_and_leaves_the_rest(rt: HostRuntime) {
-    let (out, count) = told(server().expect(&rt, "a name"));
+fn writes_a_service_and_leaves_the_rest(rt: HostRuntime) {
+    let (out, count) = told(name().expect(&rt, "a name"));
     same(&rt, count, 96);
     same(&rt, &out[96..], [0xEE, 0xEE].as_slice());
     let front = [0, 4, 0, 4, b'S', b'8', 0, 0, 0];
@@ -82,9 +66,8 @@ fn writes_services_and_leaves_the_rest(rt: HostRuntime) {
 }
 
 #[test]
-fn reads_services_that_were_written(rt: HostRuntime) -> Result<(), Fail> {
-    let service = server().expect(&rt, "a name");
-    let (out, _) = told(service);
+fn reads_a_service_that_was_written(rt: HostRuntime) -> Result<(), Fail> {
+    let (out, _) = told(name().expect(&rt, "a name"));
     let packet = Packet::read(&out)?;
     same(&rt, packet.header().length, 96);
     match Sap::read(packet.payload())? {
@@ -92,10 +75,10 @@ fn reads_services_that_were_written(rt: HostRuntime) -> Result<(), Fail> {
             assert!(rt; nearest);
             same(&rt, entries.len(), 1);
             let entry = SapEntry {
-                kind: service.kind,
-                name: Some(service.name),
-                address: service.address,
-                hops: service.hops,
+                kind: 4,
+                name: name(),
+                address: on(0x30, 1, Socket(0x0451)),
+                hops: 2,
             };
             same(&rt, entries.get(0), Some(entry));
         }
