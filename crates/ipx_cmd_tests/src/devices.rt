@@ -14,13 +14,33 @@ const SCRIPT: &[u8] =
     b"port 00000010 000000000001 1 576\nport 00000020 000000000002 1 576\nstart\nin 0 -\n\
 in 1 FFFF0028000100000020FFFFFFFFFFFF0453000000200000000000BB045300020000003000010002\nroutes\n\nroutes";
 
+/// How a run of `replay` on these devices ends, and whether the reader failed, and the writer.
+fn replayed<R: Read + Drop, W: Write + Drop>(
+    heap: Global,
+    reader: R,
+    writer: W,
+) -> (Result<Ended, RunFault>, bool, bool) {
+    let mut intake = Intake::new(reader);
+    let mut outlet = Outlet::new(writer);
+    let answer = replay(heap, &mut intake, &mut outlet);
+    (answer, intake.failed(), outlet.failed())
+}
+
+/// How a run of `decode` on them ends.
+fn decoded<R: Read + Drop, W: Write + Drop>(
+    heap: Global,
+    reader: R,
+    writer: W,
+) -> Result<Ended, RunFault> {
+    let mut intake = Intake::new(reader);
+    let mut outlet = Outlet::new(writer);
+    decode(heap, &mut intake, &mut outlet)
+}
+
 /// How a run ends that plays a script from memory, and what it wrote.
 fn play(heap: Global, script: &[u8]) -> (Result<Ended, RunFault>, Vec<u8>) {
     let mut text = Vec::new(heap);
-    let mut intake = Intake::new(script);
-    let mut outlet = Outlet::new(&mut text);
-    let answer = replay(heap, &mut intake, &mut outlet);
-    drop(outlet);
+    let (answer, _, _) = replayed(heap, script, &mut text);
     (answer, text)
 }
 
@@ -31,6 +51,12 @@ fn closed(given: &[u8]) -> &[u8] {
         .next()
         .map_or(0, |line| line.len());
     &given[..given.len().saturating_sub(open)]
+}
+
+/// The text of the lines of the script that are whole in its first bytes, of which so many were given.
+fn told(heap: Global, given: usize) -> Vec<u8> {
+    let (_, text) = play(heap, closed(&SCRIPT[..SCRIPT.len().min(given)]));
+    text
 }
 
 /// Gives at most `most` bytes a call, and is interrupted at call number `last`.
@@ -148,23 +174,26 @@ fn a_byte_at_a_time_changes_nothing(rt: HostRuntime) {
     same(&rt, answer, Ok(Ended::Done));
     for (given, taken) in [(1, 1), (1, 9999), (9999, 1), (7, 50), (36, 2)] {
         let mut text = Vec::new(heap);
-        let mut intake = Intake::new(Slow {
+        let reader = Slow {
             rest: SCRIPT,
             most: given,
             calls: 0,
             last: 0,
-        });
-        let mut outlet = Outlet::new(Narrow {
+        };
+        let writer = Narrow {
             taken: &mut text,
             most: taken,
             calls: 0,
             last: 0,
             fails: false,
-        });
-        let answer = replay(heap, &mut intake, &mut outlet);
-        drop(outlet);
-        assert_eq!(rt; answer, Ok(Ended::Done), "{given} and {taken}");
-        assert_eq!(rt; text.as_slice(), wanted.as_slice(), "{given} and {taken}");
+        };
+        let (answer, _, _) = replayed(heap, reader, writer);
+        same(&rt, (given, taken, answer), (given, taken, Ok(Ended::Done)));
+        same(
+            &rt,
+            (given, taken, text.as_slice()),
+            (given, taken, wanted.as_slice()),
+        );
     }
 }
 
@@ -175,22 +204,22 @@ fn lines_are_answered_before_more_is_asked_for(rt: HostRuntime) {
     for most in [12, 40, 9999] {
         let written = Cell::new(0);
         let mut seen = Vec::new(heap);
-        let mut intake = Intake::new(Watching {
+        let reader = Watching {
             rest: SCRIPT,
             most,
             written: &written,
             seen: &mut seen,
-        });
-        let mut outlet = Outlet::new(Counting { written: &written });
-        let answer = replay(heap, &mut intake, &mut outlet);
-        drop(intake);
-        drop(outlet);
-        assert_eq!(rt; answer, Ok(Ended::Done), "{most}");
-        assert_eq!(rt; seen.len(), SCRIPT.len().div_ceil(most) + 1, "{most}");
-        for (calls, count) in seen.iter().enumerate() {
-            let given = &SCRIPT[..SCRIPT.len().min(most.saturating_mul(calls))];
-            let (_, wanted) = play(heap, closed(given));
-            assert_eq!(rt; *count, wanted.len(), "{most} a call, call {calls}");
+        };
+        let (answer, _, _) = replayed(heap, reader, Counting { written: &written });
+        let calls = SCRIPT.len().div_ceil(most) + 1;
+        same(
+            &rt,
+            (most, answer, seen.len()),
+            (most, Ok(Ended::Done), calls),
+        );
+        for (call, count) in seen.iter().enumerate() {
+            let wanted = told(heap, most.saturating_mul(call)).len();
+            same(&rt, (most, call, *count), (most, call, wanted));
         }
     }
 }
@@ -202,20 +231,20 @@ fn a_failed_read_leaves_the_text_so_far(rt: HostRuntime) {
     // The last call is the one that would tell the end.
     for last in 1..=SCRIPT.len().div_ceil(12) + 1 {
         let mut text = Vec::new(heap);
-        let mut intake = Intake::new(Slow {
+        let reader = Slow {
             rest: SCRIPT,
             most: 12,
             calls: 0,
             last,
-        });
-        let mut outlet = Outlet::new(&mut text);
-        let answer = replay(heap, &mut intake, &mut outlet);
-        drop(outlet);
-        let given = &SCRIPT[..SCRIPT.len().min(12 * (last - 1))];
-        let (_, wanted) = play(heap, closed(given));
-        assert_eq!(rt; answer, Err(RunFault::Read), "call {last}");
-        assert!(rt; intake.failed(), "call {last}");
-        assert_eq!(rt; text.as_slice(), wanted.as_slice(), "call {last}");
+        };
+        let (answer, failed, _) = replayed(heap, reader, &mut text);
+        let wanted = told(heap, 12 * (last - 1));
+        same(
+            &rt,
+            (last, answer, failed),
+            (last, Err(RunFault::Read), true),
+        );
+        same(&rt, (last, text.as_slice()), (last, wanted.as_slice()));
     }
 }
 
@@ -226,20 +255,20 @@ fn a_failed_write_leaves_a_prefix_of_the_text(rt: HostRuntime) {
     for fails in [false, true] {
         for last in 1..=wanted.len() {
             let mut text = Vec::new(heap);
-            let mut intake = Intake::new(SCRIPT);
-            let mut outlet = Outlet::new(Narrow {
+            let writer = Narrow {
                 taken: &mut text,
                 most: 1,
                 calls: 0,
                 last,
                 fails,
-            });
-            let answer = replay(heap, &mut intake, &mut outlet);
-            let failed = outlet.failed();
-            drop(outlet);
-            assert_eq!(rt; answer, Err(RunFault::Write), "call {last}");
-            assert!(rt; failed, "call {last}");
-            assert_eq!(rt; text.as_slice(), &wanted[..last - 1], "call {last}");
+            };
+            let (answer, _, failed) = replayed(heap, SCRIPT, writer);
+            same(
+                &rt,
+                (last, answer, failed),
+                (last, Err(RunFault::Write), true),
+            );
+            same(&rt, (last, text.as_slice()), (last, &wanted[..last - 1]));
         }
     }
 }
@@ -249,11 +278,7 @@ fn a_line_too_long_asks_for_no_more(rt: HostRuntime) {
     let heap = rt.alloc();
     let mut calls = 0;
     let mut text = Vec::new(heap);
-    let mut intake = Intake::new(Endless { calls: &mut calls });
-    let mut outlet = Outlet::new(&mut text);
-    let answer = replay(heap, &mut intake, &mut outlet);
-    drop(intake);
-    drop(outlet);
+    let (answer, _, _) = replayed(heap, Endless { calls: &mut calls }, &mut text);
     same(&rt, answer, Ok(Ended::BadInput));
     same(&rt, text.as_slice(), b"line 1: long\n".as_slice());
     // 17 pieces of 8,192 bytes: the 131,201st byte is in the last one.
@@ -276,22 +301,17 @@ fn a_failed_read_of_a_capture_leaves_its_records(rt: HostRuntime) {
     // One byte a call; the last call is the one that would tell the end.
     for last in 1..=CAPTURE.len() + 1 {
         let mut text = Vec::new(heap);
-        let mut intake = Intake::new(Slow {
+        let reader = Slow {
             rest: CAPTURE,
             most: 1,
             calls: 0,
             last,
-        });
-        let mut outlet = Outlet::new(&mut text);
-        let answer = decode(heap, &mut intake, &mut outlet);
-        drop(outlet);
+        };
+        let answer = decoded(heap, reader, &mut text);
         let records = (last - 1).saturating_sub(24) / 30;
-        same(&rt, answer, Err(RunFault::Read));
-        assert_eq!(rt;
-            text.as_slice(),
-            &LINES[..LINES.len().min(15 * records)],
-            "failed at call {last}"
-        );
+        same(&rt, (last, answer), (last, Err(RunFault::Read)));
+        let wanted = &LINES[..LINES.len().min(15 * records)];
+        same(&rt, (last, text.as_slice()), (last, wanted));
     }
 }
 
@@ -301,22 +321,17 @@ fn a_failed_write_of_a_capture_leaves_a_prefix(rt: HostRuntime) {
     for fails in [false, true] {
         for last in 1..=LINES.len().div_ceil(7) {
             let mut text = Vec::new(heap);
-            let mut intake = Intake::new(CAPTURE);
-            let mut outlet = Outlet::new(Narrow {
+            let writer = Narrow {
                 taken: &mut text,
                 most: 7,
                 calls: 0,
                 last,
                 fails,
-            });
-            let answer = decode(heap, &mut intake, &mut outlet);
-            drop(outlet);
-            same(&rt, answer, Err(RunFault::Write));
-            assert_eq!(rt;
-                text.as_slice(),
-                &LINES[..LINES.len().min(7 * (last - 1))],
-                "failed at call {last}"
-            );
+            };
+            let answer = decoded(heap, CAPTURE, writer);
+            same(&rt, (last, answer), (last, Err(RunFault::Write)));
+            let wanted = &LINES[..LINES.len().min(7 * (last - 1))];
+            same(&rt, (last, text.as_slice()), (last, wanted));
         }
     }
 }
@@ -326,11 +341,7 @@ fn a_capture_without_end_is_refused_at_once(rt: HostRuntime) {
     let heap = rt.alloc();
     let mut calls = 0;
     let mut text = Vec::new(heap);
-    let mut intake = Intake::new(Endless { calls: &mut calls });
-    let mut outlet = Outlet::new(&mut text);
-    let answer = decode(heap, &mut intake, &mut outlet);
-    drop(outlet);
-    drop(intake);
+    let answer = decoded(heap, Endless { calls: &mut calls }, &mut text);
     same(&rt, answer, Ok(Ended::BadInput));
     same(&rt, text.as_slice(), b"record 0: Magic\n".as_slice());
     same(&rt, calls, 1);

@@ -6,11 +6,19 @@ use crate::same::same;
 use ipx_cmd::{ChooseFault, RunFault};
 use std::alloc::Global;
 use std::fmt::Display;
+use std::process::Abort;
 use std::test::Fail;
 
-/// What `{}` writes.
-fn shown<T: Display + Drop>(alloc: Global, value: T) -> Result<String, Fail> {
-    Ok(format!(in alloc; "{value}")?)
+/// Fails the test unless `{}` writes this text.
+fn says<R: Abort, T: Display + Drop>(
+    rt: &R,
+    alloc: Global,
+    value: T,
+    wanted: &str,
+) -> Result<(), Fail> {
+    let text = format!(in alloc; "{value}")?;
+    same(rt, text.as_str(), wanted);
+    Ok(())
 }
 
 fn run_message(fault: RunFault) -> &'static str {
@@ -31,12 +39,10 @@ fn choose_message(fault: ChooseFault) -> &'static str {
 #[test]
 fn says_why_a_run_fails(rt: HostRuntime) -> Result<(), Fail> {
     for fault in [RunFault::Read, RunFault::Write, RunFault::Memory] {
-        let text = shown(rt.alloc(), fault)?;
-        same(&rt, text.as_str(), run_message(fault));
+        says(&rt, rt.alloc(), fault, run_message(fault))?;
     }
     for fault in [ChooseFault::Usage, ChooseFault::Memory] {
-        let text = shown(rt.alloc(), fault)?;
-        same(&rt, text.as_str(), choose_message(fault));
+        says(&rt, rt.alloc(), fault, choose_message(fault))?;
     }
     Ok(())
 }

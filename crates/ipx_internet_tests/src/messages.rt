@@ -6,11 +6,19 @@ use crate::same::same;
 use ipx_internet::{InternetFault, TraceFault};
 use std::alloc::Global;
 use std::fmt::Display;
+use std::process::Abort;
 use std::test::Fail;
 
-/// What `{}` writes.
-fn shown<T: Display + Drop>(alloc: Global, value: T) -> Result<String, Fail> {
-    Ok(format!(in alloc; "{value}")?)
+/// Fails the test unless `{}` writes this text.
+fn says<R: Abort, T: Display + Drop>(
+    rt: &R,
+    alloc: Global,
+    value: T,
+    wanted: &str,
+) -> Result<(), Fail> {
+    let text = format!(in alloc; "{value}")?;
+    same(rt, text.as_str(), wanted);
+    Ok(())
 }
 
 fn internet_message(fault: InternetFault) -> &'static str {
@@ -36,16 +44,14 @@ fn says_why_an_internet_refuses(rt: HostRuntime) -> Result<(), Fail> {
         InternetFault::NoSuchPort,
         InternetFault::Memory,
     ] {
-        let text = shown(rt.alloc(), fault)?;
-        same(&rt, text.as_str(), internet_message(fault));
+        says(&rt, rt.alloc(), fault, internet_message(fault))?;
     }
     for fault in [
         TraceFault::NoSuchPort,
         TraceFault::Limit,
         TraceFault::Memory,
     ] {
-        let text = shown(rt.alloc(), fault)?;
-        same(&rt, text.as_str(), trace_message(fault));
+        says(&rt, rt.alloc(), fault, trace_message(fault))?;
     }
     Ok(())
 }

@@ -7,11 +7,19 @@ use ipx_router::{Outcome, PortFault, PortsFault, Why};
 use ipx_wire::{PacketFault, RipFault, SapFault};
 use std::alloc::Global;
 use std::fmt::Display;
+use std::process::Abort;
 use std::test::Fail;
 
-/// What `{}` writes.
-fn shown<T: Display + Drop>(alloc: Global, value: T) -> Result<String, Fail> {
-    Ok(format!(in alloc; "{value}")?)
+/// Fails the test unless `{}` writes this text.
+fn says<R: Abort, T: Display + Drop>(
+    rt: &R,
+    alloc: Global,
+    value: T,
+    wanted: &str,
+) -> Result<(), Fail> {
+    let text = format!(in alloc; "{value}")?;
+    same(rt, text.as_str(), wanted);
+    Ok(())
 }
 
 fn port_message(fault: PortFault) -> &'static str {
@@ -39,16 +47,14 @@ fn says_why_there_is_no_router(rt: HostRuntime) -> Result<(), Fail> {
         PortFault::Network,
         PortFault::Node,
     ] {
-        let text = shown(rt.alloc(), fault)?;
-        same(&rt, text.as_str(), port_message(fault));
+        says(&rt, rt.alloc(), fault, port_message(fault))?;
     }
     for fault in [
         PortsFault::NoPort,
         PortsFault::TooMany,
         PortsFault::SameNetwork,
     ] {
-        let text = shown(rt.alloc(), fault)?;
-        same(&rt, text.as_str(), ports_message(fault));
+        says(&rt, rt.alloc(), fault, ports_message(fault))?;
     }
     Ok(())
 }
@@ -90,8 +96,7 @@ fn names_each_outcome(rt: HostRuntime) -> Result<(), Fail> {
         Outcome::Local,
         Outcome::Dropped(Why::NoRoute),
     ] {
-        let text = shown(rt.alloc(), outcome)?;
-        same(&rt, text.as_str(), outcome_words(outcome));
+        says(&rt, rt.alloc(), outcome, outcome_words(outcome))?;
     }
     Ok(())
 }
@@ -175,8 +180,7 @@ fn names_each_reason_of_a_drop(rt: HostRuntime) -> Result<(), Fail> {
         Why::TooLong,
         Why::DownPort,
     ] {
-        let text = shown(rt.alloc(), why)?;
-        same(&rt, text.as_str(), reason(why));
+        says(&rt, rt.alloc(), why, reason(why))?;
     }
     Ok(())
 }

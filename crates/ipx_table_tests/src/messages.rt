@@ -6,11 +6,19 @@ use crate::same::same;
 use ipx_table::Taken;
 use std::alloc::Global;
 use std::fmt::Display;
+use std::process::Abort;
 use std::test::Fail;
 
-/// What `{}` writes.
-fn shown<T: Display + Drop>(alloc: Global, value: T) -> Result<String, Fail> {
-    Ok(format!(in alloc; "{value}")?)
+/// Fails the test unless `{}` writes this text.
+fn says<R: Abort, T: Display + Drop>(
+    rt: &R,
+    alloc: Global,
+    value: T,
+    wanted: &str,
+) -> Result<(), Fail> {
+    let text = format!(in alloc; "{value}")?;
+    same(rt, text.as_str(), wanted);
+    Ok(())
 }
 
 fn taken_word(taken: Taken) -> &'static str {
@@ -38,8 +46,7 @@ fn names_all_that_a_table_does(rt: HostRuntime) -> Result<(), Fail> {
         Taken::Admitted,
         Taken::Full,
     ] {
-        let text = shown(rt.alloc(), taken)?;
-        same(&rt, text.as_str(), taken_word(taken));
+        says(&rt, rt.alloc(), taken, taken_word(taken))?;
     }
     Ok(())
 }

@@ -1,6 +1,7 @@
 //! Packets and devices at their edges: the least and the greatest number of each type as text, entries by place and in order,
 //! a writer that recovers.
 
+use crate::messages::says;
 use crate::same::same;
 use ipx_wire::{
     Address, Crossed, Failed, Header, Network, Node, NotHex, Outlet, Rip, Sap, ServiceName, Socket,
@@ -9,6 +10,7 @@ use std::alloc::Global;
 use std::fmt::{Debug, Display};
 use std::io;
 use std::io::{ErrorKind, Write};
+use std::process::Abort;
 use std::test::Fail;
 
 const ZEROS: Address = Address {
@@ -23,43 +25,54 @@ const ONES: Address = Address {
     socket: Socket(0xFFFF),
 };
 
-/// What `{}` writes, and what `{:?}` writes.
-fn texts<T: Display + Debug + Drop>(alloc: Global, value: T) -> Result<(String, String), Fail> {
-    Ok((
-        format!(in alloc; "{value}")?,
-        format!(in alloc; "{value:?}")?,
-    ))
+/// Fails the test unless `{}` writes this text, and `{:?}` that one.
+fn shows<R: Abort, T: Display + Debug + Drop>(
+    rt: &R,
+    alloc: Global,
+    value: T,
+    wanted: (&str, &str),
+) -> Result<(), Fail> {
+    let shown = format!(in alloc; "{value}")?;
+    let debug = format!(in alloc; "{value:?}")?;
+    same(rt, (shown.as_str(), debug.as_str()), wanted);
+    Ok(())
 }
 
 #[test]
 fn shows_zeros(rt: HostRuntime) -> Result<(), Fail> {
-    let (shown, debug) = texts(rt.alloc(), ZEROS.network)?;
-    same(&rt, shown.as_str(), "00000000");
-    same(&rt, debug.as_str(), "Network(00000000)");
-    let (shown, debug) = texts(rt.alloc(), ZEROS.node)?;
-    same(&rt, shown.as_str(), "000000000000");
-    same(&rt, debug.as_str(), "Node(000000000000)");
-    let (shown, debug) = texts(rt.alloc(), ZEROS.socket)?;
-    same(&rt, shown.as_str(), "0000");
-    same(&rt, debug.as_str(), "Socket(0000)");
-    let shown = format!(in rt.alloc(); "{ZEROS}")?;
-    same(&rt, shown.as_str(), "00000000.000000000000.0000");
+    shows(
+        &rt,
+        rt.alloc(),
+        ZEROS.network,
+        ("00000000", "Network(00000000)"),
+    )?;
+    shows(
+        &rt,
+        rt.alloc(),
+        ZEROS.node,
+        ("000000000000", "Node(000000000000)"),
+    )?;
+    shows(&rt, rt.alloc(), ZEROS.socket, ("0000", "Socket(0000)"))?;
+    says(&rt, rt.alloc(), ZEROS, "00000000.000000000000.0000")?;
     Ok(())
 }
 
 #[test]
 fn shows_all_ones(rt: HostRuntime) -> Result<(), Fail> {
-    let (shown, debug) = texts(rt.alloc(), ONES.network)?;
-    same(&rt, shown.as_str(), "FFFFFFFF");
-    same(&rt, debug.as_str(), "Network(FFFFFFFF)");
-    let (shown, debug) = texts(rt.alloc(), ONES.node)?;
-    same(&rt, shown.as_str(), "FFFFFFFFFFFF");
-    same(&rt, debug.as_str(), "Node(FFFFFFFFFFFF)");
-    let (shown, debug) = texts(rt.alloc(), ONES.socket)?;
-    same(&rt, shown.as_str(), "FFFF");
-    same(&rt, debug.as_str(), "Socket(FFFF)");
-    let shown = format!(in rt.alloc(); "{ONES}")?;
-    same(&rt, shown.as_str(), "FFFFFFFF.FFFFFFFFFFFF.FFFF");
+    shows(
+        &rt,
+        rt.alloc(),
+        ONES.network,
+        ("FFFFFFFF", "Network(FFFFFFFF)"),
+    )?;
+    shows(
+        &rt,
+        rt.alloc(),
+        ONES.node,
+        ("FFFFFFFFFFFF", "Node(FFFFFFFFFFFF)"),
+    )?;
+    shows(&rt, rt.alloc(), ONES.socket, ("FFFF", "Socket(FFFF)"))?;
+    says(&rt, rt.alloc(), ONES, "FFFFFFFF.FFFFFFFFFFFF.FFFF")?;
     Ok(())
 }
 
@@ -86,9 +99,12 @@ fn named(bytes: &[u8]) -> Option<ServiceName> {
 #[test]
 fn shows_a_name_as_one_word(rt: HostRuntime) -> Result<(), Fail> {
     let name = named(b"A~! \\\x01\xFF").expect(&rt, "a name");
-    let (shown, debug) = texts(rt.alloc(), name)?;
-    same(&rt, shown.as_str(), "A~!\\20\\5C\\01\\FF");
-    same(&rt, debug.as_str(), "ServiceName(A~!\\20\\5C\\01\\FF)");
+    shows(
+        &rt,
+        rt.alloc(),
+        name,
+        ("A~!\\20\\5C\\01\\FF", "ServiceName(A~!\\20\\5C\\01\\FF)"),
+    )?;
     let long = named(&[b'x'; 47]).expect(&rt, "a name");
     let shown = format!(in rt.alloc(); "{long}")?;
     same(&rt, shown.len(), 47);

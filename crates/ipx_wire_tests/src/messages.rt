@@ -9,11 +9,19 @@ use ipx_wire::{
 };
 use std::alloc::Global;
 use std::fmt::Display;
+use std::process::Abort;
 use std::test::Fail;
 
-/// What `{}` writes.
-fn shown<T: Display + Drop>(alloc: Global, value: T) -> Result<String, Fail> {
-    Ok(format!(in alloc; "{value}")?)
+/// Fails the test unless `{}` writes this text.
+pub fn says<R: Abort, T: Display + Drop>(
+    rt: &R,
+    alloc: Global,
+    value: T,
+    wanted: &str,
+) -> Result<(), Fail> {
+    let text = format!(in alloc; "{value}")?;
+    same(rt, text.as_str(), wanted);
+    Ok(())
 }
 
 fn packet_message(fault: PacketFault) -> &'static str {
@@ -56,8 +64,7 @@ fn says_why_bytes_are_no_packet(rt: HostRuntime) -> Result<(), Fail> {
         PacketFault::LengthSmall,
         PacketFault::LengthBeyond,
     ] {
-        let text = shown(rt.alloc(), fault)?;
-        same(&rt, text.as_str(), packet_message(fault));
+        says(&rt, rt.alloc(), fault, packet_message(fault))?;
     }
     for fault in [
         RipFault::Short,
@@ -65,8 +72,7 @@ fn says_why_bytes_are_no_packet(rt: HostRuntime) -> Result<(), Fail> {
         RipFault::NoEntry,
         RipFault::TooMany,
     ] {
-        let text = shown(rt.alloc(), fault)?;
-        same(&rt, text.as_str(), rip_message(fault));
+        says(&rt, rt.alloc(), fault, rip_message(fault))?;
     }
     for fault in [
         SapFault::Short,
@@ -74,12 +80,10 @@ fn says_why_bytes_are_no_packet(rt: HostRuntime) -> Result<(), Fail> {
         SapFault::NoEntry,
         SapFault::TooMany,
     ] {
-        let text = shown(rt.alloc(), fault)?;
-        same(&rt, text.as_str(), sap_message(fault));
+        says(&rt, rt.alloc(), fault, sap_message(fault))?;
     }
     for fault in [CrossedFault::Short, CrossedFault::Full] {
-        let text = shown(rt.alloc(), fault)?;
-        same(&rt, text.as_str(), crossed_message(fault));
+        says(&rt, rt.alloc(), fault, crossed_message(fault))?;
     }
     Ok(())
 }
@@ -111,21 +115,17 @@ fn tells_the_numbers_behind_a_fault(rt: HostRuntime) -> Result<(), Fail> {
         },
         Measure::Crossed { said: 8, most: 7 },
     ] {
-        let text = shown(rt.alloc(), measure)?;
-        same(&rt, text.as_str(), measure_message(measure));
+        says(&rt, rt.alloc(), measure, measure_message(measure))?;
     }
     Ok(())
 }
 
 #[test]
 fn says_what_has_one_reason(rt: HostRuntime) -> Result<(), Fail> {
-    let text = shown(rt.alloc(), Failed)?;
-    same(&rt, text.as_str(), "the device failed");
-    let text = shown(rt.alloc(), OutOfMemory)?;
-    same(&rt, text.as_str(), "memory");
-    let text = shown(rt.alloc(), NotHex)?;
+    says(&rt, rt.alloc(), Failed, "the device failed")?;
+    says(&rt, rt.alloc(), OutOfMemory, "memory")?;
     let wanted = "not the hexadecimal digits of a network or a node";
-    same(&rt, text.as_str(), wanted);
+    says(&rt, rt.alloc(), NotHex, wanted)?;
     Ok(())
 }
 
@@ -139,8 +139,7 @@ fn operation_word(operation: Operation) -> &'static str {
 #[test]
 fn names_each_operation(rt: HostRuntime) -> Result<(), Fail> {
     for operation in [Operation::Request, Operation::Response] {
-        let text = shown(rt.alloc(), operation)?;
-        same(&rt, text.as_str(), operation_word(operation));
+        says(&rt, rt.alloc(), operation, operation_word(operation))?;
     }
     Ok(())
 }
@@ -170,8 +169,7 @@ fn says_why_a_capture_is_refused(rt: HostRuntime) -> Result<(), Fail> {
         CaptureFault::Read,
         CaptureFault::Memory,
     ] {
-        let text = shown(rt.alloc(), fault)?;
-        same(&rt, text.as_str(), capture_message(fault));
+        says(&rt, rt.alloc(), fault, capture_message(fault))?;
     }
     Ok(())
 }
