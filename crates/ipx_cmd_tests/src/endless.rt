@@ -3,6 +3,7 @@
 use crate::same::same;
 use ipx_cmd::{Ended, RunFault, decode, replay};
 use ipx_wire::{Intake, Outlet};
+use std::alloc::Global;
 use std::io;
 use std::io::Read;
 
@@ -37,43 +38,50 @@ impl Read for Endless {
     }
 }
 
-#[test]
-fn lines_without_end_are_read_up_to_the_limit_of_calls(rt: HostRuntime) {
-    let heap = rt.alloc();
+/// How a run of `replay` on a reader ends, what it wrote, and how often the reader was asked.
+fn replayed(heap: Global, reader: Endless) -> (Result<Ended, RunFault>, Vec<u8>, u32) {
     let mut text = Vec::new(heap);
-    let mut intake = Intake::new(Endless::new(b'\n', b'\n', 1));
+    let mut intake = Intake::new(reader);
     let mut outlet = Outlet::new(&mut text);
     let answer = replay(heap, &mut intake, &mut outlet);
     drop(outlet);
+    (answer, text, intake.calls())
+}
+
+/// How a run of `decode` on a reader ends, and what it wrote.
+fn decoded<R: Read + Drop>(heap: Global, reader: R) -> (Result<Ended, RunFault>, Vec<u8>) {
+    let mut text = Vec::new(heap);
+    let mut intake = Intake::new(reader);
+    let mut outlet = Outlet::new(&mut text);
+    let answer = decode(heap, &mut intake, &mut outlet);
+    drop(outlet);
+    (answer, text)
+}
+
+#[test]
+fn lines_without_end_are_read_up_to_the_limit_of_calls(rt: HostRuntime) {
+    let reader = Endless::new(b'\n', b'\n', 1);
+    let (answer, text, calls) = replayed(rt.alloc(), reader);
     same(&rt, answer, Err(RunFault::Read));
-    same(&rt, intake.calls(), 16_777_216);
+    same(&rt, calls, 16_777_216);
     same(&rt, text.len(), 0);
 }
 
 #[test]
 fn wrong_lines_without_end_are_refused_at_the_first(rt: HostRuntime) {
-    let heap = rt.alloc();
     for most in [1, 2, 9999] {
-        let mut text = Vec::new(heap);
-        let mut intake = Intake::new(Endless::new(b'x', b'\n', most));
-        let mut outlet = Outlet::new(&mut text);
-        let answer = replay(heap, &mut intake, &mut outlet);
-        drop(outlet);
-        same(&rt, answer, Ok(Ended::BadInput));
+        let reader = Endless::new(b'x', b'\n', most);
+        let (answer, text, _) = replayed(rt.alloc(), reader);
+        same(&rt, (most, answer), (most, Ok(Ended::BadInput)));
         same(&rt, text.as_slice(), b"line 1: command\n".as_slice());
     }
 }
 
 #[test]
 fn zeros_without_end_are_no_capture(rt: HostRuntime) {
-    let heap = rt.alloc();
     for most in [1, 9999] {
-        let mut text = Vec::new(heap);
-        let mut intake = Intake::new(Endless::new(0, 0, most));
-        let mut outlet = Outlet::new(&mut text);
-        let answer = decode(heap, &mut intake, &mut outlet);
-        drop(outlet);
-        same(&rt, answer, Ok(Ended::BadInput));
+        let (answer, text) = decoded(rt.alloc(), Endless::new(0, 0, most));
+        same(&rt, (most, answer), (most, Ok(Ended::BadInput)));
         same(&rt, text.as_slice(), b"record 0: Magic\n".as_slice());
     }
 }
@@ -105,15 +113,10 @@ fn wanted(size: usize) -> (Ended, &'static [u8]) {
 
 #[test]
 fn a_capture_may_end_at_any_byte(rt: HostRuntime) {
-    let heap = rt.alloc();
     for size in 0..=CAPTURE.len() {
-        let mut text = Vec::new(heap);
-        let mut intake = Intake::new(&CAPTURE[..size]);
-        let mut outlet = Outlet::new(&mut text);
-        let answer = decode(heap, &mut intake, &mut outlet);
-        drop(outlet);
+        let (answer, text) = decoded(rt.alloc(), &CAPTURE[..size]);
         let (ended, lines) = wanted(size);
-        same(&rt, answer, Ok(ended));
+        same(&rt, (size, answer), (size, Ok(ended)));
         same(&rt, text.as_slice(), lines);
     }
 }
