@@ -41,20 +41,32 @@ fn first_route(internet: &Small, number: usize) -> Option<(u32, u16, u8)> {
     Some((held.offer.network.0, held.offer.hops, held.age))
 }
 
+/// How many routers there are, how much waits, and what it weighs.
+fn counts(internet: &Small) -> (usize, usize, usize) {
+    (
+        internet.len(),
+        internet.waiting(),
+        internet.most_deliveries(),
+    )
+}
+
+/// What is told where so many deliveries are handed out.
+fn handed_out(internet: &mut Small, limit: usize) -> Result<Settled, Fail> {
+    Ok(internet.settle(limit)?)
+}
+
 #[test]
 fn two_routers_learn_each_other_delivery_by_delivery(rt: HostRuntime) -> Result<(), Fail> {
     let mut internet = line(rt.alloc())?;
-    same(&rt, internet.len(), 2);
-    same(&rt, internet.waiting(), 6);
-    same(&rt, internet.most_deliveries(), 3614);
-    same(&rt, internet.settle(0)?, Settled::Left(6));
-    same(&rt, internet.settle(1)?, Settled::Left(5));
+    same(&rt, counts(&internet), (2, 6, 3614));
+    same(&rt, handed_out(&mut internet, 0)?, Settled::Left(6));
+    same(&rt, handed_out(&mut internet, 1)?, Settled::Left(5));
     same(&rt, first_route(&internet, 0), None);
     same(&rt, first_route(&internet, 1), Some((0x10, 1, 0)));
-    same(&rt, internet.settle(6)?, Settled::Left(1));
-    same(&rt, internet.settle(100)?, Settled::Quiet);
-    same(&rt, internet.most_deliveries(), 2);
-    same(&rt, internet.settle(1)?, Settled::Quiet);
+    same(&rt, handed_out(&mut internet, 6)?, Settled::Left(1));
+    same(&rt, handed_out(&mut internet, 100)?, Settled::Quiet);
+    same(&rt, counts(&internet), (2, 0, 2));
+    same(&rt, handed_out(&mut internet, 1)?, Settled::Quiet);
     same(&rt, first_route(&internet, 0), Some((0x30, 1, 0)));
     Ok(())
 }
@@ -62,12 +74,12 @@ fn two_routers_learn_each_other_delivery_by_delivery(rt: HostRuntime) -> Result<
 #[test]
 fn what_an_internet_weighs_is_a_limit_that_leaves_nothing(rt: HostRuntime) -> Result<(), Fail> {
     let mut internet = line(rt.alloc())?;
-    let most = internet.most_deliveries();
-    same(&rt, internet.settle(most)?, Settled::Quiet);
+    let (_, _, most) = counts(&internet);
+    same(&rt, handed_out(&mut internet, most)?, Settled::Quiet);
     happened(&mut internet, 0, Event::PortDown { port: 0 })?;
-    let most = internet.most_deliveries();
+    let (_, _, most) = counts(&internet);
     same(&rt, most, 3);
-    same(&rt, internet.settle(most)?, Settled::Quiet);
+    same(&rt, handed_out(&mut internet, most)?, Settled::Quiet);
     Ok(())
 }
 
@@ -80,21 +92,19 @@ fn an_internet_that_weighs_more_than_a_word_tells_the_greatest(
         let own = u32::from(number) + 0x100;
         added(&mut internet, between((0x10, number), (own, 1))?)?;
     }
-    same(&rt, internet.most_deliveries(), 0);
+    same(&rt, counts(&internet), (24, 0, 0));
     happened(&mut internet, 0, Event::Start)?;
-    same(&rt, internet.waiting(), 69);
-    same(&rt, internet.most_deliveries(), usize::MAX);
+    same(&rt, counts(&internet), (24, 69, usize::MAX));
     settled(&mut internet)?;
-    same(&rt, internet.most_deliveries(), 0);
+    same(&rt, counts(&internet), (24, 0, 0));
     Ok(())
 }
 
 #[test]
 fn an_internet_without_routers_weighs_nothing(rt: HostRuntime) -> Result<(), Fail> {
     let mut internet = Small::new(rt.alloc());
-    let most = internet.most_deliveries();
-    same(&rt, most, 0);
-    same(&rt, internet.settle(most)?, Settled::Quiet);
+    same(&rt, counts(&internet), (0, 0, 0));
+    same(&rt, handed_out(&mut internet, 0)?, Settled::Quiet);
     Ok(())
 }
 

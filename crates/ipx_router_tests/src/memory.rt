@@ -215,6 +215,17 @@ fn query() -> [u8; 34] {
     bytes
 }
 
+/// What becomes of bytes that come in on a port, and the first three packets that are sent then.
+fn answered(
+    router: &mut Router<2, 50, 8>,
+    outbox: &mut Outbox,
+    port: u8,
+    bytes: &[u8],
+) -> (Option<Outcome>, [Option<(u8, usize)>; 3]) {
+    let became = handled_packet(router, outbox, port, bytes);
+    (became, [sent(outbox, 0), sent(outbox, 1), sent(outbox, 2)])
+}
+
 /// The room for a start is enough for eight services in two pages, when they are learned, asked for and withdrawn.
 #[test]
 fn services_are_paged_in_room_that_was_reserved(rt: HostRuntime) -> Result<(), Fail> {
@@ -224,16 +235,12 @@ fn services_are_paged_in_room_that_was_reserved(rt: HostRuntime) -> Result<(), F
     let seven = advertised(seven).ok_or("no response")?;
     let one = advertised(one).ok_or("no response")?;
     let (whole, rest) = (Some((0, 480)), Some((0, 96)));
-    for (port, bytes, outcome, packets) in [
-        (1, &seven as &[u8], Outcome::Learned, [whole, None, None]),
-        (1, &one, Outcome::Learned, [rest, None, None]),
-        (0, &query(), Outcome::Answered, [whole, rest, None]),
-    ] {
-        let became = handled_packet(&mut router, &mut outbox, port, bytes);
-        same(&rt, became, Some(outcome));
-        let sent = [sent(&outbox, 0), sent(&outbox, 1), sent(&outbox, 2)];
-        same(&rt, sent, packets);
-    }
+    let became = answered(&mut router, &mut outbox, 1, &seven);
+    same(&rt, became, (Some(Outcome::Learned), [whole, None, None]));
+    let became = answered(&mut router, &mut outbox, 1, &one);
+    same(&rt, became, (Some(Outcome::Learned), [rest, None, None]));
+    let became = answered(&mut router, &mut outbox, 0, &query());
+    same(&rt, became, (Some(Outcome::Answered), [whole, rest, None]));
     let stopped = handled(&mut router, &mut outbox, Event::Stop);
     same(&rt, stopped, Some(Outcome::Stopped));
     let of_stop = [Some((0, 40)), whole, rest, Some((1, 40)), None, None];

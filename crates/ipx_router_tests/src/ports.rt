@@ -35,12 +35,12 @@ fn the_first_fault_of_a_port_is_told(rt: HostRuntime) {
     for (network, node, cost, longest, fault) in cases() {
         match Port::new(network, node, cost, longest) {
             Ok(port) => {
-                assert_eq!(rt; fault, None, "{network}");
+                same(&rt, (network, fault), (network, None));
                 same(&rt, port.network(), network);
                 same(&rt, port.node(), node);
                 same(&rt, (port.cost(), port.longest()), (cost, longest));
             }
-            Err(told) => assert_eq!(rt; Some(told), fault, "{network}"),
+            Err(told) => same(&rt, (network, Some(told)), (network, fault)),
         }
     }
 }

@@ -13,28 +13,33 @@ fn port(network: u32) -> Result<Port, PortFault> {
     Port::new(Network(network), NODE, 1, 576)
 }
 
+/// Why these ports make no router.
+fn fault_of(ports: &[Port]) -> Option<PortsFault> {
+    Router::<2, 50, 8>::new(ports).err()
+}
+
 #[test]
 fn the_first_fault_of_ports_is_reported(rt: HostRuntime) -> Result<(), Fail> {
     let one = port(0x10)?;
     let two = port(0x20)?;
-    let table: [(&[Port], Option<PortsFault>); 6] = [
-        (&[], Some(PortsFault::NoPort)),
-        (&[one, one, one], Some(PortsFault::TooMany)),
-        (&[one, two, two], Some(PortsFault::TooMany)),
-        (&[one, one], Some(PortsFault::SameNetwork)),
-        (&[one, two], None),
-        (&[two], None),
-    ];
-    for (ports, fault) in table {
-        match Router::<2, 50, 8>::new(ports) {
-            Ok(router) => {
-                same(&rt, fault, None);
-                assert!(rt; router.has_port(0) && !router.has_port(2) && !router.has_port(255));
-                same(&rt, router.has_port(1), ports.len() == 2);
-                same(&rt, router.routes(), 0);
-            }
-            Err(found) => same(&rt, Some(found), fault),
-        }
+    same(&rt, fault_of(&[]), Some(PortsFault::NoPort));
+    same(&rt, fault_of(&[one, one, one]), Some(PortsFault::TooMany));
+    same(&rt, fault_of(&[one, two, two]), Some(PortsFault::TooMany));
+    same(&rt, fault_of(&[one, one]), Some(PortsFault::SameNetwork));
+    same(&rt, fault_of(&[one, two]), None);
+    same(&rt, fault_of(&[two]), None);
+    Ok(())
+}
+
+#[test]
+fn a_router_has_the_ports_that_it_is_made_of(rt: HostRuntime) -> Result<(), Fail> {
+    let one = port(0x10)?;
+    let two = port(0x20)?;
+    for ports in [&[one, two] as &[Port], &[two]] {
+        let router = Router::<2, 50, 8>::new(ports)?;
+        assert!(rt; router.has_port(0) && !router.has_port(2) && !router.has_port(255));
+        same(&rt, router.has_port(1), ports.len() == 2);
+        same(&rt, router.routes(), 0);
     }
     Ok(())
 }
