@@ -82,7 +82,7 @@ fn reserved(router: &Router<2, 50, 8>, outbox: &mut Outbox, need: Need) -> Resul
     }
 }
 
-/// More than any memory has is refused, and what is there is reserved; that, too, whichever request is refused.
+/// A request for more than any memory has is refused, and one for less is granted. It passes whichever request is refused.
 #[test]
 fn room_without_memory_can_be_reserved_again(rt: HostRuntime) -> Result<(), Fail> {
     let mut router = Router::<2, 50, 8>::new(&ports()?)?;
