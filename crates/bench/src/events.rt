@@ -128,7 +128,7 @@ impl Site {
             traffic: Traffic::new(),
             records: full_list(),
         };
-        hand(&mut site.router, &mut site.outbox, Event::Start);
+        site.router.hand(&mut site.outbox, Event::Start);
         site.refresh();
         Ok(site)
     }
@@ -176,7 +176,7 @@ impl Site {
     fn seconds(&mut self, count: u32) -> u64 {
         let mut seen = 0u64;
         for _ in 0..count {
-            seen = seen.wrapping_add(hand(&mut self.router, &mut self.outbox, Event::Second));
+            seen = seen.wrapping_add(self.router.hand(&mut self.outbox, Event::Second));
         }
         seen
     }
@@ -255,28 +255,33 @@ fn packet(traffic: &Traffic, kind: Kind, turn: u32) -> (u8, &[u8]) {
 }
 
 /// Hands a packet to the router.
-pub fn hear<const R: usize>(
-    router: &mut Router<8, R, 64>,
-    outbox: &mut Outbox,
-    port: u8,
-    bytes: &[u8],
-) -> u64 {
-    hand(router, outbox, Event::Packet { port, bytes })
+pub fn hear<S: Stepped>(router: &mut S, outbox: &mut Outbox, port: u8, bytes: &[u8]) -> u64 {
+    router.hand(outbox, Event::Packet { port, bytes })
 }
 
-/// Hands an event to the router, with an empty outbox. The answer depends on what is sent.
-pub fn hand<const R: usize>(
-    router: &mut Router<8, R, 64>,
-    outbox: &mut Outbox,
-    event: Event<'_>,
-) -> u64 {
-    if !is_on_port(router, event) {
-        return 0;
+/// A router that is measured, whatever its table of routes can hold.
+pub trait Stepped {
+    /// Hands an event to the router, with an empty outbox. The answer depends on what is sent.
+    fn hand(&mut self, outbox: &mut Outbox, event: Event<'_>) -> u64;
+
+    /// Whether the table of routes has as many as it can hold.
+    fn is_full(&self) -> bool;
+}
+
+impl<const R: usize> Stepped for Router<8, R, 64> {
+    fn hand(&mut self, outbox: &mut Outbox, event: Event<'_>) -> u64 {
+        if !is_on_port(self, event) {
+            return 0;
+        }
+        outbox.clear();
+        match self.step(event, outbox) {
+            Ok(_) => any_of(outbox),
+            Err(_) => 0,
+        }
     }
-    outbox.clear();
-    match router.step(event, outbox) {
-        Ok(_) => any_of(outbox),
-        Err(_) => 0,
+
+    fn is_full(&self) -> bool {
+        R <= self.routes()
     }
 }
 

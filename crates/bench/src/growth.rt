@@ -4,9 +4,9 @@
 //! jumps, so a large table isn't in the caches where the next one falls.
 ghost use Rattle.std.specs.Prelude.{◌≤◌};
 
-use crate::events::{hand, hear, new_router};
+use crate::events::{Stepped, hear, new_router};
 use crate::traffic::{UNICAST, addresses};
-use ipx_router::{Event, Outbox, Router};
+use ipx_router::{Event, Outbox};
 use ipx_wire::{Network, Operation, RipEntry, Socket, write_rip};
 use std::alloc::{AllocError, Global};
 use std::io::{self, ErrorKind};
@@ -108,45 +108,43 @@ fn measure<const R: usize>(rt: &HostRuntime, kind: Grown) -> io::Result<Timed>
     requires some { 1 ≤ R }
     requires few { R ≤ 65535 }
 {
-    let Ok(mut router) = new_router::<R>() else {
-        return Err(ErrorKind::Other.into());
-    };
-    let Ok(heard) = Heard::new(rt.alloc(), R as u32) else {
+    match new_router::<R>() {
+        Ok(mut router) => measure_router(rt, kind, R as u32, &mut router),
+        Err(_) => Err(ErrorKind::Other.into()),
+    }
+}
+
+/// Measures a router whose table can hold that many routes.
+fn measure_router<S: Stepped>(
+    rt: &HostRuntime,
+    kind: Grown,
+    routes: u32,
+    router: &mut S,
+) -> io::Result<Timed> {
+    let Ok(heard) = Heard::new(rt.alloc(), routes) else {
         return Err(ErrorKind::OutOfMemory.into());
     };
     let mut outbox = Outbox::new(rt.alloc());
-    hand(&mut router, &mut outbox, Event::Start);
-    let mut timed = Timed {
-        count: kind.turns(),
-        nanoseconds: u128::MAX,
-        seen: 0,
-    };
-    for block in 0..BLOCKS {
-        heard.prepare(kind, &mut router, &mut outbox);
-        let start = Instant::now(rt)?;
-        let seen = heard.block(kind, &mut router, &mut outbox, block.wrapping_mul(TURNS));
-        timed.nanoseconds = timed.nanoseconds.min(start.elapsed(rt)?.as_nanos());
-        timed.seen = timed.seen.wrapping_add(seen);
-        finish(kind, &mut router, &mut outbox);
-    }
+    router.hand(&mut outbox, Event::Start);
+    let timed = heard.fastest(rt, kind, router, &mut outbox);
     // (a table that isn't full would cost less)
-    if router.routes() < R {
+    if timed.is_ok() && !router.is_full() {
         return Err(ErrorKind::Other.into());
     }
-    Ok(timed)
+    timed
 }
 
 /// Goes to the end of a period that was begun.
-fn finish<const R: usize>(kind: Grown, router: &mut Router<8, R, 64>, outbox: &mut Outbox) {
+fn finish<S: Stepped>(kind: Grown, router: &mut S, outbox: &mut Outbox) {
     if kind == Grown::Second {
         seconds(router, outbox, 1);
     }
 }
 
-fn seconds<const R: usize>(router: &mut Router<8, R, 64>, outbox: &mut Outbox, count: u32) -> u64 {
+fn seconds<S: Stepped>(router: &mut S, outbox: &mut Outbox, count: u32) -> u64 {
     let mut seen = 0u64;
     for _ in 0..count {
-        seen = seen.wrapping_add(hand(router, outbox, Event::Second));
+        seen = seen.wrapping_add(router.hand(outbox, Event::Second));
     }
     seen
 }
@@ -174,15 +172,34 @@ impl Heard {
         })
     }
 
+    /// Hands out one block after the other, and keeps the time of the fastest.
+    fn fastest<S: Stepped>(
+        &self,
+        rt: &HostRuntime,
+        kind: Grown,
+        router: &mut S,
+        outbox: &mut Outbox,
+    ) -> io::Result<Timed> {
+        let mut timed = Timed {
+            count: kind.turns(),
+            nanoseconds: u128::MAX,
+            seen: 0,
+        };
+        for block in 0..BLOCKS {
+            self.prepare(kind, router, outbox);
+            let start = Instant::now(rt)?;
+            let seen = self.block(kind, router, outbox, block.wrapping_mul(TURNS));
+            timed.nanoseconds = timed.nanoseconds.min(start.elapsed(rt)?.as_nanos());
+            timed.seen = timed.seen.wrapping_add(seen);
+            finish(kind, router, outbox);
+        }
+        Ok(timed)
+    }
+
     /// Before seconds that are timed: refreshes the table and, where all is to be advertised, goes to the second before. Before packets:
     /// refreshes it in the first block.
-    fn prepare<const R: usize>(
-        &self,
-        kind: Grown,
-        router: &mut Router<8, R, 64>,
-        outbox: &mut Outbox,
-    ) {
-        if router.routes() < R || kind == Grown::Second || kind == Grown::Periodic {
+    fn prepare<S: Stepped>(&self, kind: Grown, router: &mut S, outbox: &mut Outbox) {
+        if !router.is_full() || kind == Grown::Second || kind == Grown::Periodic {
             self.refresh(router, outbox);
         }
         if kind == Grown::Periodic {
@@ -191,7 +208,7 @@ impl Heard {
     }
 
     /// Fills the table, or refreshes what it holds.
-    fn refresh<const R: usize>(&self, router: &mut Router<8, R, 64>, outbox: &mut Outbox) {
+    fn refresh<S: Stepped>(&self, router: &mut S, outbox: &mut Outbox) {
         for place in 0..self.routes.div_ceil(ENTRIES) {
             if let Some(bytes) = self.responses.get(place as usize) {
                 hear(router, outbox, port_of(place), bytes);
@@ -200,10 +217,10 @@ impl Heard {
     }
 
     /// Hands a block of events to the router, from that turn on.
-    fn block<const R: usize>(
+    fn block<S: Stepped>(
         &self,
         kind: Grown,
-        router: &mut Router<8, R, 64>,
+        router: &mut S,
         outbox: &mut Outbox,
         first: u32,
     ) -> u64 {
@@ -213,10 +230,10 @@ impl Heard {
         }
     }
 
-    fn packets<const R: usize>(
+    fn packets<S: Stepped>(
         &self,
         kind: Grown,
-        router: &mut Router<8, R, 64>,
+        router: &mut S,
         outbox: &mut Outbox,
         first: u32,
     ) -> u64 {
@@ -229,10 +246,10 @@ impl Heard {
     }
 
     /// The packet of a turn.
-    fn packet<const R: usize>(
+    fn packet<S: Stepped>(
         &self,
         kind: Grown,
-        router: &mut Router<8, R, 64>,
+        router: &mut S,
         outbox: &mut Outbox,
         turn: u32,
     ) -> u64 {
@@ -260,10 +277,10 @@ impl Heard {
     }
 
     /// A response of those that have nothing in common with others: the last one may repeat what the one before it has.
-    fn response<const R: usize>(
+    fn response<S: Stepped>(
         &self,
         all: &[[u8; 432]],
-        router: &mut Router<8, R, 64>,
+        router: &mut S,
         outbox: &mut Outbox,
         turn: u32,
     ) -> u64 {

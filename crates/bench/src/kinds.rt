@@ -6,6 +6,8 @@ use crate::work::{
     control_of, crossed_of, forwarded_of, propagated_of, routes_of, services_of, write_queries,
     write_routes, write_services,
 };
+use std::io;
+use std::time::Instant;
 
 /// What is done with a packet.
 #[derive(Clone, Copy)]
@@ -59,8 +61,37 @@ impl Kind {
     }
 }
 
+/// How long the copies and the work took.
+#[derive(Clone, Copy)]
+pub struct Timed {
+    pub copy: u128,
+    pub work: u128,
+    /// It depends on each copy and each turn of the work.
+    pub seen: u64,
+}
+
+/// Copies packets, and then does the work as often.
+pub fn measure_kind(
+    rt: &HostRuntime,
+    kind: Kind,
+    packets: &Packets,
+    turns: u32,
+) -> io::Result<Timed> {
+    let start = Instant::now(rt)?;
+    let seen = copied(kind, packets, turns);
+    let copy = start.elapsed(rt)?.as_nanos();
+    let start = Instant::now(rt)?;
+    let done = done(kind, packets, turns);
+    let work = start.elapsed(rt)?.as_nanos();
+    Ok(Timed {
+        copy,
+        work,
+        seen: seen ^ done,
+    })
+}
+
 /// Copies the bytes of the kind's packet that many times. The answer depends on each copy.
-pub fn copied(kind: Kind, packets: &Packets, turns: u32) -> u64 {
+fn copied(kind: Kind, packets: &Packets, turns: u32) -> u64 {
     match kind {
         Kind::ReadHeader | Kind::WriteQuery => copy(packets.query, turns),
         Kind::ReadRip | Kind::WriteRip => copy(packets.response, turns),
@@ -70,7 +101,7 @@ pub fn copied(kind: Kind, packets: &Packets, turns: u32) -> u64 {
 }
 
 /// Does the work that many times. The answer depends on each turn.
-pub fn done(kind: Kind, packets: &Packets, turns: u32) -> u64 {
+fn done(kind: Kind, packets: &Packets, turns: u32) -> u64 {
     match kind {
         Kind::ReadHeader => each(&packets.query, turns, control_of),
         Kind::ReadRip => each(&packets.response, turns, routes_of),

@@ -24,11 +24,10 @@ mod work;
 use crate::captures::measure_decode;
 use crate::events::{Kind as EventKind, measure_event};
 use crate::growth::{Grown, measure_grown};
-use crate::kinds::Kind;
+use crate::kinds::{Kind, measure_kind};
 use crate::maps::{Kept, measure_kept};
 use crate::packets::Packets;
 use crate::tables::{CALLS, Call, RECORDS};
-use std::time::Instant;
 use std::{env, fmt, io};
 
 /// How many packets of a kind are read or written.
@@ -43,62 +42,87 @@ fn main(rt: HostRuntime) -> io::Result<()> {
 }
 
 fn list(rt: &HostRuntime) -> io::Result<()> {
+    list_packets(rt)?;
+    list_calls(rt)?;
+    list_events(rt)?;
+    list_grown(rt)?;
+    list_kept(rt)?;
+    list_sizes(rt)?;
+    let records = u64::from(captures::RECORDS);
+    list_one(rt, "show a capture", records, "records")?;
+    let rings = internets::RINGS.len() as u64;
+    list_one(rt, "settle a ring, trace a packet", rings, "rings")
+}
+
+fn list_packets(rt: &HostRuntime) -> io::Result<()> {
     for kind in Kind::ALL {
-        let name = kind.name();
-        let entries = kind.entries();
-        println!(rt; "{name}: {entries} entries a packet")?;
+        list_one(
+            rt,
+            kind.name(),
+            u64::from(kind.entries()),
+            "entries a packet",
+        )?;
     }
+    Ok(())
+}
+
+fn list_calls(rt: &HostRuntime) -> io::Result<()> {
     for call in Call::ALL {
-        let name = call.name();
-        println!(rt; "{name}: {RECORDS} records")?;
+        list_one(rt, call.name(), RECORDS as u64, "records")?;
     }
+    Ok(())
+}
+
+fn list_events(rt: &HostRuntime) -> io::Result<()> {
     for kind in EventKind::ALL {
         let name = kind.name();
         println!(rt; "{name}: 8 ports, {RECORDS} routes")?;
     }
-    list_growth(rt)?;
-    let records = captures::RECORDS;
-    println!(rt; "show a capture: {records} records")?;
-    let routers = internets::RINGS.len();
-    println!(rt; "settle a ring, trace a packet: {routers} rings")
+    Ok(())
 }
 
-/// What is measured of growing tables, and how much they hold.
-fn list_growth(rt: &HostRuntime) -> io::Result<()> {
+fn list_grown(rt: &HostRuntime) -> io::Result<()> {
     for kind in Grown::ALL {
-        let name = kind.name();
-        println!(rt; "{name}: 8 ports, of each size")?;
+        list_one(rt, kind.name(), 8, "ports, of each size")?;
     }
+    Ok(())
+}
+
+fn list_kept(rt: &HostRuntime) -> io::Result<()> {
     for call in Kept::ALL {
         let name = call.name();
         println!(rt; "{name}: in a table and in an ordered map, of each size")?;
     }
+    Ok(())
+}
+
+fn list_sizes(rt: &HostRuntime) -> io::Result<()> {
     for routes in growth::SIZES {
-        println!(rt; "a size: {routes} routes or records")?;
+        list_one(rt, "a size", u64::from(routes), "routes or records")?;
     }
     Ok(())
+}
+
+/// What is measured, and on how many of what.
+fn list_one(rt: &HostRuntime, name: &str, number: u64, what: &str) -> io::Result<()> {
+    println!(rt; "{name}: {number} {what}")
 }
 
 /// Measures the part of that name, or all parts where none is named.
 fn measure(rt: &HostRuntime, part: &Option<String>) -> io::Result<()> {
     let packets = Packets::new();
     if is_wanted(part, "packets") {
-        for kind in Kind::ALL {
-            report(rt, kind, &packets)?;
-        }
+        report_packets(rt, &packets)?;
     }
     if is_wanted(part, "tables") {
-        for call in Call::ALL {
-            report_call(rt, call)?;
-        }
+        report_calls(rt)?;
     }
     if is_wanted(part, "events") {
-        for kind in EventKind::ALL {
-            report_event(rt, kind)?;
-        }
+        report_events(rt)?;
     }
     if is_wanted(part, "growth") {
         report_growth(rt)?;
+        report_maps(rt)?;
     }
     if is_wanted(part, "captures") {
         report_capture(rt, &packets)?;
@@ -116,41 +140,57 @@ fn is_wanted(part: &Option<String>, name: &str) -> bool {
     }
 }
 
+fn report_packets(rt: &HostRuntime, packets: &Packets) -> io::Result<()> {
+    for kind in Kind::ALL {
+        report(rt, kind, packets)?;
+    }
+    Ok(())
+}
+
 fn report(rt: &HostRuntime, kind: Kind, packets: &Packets) -> io::Result<()> {
-    let start = Instant::now(rt)?;
-    let seen = kinds::copied(kind, packets, TURNS);
-    let copy = start.elapsed(rt)?.as_nanos();
-    let start = Instant::now(rt)?;
-    let done = kinds::done(kind, packets, TURNS);
-    let work = start.elapsed(rt)?.as_nanos();
+    let timed = measure_kind(rt, kind, packets, TURNS)?;
     let name = kind.name();
-    let packet = Tenths(work * 10 / u128::from(TURNS));
+    let packet = ratio(timed.work, u128::from(TURNS));
     let entry = Tenths(packet.0 / u128::from(kind.entries().max(1)));
-    let copies = Tenths(work * 10 / copy.max(1));
-    let mark = (seen ^ done) % 10;
+    let copies = ratio(timed.work, timed.copy);
+    let mark = timed.seen % 10;
     println!(rt; "{name}: {packet} ns a packet, {entry} ns an entry, {copies} copies ({mark})")
+}
+
+fn report_calls(rt: &HostRuntime) -> io::Result<()> {
+    for call in Call::ALL {
+        report_call(rt, call)?;
+    }
+    Ok(())
 }
 
 fn report_call(rt: &HostRuntime, call: Call) -> io::Result<()> {
     let timed = tables::measure_call(rt, call)?;
     let name = call.name();
-    let each = Tenths(timed.calls.wrapping_mul(10) / u128::from(CALLS));
-    let readings = Tenths(timed.calls.wrapping_mul(10) / timed.readings.max(1));
+    let each = ratio(timed.calls, u128::from(CALLS));
+    let readings = ratio(timed.calls, timed.readings);
     let mark = timed.seen % 10;
     println!(rt; "{name}: {each} ns a call, {readings} readings of {RECORDS} records ({mark})")
+}
+
+fn report_events(rt: &HostRuntime) -> io::Result<()> {
+    for kind in EventKind::ALL {
+        report_event(rt, kind)?;
+    }
+    Ok(())
 }
 
 fn report_event(rt: &HostRuntime, kind: EventKind) -> io::Result<()> {
     let timed = measure_event(rt, kind)?;
     let name = kind.name();
-    let each = Tenths(timed.events.wrapping_mul(10) / u128::from(timed.count.max(1)));
-    let ratio = Tenths(timed.events.wrapping_mul(10) / timed.beside.max(1));
+    let each = ratio(timed.events, u128::from(timed.count));
+    let times = ratio(timed.events, timed.beside);
     let mark = timed.seen % 10;
     let bytes = timed.bytes;
     if bytes == 0 {
-        println!(rt; "{name}: {each} ns, {ratio} readings of {RECORDS} records ({mark})")
+        println!(rt; "{name}: {each} ns, {times} readings of {RECORDS} records ({mark})")
     } else {
-        println!(rt; "{name}: {each} ns, {ratio} copies of the {bytes} bytes sent ({mark})")
+        println!(rt; "{name}: {each} ns, {times} copies of the {bytes} bytes sent ({mark})")
     }
 }
 
@@ -160,6 +200,10 @@ fn report_growth(rt: &HostRuntime) -> io::Result<()> {
             report_grown(rt, kind, routes)?;
         }
     }
+    Ok(())
+}
+
+fn report_maps(rt: &HostRuntime) -> io::Result<()> {
     for call in Kept::ALL {
         for records in growth::SIZES {
             report_kept(rt, call, records)?;
@@ -171,7 +215,7 @@ fn report_growth(rt: &HostRuntime) -> io::Result<()> {
 fn report_grown(rt: &HostRuntime, kind: Grown, routes: u32) -> io::Result<()> {
     let timed = measure_grown(rt, kind, routes)?;
     let name = kind.name();
-    let each = Tenths(timed.nanoseconds.wrapping_mul(10) / u128::from(timed.count.max(1)));
+    let each = ratio(timed.nanoseconds, u128::from(timed.count));
     let mark = timed.seen % 10;
     println!(rt; "{name}: {each} ns, {routes} routes ({mark})")
 }
@@ -179,8 +223,8 @@ fn report_grown(rt: &HostRuntime, kind: Grown, routes: u32) -> io::Result<()> {
 fn report_kept(rt: &HostRuntime, call: Kept, records: u32) -> io::Result<()> {
     let timed = measure_kept(rt, call, records)?;
     let name = call.name();
-    let each = Tenths(timed.table.wrapping_mul(10) / u128::from(timed.count.max(1)));
-    let map = Tenths(timed.map.wrapping_mul(10) / u128::from(timed.count.max(1)));
+    let each = ratio(timed.table, u128::from(timed.count));
+    let map = ratio(timed.map, u128::from(timed.count));
     let mark = timed.seen % 10;
     println!(rt; "{name}: table {each} ns, ordered map {map} ns, {records} records ({mark})")
 }
@@ -190,7 +234,7 @@ fn report_capture(rt: &HostRuntime, packets: &Packets) -> io::Result<()> {
     let microseconds = (timed.show / 1000).max(1);
     let records = u128::from(captures::RECORDS) * 1_000_000 / microseconds;
     let megabytes = u128::from(timed.bytes) / microseconds;
-    let copies = Tenths(timed.show.wrapping_mul(10) / timed.copy.max(1));
+    let copies = ratio(timed.show, timed.copy);
     println!(rt;
         "show a capture: {records} records a second, {megabytes} megabytes a second, {copies} copies of the file"
     )
@@ -199,12 +243,12 @@ fn report_capture(rt: &HostRuntime, packets: &Packets) -> io::Result<()> {
 fn report_internets(rt: &HostRuntime) -> io::Result<()> {
     for routers in internets::RINGS {
         let timed = internets::measure_ring(rt, routers)?;
-        let each = Tenths(timed.nanoseconds.wrapping_mul(10) / u128::from(timed.count.max(1)));
+        let each = ratio(timed.nanoseconds, u128::from(timed.count));
         let count = timed.count;
         println!(rt; "settle a ring of {routers} routers: {each} ns a delivery of {count}")?;
     }
     let timed = internets::measure_trace(rt)?;
-    let each = Tenths(timed.nanoseconds.wrapping_mul(10) / u128::from(timed.count.max(1)));
+    let each = ratio(timed.nanoseconds, u128::from(timed.count));
     let count = timed.count;
     println!(rt; "trace a packet: {each} ns a reception of {count}")
 }
@@ -212,6 +256,11 @@ fn report_internets(rt: &HostRuntime) -> io::Result<()> {
 /// A number of tenths, shown with a point.
 #[derive(Clone, Copy)]
 struct Tenths(u128);
+
+/// Nanoseconds divided by what they are counted by, which is 1 at least.
+fn ratio(nanoseconds: u128, by: u128) -> Tenths {
+    Tenths(nanoseconds.wrapping_mul(10) / by.max(1))
+}
 
 impl fmt::Display for Tenths {
     fn fmt<W: fmt::Write>(&self, f: &mut fmt::Formatter<W>) -> fmt::Result {

@@ -70,10 +70,22 @@ fn measure<const R: usize>(rt: &HostRuntime, call: Kept) -> io::Result<Timed>
     requires { R ≤ 65535 }
 {
     let mut table = Table::<Way, R>::new();
+    match full_map(rt.alloc(), R as u32) {
+        Some(mut map) => fastest(rt, call, &mut table, &mut map),
+        None => Err(ErrorKind::OutOfMemory.into()),
+    }
+}
+
+/// Times one block after the other, and keeps the fastest of each. The table is filled before each, untimed.
+fn fastest<const R: usize>(
+    rt: &HostRuntime,
+    call: Kept,
+    table: &mut Table<Way, R>,
+    map: &mut Map,
+) -> io::Result<Timed>
+    requires { R ≤ 65535 }
+{
     let records = R as u32;
-    let Some(mut map) = full_map(rt.alloc(), records) else {
-        return Err(ErrorKind::OutOfMemory.into());
-    };
     let mut timed = Timed {
         count: TURNS,
         table: u128::MAX,
@@ -82,18 +94,17 @@ fn measure<const R: usize>(rt: &HostRuntime, call: Kept) -> io::Result<Timed>
     };
     for block in 0..BLOCKS {
         let first = block.wrapping_mul(TURNS);
-        fill(&mut table, records);
+        fill(table, records);
         let start = Instant::now(rt)?;
-        let seen = of_table(call, &mut table, records, first);
+        let seen = of_table(call, table, records, first);
         timed.table = timed.table.min(start.elapsed(rt)?.as_nanos());
         let start = Instant::now(rt)?;
-        let other = of_map(call, &mut map, records, first);
+        let other = of_map(call, map, records, first);
         timed.map = timed.map.min(start.elapsed(rt)?.as_nanos());
         timed.seen = timed.seen.wrapping_add(seen).wrapping_add(other);
     }
     Ok(timed)
 }
-
 /// Calls a table as often as a block has calls, from that turn on.
 fn of_table<const R: usize>(
     call: Kept,
