@@ -105,15 +105,24 @@ fn round_of(alloc: Global, packets: &Packets) -> Result<Vec<u8>, AllocError> {
         &mut response,
     );
     let mut out = Vec::new(alloc);
-    add_record(&mut out, &TYPED, &request)?;
-    add_record(&mut out, &RAW, &response)?;
-    add_record(&mut out, &LLC, &packets.query)?;
-    add_record(&mut out, &SNAP, &packets.propagated)?;
-    add_record(&mut out, &TYPED, &packets.query)?;
-    add_record(&mut out, &RAW, &request)?;
-    add_record(&mut out, &OTHER, &response)?;
-    add_record(&mut out, &TYPED, &packets.advertised)?;
+    add_round(&mut out, packets, &request, &response)?;
     Ok(out)
+}
+
+fn add_round(
+    out: &mut Vec<u8>,
+    packets: &Packets,
+    request: &[u8],
+    response: &[u8],
+) -> Result<(), AllocError> {
+    add_record(out, &TYPED, request)?;
+    add_record(out, &RAW, response)?;
+    add_record(out, &LLC, &packets.query)?;
+    add_record(out, &SNAP, &packets.propagated)?;
+    add_record(out, &TYPED, &packets.query)?;
+    add_record(out, &RAW, request)?;
+    add_record(out, &OTHER, response)?;
+    add_record(out, &TYPED, &packets.advertised)
 }
 
 /// Appends a record: its header, and a frame of a packet.

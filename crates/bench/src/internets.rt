@@ -1,4 +1,5 @@
 //! Rings of routers that settle from their start, and a packet whose tree has ten thousand receptions.
+ghost use Rattle.std.specs.Prelude.{◌<◌};
 
 use ipx_internet::{Internet, Settled};
 use ipx_router::{Event, Port, Router};
@@ -34,9 +35,13 @@ pub fn measure_ring(rt: &HostRuntime, routers: u32) -> io::Result<Timed> {
     let Some(count) = counted(rt.alloc(), routers) else {
         return Err(ErrorKind::Other.into());
     };
-    let Some(mut ring) = ring(rt.alloc(), routers) else {
-        return Err(ErrorKind::Other.into());
-    };
+    match ring(rt.alloc(), routers) {
+        Some(mut ring) => settled(rt, &mut ring, count),
+        None => Err(ErrorKind::Other.into()),
+    }
+}
+
+fn settled(rt: &HostRuntime, ring: &mut Ring, count: u64) -> io::Result<Timed> {
     let start = Instant::now(rt)?;
     let settled = ring.settle(LIMIT);
     let nanoseconds = start.elapsed(rt)?.as_nanos();
@@ -48,9 +53,13 @@ pub fn measure_ring(rt: &HostRuntime, routers: u32) -> io::Result<Timed> {
 
 /// Traces a packet that comes to one of the routers on three networks.
 pub fn measure_trace(rt: &HostRuntime) -> io::Result<Timed> {
-    let Some(internet) = together(rt.alloc()) else {
-        return Err(ErrorKind::Other.into());
-    };
+    match together(rt.alloc()) {
+        Some(internet) => traced(rt, &internet),
+        None => Err(ErrorKind::Other.into()),
+    }
+}
+
+fn traced(rt: &HostRuntime, internet: &Together) -> io::Result<Timed> {
     let start = Instant::now(rt)?;
     let mut count = 0u64;
     for _ in 0..TRACES {
@@ -81,22 +90,36 @@ fn port(network: u32, node: u32) -> Option<Port> {
 /// So many routers, each between a network and the next one, the last one's being the first. They were started.
 fn ring(heap: Global, routers: u32) -> Option<Ring> {
     let mut internet = Ring::new(heap);
+    join_ring(&mut internet, routers)?;
+    Some(internet)
+}
+
+fn join_ring(internet: &mut Ring, routers: u32) -> Option<()> {
     for k in 0..routers {
-        let next = (k + 1) % routers;
-        let node = k.wrapping_mul(2);
-        let ports = [
-            port(k.wrapping_add(1), node.wrapping_add(1))?,
-            port(next.wrapping_add(1), node.wrapping_add(2))?,
-        ];
-        let number = internet.add(Router::new(&ports).ok()?).ok()?;
+        let number = internet.add(in_ring(k, routers)?).ok()?;
         internet.event(number, Event::Start).ok()?;
     }
-    Some(internet)
+    Some(())
+}
+
+/// The router of that number.
+fn in_ring(k: u32, routers: u32) -> Option<Router<2, 64, 8>>
+    requires { k < routers }
+{
+    let next = (k + 1) % routers;
+    let node = k.wrapping_mul(2);
+    let first = port(k.wrapping_add(1), node.wrapping_add(1))?;
+    let second = port(next.wrapping_add(1), node.wrapping_add(2))?;
+    Router::new(&[first, second]).ok()
 }
 
 /// How many deliveries it takes until nothing waits.
 fn counted(heap: Global, routers: u32) -> Option<u64> {
     let mut ring = ring(heap, routers)?;
+    deliveries(&mut ring)
+}
+
+fn deliveries(ring: &mut Ring) -> Option<u64> {
     for count in 0..LIMIT as u64 {
         if ring.waiting() == 0 {
             return Some(count);
@@ -111,11 +134,16 @@ type Together = Internet<3, 64, 8>;
 /// Routers that stand on the same three networks. They were started, and nothing has settled.
 fn together(heap: Global) -> Option<Together> {
     let mut internet = Together::new(heap);
+    join_together(&mut internet)?;
+    Some(internet)
+}
+
+fn join_together(internet: &mut Together) -> Option<()> {
     for k in 0..ROUTERS {
         let number = internet.add(on_three_networks(k + 1)?).ok()?;
         internet.event(number, Event::Start).ok()?;
     }
-    Some(internet)
+    Some(())
 }
 
 /// A router on networks 1, 2 and 3, with this node on each.

@@ -105,6 +105,7 @@ fn fastest<const R: usize>(
     }
     Ok(timed)
 }
+
 /// Calls a table as often as a block has calls, from that turn on.
 fn of_table<const R: usize>(
     call: Kept,

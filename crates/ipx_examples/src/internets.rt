@@ -5,7 +5,7 @@ use ipx_internet::{AddRefused, Internet, InternetFault, Settled, TraceFault};
 use ipx_router::{Event, Router};
 
 /// The internets of these examples.
-type Small = Internet<2, 50, 8>;
+pub type Small = Internet<2, 50, 8>;
 
 /// Two routers on a common network.
 pub fn internet(rt: &HostRuntime, west: Router<2, 50, 8>, east: Router<2, 50, 8>) -> Result<()> {

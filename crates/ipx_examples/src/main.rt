@@ -16,6 +16,7 @@ mod runs;
 mod services;
 
 use crate::ends::copied;
+use crate::internets::Small;
 use crate::offers::TimeServer;
 use anyhow::Result;
 use ipx_internet::Internet;
@@ -24,25 +25,37 @@ use ipx_table::Table;
 use ipx_wire::{Address, Network, Node, Packet, ServiceName, Socket};
 
 /// Node BB, a router on network 20, advertises network 30.
-const ROUTES: &str =
-    "FFFF0028000100000020FFFFFFFFFFFF0453000000200000000000BB045300020000003000010002";
+const ROUTES: [u8; 40] = [
+    0xFF, 0xFF, 0, 0x28, 0, 1, 0, 0, 0, 0x20, 0xFF, 0xFF, 0xFF, 0xFF, 0xFF, 0xFF, 4, 0x53, 0, 0, 0,
+    0x20, 0, 0, 0, 0, 0, 0xBB, 4, 0x53, 0, 2, 0, 0, 0, 0x30, 0, 1, 0, 2,
+];
 
 /// It advertises the service ACCOUNTS on network 30.
-const SERVICES: &str =
-    "FFFF0060000400000020FFFFFFFFFFFF0452000000200000000000BB0452000200044143434F554E5453000000\
-    000000000000000000000000000000000000000000000000000000000000000000000000000000003000000000\
-    00CC04510001";
+const SERVICES: [u8; 96] = [
+    0xFF, 0xFF, 0, 0x60, 0, 4, 0, 0, 0, 0x20, 0xFF, 0xFF, 0xFF, 0xFF, 0xFF, 0xFF, 4, 0x52, 0, 0, 0,
+    0x20, 0, 0, 0, 0, 0, 0xBB, 4, 0x52, 0, 2, 0, 4, 0x41, 0x43, 0x43, 0x4F, 0x55, 0x4E, 0x54, 0x53,
+    0, 0, 0, 0, 0, 0, 0, 0, 0, 0, 0, 0, 0, 0, 0, 0, 0, 0, 0, 0, 0, 0, 0, 0, 0, 0, 0, 0, 0, 0, 0, 0,
+    0, 0, 0, 0, 0, 0, 0, 0, 0, 0, 0, 0x30, 0, 0, 0, 0, 0, 0xCC, 4, 0x51, 0, 1,
+];
 
 /// A packet of type 20 that has crossed networks 40 and 30.
-const CROSSED: &str = "FFFF003E021400000020FFFFFFFFFFFF0455000000400000000000DD0455\
-    0000004000000030000000000000000000000000000000000000000000000000";
+const CROSSED: [u8; 62] = [
+    0xFF, 0xFF, 0, 0x3E, 2, 0x14, 0, 0, 0, 0x20, 0xFF, 0xFF, 0xFF, 0xFF, 0xFF, 0xFF, 4, 0x55, 0, 0,
+    0, 0x40, 0, 0, 0, 0, 0, 0xDD, 4, 0x55, 0, 0, 0, 0x40, 0, 0, 0, 0x30, 0, 0, 0, 0, 0, 0, 0, 0, 0,
+    0, 0, 0, 0, 0, 0, 0, 0, 0, 0, 0, 0, 0, 0, 0,
+];
 
 /// Node AA, on network 10, sends to node CC, on network 30.
-const FAR: &str = "FFFF001E0000000000300000000000CC4003000000100000000000AA4003";
+const FAR: [u8; 30] = [
+    0xFF, 0xFF, 0, 0x1E, 0, 0, 0, 0, 0, 0x30, 0, 0, 0, 0, 0, 0xCC, 0x40, 3, 0, 0, 0, 0x10, 0, 0, 0,
+    0, 0, 0xAA, 0x40, 3,
+];
 
 /// The header of a capture file, and a record of sixty bytes, of which two are kept.
-const CAPTURE: &str = "D4C3B2A1020004000000000000000000FFFF000001000000\
-    0000000000000000020000003C000000FFFF";
+const CAPTURE: [u8; 42] = [
+    0xD4, 0xC3, 0xB2, 0xA1, 2, 0, 4, 0, 0, 0, 0, 0, 0, 0, 0, 0, 0xFF, 0xFF, 0, 0, 1, 0, 0, 0, 0, 0,
+    0, 0, 0, 0, 0, 0, 2, 0, 0, 0, 0x3C, 0, 0, 0, 0xFF, 0xFF,
+];
 
 fn main(rt: HostRuntime) -> Result<()> {
     addresses::network(&rt)?;
@@ -60,36 +73,38 @@ fn main(rt: HostRuntime) -> Result<()> {
 
 /// The examples that read and write packets, files and frames.
 fn read(rt: &HostRuntime) -> Result<()> {
-    let (from, to) = (at(0xBB), at(0xFF));
-    let bytes = hex::decode(rt.alloc(), ROUTES)?;
-    packets::packet(rt, &bytes)?;
-    packets::measure(rt, &[0xFF; 34])?;
-    let packet = Packet::read(&bytes)?;
-    packets::header(rt, &packet)?;
-    routes::rip(rt, packet.payload())?;
-    routes::rip_entry(rt, from, to)?;
-    let crossed = hex::decode(rt.alloc(), CROSSED)?;
-    packets::crossed(rt, &Packet::read(&crossed)?)?;
-    let bytes = hex::decode(rt.alloc(), SERVICES)?;
-    let packet = Packet::read(&bytes)?;
-    services::sap(rt, packet.payload())?;
-    let mut field = [0; ServiceName::SIZE];
-    field[..8].copy_from_slice(b"ACCOUNTS");
-    services::service_name(rt, &field)?;
-    if let Some(name) = ServiceName::read(&field) {
-        services::service(rt, name, from, to)?;
-    }
+    read_routes(rt)?;
+    read_services(rt)?;
     ends::intake(rt)?;
     ends::outlet(rt)?;
-    let file = hex::decode(rt.alloc(), CAPTURE)?;
-    captures::capture(rt, &file)?;
-    captures::capture_fault(rt, &bytes)?;
+    captures::capture(rt, &CAPTURE)?;
+    captures::capture_fault(rt, &SERVICES)?;
     let mut frame = [0xFF; 60];
     frame[12] = 0;
     frame[13] = 46;
     captures::frame_of(rt, &frame)?;
-    let far = hex::decode(rt.alloc(), FAR)?;
-    captures::frame_kind(rt, from.node, to.node, &far)
+    captures::frame_kind(rt, at(0xBB).node, at(0xFF).node, &FAR)
+}
+
+fn read_routes(rt: &HostRuntime) -> Result<()> {
+    packets::packet(rt, &ROUTES)?;
+    packets::measure(rt, &[0xFF; 34])?;
+    let packet = Packet::read(&ROUTES)?;
+    packets::header(rt, &packet)?;
+    routes::rip(rt, packet.payload())?;
+    routes::rip_entry(rt, at(0xBB), at(0xFF))?;
+    packets::crossed(rt, &Packet::read(&CROSSED)?)
+}
+
+fn read_services(rt: &HostRuntime) -> Result<()> {
+    services::sap(rt, Packet::read(&SERVICES)?.payload())?;
+    let mut field = [0; ServiceName::SIZE];
+    field[..8].copy_from_slice(b"ACCOUNTS");
+    services::service_name(rt, &field)?;
+    match ServiceName::read(&field) {
+        Some(name) => services::service(rt, name, at(0xBB), at(0xFF)),
+        None => Ok(()),
+    }
 }
 
 /// The examples of tables.
@@ -122,44 +137,65 @@ fn route(rt: &HostRuntime) -> Result<()> {
     let mut outbox = Outbox::new(rt.alloc());
     router.step(Event::Start, &mut outbox)?;
     outbox.clear();
-    let routes = hex::decode(rt.alloc(), ROUTES)?;
-    routers::event(rt, &mut router, &mut outbox, &routes)?;
-    routers::outbox(rt, &mut outbox)?;
-    routers::need(rt, &mut router, &mut outbox)?;
+    learn(rt, &mut router, &mut outbox)?;
+    routers::route_offer(rt, &router)?;
+    routers::service_offer(rt, &router)
+}
+
+/// What happens to a router that was started: it learns a route and then a service.
+fn learn(rt: &HostRuntime, router: &mut Router<2, 50, 8>, outbox: &mut Outbox) -> Result<()> {
+    routers::event(rt, router, outbox, &ROUTES)?;
+    routers::outbox(rt, outbox)?;
+    routers::need(rt, router, outbox)?;
     routers::why(rt, Outcome::Dropped(Why::DownPort))?;
-    let services = hex::decode(rt.alloc(), SERVICES)?;
     if router.has_port(1) {
-        let bytes = copied(rt.alloc(), &services)?;
+        let bytes = copied(rt.alloc(), &SERVICES)?;
         router.step(
             Event::Packet {
                 port: 1,
                 bytes: &bytes,
             },
-            &mut outbox,
+            outbox,
         )?;
     }
-    routers::route_offer(rt, &router)?;
-    routers::service_offer(rt, &router)
+    Ok(())
 }
 
 /// The examples of internets.
 fn join(rt: &HostRuntime) -> Result<()> {
     let (west, east) = (ports(0x10, 1)?, ports(0x20, 3)?);
-    internets::internet(rt, Router::new(&west)?, Router::new(&east)?)?;
+    meet(rt, &west, &east)?;
     let mut internet = Internet::new(rt.alloc());
-    internet
-        .add(Router::new(&west)?)
-        .map_err(|refused| refused.fault)?;
-    internet
-        .add(Router::new(&east)?)
-        .map_err(|refused| refused.fault)?;
+    start(&mut internet, &west, &east)?;
+    settle(rt, &mut internet, &west)
+}
+
+fn meet(rt: &HostRuntime, west: &[Port], east: &[Port]) -> Result<()> {
+    internets::internet(rt, Router::new(west)?, Router::new(east)?)
+}
+
+/// What happens to an internet that was started, and to a router that it has already.
+fn settle(rt: &HostRuntime, internet: &mut Small, west: &[Port]) -> Result<()> {
+    internets::settled(rt, internet)?;
+    internets::add_refused(rt, internet, Router::new(west)?)?;
+    internets::internet_fault(rt, internet)?;
+    internets::trace(rt, internet, &FAR)
+}
+
+/// Adds routers with these ports, and starts them.
+fn start(internet: &mut Small, west: &[Port], east: &[Port]) -> Result<()> {
+    add(internet, west)?;
+    add(internet, east)?;
     internet.event(0, Event::Start)?;
     internet.event(1, Event::Start)?;
-    internets::settled(rt, &mut internet)?;
-    internets::add_refused(rt, &mut internet, Router::new(&west)?)?;
-    internets::internet_fault(rt, &mut internet)?;
-    let far = hex::decode(rt.alloc(), FAR)?;
-    internets::trace(rt, &internet, &far)
+    Ok(())
+}
+
+fn add(internet: &mut Small, ports: &[Port]) -> Result<()> {
+    internet
+        .add(Router::new(ports)?)
+        .map_err(|refused| refused.fault)?;
+    Ok(())
 }
 
 /// An address on network 20.
