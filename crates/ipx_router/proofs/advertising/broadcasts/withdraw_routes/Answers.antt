@@ -1,4 +1,4 @@
-use Rattle.std.proofs.Common.{rules, sym, ap, subst, ℕ}
+use Rattle.std.proofs.Common.{sym, ap, subst, ℕ}
 use Rattle.std.specs.List.{flat_map}
 use Rattle.ipx_router.specs.Facts.{offers}
 use Rattle.ipx_router.specs.Numbers.{entries_a_page}
@@ -19,7 +19,7 @@ send_routes-requires g c =
     (sym (in_envelope entries_a_page entries_in (λ (j : ℕ). flat_map (selected_by Dead) (told c.args.ports.now c.args.up.now (offers c.args.routes.now.records) j)) c.routes_to_all-envelope.ensures
     (selected_dead (told c.args.ports.now c.args.up.now (offers c.args.routes.now.records) c.args.number))))
     c.requires.room in
-    search (rules, port, room)
+    search (port, room)
 
 pub returns : goal.returns
 returns g c =

@@ -1,4 +1,4 @@
-use Rattle.std.proofs.Common.{rules, false, sym, ap, subst, ℕ}
+use Rattle.std.proofs.Common.{false, sym, ap, subst, ℕ}
 use Rattle.std.specs.List.{flat_map}
 use Rattle.ipx_router.specs.Facts.{offers}
 use Rattle.ipx_router.specs.Numbers.{services_a_page}
@@ -19,7 +19,7 @@ send_services-requires g c =
     (sym (in_envelope services_a_page (services_in false) (λ (j : ℕ). flat_map (service_selected_by Dead) (told_services (offers c.args.services.now.records) j)) c.services_to_all-envelope.ensures
     (services_selected_dead (told_services (offers c.args.services.now.records) c.args.number))))
     c.requires.room in
-    search (rules, port, room)
+    search (port, room)
 
 pub returns : goal.returns
 returns g c =

@@ -1,4 +1,3 @@
-use Rattle.std.proofs.Common.{rules}
 use Rattle.ipx_router.specs.Facts.{offers}
 use Rattle.ipx_router.specs.Outbox.{Fits}
 use Rattle.ipx_router.specs.Sends.{rip_broadcast, routes_request, sap_broadcast, services_query}
@@ -14,7 +13,7 @@ broadcast_routes-requires g c =
     let services = sap_broadcast c.args.ports.now c.args.number (told_services (offers c.args.services.now.records) c.args.number) in
     let query = services_query c.args.ports.now c.args.number in
     let room : Fits c.args.outbox.now routes = first_of_four routes request services query c.requires.room in
-    search (rules, room)
+    search room
 
 pub request_routes-requires-clause-room : goal.request_routes-requires-clause-room
 request_routes-requires-clause-room g c =
@@ -32,7 +31,7 @@ broadcast_services-requires g c =
     let query = services_query c.args.ports.now c.args.number in
     let room : Fits c.request_routes.new.outbox services =
     third_of_four routes request services query c.requires.room c.broadcast_routes.ensures c.request_routes.ensures in
-    search (rules, room)
+    search room
 
 pub query_services-requires-clause-room : goal.query_services-requires-clause-room
 query_services-requires-clause-room g c =

@@ -1,4 +1,4 @@
-use Rattle.std.proofs.Common.{rules, ◌<◌, get_or, length}
+use Rattle.std.proofs.Common.{◌<◌, get_or, length}
 use Rattle.ipx_router.specs.Facts.{offers}
 use Rattle.ipx_router.specs.Outbox.{Fits}
 use Rattle.ipx_router.specs.Sends.{port_up_on}
@@ -14,7 +14,7 @@ send_up_on-requires g c =
     next_fits sends c.args.up.now k 0 c.loop-number-test.true c.loop-number.invariant.pays c.requires.room in
     let within : get_or c.args.up.now k 0 < length c.args.ports.now =
     each_at (λ j. j < length c.args.ports.now) c.args.up.now k 0 c.requires.ports c.loop-number-test.true in
-    search (rules, room, within)
+    search (room, within)
 
 pub loop-number-preserved : goal.loop-number-preserved
 loop-number-preserved g c = record {

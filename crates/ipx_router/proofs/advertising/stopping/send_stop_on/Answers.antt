@@ -1,4 +1,4 @@
-use Rattle.std.proofs.Common.{rules, map}
+use Rattle.std.proofs.Common.{map}
 use Rattle.ipx_router.specs.Facts.{offers}
 use Rattle.ipx_router.specs.Outbox.{Fits}
 use Rattle.ipx_router.specs.Sends.{rip_broadcast, sap_broadcast}
@@ -11,14 +11,14 @@ withdraw_routes-requires g c =
     let routes = rip_broadcast c.args.ports.now c.args.number (map dead (told c.args.ports.now c.args.up.now (offers c.args.routes.now.records) c.args.number)) in
     let services = sap_broadcast c.args.ports.now c.args.number (map dead_service (told_services (offers c.args.services.now.records) c.args.number)) in
     let room : Fits c.args.outbox.now routes = fits_front routes services c.requires.room in
-    search (rules, room)
+    search room
 
 pub withdraw_services-requires : goal.withdraw_services-requires
 withdraw_services-requires g c =
     let routes = rip_broadcast c.args.ports.now c.args.number (map dead (told c.args.ports.now c.args.up.now (offers c.args.routes.now.records) c.args.number)) in
     let services = sap_broadcast c.args.ports.now c.args.number (map dead_service (told_services (offers c.args.services.now.records) c.args.number)) in
     let room : Fits c.withdraw_routes.new.outbox services = fits_then routes services c.requires.room c.withdraw_routes.ensures in
-    search (rules, room)
+    search room
 
 pub returns : goal.returns
 returns g c = appends_then c.withdraw_routes.ensures c.withdraw_services.ensures

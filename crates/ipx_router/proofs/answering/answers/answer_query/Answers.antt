@@ -1,4 +1,4 @@
-use Rattle.std.proofs.Common.{rules, sym, subst}
+use Rattle.std.proofs.Common.{sym, subst}
 use Rattle.ipx_router.specs.Facts.{offers}
 use Rattle.ipx_router.specs.Outbox.{Fits, Appends}
 use Rattle.ipx_router.specs.Told.{told_services}
@@ -11,7 +11,7 @@ answer_nearest-requires g c =
     let room = subst (Fits a.outbox.now)
     (sym (nearest_answered a.ports.now a.number a.source a.nearest a.kind (told_services (offers a.services.now.records)) c.services_reply-envelope.ensures c.if-nearest.true))
     c.requires.room in
-    search (rules, room)
+    search room
 
 pub returns-then-nearest : goal.returns-then-nearest
 returns-then-nearest g c =
@@ -26,7 +26,7 @@ send_services-requires g c =
     let room = subst (Fits a.outbox.now)
     (sym (query_answered a.ports.now a.number a.source a.nearest a.kind (told_services (offers a.services.now.records)) c.services_reply-envelope.ensures c.if-nearest.false))
     c.requires.room in
-    search (rules, room)
+    search room
 
 pub returns-else-nearest : goal.returns-else-nearest
 returns-else-nearest g c =

@@ -1,4 +1,4 @@
-use Rattle.std.proofs.Common.{rules, ℕ, sym, ap, subst}
+use Rattle.std.proofs.Common.{ℕ, sym, ap, subst}
 use Rattle.std.specs.List.{flat_map}
 use Rattle.ipx_router.specs.Facts.{offers}
 use Rattle.ipx_router.specs.Numbers.{entries_a_page}
@@ -17,7 +17,7 @@ send_routes-requires g c =
     (sym (in_envelope entries_a_page entries_in (λ (j : ℕ). flat_map (selected_by c.selection_to.result) (told c.args.ports.now c.args.up.now (offers c.args.routes.now.records) j))
     c.routes_reply-envelope.ensures (c.selection_to.ensures (told c.args.ports.now c.args.up.now (offers c.args.routes.now.records) c.args.number))))
     c.requires.room in
-    search (rules, port, room)
+    search (port, room)
 
 pub returns : goal.returns
 returns g c =

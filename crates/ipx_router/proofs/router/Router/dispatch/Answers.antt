@@ -1,4 +1,4 @@
-use Rattle.std.proofs.Common.{rules, ◌<◌, subst, length}
+use Rattle.std.proofs.Common.{◌<◌, subst, length}
 use Rattle.ipx_router.specs.Happened.{happened}
 use Rattle.ipx_router.specs.History.{Start, Stop, Second, Packet, PortDown, PortUp, IsOnPort}
 use Rattle.ipx_router.specs.Needs.{HasRoomFor}
@@ -9,19 +9,19 @@ pub start-requires : goal.start-requires
 start-requires g c =
     let room : HasRoomFor c.args.self.now (Start) c.args.outbox.now =
     subst (λ (e : Given). HasRoomFor c.args.self.now (happened e) c.args.outbox.now) c.in-Start.is c.requires.room in
-    search (rules, room)
+    search room
 
 pub stop-requires : goal.stop-requires
 stop-requires g c =
     let room : HasRoomFor c.args.self.now (Stop) c.args.outbox.now =
     subst (λ (e : Given). HasRoomFor c.args.self.now (happened e) c.args.outbox.now) c.in-Stop.is c.requires.room in
-    search (rules, room)
+    search room
 
 pub second-requires : goal.second-requires
 second-requires g c =
     let room : HasRoomFor c.args.self.now (Second) c.args.outbox.now =
     subst (λ (e : Given). HasRoomFor c.args.self.now (happened e) c.args.outbox.now) c.in-Second.is c.requires.room in
-    search (rules, room)
+    search room
 
 pub packet-requires : goal.packet-requires
 packet-requires g c =
@@ -29,7 +29,7 @@ packet-requires g c =
     subst (λ (e : Given). HasRoomFor c.args.self.now (happened e) c.args.outbox.now) c.in-Packet.is c.requires.room in
     let port : c.in-Packet.port < length c.args.self.now.ports =
     subst (λ (e : Given). IsOnPort c.args.self.now.ports (happened e)) c.in-Packet.is c.requires.port in
-    search (rules, room, port)
+    search (room, port)
 
 pub port_down-requires : goal.port_down-requires
 port_down-requires g c =
@@ -37,7 +37,7 @@ port_down-requires g c =
     subst (λ (e : Given). HasRoomFor c.args.self.now (happened e) c.args.outbox.now) c.in-PortDown.is c.requires.room in
     let port : c.in-PortDown.port < length c.args.self.now.ports =
     subst (λ (e : Given). IsOnPort c.args.self.now.ports (happened e)) c.in-PortDown.is c.requires.port in
-    search (rules, room, port)
+    search (room, port)
 
 pub port_up-requires : goal.port_up-requires
 port_up-requires g c =
@@ -45,4 +45,4 @@ port_up-requires g c =
     subst (λ (e : Given). HasRoomFor c.args.self.now (happened e) c.args.outbox.now) c.in-PortUp.is c.requires.room in
     let port : c.in-PortUp.port < length c.args.self.now.ports =
     subst (λ (e : Given). IsOnPort c.args.self.now.ports (happened e)) c.in-PortUp.is c.requires.port in
-    search (rules, room, port)
+    search (room, port)

@@ -1,4 +1,4 @@
-use Rattle.std.proofs.Common.{rules, ◌<◌, refl, sym, ap, subst, List, [], ◌∷◌, length, arith}
+use Rattle.std.proofs.Common.{◌<◌, refl, sym, ap, subst, List, [], ◌∷◌, length, arith}
 use Rattle.ipx_wire.specs.Forward.{forwarded}
 use Rattle.ipx_wire.specs.Write.{packet_bytes}
 use Rattle.ipx_router.specs.inside.Following.{Follows, sends_between}
@@ -27,7 +27,7 @@ append_forwarded-requires g c =
     let room : Fits c.args.outbox.now (record { port = c.args.out; link = c.args.link; bytes = packet_bytes (forwarded c.args.packet.now) } ∷ []) = subst (λ (ps : List Sent). Fits c.args.outbox.now ps) (sym (forwarded_sent s n b s.ports s.up refl refl c.args.packet.now c.args.out c.args.link on)) fits in
     let few : c.args.packet.now.header.control < 16 = on.2.few in
     let control : c.args.packet.now.header.control < 255 = omega (arith, few) in
-    search (rules, room, control)
+    search (room, control)
 
 pub returns-clause-follows : goal.returns-clause-follows
 returns-clause-follows g c =

@@ -31,3 +31,22 @@ returns-clause-any g c = λ all event are. up_to event are all
     up_to Second are all = tt
     up_to (PortDown port) are all = tt
     up_to (PortUp port) are all = tt
+
+pub returns-clause-packets : goal.returns-clause-packets
+returns-clause-packets g c =
+    let ports : c.len.result ≡ length c.args.self.now.ports = c.len.ensures.value ∙ ap (λ (v : State). length v.ports) c.self.view_is in
+    c.most_need_of.ensures.packets ∙ ap (λ k. packets_ever k g.row.R g.row.S) ports
+
+pub returns-clause-bytes : goal.returns-clause-bytes
+returns-clause-bytes g c =
+    let ports : c.len.result ≡ length c.args.self.now.ports = c.len.ensures.value ∙ ap (λ (v : State). length v.ports) c.self.view_is in
+    c.most_need_of.ensures.bytes ∙ ap (λ k. bytes_ever k g.row.R g.row.S c.args.longest) ports
+
+pub most_need_of-requires-clause-some : goal.most_need_of-requires-clause-some
+most_need_of-requires-clause-some g c = search arith
+
+pub most_need_of-requires-clause-few_routes : goal.most_need_of-requires-clause-few_routes
+most_need_of-requires-clause-few_routes g c = search arith
+
+pub most_need_of-requires-clause-few_services : goal.most_need_of-requires-clause-few_services
+most_need_of-requires-clause-few_services g c = search arith

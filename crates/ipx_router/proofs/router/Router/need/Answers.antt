@@ -1,4 +1,4 @@
-use Rattle.std.proofs.Common.{sym, ap, ◌∙◌, subst, ℕ, ◌≤◌, ◌*◌, length}
+use Rattle.std.proofs.Common.{arith, sym, ap, ◌∙◌, subst, ℕ, ◌≤◌, ◌*◌, length}
 use Rattle.ipx_router.specs.Bounds.{most_packets, most_length}
 use Rattle.ipx_router.specs.Happened.{happened}
 use Rattle.ipx_router.specs.Numbers.{most_ports}
@@ -34,3 +34,18 @@ returns-clause-bytes g c =
     ∙ ap (λ (n : ℕ). most_packets n c.len-2.result c.len-3.result event * most_length event) ports
     ∙ ap (λ (n : ℕ). most_packets (length s.ports) n c.len-3.result event * most_length event) routes
     ∙ ap (λ (n : ℕ). most_packets (length s.ports) (length s.routes) n event * most_length event) services
+
+pub len-requires : goal.len-requires
+len-requires g c = search arith
+
+pub len-requires-2 : goal.len-requires-2
+len-requires-2 g c = search arith
+
+pub len-requires-3 : goal.len-requires-3
+len-requires-3 g c = search arith
+
+pub need_of-requires-clause-few_routes : goal.need_of-requires-clause-few_routes
+need_of-requires-clause-few_routes g c = search arith
+
+pub need_of-requires-clause-few_services : goal.need_of-requires-clause-few_services
+need_of-requires-clause-few_services g c = search arith

@@ -13,3 +13,21 @@ pub returns-clause-stands : goal.returns-clause-stands
 returns-clause-stands g c =
     made_then g.row.R g.row.S c.args.ports.now c.copy_of.result.items c.new.result.items c.with_shares.result.records c.with_shares-2.result.records
     (search rules) (search rules) (search rules) (search rules)
+
+pub copy_of-requires : goal.copy_of-requires
+copy_of-requires g c = search arith
+
+pub new-requires : goal.new-requires
+new-requires g c = search arith
+
+pub deref-requires : goal.deref-requires
+deref-requires g c = search arith
+
+pub deref-requires-2 : goal.deref-requires-2
+deref-requires-2 g c = search arith
+
+pub with_shares-requires : goal.with_shares-requires
+with_shares-requires g c = search arith
+
+pub with_shares-requires-2 : goal.with_shares-requires-2
+with_shares-requires-2 g c = search arith

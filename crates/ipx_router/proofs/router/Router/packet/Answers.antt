@@ -1,4 +1,4 @@
-use Rattle.std.proofs.Common.{rules, ◌≡◌, refl, sym, ap, ◌∙◌, subst, ℕ, Bool, List, Some}
+use Rattle.std.proofs.Common.{◌≡◌, refl, sym, ap, ◌∙◌, subst, ℕ, Bool, List, Some}
 use Rattle.ipx_wire.specs.Packet.{Parts}
 use Rattle.ipx_wire.specs.declared.rip.Operation.TheVariants.{Request, Response}
 use Rattle.ipx_wire.specs.declared.sap.Sap.TheVariants.{Query, Response as SapResponse}
@@ -28,7 +28,7 @@ learn_routes-requires g c =
     let passes : IsPassed c.args.self.now n b = told.0 in
     let is : IsHeard c.args.self.now n b (HeardRip c.in-Ok-Rip.source c.in-Ok-Rip.rip) = told.1 in
     let says : c.in-Ok-Rip.rip.operation ≡ Response = sym c.operation.ensures ∙ c.in-Response.is in
-    search (rules, passes, is, says)
+    search (passes, is, says)
 
 pub answer_routes-requires : goal.answer_routes-requires
 answer_routes-requires g c =
@@ -38,7 +38,7 @@ answer_routes-requires g c =
     let passes : IsPassed c.args.self.now n b = told.0 in
     let is : IsHeard c.args.self.now n b (HeardRip c.in-Ok-Rip.source c.in-Ok-Rip.rip) = told.1 in
     let asks : c.in-Ok-Rip.rip.operation ≡ Request = sym c.operation.ensures ∙ c.in-Request.is in
-    search (rules, passes, is, asks)
+    search (passes, is, asks)
 
 pub learn_services-requires : goal.learn_services-requires
 learn_services-requires g c =
@@ -48,7 +48,7 @@ learn_services-requires g c =
     let passes : IsPassed c.args.self.now n b = told.0 in
     let is : (nearest : Bool) × IsHeard c.args.self.now n b (HeardSap c.in-Ok-Sap.source (SapResponse nearest c.in-Response-sap.entries)) =
     (c.in-Response-sap.nearest, told.1 ∙ ap (λ x. Some (HeardSap c.in-Ok-Sap.source x)) c.in-Response-sap.is) in
-    search (rules, passes, is)
+    search (passes, is)
 
 pub answer_services-requires : goal.answer_services-requires
 answer_services-requires g c =
@@ -58,7 +58,7 @@ answer_services-requires g c =
     let passes : IsPassed c.args.self.now n b = told.0 in
     let is : IsHeard c.args.self.now n b (HeardSap c.in-Ok-Sap.source (Query c.in-Query.nearest c.in-Query.kind)) =
     told.1 ∙ ap (λ x. Some (HeardSap c.in-Ok-Sap.source x)) c.in-Query.is in
-    search (rules, passes, is)
+    search (passes, is)
 
 pub propagate-requires : goal.propagate-requires
 propagate-requires g c =
@@ -67,7 +67,7 @@ propagate-requires g c =
     let goes = subst (λ (v : Verdict). Is c.args.self.now n b v) c.in-Ok-Goes.field-0-is c.in-Ok-Goes.ensures.verdict in
     let how = subst (λ (o : Onward). As c.args.self.now n c.in-Ok-Goes.packet o) c.in-Propagate.is goes.1 in
     let on : IsSentOn c.args.self.now n b c.in-Ok-Goes.packet c.in-Propagate.crossed = (goes.0, how.0, how.1) in
-    search (rules, on)
+    search on
 
 pub forward-requires : goal.forward-requires
 forward-requires g c =
@@ -76,7 +76,7 @@ forward-requires g c =
     let goes = subst (λ (v : Verdict). Is c.args.self.now n b v) c.in-Ok-Goes.field-0-is c.in-Ok-Goes.ensures.verdict in
     let how = subst (λ (o : Onward). As c.args.self.now n c.in-Ok-Goes.packet o) c.in-Forward.is goes.1 in
     let on : IsSentOnTo c.args.self.now n b c.in-Ok-Goes.packet c.in-Forward.out c.in-Forward.link = (goes.0, how.0, how.1) in
-    search (rules, on)
+    search on
 
 pub returns-in-Err-clause-follows : goal.returns-in-Err-clause-follows
 returns-in-Err-clause-follows g c =
@@ -93,3 +93,45 @@ returns-in-Forward-clause-outcome g c =
     let how = subst (λ (o : Onward). As c.args.self.now n c.in-Ok-Goes.packet o) c.in-Forward.is goes.1 in
     let on : IsSentOnTo c.args.self.now n b c.in-Ok-Goes.packet c.in-Forward.out c.in-Forward.link = (goes.0, how.0, how.1) in
     sym (forwarded_becomes c.args.self.now n b c.args.self.now.ports c.args.self.now.up refl refl c.in-Ok-Goes.packet c.in-Forward.out c.in-Forward.link on)
+
+pub operation-requires : goal.operation-requires
+operation-requires g c = search
+
+pub returns-in-Response-clause-follows : goal.returns-in-Response-clause-follows
+returns-in-Response-clause-follows g c = c.learn_routes.ensures.follows
+
+pub returns-in-Response-clause-sends : goal.returns-in-Response-clause-sends
+returns-in-Response-clause-sends g c = c.learn_routes.ensures.sends
+
+pub returns-in-Request-clause-follows : goal.returns-in-Request-clause-follows
+returns-in-Request-clause-follows g c = c.answer_routes.ensures.follows
+
+pub returns-in-Request-clause-sends : goal.returns-in-Request-clause-sends
+returns-in-Request-clause-sends g c = c.answer_routes.ensures.sends
+
+pub returns-in-Response-sap-clause-follows : goal.returns-in-Response-sap-clause-follows
+returns-in-Response-sap-clause-follows g c = c.learn_services.ensures.follows
+
+pub returns-in-Response-sap-clause-sends : goal.returns-in-Response-sap-clause-sends
+returns-in-Response-sap-clause-sends g c = c.learn_services.ensures.sends
+
+pub returns-in-Query-clause-follows : goal.returns-in-Query-clause-follows
+returns-in-Query-clause-follows g c = c.answer_services.ensures.follows
+
+pub returns-in-Query-clause-sends : goal.returns-in-Query-clause-sends
+returns-in-Query-clause-sends g c = c.answer_services.ensures.sends
+
+pub returns-in-Propagate-clause-follows : goal.returns-in-Propagate-clause-follows
+returns-in-Propagate-clause-follows g c = c.propagate.ensures.follows
+
+pub returns-in-Propagate-clause-sends : goal.returns-in-Propagate-clause-sends
+returns-in-Propagate-clause-sends g c = c.propagate.ensures.sends
+
+pub returns-in-Forward-clause-follows : goal.returns-in-Forward-clause-follows
+returns-in-Forward-clause-follows g c = c.forward.ensures.follows
+
+pub returns-in-Forward-clause-sends : goal.returns-in-Forward-clause-sends
+returns-in-Forward-clause-sends g c = c.forward.ensures.sends
+
+pub judge-requires : goal.judge-requires
+judge-requires g c = (search, c.requires.port)

@@ -1,4 +1,4 @@
-use Rattle.std.proofs.Common.{rules, ◌≡◌, sym, ap, ◌∙◌, subst, true, false, List, ℕ}
+use Rattle.std.proofs.Common.{◌≡◌, sym, ap, ◌∙◌, subst, true, false, List, ℕ}
 use Rattle.ipx_router.specs.inside.Following.{Follows}
 use Rattle.ipx_router.specs.History.{PortDown}
 use Rattle.ipx_router.proofs.histories.NewRouterStands.{stopped_up}
@@ -14,7 +14,7 @@ take_down-requires g c =
     let there : is_up c.args.self.now.up n ≡ true =
     ap (λ (v : State). is_up v.up n) (sym c.self.view_is) ∙ ap (λ (u : List ℕ). is_up u n) (sym c.deref.ensures.0)
     ∙ sym c.is_up.ensures ∙ c.if-not-is_up.false in
-    search (rules, runs, there)
+    search (runs, there)
 
 pub returns-then-not-self-clause-follows : goal.returns-then-not-self-clause-follows
 returns-then-not-self-clause-follows g c =

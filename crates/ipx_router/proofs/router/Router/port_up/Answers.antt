@@ -1,4 +1,4 @@
-use Rattle.std.proofs.Common.{rules, ◌≡◌, ◌∙◌, sym, ap, subst, ℕ, Bool, true, false, not, ◌&&◌, if◌then◌else◌, List, [], flat_map}
+use Rattle.std.proofs.Common.{◌≡◌, ◌∙◌, sym, ap, subst, ℕ, Bool, true, false, not, ◌&&◌, if◌then◌else◌, List, [], flat_map}
 use Rattle.ipx_router.specs.Facts.{offers}
 use Rattle.ipx_router.specs.inside.Following.{Follows, holding_of, is_next_periodic}
 use Rattle.ipx_router.specs.History.{PortUp}
@@ -70,7 +70,7 @@ bring_up-requires g c =
     let runs : s.running ≡ true = ap (λ (v : State). v.running) (sym c.self.view_is) ∙ c.if-not-self.false in
     let down : is_up s.up n ≡ false =
     ap (λ (v : State). is_up v.up n) (sym c.self.view_is) ∙ ap (λ (u : List ℕ). is_up u n) (sym c.deref.ensures.0) ∙ sym c.is_up.ensures ∙ c.if-is_up.false in
-    (search rules, (c.requires.port, (runs, (down, c.requires.room))))
+    (search, (c.requires.port, (runs, (down, c.requires.room))))
 
 pub returns-clause-follows : goal.returns-clause-follows
 returns-clause-follows g c = c.bring_up.ensures.follows

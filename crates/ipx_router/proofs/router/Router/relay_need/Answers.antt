@@ -1,4 +1,4 @@
-use Rattle.std.proofs.Common.{rules, sym, ap, ◌∙◌, subst, List, ◌≤◌, ◌*◌, length}
+use Rattle.std.proofs.Common.{sym, ap, ◌∙◌, subst, List, ◌≤◌, ◌*◌, length}
 use Rattle.ipx_router.specs.Numbers.{most_ports}
 use Rattle.ipx_router.specs.Relay.{relay_places}
 use Rattle.ipx_router.specs.Port.{Port}
@@ -8,7 +8,7 @@ use Rattle.ipx_router.proofs.router.Router.relay_need.Goals as goal
 pub relay_need-requires : goal.relay_need-requires
 relay_need-requires g c =
     let few : length c.deref.result.now ≤ most_ports = subst (λ (ps : List Port). length ps ≤ most_ports) (sym c.deref.ensures.0) c.self.invariant.few in
-    search (rules, few)
+    search few
 
 pub returns-clause-packets : goal.returns-clause-packets
 returns-clause-packets g c =

@@ -1,4 +1,4 @@
-use Rattle.std.proofs.Common.{rules, ◌≡◌, ◌∙◌, sym, ap, subst, Bool, true, false}
+use Rattle.std.proofs.Common.{◌≡◌, ◌∙◌, sym, ap, subst, Bool, true, false}
 use Rattle.ipx_router.specs.Facts.{offers}
 use Rattle.ipx_router.specs.inside.Following.{Follows, holding_of, is_next_periodic}
 use Rattle.ipx_router.specs.History.{Start}
@@ -33,7 +33,7 @@ pub run-requires : goal.run-requires
 run-requires g c =
     let s = c.args.self.now in
     let runs : s.running ≡ false = ap (λ (v : State). v.running) (sym c.self.view_is) ∙ c.if-self.false in
-    (search rules, (runs, c.requires.room))
+    (search, (runs, c.requires.room))
 
 pub returns-clause-follows : goal.returns-clause-follows
 returns-clause-follows g c = c.run.ensures.follows

@@ -1,4 +1,5 @@
-use Rattle.std.proofs.Common.{rules, ◌∙◌, sym, ap, subst, ℕ, List, ◌++◌, ◌+◌, ◌*◌, ◌≤◌, length, max}
+use Rattle.std.proofs.Common.{refl, ◌∙◌, sym, ap, subst, ℕ, List, ◌++◌, ◌+◌, ◌*◌, ◌≤◌, length, max}
+use Rattle.std.proofs.lemmas.Result.{err_from_is_err_and}
 use Rattle.ipx_router.specs.Happened.{happened}
 use Rattle.ipx_router.specs.Needs.{packets_needed, bytes_needed}
 use Rattle.ipx_router.specs.Outbox.{Memory, HasRoom, TakesRoom, total}
@@ -61,4 +62,76 @@ handle-requires g c =
     let o = c.reserve.new.self in
     let packets = subst (λ (n : ℕ). HasRoom o n c.need-need.result.bytes) c.need-need.ensures.packets c.in_ok-reserve.ensures.room in
     let room = subst (λ (n : ℕ). HasRoom o (packets_needed s event) n) c.need-need.ensures.bytes packets in
-    (search rules, (c.requires.port, room))
+    (search, (c.requires.port, room))
+
+pub need-need-requires : goal.need-need-requires
+need-need-requires g c = search
+
+pub reserve-requires : goal.reserve-requires
+reserve-requires g c = search
+
+pub returns-in_err-reserve-clause-stands : goal.returns-in_err-reserve-clause-stands
+returns-in_err-reserve-clause-stands g c = rw (err_from_is_err_and c.from_residual.result c.from_residual.ensures.1).1 tt
+
+pub returns-in_err-reserve-clause-sends : goal.returns-in_err-reserve-clause-sends
+returns-in_err-reserve-clause-sends g c = rw (err_from_is_err_and c.from_residual.result c.from_residual.ensures.1).1 tt
+
+pub returns-in_err-reserve-clause-outcome : goal.returns-in_err-reserve-clause-outcome
+returns-in_err-reserve-clause-outcome g c = rw (err_from_is_err_and c.from_residual.result c.from_residual.ensures.1).1 tt
+
+pub returns-in_err-reserve-clause-bounds : goal.returns-in_err-reserve-clause-bounds
+returns-in_err-reserve-clause-bounds g c = rw (err_from_is_err_and c.from_residual.result c.from_residual.ensures.1).1 tt
+
+pub returns-in_err-reserve-clause-capacity : goal.returns-in_err-reserve-clause-capacity
+returns-in_err-reserve-clause-capacity g c = rw (err_from_is_err_and c.from_residual.result c.from_residual.ensures.1).1 tt
+
+pub returns-in_err-reserve-clause-route_shares : goal.returns-in_err-reserve-clause-route_shares
+returns-in_err-reserve-clause-route_shares g c = rw (err_from_is_err_and c.from_residual.result c.from_residual.ensures.1).1 tt
+
+pub returns-in_err-reserve-clause-service_shares : goal.returns-in_err-reserve-clause-service_shares
+returns-in_err-reserve-clause-service_shares g c = rw (err_from_is_err_and c.from_residual.result c.from_residual.ensures.1).1 tt
+
+pub returns-in_err-reserve-clause-route_room : goal.returns-in_err-reserve-clause-route_room
+returns-in_err-reserve-clause-route_room g c = rw (err_from_is_err_and c.from_residual.result c.from_residual.ensures.1).1 tt
+
+pub returns-in_err-reserve-clause-service_room : goal.returns-in_err-reserve-clause-service_room
+returns-in_err-reserve-clause-service_room g c = rw (err_from_is_err_and c.from_residual.result c.from_residual.ensures.1).1 tt
+
+pub returns-in_err-reserve-clause-router : goal.returns-in_err-reserve-clause-router
+returns-in_err-reserve-clause-router g c = rw (err_from_is_err_and c.from_residual.result c.from_residual.ensures.1).1 refl
+
+pub returns-in_err-reserve-clause-outbox : goal.returns-in_err-reserve-clause-outbox
+returns-in_err-reserve-clause-outbox g c = rw (err_from_is_err_and c.from_residual.result c.from_residual.ensures.1).1 c.reserve.ensures.sent
+
+pub returns-clause-ports : goal.returns-clause-ports
+returns-clause-ports g c = c.handle.ensures.ports
+
+pub returns-clause-stands : goal.returns-clause-stands
+returns-clause-stands g c = c.handle.ensures.stands
+
+pub returns-clause-outcome : goal.returns-clause-outcome
+returns-clause-outcome g c = c.handle.ensures.outcome
+
+pub returns-clause-capacity : goal.returns-clause-capacity
+returns-clause-capacity g c = c.handle.ensures.capacity
+
+pub returns-clause-route_shares : goal.returns-clause-route_shares
+returns-clause-route_shares g c = c.handle.ensures.route_shares
+
+pub returns-clause-service_shares : goal.returns-clause-service_shares
+returns-clause-service_shares g c = c.handle.ensures.service_shares
+
+pub returns-clause-route_room : goal.returns-clause-route_room
+returns-clause-route_room g c = c.handle.ensures.route_room
+
+pub returns-clause-service_room : goal.returns-clause-service_room
+returns-clause-service_room g c = c.handle.ensures.service_room
+
+pub returns-clause-router : goal.returns-clause-router
+returns-clause-router g c = tt
+
+pub returns-clause-outbox : goal.returns-clause-outbox
+returns-clause-outbox g c = tt
+
+pub returns-clause-bounds : goal.returns-clause-bounds
+returns-clause-bounds g c = rw (sym c.reserve.ensures.sent) c.handle.ensures.bounds

@@ -1,4 +1,4 @@
-use Rattle.std.proofs.Common.{◌<◌, ◌++◌, length, get_or, rules}
+use Rattle.std.proofs.Common.{◌<◌, ◌++◌, length, get_or}
 use Rattle.std.specs.List.{flat_map}
 use Rattle.ipx_table.proofs.Seconds.{all-at}
 use Rattle.ipx_router.specs.inside.Ended.{ended_on, service_ended_on}
@@ -21,7 +21,7 @@ broadcast_routes_with_ended-requires g c =
     (sap_broadcast a.ports.now number (by_name (told_services services number ++ flat_map (service_ended_on number) a.ended_services.now)))
     (next_fits (periodic_sends a.ports.now a.ended.now a.ended_services.now up routes services) up place 0 c.loop-number-test.true c.loop-number.invariant c.requires.room) in
     let within = all-at (λ j. j < length a.ports.now) up place 0 c.loop-number-test.true c.requires.ports in
-    (search rules, (within, (c.requires.ports, (c.requires.few, (c.requires.routes_ascend, room)))))
+    (search, (within, (c.requires.ports, (c.requires.few, (c.requires.routes_ascend, room)))))
 
 pub broadcast_services_with_ended-requires : goal.broadcast_services_with_ended-requires
 broadcast_services_with_ended-requires g c =
@@ -36,7 +36,7 @@ broadcast_services_with_ended-requires g c =
     (next_fits (periodic_sends a.ports.now a.ended.now a.ended_services.now up routes services) up place 0 c.loop-number-test.true c.loop-number.invariant c.requires.room)
     c.broadcast_routes_with_ended.ensures in
     let within = all-at (λ j. j < length a.ports.now) up place 0 c.loop-number-test.true c.requires.ports in
-    (search rules, (within, (c.requires.services_ascend, room)))
+    (search, (within, (c.requires.services_ascend, room)))
 
 pub loop-number-preserved : goal.loop-number-preserved
 loop-number-preserved g c =

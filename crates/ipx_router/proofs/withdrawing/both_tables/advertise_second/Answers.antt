@@ -1,4 +1,4 @@
-use Rattle.std.proofs.Common.{sym, subst, rules}
+use Rattle.std.proofs.Common.{sym, subst}
 use Rattle.ipx_router.specs.inside.Ended.{RoutesAscend, ServicesAscend}
 use Rattle.ipx_router.specs.Facts.{offers}
 use Rattle.ipx_router.specs.Outbox.{Fits, Appends}
@@ -13,7 +13,7 @@ advertise_all-requires g c =
     let room = subst (Fits a.outbox.now)
     (all_as a.ports.now a.up.now (offers a.routes.now.records) (offers a.services.now.records) (sym c.ended-ended.ensures.value) (sym c.ended-ended_services.ensures.value) c.if-periodic.true)
     c.requires.room in
-    (search rules, (search rules, (c.requires.ports, (c.requires.few, (routes_up, (services_up, room))))))
+    (search, (search, (c.requires.ports, (c.requires.few, (routes_up, (services_up, room))))))
 
 pub advertise_ended-requires-clause-routes_ascend : goal.advertise_ended-requires-clause-routes_ascend
 advertise_ended-requires-clause-routes_ascend g c = subst RoutesAscend (sym c.ended-ended.ensures.value) c.requires.routes_ascend

@@ -25,3 +25,24 @@ returns-clause-sends g c =
     (sym (port_down_as a.ports.now a.up.now a.routes.now.records a.services.now.records c.proves_by_key.ensures.routes c.proves_by_key.ensures.services a.port
     (c.ended.ensures.value ∙ c.end_port_in_place.ensures.ended) (c.ended-2.ensures.value ∙ c.end_port_in_place-2.ensures.ended)))
     c.advertise_down.ensures
+
+pub proves_by_key-requires : goal.proves_by_key-requires
+proves_by_key-requires g c = search
+
+pub end_port_in_place-requires : goal.end_port_in_place-requires
+end_port_in_place-requires g c = search
+
+pub end_port_in_place-requires-2 : goal.end_port_in_place-requires-2
+end_port_in_place-requires-2 g c = search
+
+pub ended-requires : goal.ended-requires
+ended-requires g c = search
+
+pub ended-requires-2 : goal.ended-requires-2
+ended-requires-2 g c = search
+
+pub clear_ended-requires : goal.clear_ended-requires
+clear_ended-requires g c = search
+
+pub clear_ended-requires-2 : goal.clear_ended-requires-2
+clear_ended-requires-2 g c = search

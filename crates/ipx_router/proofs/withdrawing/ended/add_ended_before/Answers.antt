@@ -1,4 +1,4 @@
-use Rattle.std.proofs.Common.{rules, List, sym, ◌∙◌, [], ◌++◌}
+use Rattle.std.proofs.Common.{List, sym, ◌∙◌, [], ◌++◌}
 use Rattle.ipx_router.specs.inside.Ended.{ended_as, ends_before, lent}
 use Rattle.ipx_router.specs.Outbox.{Fits}
 use Rattle.ipx_router.specs.inside.Owed.{owed}
@@ -29,7 +29,7 @@ add_ended-requires g c =
           (sym c.is_next.ensures ∙ c.if-not-is_next.false))
           (still_fits c.requires.room.1 (l.invariant.pays later)),
     ) in
-    search (rules, room)
+    search room
 
 pub loop-offer-preserved : goal.loop-offer-preserved
 loop-offer-preserved g c =
