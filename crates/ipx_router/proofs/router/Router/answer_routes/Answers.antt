@@ -1,4 +1,4 @@
-use Rattle.std.proofs.Common.{rules, ◌<◌, ◌≤◌, sym, ap, subst, List, length}
+use Rattle.std.proofs.Common.{arith, rules, ◌<◌, ◌≤◌, sym, ap, subst, List, length}
 use Rattle.std.specs.List.{AllByRecursion}
 use Rattle.ipx_wire.specs.declared.rip.Operation.TheVariants.{Response}
 use Rattle.ipx_router.specs.Facts.{offers}
@@ -57,3 +57,9 @@ returns-clause-sends g c =
     let is : IsHeard s n b (HeardRip c.args.source c.args.rip.now) = subst (λ (v : State). IsHeard v n b (HeardRip c.args.source c.args.rip.now)) (sym c.self.view_is) c.requires.heard in
     subst (λ (v : State). Appends c.args.outbox.now c.answer_request.new.outbox (sends_between v v (Packet n b))) c.self.view_is
     (subst (λ (ps : List Sent). Appends c.args.outbox.now c.answer_request.new.outbox ps) (request_sent g.row.R g.row.S s n b c.deref.result.now c.deref-2.result.now c.deref.ensures.0 c.deref-2.ensures.0 c.args.source passes c.args.rip.now is c.requires.request) c.answer_request.ensures)
+
+pub deref-requires : goal.deref-requires
+deref-requires g c = search arith
+
+pub deref-requires-2 : goal.deref-requires-2
+deref-requires-2 g c = search arith

@@ -1,4 +1,4 @@
-use Rattle.std.proofs.Common.{rules, ◌<◌, refl, sym, ap, subst, if◌then◌else◌, List, length}
+use Rattle.std.proofs.Common.{arith, rules, ◌<◌, refl, sym, ap, subst, if◌then◌else◌, List, length}
 use Rattle.ipx_wire.specs.declared.sap.Sap.TheVariants.{Query}
 use Rattle.ipx_router.specs.Facts.{offers}
 use Rattle.ipx_router.specs.inside.Following.{Follows, sends_between}
@@ -53,3 +53,6 @@ returns-clause-sends g c =
     let is : IsHeard s n b (HeardSap c.args.source (Query c.args.nearest c.args.kind)) = subst (λ (v : State). IsHeard v n b (HeardSap c.args.source (Query c.args.nearest c.args.kind))) (sym c.self.view_is) c.requires.heard in
     subst (λ (v : State). Appends c.args.outbox.now c.answer_query.new.outbox (sends_between v v (Packet n b))) c.self.view_is
     (subst (λ (ps : List Sent). Appends c.args.outbox.now c.answer_query.new.outbox ps) (query_sent g.row.R g.row.S s n b c.deref.result.now s.up c.deref.ensures.0 refl c.args.source passes c.args.nearest c.args.kind is) c.answer_query.ensures)
+
+pub deref-requires : goal.deref-requires
+deref-requires g c = search arith

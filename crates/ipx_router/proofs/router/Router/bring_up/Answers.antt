@@ -80,3 +80,9 @@ returns-clause-follows g c =
     subst (λ (r : Bool). Follows g.row.R g.row.S s (state_of s.ports r ups s.seconds s.routes s.services) (PortUp n)) (sym runs)
     (up_follows g.row.R g.row.S s n ups runs down are) in
     subst (λ (v : State). Follows g.row.R g.row.S v (state_of s.ports s.running ups s.seconds s.routes s.services) (PortUp n)) c.self.view_is step
+
+pub deref-requires : goal.deref-requires
+deref-requires g c = search arith
+
+pub deref-requires-2 : goal.deref-requires-2
+deref-requires-2 g c = search arith

@@ -1,4 +1,4 @@
-use Rattle.std.proofs.Common.{rules, ◌≡◌, ◌<◌, ◌≤◌, sym, ap, ◌∙◌, subst, true, false, map, length}
+use Rattle.std.proofs.Common.{arith, rules, ◌≡◌, ◌<◌, ◌≤◌, sym, ap, ◌∙◌, subst, true, false, map, length}
 use Rattle.std.specs.List.{AllByRecursion, flat_map}
 use Rattle.ipx_router.specs.Facts.{offers}
 use Rattle.ipx_router.specs.inside.Following.{Follows}
@@ -72,3 +72,18 @@ returns-clause-follows g c =
     (state_of s.ports false c.clear.new.self.items s.seconds c.clear-2.new.self.records c.clear-3.new.self.records) Stop) c.self.view_is
     (stop_follows g.row.R g.row.S s tables c.clear.new.self.items s.seconds c.clear-2.new.self.records c.clear-3.new.self.records runs
     c.clear.ensures c.clear-2.ensures.empty c.clear-3.ensures.empty)
+
+pub deref-requires : goal.deref-requires
+deref-requires g c = search arith
+
+pub deref-requires-2 : goal.deref-requires-2
+deref-requires-2 g c = search arith
+
+pub clear-requires : goal.clear-requires
+clear-requires g c = search arith
+
+pub clear-requires-2 : goal.clear-requires-2
+clear-requires-2 g c = search arith
+
+pub clear-requires-3 : goal.clear-requires-3
+clear-requires-3 g c = search arith

@@ -1,4 +1,4 @@
-use Rattle.std.proofs.Common.{rules, ◌≡◌, ◌<◌, ◌*◌, refl, sym, ap, subst, List, map, length}
+use Rattle.std.proofs.Common.{arith, rules, ◌≡◌, ◌<◌, ◌*◌, refl, sym, ap, subst, List, map, length}
 use Rattle.std.specs.List.{AllByRecursion}
 use Rattle.ipx_router.specs.Facts.{offers}
 use Rattle.ipx_router.specs.inside.Following.{Follows, sends_between}
@@ -65,3 +65,9 @@ returns-clause-sends g c =
     let sent = rip_sent g.row.R g.row.S s n b c.deref.result.now c.deref-2.result.now c.deref.ensures.0 c.deref-2.ensures.0 c.args.source passes c.args.rip.now is c.requires.response c.learn_routes.new.table.records in
     subst (λ (v : State). Appends c.args.outbox.now c.learn_routes.new.outbox (sends_between v (state_of s.ports s.running s.up s.seconds c.learn_routes.new.table.records s.services) (Packet n b))) c.self.view_is
     (subst (λ (ps : List Sent). Appends c.args.outbox.now c.learn_routes.new.outbox ps) sent (c.learn_routes.ensures.sent (offers i.services.records)))
+
+pub deref-requires : goal.deref-requires
+deref-requires g c = search arith
+
+pub deref-requires-2 : goal.deref-requires-2
+deref-requires-2 g c = search arith

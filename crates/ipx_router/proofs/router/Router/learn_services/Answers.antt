@@ -1,4 +1,4 @@
-use Rattle.std.proofs.Common.{rules, ◌≡◌, ◌<◌, ◌*◌, refl, sym, ap, subst, List, map, length}
+use Rattle.std.proofs.Common.{arith, rules, ◌≡◌, ◌<◌, ◌*◌, refl, sym, ap, subst, List, map, length}
 use Rattle.std.specs.List.{AllByRecursion}
 use Rattle.ipx_wire.specs.declared.sap.Sap.TheVariants.{Response as SapResponse}
 use Rattle.ipx_router.specs.Facts.{offers}
@@ -66,3 +66,9 @@ returns-clause-sends g c =
     let sent = sap_sent g.row.R g.row.S s n b c.deref.result.now c.deref-2.result.now c.deref.ensures.0 c.deref-2.ensures.0 c.args.source passes c.requires.heard.0 c.args.entries.now is c.learn_services.new.table.records in
     subst (λ (v : State). Appends c.args.outbox.now c.learn_services.new.outbox (sends_between v (state_of s.ports s.running s.up s.seconds s.routes c.learn_services.new.table.records) (Packet n b))) c.self.view_is
     (subst (λ (ps : List Sent). Appends c.args.outbox.now c.learn_services.new.outbox ps) sent (c.learn_services.ensures.sent (offers i.routes.records)))
+
+pub deref-requires : goal.deref-requires
+deref-requires g c = search arith
+
+pub deref-requires-2 : goal.deref-requires-2
+deref-requires-2 g c = search arith

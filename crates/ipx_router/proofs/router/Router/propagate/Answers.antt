@@ -1,4 +1,4 @@
-use Rattle.std.proofs.Common.{rules, ◌<◌, sym, ap, subst, List, length}
+use Rattle.std.proofs.Common.{arith, rules, ◌<◌, sym, ap, subst, List, length}
 use Rattle.std.specs.List.{AllByRecursion, flat_map}
 use Rattle.ipx_router.specs.inside.Following.{Follows, sends_between}
 use Rattle.ipx_router.specs.History.{Packet}
@@ -49,3 +49,9 @@ returns-clause-sends g c =
     let on : IsSentOn s n b c.args.packet.now c.args.crossed.now = subst (λ (v : State). IsSentOn v n b c.args.packet.now c.args.crossed.now) (sym c.self.view_is) c.requires.on in
     subst (λ (v : State). Appends c.args.outbox.now c.propagate.new.outbox (sends_between v v (Packet n b))) c.self.view_is
     (subst (λ (ps : List Sent). Appends c.args.outbox.now c.propagate.new.outbox ps) (propagated_sent s n b c.deref.result.now c.deref-2.result.now c.deref.ensures.0 c.deref-2.ensures.0 c.args.packet.now c.args.crossed.now on) c.propagate.ensures)
+
+pub deref-requires : goal.deref-requires
+deref-requires g c = search arith
+
+pub deref-requires-2 : goal.deref-requires-2
+deref-requires-2 g c = search arith

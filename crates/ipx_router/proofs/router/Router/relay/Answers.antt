@@ -1,4 +1,4 @@
-use Rattle.std.proofs.Common.{rules, true, ◌≡◌, ◌<◌, ◌≤◌, ◌*◌, sym, ap, ◌∙◌, subst, List, ℕ, length}
+use Rattle.std.proofs.Common.{arith, rules, true, ◌≡◌, ◌<◌, ◌≤◌, ◌*◌, sym, ap, ◌∙◌, subst, List, ℕ, length}
 use Rattle.std.specs.List.{AllByRecursion}
 use Rattle.ipx_router.specs.Facts.{offers}
 use Rattle.ipx_router.specs.Outbox.{HasRoom, Appends}
@@ -49,3 +49,9 @@ returns-clause-sends g c =
     ∙ ap (λ (us : List ℕ). relay_sends i.ports.items us (offers i.routes.records) i.running n p) c.deref-2.ensures.0
     ∙ ap (λ (v : State). relay_sends v.ports v.up (offers v.routes) v.running n p) c.self.view_is)
     c.relay.ensures.sends
+
+pub deref-requires : goal.deref-requires
+deref-requires g c = search arith
+
+pub deref-requires-2 : goal.deref-requires-2
+deref-requires-2 g c = search arith

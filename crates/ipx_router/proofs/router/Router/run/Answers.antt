@@ -66,3 +66,12 @@ returns-clause-sends g c =
     (stopped_services g.row.R g.row.S s i.routes.shares i.services.shares c.self.invariant halted) in
     subst (λ (v : State). Appends c.args.outbox.now c.introduce_all.new.outbox (sends_between v (state_of s.ports true ups 0 s.routes s.services) Start)) c.self.view_is
     (subst (λ (ps : List Sent). Appends c.args.outbox.now c.introduce_all.new.outbox ps) (given ∙ sent) c.introduce_all.ensures)
+
+pub len-requires : goal.len-requires
+len-requires g c = search arith
+
+pub deref-requires : goal.deref-requires
+deref-requires g c = search arith
+
+pub deref-requires-2 : goal.deref-requires-2
+deref-requires-2 g c = search arith

@@ -1,4 +1,4 @@
-use Rattle.std.proofs.Common.{rules, ◌≡◌, ◌<◌, ◌==◌, refl, sym, ap, ◌∙◌, subst, not, Bool, true, List, ℕ, map, filter, length}
+use Rattle.std.proofs.Common.{arith, rules, ◌≡◌, ◌<◌, ◌==◌, refl, sym, ap, ◌∙◌, subst, not, Bool, true, List, ℕ, map, filter, length}
 use Rattle.std.specs.List.{AllByRecursion}
 use Rattle.ipx_router.specs.inside.EndedSends.{port_down_sends}
 use Rattle.ipx_router.specs.inside.Following.{Follows, sends_between}
@@ -114,3 +114,12 @@ returns-clause-sends g c =
     subst (λ (v : State). Appends c.args.outbox.now c.end_port.new.outbox (sends_between v (state_of s.ports s.running ups s.seconds routes services) (PortDown n))) c.self.view_is
     (subst (λ (ps : List Sent). Appends c.args.outbox.now c.end_port.new.outbox ps)
     (given ∙ down_sent s n ups routes services runs there c.end_port.ensures.routes c.end_port.ensures.services) c.end_port.ensures.sends)
+
+pub deref-requires : goal.deref-requires
+deref-requires g c = search arith
+
+pub deref-requires-2 : goal.deref-requires-2
+deref-requires-2 g c = search arith
+
+pub deref-requires-3 : goal.deref-requires-3
+deref-requires-3 g c = search arith

@@ -90,3 +90,9 @@ returns-clause-sends g c =
     subst (λ (v : State). Appends c.args.outbox.now c.pass_second.new.outbox (sends_between v (state_of s.ports s.running s.up later routes services) Second)) c.self.view_is
     (subst (λ (ps : List Sent). Appends c.args.outbox.now c.pass_second.new.outbox ps)
     (given ∙ second_sent s later routes services runs c.pass_second.ensures.routes c.pass_second.ensures.services) c.pass_second.ensures.sends)
+
+pub deref-requires : goal.deref-requires
+deref-requires g c = search arith
+
+pub deref-requires-2 : goal.deref-requires-2
+deref-requires-2 g c = search arith

@@ -41,3 +41,9 @@ returns-else-periodic g c =
     subst (Appends a.outbox.now c.advertise_ended.new.outbox)
     (sym (all_as a.ports.now a.up.now (offers a.routes.now.records) (offers a.services.now.records) (sym c.ended-ended.ensures.value) (sym c.ended-ended_services.ensures.value) c.if-periodic.false))
     c.advertise_ended.ensures
+
+pub ended-ended-requires : goal.ended-ended-requires
+ended-ended-requires g c = search
+
+pub ended-ended_services-requires : goal.ended-ended_services-requires
+ended-ended_services-requires g c = search
