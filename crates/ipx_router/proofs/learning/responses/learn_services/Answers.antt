@@ -28,3 +28,6 @@ returns-then-is_empty-clause-sent g c = λ routes.
     (sym (none_each (λ j. sap_broadcast a.ports.now j []) (λ j. refl) a.up.now)
     ∙ service_news a.ports.now a.up.now routes before after [] (no_service_change before after c.offer_services-touched.result.items none c.offer_services-touched.ensures.touches))
     (appends_none a.outbox.now)
+
+pub offer_services-touched-requires : goal.offer_services-touched-requires
+offer_services-touched-requires g c = search

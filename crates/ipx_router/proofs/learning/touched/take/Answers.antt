@@ -33,3 +33,9 @@ returns-clause-touches g c = λ exact before old.
     let is = c.exchange-exchanged.ensures.after ∙ sym (found (λ o. is_eq (order (key_of o) key)) new) in
     c.note.ensures.touches before (offers now) (offers new) old was is
     (λ other apart. offers_stay key_of order total now new other (c.exchange-exchanged.ensures.others other apart))
+
+pub exchange-exchanged-requires : goal.exchange-exchanged-requires
+exchange-exchanged-requires g c = search
+
+pub note-requires : goal.note-requires
+note-requires g c = search

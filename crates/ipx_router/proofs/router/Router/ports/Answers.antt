@@ -1,4 +1,4 @@
-use Rattle.std.proofs.Common.{sym, ap, ◌∙◌, subst, ℕ, ◌≤◌, length}
+use Rattle.std.proofs.Common.{arith, sym, ap, ◌∙◌, subst, ℕ, ◌≤◌, length}
 use Rattle.ipx_router.specs.Numbers.{most_ports}
 use Rattle.ipx_router.specs.Port.{AreApart}
 use Rattle.ipx_router.specs.Stands.{State}
@@ -15,3 +15,6 @@ returns-clause-few g c = subst (λ (n : ℕ). n ≤ most_ports) (sym c.len.ensur
 
 pub returns-clause-apart : goal.returns-clause-apart
 returns-clause-apart g c = subst (λ (v : State). AreApart v.ports) c.self.view_is c.self.invariant.apart
+
+pub len-requires : goal.len-requires
+len-requires g c = search arith
