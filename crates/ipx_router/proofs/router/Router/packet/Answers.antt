@@ -97,41 +97,5 @@ returns-in-Forward-clause-outcome g c =
 pub operation-requires : goal.operation-requires
 operation-requires g c = search
 
-pub returns-in-Response-clause-follows : goal.returns-in-Response-clause-follows
-returns-in-Response-clause-follows g c = c.learn_routes.ensures.follows
-
-pub returns-in-Response-clause-sends : goal.returns-in-Response-clause-sends
-returns-in-Response-clause-sends g c = c.learn_routes.ensures.sends
-
-pub returns-in-Request-clause-follows : goal.returns-in-Request-clause-follows
-returns-in-Request-clause-follows g c = c.answer_routes.ensures.follows
-
-pub returns-in-Request-clause-sends : goal.returns-in-Request-clause-sends
-returns-in-Request-clause-sends g c = c.answer_routes.ensures.sends
-
-pub returns-in-Response-sap-clause-follows : goal.returns-in-Response-sap-clause-follows
-returns-in-Response-sap-clause-follows g c = c.learn_services.ensures.follows
-
-pub returns-in-Response-sap-clause-sends : goal.returns-in-Response-sap-clause-sends
-returns-in-Response-sap-clause-sends g c = c.learn_services.ensures.sends
-
-pub returns-in-Query-clause-follows : goal.returns-in-Query-clause-follows
-returns-in-Query-clause-follows g c = c.answer_services.ensures.follows
-
-pub returns-in-Query-clause-sends : goal.returns-in-Query-clause-sends
-returns-in-Query-clause-sends g c = c.answer_services.ensures.sends
-
-pub returns-in-Propagate-clause-follows : goal.returns-in-Propagate-clause-follows
-returns-in-Propagate-clause-follows g c = c.propagate.ensures.follows
-
-pub returns-in-Propagate-clause-sends : goal.returns-in-Propagate-clause-sends
-returns-in-Propagate-clause-sends g c = c.propagate.ensures.sends
-
-pub returns-in-Forward-clause-follows : goal.returns-in-Forward-clause-follows
-returns-in-Forward-clause-follows g c = c.forward.ensures.follows
-
-pub returns-in-Forward-clause-sends : goal.returns-in-Forward-clause-sends
-returns-in-Forward-clause-sends g c = c.forward.ensures.sends
-
 pub judge-requires : goal.judge-requires
 judge-requires g c = (search, c.requires.port)
