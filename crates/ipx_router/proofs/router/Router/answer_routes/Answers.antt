@@ -1,4 +1,4 @@
-use Rattle.std.proofs.Common.{arith, rules, ◌<◌, ◌≤◌, sym, ap, subst, List, length}
+use Rattle.std.proofs.Common.{arith, ◌<◌, ◌≤◌, sym, ap, subst, List, length}
 use Rattle.std.specs.List.{AllByRecursion}
 use Rattle.ipx_wire.specs.declared.rip.Operation.TheVariants.{Response}
 use Rattle.ipx_router.specs.Facts.{offers}
@@ -35,7 +35,7 @@ answer_request-requires g c =
     let there : n < length c.deref.result.now = rw c.deref.ensures.0 within in
     let all : AllByRecursion (λ j. j < length c.deref.result.now) c.deref-2.result.now = rw (c.deref.ensures.0, c.deref-2.ensures.0) (ups_within g.row.R g.row.S s i.routes.shares i.services.shares c.self.invariant) in
     let few : length c.deref-2.result.now ≤ 32 = rw c.deref-2.ensures.0 (few_ups g.row.R g.row.S s i.routes.shares i.services.shares c.self.invariant) in
-    search (rules, room, there, all, few)
+    (grind arith, search (room, there, all, few))
 
 pub returns-clause-follows : goal.returns-clause-follows
 returns-clause-follows g c =
@@ -59,7 +59,7 @@ returns-clause-sends g c =
     (subst (λ (ps : List Sent). Appends c.args.outbox.now c.answer_request.new.outbox ps) (request_sent g.row.R g.row.S s n b c.deref.result.now c.deref-2.result.now c.deref.ensures.0 c.deref-2.ensures.0 c.args.source passes c.args.rip.now is c.requires.request) c.answer_request.ensures)
 
 pub deref-requires : goal.deref-requires
-deref-requires g c = search arith
+deref-requires g c = grind arith
 
 pub deref-requires-2 : goal.deref-requires-2
-deref-requires-2 g c = search arith
+deref-requires-2 g c = grind arith

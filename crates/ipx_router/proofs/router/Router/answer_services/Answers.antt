@@ -1,4 +1,4 @@
-use Rattle.std.proofs.Common.{arith, rules, ◌<◌, refl, sym, ap, subst, if◌then◌else◌, List, length}
+use Rattle.std.proofs.Common.{arith, ◌<◌, refl, sym, ap, subst, if◌then◌else◌, List, length}
 use Rattle.ipx_wire.specs.declared.sap.Sap.TheVariants.{Query}
 use Rattle.ipx_router.specs.Facts.{offers}
 use Rattle.ipx_router.specs.inside.Following.{Follows, sends_between}
@@ -31,7 +31,7 @@ answer_query-requires g c =
     let fits = event_fits g.row.R g.row.S s i.routes.shares i.services.shares c.self.invariant s (Packet n b) within c.proves_bytes.ensures step (record { few = c.bounds.ensures.few; short = c.bounds.ensures.short }) c.args.outbox.now need in
     let room : Fits c.args.outbox.now (let found = of_kind c.args.kind (told_services (offers i.services.records) n) in sap_sends c.deref.result.now n (reply_to (port_at c.deref.result.now n) c.args.source) c.args.nearest (if c.args.nearest then nearest_of found else found)) = subst (λ (ps : List Sent). Fits c.args.outbox.now ps) (sym (query_sent g.row.R g.row.S s n b c.deref.result.now s.up c.deref.ensures.0 refl c.args.source passes c.args.nearest c.args.kind is)) fits in
     let there : n < length c.deref.result.now = rw c.deref.ensures.0 within in
-    search (rules, room, there)
+    (grind arith, search (room, there))
 
 pub returns-clause-follows : goal.returns-clause-follows
 returns-clause-follows g c =
@@ -55,4 +55,4 @@ returns-clause-sends g c =
     (subst (λ (ps : List Sent). Appends c.args.outbox.now c.answer_query.new.outbox ps) (query_sent g.row.R g.row.S s n b c.deref.result.now s.up c.deref.ensures.0 refl c.args.source passes c.args.nearest c.args.kind is) c.answer_query.ensures)
 
 pub deref-requires : goal.deref-requires
-deref-requires g c = search arith
+deref-requires g c = grind arith

@@ -1,4 +1,4 @@
-use Rattle.std.proofs.Common.{rules, ◌≡◌, ◌<◌, ◌≤◌, refl, sym, ap, ◌∙◌, subst, nat_lt, Bool, true, false, length, arith}
+use Rattle.std.proofs.Common.{◌≡◌, ◌<◌, ◌≤◌, refl, sym, ap, ◌∙◌, subst, nat_lt, Bool, true, false, length, arith}
 use Rattle.std.specs.List.{AllByRecursion, flat_map}
 use Rattle.ipx_router.specs.Facts.{offers}
 use Rattle.ipx_router.specs.inside.Following.{Follows}
@@ -48,7 +48,7 @@ send_port_up-requires g c =
     (within_put (length s.ports) n s.up within (ups_within g.row.R g.row.S s i.routes.shares i.services.shares c.self.invariant)) in
     let least : length s.up < 32 = room_for_one g.row.R g.row.S s i.routes.shares i.services.shares c.self.invariant n within runs down in
     let few : length c.deref-3.result.now ≤ 32 = omega (arith, ap length c.deref-3.ensures.0, ap length are, length-put_number n s.up, least) in
-    search (rules, room, there, all, few)
+    (grind arith, (grind arith, search (room, there, all, few)))
 
 pub invariant_of-self : goal.invariant_of-self
 invariant_of-self g c =
@@ -82,7 +82,7 @@ returns-clause-follows g c =
     subst (λ (v : State). Follows g.row.R g.row.S v (state_of s.ports s.running ups s.seconds s.routes s.services) (PortUp n)) c.self.view_is step
 
 pub deref-requires : goal.deref-requires
-deref-requires g c = search arith
+deref-requires g c = grind arith
 
 pub deref-requires-2 : goal.deref-requires-2
-deref-requires-2 g c = search arith
+deref-requires-2 g c = grind arith

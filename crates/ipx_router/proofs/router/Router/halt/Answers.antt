@@ -1,4 +1,4 @@
-use Rattle.std.proofs.Common.{arith, rules, ◌≡◌, ◌<◌, ◌≤◌, sym, ap, ◌∙◌, subst, true, false, map, length}
+use Rattle.std.proofs.Common.{arith, ◌≡◌, ◌<◌, ◌≤◌, sym, ap, ◌∙◌, subst, true, false, map, length}
 use Rattle.std.specs.List.{AllByRecursion, flat_map}
 use Rattle.ipx_router.specs.Facts.{offers}
 use Rattle.ipx_router.specs.inside.Following.{Follows}
@@ -34,7 +34,7 @@ send_stop-requires g c =
     let within : AllByRecursion (λ j. j < length c.deref.result.now) c.deref-2.result.now =
     rw (c.deref.ensures.0, c.deref-2.ensures.0) (ups_within g.row.R g.row.S s i.routes.shares i.services.shares c.self.invariant) in
     let few : length c.deref-2.result.now ≤ 32 = rw c.deref-2.ensures.0 (few_ups g.row.R g.row.S s i.routes.shares i.services.shares c.self.invariant) in
-    search (rules, room, within, few)
+    (grind arith, (grind arith, search (room, within, few)))
 
 pub invariant_of-self : goal.invariant_of-self
 invariant_of-self g c =
@@ -74,16 +74,16 @@ returns-clause-follows g c =
     c.clear.ensures c.clear-2.ensures.empty c.clear-3.ensures.empty)
 
 pub deref-requires : goal.deref-requires
-deref-requires g c = search arith
+deref-requires g c = grind arith
 
 pub deref-requires-2 : goal.deref-requires-2
-deref-requires-2 g c = search arith
+deref-requires-2 g c = grind arith
 
 pub clear-requires : goal.clear-requires
-clear-requires g c = search arith
+clear-requires g c = grind arith
 
 pub clear-requires-2 : goal.clear-requires-2
-clear-requires-2 g c = search arith
+clear-requires-2 g c = grind arith
 
 pub clear-requires-3 : goal.clear-requires-3
-clear-requires-3 g c = search arith
+clear-requires-3 g c = grind arith

@@ -1,4 +1,4 @@
-use Rattle.std.proofs.Common.{rules, ◌≡◌, ◌<◌, ap, subst, ℕ, true, List, length, Some, IfOk, IfErr}
+use Rattle.std.proofs.Common.{rules, arith, ◌≡◌, ◌<◌, ap, subst, ℕ, true, List, length, Some, IfOk, IfErr}
 use Rattle.std.specs.List.{AllByRecursion}
 use Rattle.ipx_router.specs.Facts.{offers}
 use Rattle.ipx_router.specs.inside.Judged.{IsVerdict}
@@ -42,3 +42,9 @@ returns-clause-verdict g c =
     (subst (λ (ps : List Port). IfOk c.judge.result (IsVerdict ps s.up (offers s.routes) s.running n b)) c.deref.ensures.0
     (subst (λ (us : List ℕ). IfOk c.judge.result (IsVerdict c.deref.result.now us (offers s.routes) s.running n b)) c.deref-2.ensures.0
     c.judge.ensures.verdict))
+
+pub deref-requires : goal.deref-requires
+deref-requires g c = grind arith
+
+pub deref-requires-2 : goal.deref-requires-2
+deref-requires-2 g c = grind arith

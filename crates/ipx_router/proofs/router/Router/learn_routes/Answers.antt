@@ -1,4 +1,4 @@
-use Rattle.std.proofs.Common.{arith, rules, ◌≡◌, ◌<◌, ◌*◌, refl, sym, ap, subst, List, map, length}
+use Rattle.std.proofs.Common.{rules, arith, ◌≡◌, ◌<◌, ◌*◌, refl, sym, ap, subst, List, map, length}
 use Rattle.std.specs.List.{AllByRecursion}
 use Rattle.ipx_router.specs.Facts.{offers}
 use Rattle.ipx_router.specs.inside.Following.{Follows, sends_between}
@@ -67,7 +67,7 @@ returns-clause-sends g c =
     (subst (λ (ps : List Sent). Appends c.args.outbox.now c.learn_routes.new.outbox ps) sent (c.learn_routes.ensures.sent (offers i.services.records)))
 
 pub deref-requires : goal.deref-requires
-deref-requires g c = search arith
+deref-requires g c = grind arith
 
 pub deref-requires-2 : goal.deref-requires-2
-deref-requires-2 g c = search arith
+deref-requires-2 g c = grind arith

@@ -1,4 +1,4 @@
-use Rattle.std.proofs.Common.{arith, rules, ◌≡◌, ◌<◌, ◌*◌, refl, sym, ap, subst, List, map, length}
+use Rattle.std.proofs.Common.{arith, ◌≡◌, ◌<◌, ◌*◌, refl, sym, ap, subst, List, map, length}
 use Rattle.std.specs.List.{AllByRecursion}
 use Rattle.ipx_wire.specs.declared.sap.Sap.TheVariants.{Response as SapResponse}
 use Rattle.ipx_router.specs.Facts.{offers}
@@ -29,7 +29,7 @@ learn_services-requires g c =
     let all : AllByRecursion (λ j. j < length c.deref.result.now) c.deref-2.result.now = rw (c.deref.ensures.0, c.deref-2.ensures.0) (ups_within g.row.R g.row.S s i.routes.shares i.services.shares c.self.invariant) in
     let room : HasRoom c.args.outbox.now (length c.deref-2.result.now) (length c.deref-2.result.now * most_own_length) =
     rw c.deref-2.ensures.0 (learn_room (length s.ports) (length s.routes) (length s.services) n b s.up (ups_fit g.row.R g.row.S s i.routes.shares i.services.shares c.self.invariant) need) in
-    search (rules, shares, all, room)
+    (grind arith, search (shares, all, room))
 
 pub invariant_of-self : goal.invariant_of-self
 invariant_of-self g c =
@@ -68,7 +68,7 @@ returns-clause-sends g c =
     (subst (λ (ps : List Sent). Appends c.args.outbox.now c.learn_services.new.outbox ps) sent (c.learn_services.ensures.sent (offers i.routes.records)))
 
 pub deref-requires : goal.deref-requires
-deref-requires g c = search arith
+deref-requires g c = grind arith
 
 pub deref-requires-2 : goal.deref-requires-2
-deref-requires-2 g c = search arith
+deref-requires-2 g c = grind arith

@@ -43,10 +43,19 @@ returns-clause-bytes g c =
     c.most_need_of.ensures.bytes ∙ ap (λ k. bytes_ever k g.row.R g.row.S c.args.longest) ports
 
 pub most_need_of-requires-clause-some : goal.most_need_of-requires-clause-some
-most_need_of-requires-clause-some g c = search arith
+most_need_of-requires-clause-some g c = grind arith
 
 pub most_need_of-requires-clause-few_routes : goal.most_need_of-requires-clause-few_routes
-most_need_of-requires-clause-few_routes g c = search arith
+most_need_of-requires-clause-few_routes g c = grind arith
 
 pub most_need_of-requires-clause-few_services : goal.most_need_of-requires-clause-few_services
-most_need_of-requires-clause-few_services g c = search arith
+most_need_of-requires-clause-few_services g c = grind arith
+
+pub len-requires : goal.len-requires
+len-requires g c = grind arith
+
+pub most_need_of-requires-clause-few : goal.most_need_of-requires-clause-few
+most_need_of-requires-clause-few g c = grind arith
+
+pub readings-requires : goal.readings-requires
+readings-requires g c = search

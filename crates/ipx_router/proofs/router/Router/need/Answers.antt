@@ -36,16 +36,16 @@ returns-clause-bytes g c =
     ∙ ap (λ (n : ℕ). most_packets (length s.ports) (length s.routes) n event * most_length event) services
 
 pub len-requires : goal.len-requires
-len-requires g c = search arith
+len-requires g c = grind arith
 
 pub len-requires-2 : goal.len-requires-2
-len-requires-2 g c = search arith
+len-requires-2 g c = grind arith
 
 pub len-requires-3 : goal.len-requires-3
-len-requires-3 g c = search arith
+len-requires-3 g c = grind arith
 
 pub need_of-requires-clause-few_routes : goal.need_of-requires-clause-few_routes
-need_of-requires-clause-few_routes g c = search arith
+need_of-requires-clause-few_routes g c = grind arith
 
 pub need_of-requires-clause-few_services : goal.need_of-requires-clause-few_services
-need_of-requires-clause-few_services g c = search arith
+need_of-requires-clause-few_services g c = grind arith

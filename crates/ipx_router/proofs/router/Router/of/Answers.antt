@@ -15,19 +15,28 @@ returns-clause-stands g c =
     (search rules) (search rules) (search rules) (search rules)
 
 pub copy_of-requires : goal.copy_of-requires
-copy_of-requires g c = search arith
+copy_of-requires g c = grind arith
 
 pub new-requires : goal.new-requires
-new-requires g c = search arith
+new-requires g c = grind arith
 
 pub deref-requires : goal.deref-requires
-deref-requires g c = search arith
+deref-requires g c = grind arith
 
 pub deref-requires-2 : goal.deref-requires-2
-deref-requires-2 g c = search arith
+deref-requires-2 g c = grind arith
 
 pub with_shares-requires : goal.with_shares-requires
-with_shares-requires g c = search arith
+with_shares-requires g c = grind arith
 
 pub with_shares-requires-2 : goal.with_shares-requires-2
-with_shares-requires-2 g c = search arith
+with_shares-requires-2 g c = grind arith
+
+pub route_shares-route_shares-requires : goal.route_shares-route_shares-requires
+route_shares-route_shares-requires g c = grind arith
+
+pub service_shares-service_shares-requires : goal.service_shares-service_shares-requires
+service_shares-service_shares-requires g c = grind arith
+
+pub proves_ports-requires : goal.proves_ports-requires
+proves_ports-requires g c = search

@@ -17,4 +17,4 @@ pub returns-clause-apart : goal.returns-clause-apart
 returns-clause-apart g c = subst (λ (v : State). AreApart v.ports) c.self.view_is c.self.invariant.apart
 
 pub len-requires : goal.len-requires
-len-requires g c = search arith
+len-requires g c = grind arith

@@ -51,7 +51,7 @@ returns-clause-sends g c =
     (subst (λ (ps : List Sent). Appends c.args.outbox.now c.propagate.new.outbox ps) (propagated_sent s n b c.deref.result.now c.deref-2.result.now c.deref.ensures.0 c.deref-2.ensures.0 c.args.packet.now c.args.crossed.now on) c.propagate.ensures)
 
 pub deref-requires : goal.deref-requires
-deref-requires g c = search arith
+deref-requires g c = grind arith
 
 pub deref-requires-2 : goal.deref-requires-2
-deref-requires-2 g c = search arith
+deref-requires-2 g c = grind arith

@@ -51,7 +51,7 @@ returns-clause-sends g c =
     c.relay.ensures.sends
 
 pub deref-requires : goal.deref-requires
-deref-requires g c = search arith
+deref-requires g c = grind arith
 
 pub deref-requires-2 : goal.deref-requires-2
-deref-requires-2 g c = search arith
+deref-requires-2 g c = grind arith

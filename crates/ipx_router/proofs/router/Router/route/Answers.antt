@@ -1,4 +1,4 @@
-use Rattle.std.proofs.Common.{ap, ◌∙◌}
+use Rattle.std.proofs.Common.{arith, ap, ◌∙◌}
 use Rattle.ipx_table.specs.Stands.{record_of}
 use Rattle.ipx_router.specs.Routes.{network_order}
 use Rattle.ipx_router.specs.Stands.{State}
@@ -9,3 +9,6 @@ returns-clause-value g c = c.get.ensures.value ∙ ap (λ (v : State). record_of
 
 pub returns-clause-young : goal.returns-clause-young
 returns-clause-young g c = c.get.ensures.young
+
+pub get-requires : goal.get-requires
+get-requires g c = grind arith

@@ -1,4 +1,4 @@
-use Rattle.std.proofs.Common.{rules, ◌≡◌, ◌<◌, ◌≤◌, refl, sym, ap, ◌∙◌, subst, true, false, List, length, arith, lit<}
+use Rattle.std.proofs.Common.{◌≡◌, ◌<◌, ◌≤◌, refl, sym, ap, ◌∙◌, subst, true, false, List, length, arith, lit<}
 use Rattle.std.specs.List.{AllByRecursion, flat_map}
 use Rattle.ipx_router.specs.Facts.{offers}
 use Rattle.ipx_router.specs.inside.Following.{Follows, sends_between}
@@ -32,7 +32,7 @@ introduce_all-requires g c =
     rw (c.deref.ensures.0, c.deref-2.ensures.0, are) (numbers_below (length i.ports.items)) in
     let most = c.self.invariant.few in
     let few : length c.deref-2.result.now ≤ 32 = omega (arith, ap length c.deref-2.ensures.0, ap length are, length-numbers (length i.ports.items), most) in
-    search (rules, room, within, few)
+    (grind arith, (grind arith, search (room, within, few)))
 
 pub invariant_of-self : goal.invariant_of-self
 invariant_of-self g c =
@@ -68,10 +68,13 @@ returns-clause-sends g c =
     (subst (λ (ps : List Sent). Appends c.args.outbox.now c.introduce_all.new.outbox ps) (given ∙ sent) c.introduce_all.ensures)
 
 pub len-requires : goal.len-requires
-len-requires g c = search arith
+len-requires g c = grind arith
 
 pub deref-requires : goal.deref-requires
-deref-requires g c = search arith
+deref-requires g c = grind arith
 
 pub deref-requires-2 : goal.deref-requires-2
-deref-requires-2 g c = search arith
+deref-requires-2 g c = grind arith
+
+pub numbers_below-up-requires : goal.numbers_below-up-requires
+numbers_below-up-requires g c = grind arith

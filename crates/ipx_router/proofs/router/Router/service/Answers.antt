@@ -11,4 +11,4 @@ pub returns-clause-young : goal.returns-clause-young
 returns-clause-young g c = c.get.ensures.young
 
 pub get-requires : goal.get-requires
-get-requires g c = search arith
+get-requires g c = grind arith

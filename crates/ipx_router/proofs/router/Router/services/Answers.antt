@@ -9,4 +9,4 @@ pub returns-clause-fits : goal.returns-clause-fits
 returns-clause-fits g c = c.len.ensures.fits
 
 pub len-requires : goal.len-requires
-len-requires g c = search arith
+len-requires g c = grind arith

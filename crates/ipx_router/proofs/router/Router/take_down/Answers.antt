@@ -1,4 +1,4 @@
-use Rattle.std.proofs.Common.{arith, rules, ◌≡◌, ◌<◌, ◌==◌, refl, sym, ap, ◌∙◌, subst, not, Bool, true, List, ℕ, map, filter, length}
+use Rattle.std.proofs.Common.{arith, ◌≡◌, ◌<◌, ◌==◌, refl, sym, ap, ◌∙◌, subst, not, Bool, true, List, ℕ, map, filter, length}
 use Rattle.std.specs.List.{AllByRecursion}
 use Rattle.ipx_router.specs.inside.EndedSends.{port_down_sends}
 use Rattle.ipx_router.specs.inside.Following.{Follows, sends_between}
@@ -44,7 +44,7 @@ end_port-requires g c =
     let exists : n < length c.deref-2.result.now = rw c.deref-2.ensures.0 within in
     let all : AllByRecursion (λ j. j < length c.deref-2.result.now) c.deref-3.result.now =
     rw (c.deref-2.ensures.0, c.deref-3.ensures.0, are) (within_filter (length s.ports) n s.up (ups_within g.row.R g.row.S s i.routes.shares i.services.shares c.self.invariant)) in
-    search (rules, room, exists, all)
+    (grind arith, (grind arith, search (room, exists, all)))
 
 pub invariant_of-self : goal.invariant_of-self
 invariant_of-self g c =
@@ -116,10 +116,10 @@ returns-clause-sends g c =
     (given ∙ down_sent s n ups routes services runs there c.end_port.ensures.routes c.end_port.ensures.services) c.end_port.ensures.sends)
 
 pub deref-requires : goal.deref-requires
-deref-requires g c = search arith
+deref-requires g c = grind arith
 
 pub deref-requires-2 : goal.deref-requires-2
-deref-requires-2 g c = search arith
+deref-requires-2 g c = grind arith
 
 pub deref-requires-3 : goal.deref-requires-3
-deref-requires-3 g c = search arith
+deref-requires-3 g c = grind arith

@@ -1,4 +1,4 @@
-use Rattle.std.proofs.Common.{rules, ◌≡◌, ◌<◌, ◌≤◌, ◌+◌, ◌%◌, ◌==◌, refl, sym, ap, ◌∙◌, subst, Bool, true, List, map, length, arith}
+use Rattle.std.proofs.Common.{◌≡◌, ◌<◌, ◌≤◌, ◌+◌, ◌%◌, ◌==◌, refl, sym, ap, ◌∙◌, subst, Bool, true, List, map, length, arith}
 use Rattle.std.specs.List.{AllByRecursion}
 use Rattle.ipx_router.specs.inside.EndedSends.{second_sends}
 use Rattle.ipx_router.specs.inside.Following.{Follows, is_next_periodic, sends_between}
@@ -31,7 +31,7 @@ pass_second-requires g c =
     rw (c.deref.ensures.0, c.deref-2.ensures.0) fits in
     let within : AllByRecursion (λ j. j < length c.deref.result.now) c.deref-2.result.now = rw (c.deref.ensures.0, c.deref-2.ensures.0) (ups_within g.row.R g.row.S s i.routes.shares i.services.shares c.self.invariant) in
     let few : length c.deref-2.result.now ≤ 32 = rw c.deref-2.ensures.0 (few_ups g.row.R g.row.S s i.routes.shares i.services.shares c.self.invariant) in
-    search (rules, room, within, few)
+    (grind arith, (grind arith, search (room, within, few)))
 
 pub invariant_of-self : goal.invariant_of-self
 invariant_of-self g c =
@@ -92,7 +92,7 @@ returns-clause-sends g c =
     (given ∙ second_sent s later routes services runs c.pass_second.ensures.routes c.pass_second.ensures.services) c.pass_second.ensures.sends)
 
 pub deref-requires : goal.deref-requires
-deref-requires g c = search arith
+deref-requires g c = grind arith
 
 pub deref-requires-2 : goal.deref-requires-2
-deref-requires-2 g c = search arith
+deref-requires-2 g c = grind arith
