@@ -45,3 +45,24 @@ returns-in-Some-Forward-clause-bounds g c =
 
 pub returns-in-None-clause-bounds : goal.returns-in-None-clause-bounds
 returns-in-None-clause-bounds g c = record { packets = []; appended = sym (append-nil c.args.outbox.now.sent); few = omega arith; short = tt }
+
+pub propagate-requires-clause-listed : goal.propagate-requires-clause-listed
+propagate-requires-clause-listed g c = grind arith
+
+pub append_forwarded-requires-clause-control : goal.append_forwarded-requires-clause-control
+append_forwarded-requires-clause-control g c = grind arith
+
+pub returns-in-Some-Propagate-clause-outcome : goal.returns-in-Some-Propagate-clause-outcome
+returns-in-Some-Propagate-clause-outcome g c = grind arith
+
+pub returns-in-Some-Propagate-clause-sends : goal.returns-in-Some-Propagate-clause-sends
+returns-in-Some-Propagate-clause-sends g c = grind arith
+
+pub returns-in-Some-Forward-clause-outcome : goal.returns-in-Some-Forward-clause-outcome
+returns-in-Some-Forward-clause-outcome g c = grind arith
+
+pub returns-in-Some-Forward-clause-sends : goal.returns-in-Some-Forward-clause-sends
+returns-in-Some-Forward-clause-sends g c = grind arith
+
+pub returns-in-None-clause-outcome : goal.returns-in-None-clause-outcome
+returns-in-None-clause-outcome g c = grind arith
