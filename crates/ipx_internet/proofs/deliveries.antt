@@ -4,6 +4,7 @@ pub mod BatchPacketByPacket
 pub mod FewDeliveriesAnEvent
 pub mod FirstIsHandedOut
 pub mod OtherRoutersStay
+pub mod PortsAtANumber
 pub mod QueueOfARun
 pub mod SettledOneByOne
 pub mod WaitsAfterDelivery
