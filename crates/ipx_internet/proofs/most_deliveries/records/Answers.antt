@@ -1,4 +1,4 @@
-use Rattle.std.proofs.Common.{ap, drop, length, ◌+◌, arith}
+use Rattle.std.proofs.Common.{ap, drop, drop_of_length-le, length, ◌+◌, arith}
 use Rattle.std.proofs.lemmas.List.Sums.{sum_by-cons}
 use Rattle.ipx_router.specs.Stands.{State}
 use Rattle.ipx_internet.specs.InternetWeight.{records_at}
@@ -16,3 +16,18 @@ loop-router-preserved g c =
     let first = c.saturating_add-count.ensures in
     let then = c.saturating_add-count-in-loop-router.ensures in
     (omega (arith, whole, parts, so_far, routes, services, first, then), omega (arith, then))
+
+pub routes-requires : goal.routes-requires
+routes-requires g c = first_of (assumption c.well_formed, search c.well_formed)
+
+pub services-requires : goal.services-requires
+services-requires g c = first_of (assumption c.well_formed, search c.well_formed)
+
+pub returns : goal.returns
+returns g c =
+    let routers = c.args.routers.now in
+    let k = c.loop-router.router-index in
+    let none = ap records_at (drop_of_length-le routers c.loop-router-test.false) in
+    let so_far = c.loop-router.invariant.0 in
+    let fits = c.loop-router.invariant.1 in
+    omega (arith, none, so_far, fits)
