@@ -1,4 +1,4 @@
-use Rattle.std.proofs.Common.{rules, ◌≡◌, ◌≤◌, ◌*◌, ap, ◌∙◌, ◌++◌, subst, ℕ, List, flat_map, Some, slice_get}
+use Rattle.std.proofs.Common.{rules, arith, sym, length, get_or, set, ◌<◌, ◌≡◌, ◌≤◌, ◌*◌, ap, ◌∙◌, ◌++◌, subst, ℕ, List, flat_map, Some, slice_get}
 use Rattle.ipx_router.specs.Happened.{happened}
 use Rattle.ipx_router.specs.History.{IsOnPort}
 use Rattle.ipx_router.specs.Needs.{packets_needed}
@@ -7,11 +7,18 @@ use Rattle.ipx_router.specs.Port.{Port}
 use Rattle.ipx_router.specs.RouterOf.{HasPast}
 use Rattle.ipx_router.specs.Sends.{sends}
 use Rattle.ipx_internet.specs.Batches.{heard}
+use Rattle.std.specs.List.{AllByRecursion}
+use Rattle.ipx_internet.specs.inside.Simulated.{net_among, AreRouters, IsComing}
+use Rattle.ipx_router.specs.Stands.{State}
 use Rattle.ipx_internet.specs.Queue.{Delivery}
 use Rattle.ipx_table.proofs.Pairs.{set-same}
 use Rattle.ipx_internet.proofs.deliveries.FirstIsHandedOut.{at_error}
 use Rattle.ipx_internet.proofs.deliveries.OtherRoutersStay.{all_got, got_at, its_ports, same_net, routers_after, coming_after, stands_after, outcome_after}
 use Rattle.ipx_internet.proofs.internet.happen.Goals as goal
+
+-- what is written back where nothing changed
+unchanged : {X : Type 0} (xs : List X) (k : ℕ) (x : X) → k < length xs → x ≡ get_or xs k x → set xs k x ≡ xs
+unchanged xs k x within is = set-same xs k x (got_at xs k x within is)
 
 pub happen-requires : goal.happen-requires
 happen-requires g c =
@@ -21,7 +28,7 @@ happen-requires g c =
     let event = happened c.args.event in
     let room = c.in_ok-make_room.ensures.room in
     let places = c.in_ok-make_room.ensures.places in (
-      search rules,
+      first_of (assumption c.well_formed, search c.well_formed, search rules),
       (
         subst (λ (ps : List Port). IsOnPort ps event) (its_ports c.args.routers.now.items c.args.number s there) c.requires.there.1,
         (
@@ -85,3 +92,25 @@ returns-in_err-make_room-clause-unchanged g c =
     let s = c.index_mut-router.result.now in
     at_error c.from_residual.result
     (set-same routers c.args.number s (got_at routers c.args.number s c.requires.there.0 c.index_mut-router.ensures.value))
+
+pub index_mut-router-requires : goal.index_mut-router-requires
+index_mut-router-requires g c =
+    let within = c.requires.there.0 in
+    let all = c.args.routers.now.ok.0 in
+    omega (arith, within, all)
+
+pub need-requires : goal.need-requires
+need-requires g c = first_of (assumption c.well_formed, search c.well_formed)
+
+pub returns-in_err-make_room-clause-routers : goal.returns-in_err-make_room-clause-routers
+returns-in_err-make_room-clause-routers g c = subst (λ (rs : List State). AreRouters g.row.R g.row.S rs c.args.stations.now.list) (sym (unchanged c.args.routers.now.items c.args.number c.index_mut-router.result.now c.requires.there.0 c.index_mut-router.ensures.value)) c.requires.routers
+
+pub returns-in_err-make_room-clause-net : goal.returns-in_err-make_room-clause-net
+returns-in_err-make_room-clause-net g c = ap net_among (unchanged c.args.routers.now.items c.args.number c.index_mut-router.result.now c.requires.there.0 c.index_mut-router.ensures.value)
+
+pub returns-in_err-make_room-clause-coming : goal.returns-in_err-make_room-clause-coming
+returns-in_err-make_room-clause-coming g c =
+    λ coming. subst (λ (ds : List Delivery). AllByRecursion (IsComing (net_among c.args.routers.now.items)) ds) (sym c.make_room.ensures.deliveries) coming
+
+pub returns-in_err-make_room-clause-kept : goal.returns-in_err-make_room-clause-kept
+returns-in_err-make_room-clause-kept g c = at_error c.from_residual.result c.make_room.ensures.deliveries

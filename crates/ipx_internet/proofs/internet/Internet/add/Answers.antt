@@ -1,9 +1,9 @@
-use Rattle.std.proofs.Common.{rules, arith, ◌≡◌, sym, ap, ◌∙◌, ◌++◌, ◌∷◌, [], subst, List, length}
+use Rattle.std.proofs.Common.{arith, ◌≡◌, sym, ap, ◌∙◌, drop, ◌++◌, ◌∷◌, [], subst, List, length}
 use Rattle.std.proofs.lemmas.List.{length-map}
 use Rattle.ipx_router.specs.Stands.{State}
 use Rattle.ipx_internet.specs.Moment.{Moment, SharesNode, net_at}
 use Rattle.ipx_internet.specs.Refused.{IsNotAdded}
-use Rattle.ipx_internet.specs.inside.Simulated.{net_among, IsSimulated}
+use Rattle.ipx_internet.specs.inside.Simulated.{moment, net_among, IsSimulated}
 use Rattle.ipx_internet.specs.inside.Stations.{AreOf}
 use Rattle.ipx_internet.specs.declared.stations.Station.{Station}
 use Rattle.ipx_internet.proofs.internet.Internet.add.Goals as goal
@@ -17,7 +17,10 @@ pub invariant_of-self-2 : goal.invariant_of-self-2
 invariant_of-self-2 g c =
     let routers = c.self.inside.routers.items in
     let net = net_among routers in
-    let number : c.len-number.result ≡ length routers = search rules in
+    let counted = c.len-number.ensures in
+    let all = c.make_place.new.routers.ok.0 in
+    let same = ap (λ (rs : List State). length rs) c.make_place.ensures.routers in
+    let number : c.len-number.result ≡ length routers = omega (arith, counted, all, same) in
     let size = length-map routers (λ (s : State). s.ports) in
     subst (λ (rs : List State). IsSimulated g.row.R g.row.S rs c.add.new.self.list c.self.inside.front.deliveries c.self.inside.done c.self.inside.back.deliveries)
     (sym (c.push_reserved.ensures.items ∙ ap (λ (rs : List State). rs ++ c.args.router ∷ []) c.make_place.ensures.routers))
@@ -28,3 +31,45 @@ invariant_of-self-2 g c =
 pub returns-clause-fresh : goal.returns-clause-fresh
 returns-clause-fresh g c =
     subst (λ (m : Moment). SharesNode (net_at m) c.args.router.ports → ⊥) c.self.view_is c.in_default.ensures.fresh
+
+pub make_place-requires : goal.make_place-requires
+make_place-requires g c = (first_of (assumption c.well_formed, search c.well_formed), c.self.invariant.sound.stationed)
+
+pub invariant_of-self : goal.invariant_of-self
+invariant_of-self g c =
+    subst (λ (rs : List State). IsSimulated g.row.R g.row.S rs c.make_place.new.stations.list c.self.inside.front.deliveries c.self.inside.done c.self.inside.back.deliveries)
+    (sym c.in-Err.ensures.routers)
+    (subst (λ (l : List Station). IsSimulated g.row.R g.row.S c.self.inside.routers.items l c.self.inside.front.deliveries c.self.inside.done c.self.inside.back.deliveries)
+    (sym c.in-Err.ensures.list) c.self.invariant)
+
+pub add-requires : goal.add-requires
+add-requires g c = (first_of (assumption c.well_formed, search c.well_formed), c.in_default.ensures.places)
+
+pub is_router-requires : goal.is_router-requires
+is_router-requires g c = first_of (assumption c.well_formed, search c.well_formed)
+
+pub push_reserved-requires : goal.push_reserved-requires
+push_reserved-requires g c = c.in_default.ensures.room
+
+pub returns-in-Err-clause-unchanged : goal.returns-in-Err-clause-unchanged
+returns-in-Err-clause-unchanged g c =
+    ap (λ (rs : List State). moment rs (drop c.self.inside.done c.self.inside.front.deliveries ++ c.self.inside.back.deliveries)) c.in-Err.ensures.routers
+    ∙ c.self.view_is
+
+pub returns-in-Err-clause-queue : goal.returns-in-Err-clause-queue
+returns-in-Err-clause-queue g c = ap (λ (m : Moment). m.queue) c.self.view_is
+
+pub returns-clause-number : goal.returns-clause-number
+returns-clause-number g c =
+    let counted = c.len-number.ensures in
+    let all = c.make_place.new.routers.ok.0 in
+    let same = ap (λ (rs : List State). length rs) (c.make_place.ensures.routers ∙ ap (λ (m : Moment). m.routers) c.self.view_is) in
+    omega (arith, counted, all, same)
+
+pub returns-clause-last : goal.returns-clause-last
+returns-clause-last g c =
+    c.push_reserved.ensures.items
+    ∙ ap (λ (rs : List State). rs ++ c.args.router ∷ []) (c.make_place.ensures.routers ∙ ap (λ (m : Moment). m.routers) c.self.view_is)
+
+pub returns-clause-queue : goal.returns-clause-queue
+returns-clause-queue g c = ap (λ (m : Moment). m.queue) c.self.view_is
