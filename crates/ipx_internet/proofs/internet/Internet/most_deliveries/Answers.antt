@@ -1,4 +1,5 @@
-use Rattle.std.proofs.Common.{◌≡◌, refl, sym, ap, ap₂, ◌∙◌, subst, ◌*◌, ◌++◌, ◌∷◌, ℕ, List, [], drop, length, arith, rules}
+use Rattle.std.proofs.Common.{◌≡◌, refl, sym, ap, ap₂, ◌∙◌, subst, ◌*◌, ◌++◌, ◌∷◌, ℕ, List, [], drop, length, vec_len, arith, rules}
+use Rattle.std.proofs.lemmas.Bool.{eqb-false}
 use Rattle.std.specs.List.{sum_by}
 use Rattle.std.proofs.lemmas.List.Sums.{sum_by-append}
 use Rattle.ipx_router.specs.Stands.{State}
@@ -78,3 +79,15 @@ pub returns-clause-enough : goal.returns-clause-enough
 returns-clause-enough g c = λ small.
     let value = returns-clause-value g c in
     omega (arith, value, small)
+
+pub records-requires : goal.records-requires
+records-requires g c = first_of (assumption c.well_formed, search c.well_formed)
+
+pub most_ports-ports-requires : goal.most_ports-ports-requires
+most_ports-ports-requires g c = first_of (assumption c.well_formed, search c.well_formed)
+
+pub proves_sized-requires : goal.proves_sized-requires
+proves_sized-requires g c =
+    let some = eqb-false (vec_len c.self.inside.routers) 0 (sym c.is_empty.ensures ∙ c.if-is_empty.false) in
+    let size = c.deref.ensures.len in
+    omega (arith, some, size)

@@ -1,4 +1,5 @@
-use Rattle.std.proofs.Common.{arith, ◌≡◌, ◌+◌, ◌<◌, ◌++◌, length, sym, ap, ap₂, ◌∙◌, subst, drop}
+use Rattle.std.proofs.Common.{arith, ◌≡◌, ◌+◌, ◌<◌, ◌++◌, length, sym, ap, ap₂, ◌∙◌, subst, drop, is_err}
+use Rattle.std.proofs.lemmas.Result.{err_from_is_err_and, IfOk-from_err}
 use Rattle.ipx_internet.specs.Batches.{delivery_of}
 use Rattle.ipx_router.specs.RouterOf.{HasPast}
 use Rattle.ipx_internet.specs.Moment.{Moment, net_at}
@@ -92,3 +93,23 @@ returns-clause-lighter g c =
     d (drop (done + 1) front ++ back)
     (ap (λ (m : Moment). m.queue) (sym was) ∙ first g.row.R g.row.S routers front back done d c.get-coming.ensures)
     (record { place = place.1; bytes = c.proves_bytes.ensures })
+
+pub returns-in_err-happen-clause-net : goal.returns-in_err-happen-clause-net
+returns-in_err-happen-clause-net g c = c.happen.ensures.net ∙ ap net_at c.self.view_is
+
+pub returns-clause-net : goal.returns-clause-net
+returns-clause-net g c = c.happen.ensures.net ∙ ap net_at c.self.view_is
+
+pub returns-in_err-happen-clause-settled : goal.returns-in_err-happen-clause-settled
+returns-in_err-happen-clause-settled g c =
+    IfOk-from_err c.from_residual.result _ (ap (λ r. is_err r) (err_from_is_err_and c.from_residual.result c.from_residual.ensures.1).1)
+
+pub returns-in_err-happen-clause-lighter : goal.returns-in_err-happen-clause-lighter
+returns-in_err-happen-clause-lighter g c =
+    IfOk-from_err c.from_residual.result _ (ap (λ r. is_err r) (err_from_is_err_and c.from_residual.result c.from_residual.ensures.1).1)
+
+pub turn-self-inside-requires : goal.turn-self-inside-requires
+turn-self-inside-requires g c = record {
+  waits = subst (λ (m : Moment). 0 < length m.queue) (sym c.self.view_is) c.requires;
+  within = c.self.invariant.within;
+}

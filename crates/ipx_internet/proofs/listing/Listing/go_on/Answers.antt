@@ -1,5 +1,5 @@
-use Rattle.std.proofs.Common.{rules, ◌≡◌, ◌<◌, ◌≤◌, arith, length}
-use Rattle.std.proofs.lemmas.Result.{err_from_is_err_and}
+use Rattle.std.proofs.Common.{ap, is_err, ◌≡◌, ◌<◌, ◌≤◌, arith, length}
+use Rattle.std.proofs.lemmas.Result.{err_from_is_err_and, IfOk-from_err}
 use Rattle.ipx_internet.specs.Listed.{IsIn, outbox_of}
 use Rattle.ipx_internet.specs.Traced.{router_of}
 use Rattle.ipx_internet.proofs.listing.Listing.go_on.Goals as goal
@@ -25,7 +25,7 @@ send_on-requires g c =
     let port : at.port < length c.args.router.now.ports =
     port_is first even odd list i.outcomes.items at n r stations c.args.self c.self.view_is done c.index-at.ensures c.requires.waits
     (length c.args.router.now.ports) c.requires.port in
-    search (rules, there, port)
+    (first_of (assumption c.well_formed, search c.well_formed), (port, there))
 
 pub returns-in_err-outcome-clause-refused : goal.returns-in_err-outcome-clause-refused
 returns-in_err-outcome-clause-refused g c =
@@ -155,3 +155,34 @@ returns-clause-few g c =
     s.even s.odd s.even_stays s.odd_stays in
     few_all first even odd list i.outcomes.items at n r stations c.args.self c.self.view_is done c.index-at.ensures c.requires.waits
     flag before even2 odd2 a c.list_sent.new.list.items c.in_ok-list_sent.ensures.listed c.args.limit c.in_ok-list_sent.ensures.few c.requires.few
+
+pub returns-in_err-outcome-clause-goes_on : goal.returns-in_err-outcome-clause-goes_on
+returns-in_err-outcome-clause-goes_on g c =
+    IfOk-from_err c.from_residual.result _ (ap (λ r. is_err r) (err_from_is_err_and c.from_residual.result c.from_residual.ensures.1).1)
+
+pub returns-in_err-outcome-clause-few : goal.returns-in_err-outcome-clause-few
+returns-in_err-outcome-clause-few g c =
+    IfOk-from_err c.from_residual.result _ (ap (λ r. is_err r) (err_from_is_err_and c.from_residual.result c.from_residual.ensures.1).1)
+
+pub returns-in_err-list_sent-clause-goes_on : goal.returns-in_err-list_sent-clause-goes_on
+returns-in_err-list_sent-clause-goes_on g c =
+    IfOk-from_err c.from_residual-in_err-list_sent.result _ (ap (λ r. is_err r) (err_from_is_err_and c.from_residual-in_err-list_sent.result c.from_residual-in_err-list_sent.ensures.1).1)
+
+pub returns-in_err-list_sent-clause-few : goal.returns-in_err-list_sent-clause-few
+returns-in_err-list_sent-clause-few g c =
+    IfOk-from_err c.from_residual-in_err-list_sent.result _ (ap (λ r. is_err r) (err_from_is_err_and c.from_residual-in_err-list_sent.result c.from_residual-in_err-list_sent.ensures.1).1)
+
+pub returns-in_err-keep-clause-goes_on : goal.returns-in_err-keep-clause-goes_on
+returns-in_err-keep-clause-goes_on g c =
+    IfOk-from_err c.from_residual-in_err-keep.result _ (ap (λ r. is_err r) (err_from_is_err_and c.from_residual-in_err-keep.result c.from_residual-in_err-keep.ensures.1).1)
+
+pub returns-in_err-keep-clause-few : goal.returns-in_err-keep-clause-few
+returns-in_err-keep-clause-few g c =
+    IfOk-from_err c.from_residual-in_err-keep.result _ (ap (λ r. is_err r) (err_from_is_err_and c.from_residual-in_err-keep.result c.from_residual-in_err-keep.ensures.1).1)
+
+pub returns-in_err-keep-clause-refused : goal.returns-in_err-keep-clause-refused
+returns-in_err-keep-clause-refused g c =
+    let p = err_from_is_err_and c.from_residual-in_err-keep.result c.from_residual-in_err-keep.ensures.1 in
+    let waits = c.requires.waits in
+    let few = c.requires.few in
+    rw (p.1, p.2) (no_memory c.args.limit _ _ (omega (arith, waits, few)) c.in_err-keep.ensures.refused)
