@@ -1,6 +1,7 @@
 use Rattle.std.proofs.Common.{ap, is_err, ◌≡◌, ◌<◌, ◌≤◌, arith, length}
+use Rattle.std.proofs.lemmas.List.{length-map}
 use Rattle.std.proofs.lemmas.Result.{err_from_is_err_and, IfOk-from_err}
-use Rattle.ipx_internet.specs.Listed.{IsIn, outbox_of}
+use Rattle.ipx_internet.specs.Listed.{IsIn, Listing, copy_in, outbox_of}
 use Rattle.ipx_internet.specs.Traced.{router_of}
 use Rattle.ipx_internet.proofs.listing.Listing.go_on.Goals as goal
 use Rattle.ipx_internet.proofs.trees.ListingUpToALimit.{no_memory}
@@ -186,3 +187,15 @@ returns-in_err-keep-clause-refused g c =
     let waits = c.requires.waits in
     let few = c.requires.few in
     rw (p.1, p.2) (no_memory c.args.limit _ _ (omega (arith, waits, few)) c.in_err-keep.ensures.refused)
+
+pub index-at-requires : goal.index-at-requires
+index-at-requires g c =
+    let i = c.self.inside in
+    let copies = ap (λ (l : Listing). length l.copies) c.self.view_is in
+    let outcomes = ap (λ (l : Listing). length l.outcomes) c.self.view_is in
+    let size = length-map i.list.items (copy_in i.first.now i.even.sent i.odd.sent) in
+    let all = i.list.ok.0 in
+    let done = i.outcomes.ok.0 in
+    let counted = c.len-number.ensures in
+    let waits = c.requires.waits in
+    omega (arith, copies, outcomes, size, all, done, counted, waits)
