@@ -33,3 +33,6 @@ loop-packet-preserved g c =
       λ within. still_within sent packet (hearers list ports c.args.number s) c.loop-packet.pending.items c.deliver_one.new.pending.items lt added
           (c.loop-packet.invariant.2 within),
     )
+
+pub network_of-requires : goal.network_of-requires
+network_of-requires g c = first_of (assumption c.well_formed, search c.well_formed)

@@ -9,7 +9,7 @@ use Rattle.ipx_internet.proofs.deliveries.BatchPacketByPacket.{room_for_all, wit
 
 pub handle-outcome-requires : goal.handle-outcome-requires
 handle-outcome-requires g c = (
-  search rules,
+  first_of (assumption c.well_formed, search c.well_formed),
   (c.requires.port, subst (λ (p : Pile). HasRoomFor c.args.router.now (happened c.args.event) p.outbox) (sym c.self.view_is) c.requires.room),
 )
 
@@ -20,7 +20,7 @@ deliver-requires g c =
     let longer = ap length bounds.appended ∙ length-append sent bounds.packets in
     let begins = c.len-before.ensures in
     let small = bounds.few in (
-      search rules,
+      first_of (assumption c.well_formed, search c.well_formed),
       room_for_all (vec_len c.self.inside.pending) (vec_capacity c.self.inside.pending)
           (packets_needed c.args.router.now (happened c.args.event)) c.args.stations.now.most
           (length c.handle-outcome.new.outbox.sent) c.len-before.result (search rules)
@@ -42,3 +42,6 @@ returns-clause-deliveries g c h stands =
     c.deliver.new.pending.items
     c.args.self.now.deliveries c.self.invariant (c.handle-outcome.ensures.sends h stands).sent c.len-before.ensures c.handle-outcome.ensures.ports
     (ap (λ (p : Pile). p.deliveries) (sym c.self.view_is)) c.deliver.ensures.deliveries
+
+pub is_router-requires : goal.is_router-requires
+is_router-requires g c = first_of (assumption c.well_formed, search c.well_formed)

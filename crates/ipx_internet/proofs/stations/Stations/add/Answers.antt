@@ -51,3 +51,9 @@ returns g c net of is =
     let all : c.loop-k.k ≡ length c.args.router.now.ports = omega (arith, value, test, end) in
     let P : ℕ → Type 0 = λ k. HasFirst c.args.number c.args.router.now.ports k c.args.self.now.list c.loop-k.self.list in
     are_wider net c.args.router.now.ports c.args.number c.args.self.now.list c.loop-k.self.list of is (subst P all c.loop-k.invariant.first)
+
+pub ports-k-end-requires : goal.ports-k-end-requires
+ports-k-end-requires g c = first_of (assumption c.well_formed, search c.well_formed)
+
+pub port-requires : goal.port-requires
+port-requires g c = first_of (assumption c.well_formed, search c.well_formed)

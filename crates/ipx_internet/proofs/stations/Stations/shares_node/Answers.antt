@@ -52,3 +52,9 @@ returns g c net of = (
       (λ k less. let value = c.ports-number-end.ensures.value in let end = c.loop-number-test.false in
       c.loop-number.invariant.none k (omega (arith, less, value, end))) shares)),
 )
+
+pub ports-number-end-requires : goal.ports-number-end-requires
+ports-number-end-requires g c = first_of (assumption c.well_formed, search c.well_formed)
+
+pub port-requires : goal.port-requires
+port-requires g c = first_of (assumption c.well_formed, search c.well_formed)
