@@ -10,7 +10,7 @@ use Rattle.ipx_internet.proofs.stations.Stations.shares_node.Goals.{in-Some+else
 
 pub returns-then-has_node : goal.returns-then-has_node
 returns-then-has_node g c net of =
-    let there : c.port.result ≡ Some c.in-Some.port = search rules in
+    let there : c.port.result ≡ Some c.in-Some.port = c.in-Some.is in
     let got = sym c.port.ensures ∙ there in
     let within = slice_get_within c.args.router.now.ports c.loop-number.number c.in-Some.port got in
     let port : port_at c.args.router.now.ports c.loop-number.number ≡ c.in-Some.port = port_found c.args.router.now.ports c.loop-number.number c.in-Some.port got in
@@ -23,7 +23,7 @@ returns-then-has_node g c net of =
 pub loop-number-preserved : goal.loop-number-preserved
 loop-number-preserved g c = elim c.match-port.branch [
   | in-Some+else-has_node w ↦
-      let there : c.port.result ≡ Some w.in-Some.port = search rules in
+      let there : c.port.result ≡ Some w.in-Some.port = w.in-Some.is in
       let got = sym c.port.ensures ∙ there in
       let port : port_at c.args.router.now.ports c.loop-number.number ≡ w.in-Some.port =
       port_found c.args.router.now.ports c.loop-number.number w.in-Some.port got in
