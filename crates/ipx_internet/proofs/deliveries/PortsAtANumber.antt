@@ -1,5 +1,5 @@
 -- What is read at a number of some routers: the ports that the internet has there; none behind the last router.
-use Rattle.std.proofs.Common.{◌≡◌, ◌↔◌, sym, ◌∙◌, ap, subst, arith, ℕ, ◌<◌, ◌≤◌, Bool, true, false, refl, List, [], length, map, get_or, nat_lt}
+use Rattle.std.proofs.Common.{◌≡◌, ◌↔◌, sym, ◌∙◌, subst, arith, ℕ, ◌<◌, ◌≤◌, Bool, true, false, refl, List, [], length, get_or, nat_lt}
 use Rattle.std.proofs.lemmas.Bool.{both_ways, lt-ltb, ltb-true}
 use Rattle.std.proofs.lemmas.List.{get_or_past, length-map}
 use Rattle.ipx_router.specs.Port.{Port}
