@@ -23,3 +23,12 @@ returns g c =
     let size = c.len-k-end.ensures.value in
     let few = c.loop-k.invariant.1 in
     sum_whole w deliveries c.loop-k.k c.loop-k.sum (sum_by w (drop c.args.from deliveries)) c.loop-k.invariant.0 (omega (arith, last, size)) (omega (arith, few))
+
+pub get-requires : goal.get-requires
+get-requires g c =
+    let test = c.loop-k-test.true in
+    let size = c.len-k-end.ensures.value in
+    omega (arith, test, size)
+
+pub loop-k-init : goal.loop-k-init
+loop-k-init g c = (omega arith, omega arith)
