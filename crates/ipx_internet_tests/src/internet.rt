@@ -25,11 +25,16 @@ fn between(west: (u32, u8), east: (u32, u8)) -> Result<Router<2, 50, 8>, Fail> {
     Ok(Router::new(&[first, second])?)
 }
 
+/// Adds a router on two networks, and tells its number.
+fn joined(internet: &mut Small, west: (u32, u8), east: (u32, u8)) -> Result<usize, Fail> {
+    added(internet, between(west, east)?)
+}
+
 /// Networks 10, 20 and 30 in a line: routers 0 and 1 meet on network 20. Both are started, and nothing has settled.
 fn line(heap: Global) -> Result<Small, Fail> {
     let mut internet = Small::new(heap);
-    added(&mut internet, between((0x10, 1), (0x20, 2))?)?;
-    added(&mut internet, between((0x20, 3), (0x30, 4))?)?;
+    joined(&mut internet, (0x10, 1), (0x20, 2))?;
+    joined(&mut internet, (0x20, 3), (0x30, 4))?;
     happened(&mut internet, 0, Event::Start)?;
     happened(&mut internet, 1, Event::Start)?;
     Ok(internet)
@@ -51,22 +56,22 @@ fn counts(internet: &Small) -> (usize, usize, usize) {
 }
 
 /// What is told where so many deliveries are handed out.
-fn handed_out(internet: &mut Small, limit: usize) -> Result<Settled, Fail> {
-    Ok(internet.settle(limit)?)
+fn handed_out(internet: &mut Small, limit: usize) -> Result<Settled, InternetFault> {
+    internet.settle(limit)
 }
 
 #[test]
 fn two_routers_learn_each_other_delivery_by_delivery(rt: HostRuntime) -> Result<(), Fail> {
     let mut internet = line(rt.alloc())?;
     same(&rt, counts(&internet), (2, 6, 3614));
-    same(&rt, handed_out(&mut internet, 0)?, Settled::Left(6));
-    same(&rt, handed_out(&mut internet, 1)?, Settled::Left(5));
+    same(&rt, handed_out(&mut internet, 0), Ok(Settled::Left(6)));
+    same(&rt, handed_out(&mut internet, 1), Ok(Settled::Left(5)));
     same(&rt, first_route(&internet, 0), None);
     same(&rt, first_route(&internet, 1), Some((0x10, 1, 0)));
-    same(&rt, handed_out(&mut internet, 6)?, Settled::Left(1));
-    same(&rt, handed_out(&mut internet, 100)?, Settled::Quiet);
+    same(&rt, handed_out(&mut internet, 6), Ok(Settled::Left(1)));
+    same(&rt, handed_out(&mut internet, 100), Ok(Settled::Quiet));
     same(&rt, counts(&internet), (2, 0, 2));
-    same(&rt, handed_out(&mut internet, 1)?, Settled::Quiet);
+    same(&rt, handed_out(&mut internet, 1), Ok(Settled::Quiet));
     same(&rt, first_route(&internet, 0), Some((0x30, 1, 0)));
     Ok(())
 }
@@ -75,11 +80,11 @@ fn two_routers_learn_each_other_delivery_by_delivery(rt: HostRuntime) -> Result<
 fn what_an_internet_weighs_is_a_limit_that_leaves_nothing(rt: HostRuntime) -> Result<(), Fail> {
     let mut internet = line(rt.alloc())?;
     let (_, _, most) = counts(&internet);
-    same(&rt, handed_out(&mut internet, most)?, Settled::Quiet);
+    same(&rt, handed_out(&mut internet, most), Ok(Settled::Quiet));
     happened(&mut internet, 0, Event::PortDown { port: 0 })?;
     let (_, _, most) = counts(&internet);
     same(&rt, most, 3);
-    same(&rt, handed_out(&mut internet, most)?, Settled::Quiet);
+    same(&rt, handed_out(&mut internet, most), Ok(Settled::Quiet));
     Ok(())
 }
 
@@ -90,7 +95,7 @@ fn an_internet_that_weighs_more_than_a_word_tells_the_greatest(
     let mut internet = Small::new(rt.alloc());
     for number in 1..=24 {
         let own = u32::from(number) + 0x100;
-        added(&mut internet, between((0x10, number), (own, 1))?)?;
+        joined(&mut internet, (0x10, number), (own, 1))?;
     }
     same(&rt, counts(&internet), (24, 0, 0));
     happened(&mut internet, 0, Event::Start)?;
@@ -104,7 +109,7 @@ fn an_internet_that_weighs_more_than_a_word_tells_the_greatest(
 fn an_internet_without_routers_weighs_nothing(rt: HostRuntime) -> Result<(), Fail> {
     let mut internet = Small::new(rt.alloc());
     same(&rt, counts(&internet), (0, 0, 0));
-    same(&rt, handed_out(&mut internet, 0)?, Settled::Quiet);
+    same(&rt, handed_out(&mut internet, 0), Ok(Settled::Quiet));
     Ok(())
 }
 
@@ -149,7 +154,7 @@ fn row(trace: &Trace<'_>, number: usize) -> Option<Row> {
 }
 
 #[test]
-fn routers_and_receptions_come_one_by_one(rt: HostRuntime) -> Result<(), Fail> {
+fn receptions_come_one_by_one(rt: HostRuntime) -> Result<(), Fail> {
     let internet = looped(rt.alloc())?;
     let trace = internet.trace(0, 0, &FAR, 17)?;
     let mut next = 0usize;
@@ -158,6 +163,12 @@ fn routers_and_receptions_come_one_by_one(rt: HostRuntime) -> Result<(), Fail> {
         next = next.wrapping_add(1);
     }
     same(&rt, next, 17);
+    Ok(())
+}
+
+#[test]
+fn routers_come_one_by_one(rt: HostRuntime) -> Result<(), Fail> {
+    let internet = looped(rt.alloc())?;
     let mut routes = 0usize;
     for router in internet.iter() {
         routes = routes.wrapping_mul(10).wrapping_add(router.routes());
@@ -194,6 +205,12 @@ fn is_shown_by_its_routers_and_what_waits(rt: HostRuntime) -> Result<(), Fail> {
         shown.as_str(),
         "Internet { routers: 2, waiting: 6, .. }",
     );
+    Ok(())
+}
+
+#[test]
+fn a_router_that_is_refused_is_shown_by_its_fault(rt: HostRuntime) -> Result<(), Fail> {
+    let mut internet = line(rt.alloc())?;
     let refused = internet.add(between((0x10, 1), (0x40, 1))?).err();
     let shown = format!(in rt.alloc(); "{refused:?}")?;
     same(

@@ -1,6 +1,6 @@
 //! Memory that is refused to an internet: the same call, made again, does what it would have done.
 
-use crate::internet::{FAR, Small, between, first_route, line, looped, row};
+use crate::internet::{FAR, Small, between, first_route, joined, line, looped, row};
 use crate::same::same;
 use ipx_internet::{InternetFault, Settled, Trace, TraceFault};
 use ipx_router::{Event, Outcome, Router, Why};
@@ -56,24 +56,25 @@ fn traced(internet: &Small) -> Result<Trace<'static>, Fail> {
     }
 }
 
+/// Why a router is refused whose second port is that of another one.
+fn refused(internet: &mut Small) -> Result<Option<InternetFault>, Fail> {
+    let router = between((0x40, 5), (0x30, 4))?;
+    Ok(internet.add(router).err().map(|it| it.fault))
+}
+
 /// `tools/refusals` plays the built tests with `without_memory` in their names, each as often as it asks for memory: one request
 /// after the other is refused, and they have to end well. `rt try --test --fail-alloc N` refuses request number N.
 #[test]
 fn a_router_without_memory_is_added_again(rt: HostRuntime) -> Result<(), Fail> {
     let mut internet = Small::new(rt.alloc());
     assert!(rt; internet.is_empty());
-    let first = added(&mut internet, between((0x10, 1), (0x20, 2))?)?;
-    let second = added(&mut internet, between((0x20, 3), (0x30, 4))?)?;
+    let first = joined(&mut internet, (0x10, 1), (0x20, 2))?;
+    let second = joined(&mut internet, (0x20, 3), (0x30, 4))?;
     same(&rt, (first, second, internet.len()), (0, 1, 2));
     // (its ports are known, but once)
-    let third = internet.add(between((0x40, 5), (0x30, 4))?);
-    same(
-        &rt,
-        third.err().map(|it| it.fault),
-        Some(InternetFault::SameNode),
-    );
+    same(&rt, refused(&mut internet)?, Some(InternetFault::SameNode));
     // (and a refused one leaves nothing behind)
-    let free = added(&mut internet, between((0x40, 5), (0x50, 6))?)?;
+    let free = joined(&mut internet, (0x40, 5), (0x50, 6))?;
     same(&rt, (free, internet.len()), (2, 3));
     Ok(())
 }
