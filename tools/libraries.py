@@ -18,7 +18,7 @@ TOP = os.path.dirname(os.path.dirname(os.path.realpath(__file__)))
 NOTED = f"{TOP}/out/gate.libraries"
 PARTS = ("src", "specs", "proofs")
 # What the check of a large crate takes.
-MEMORY = 3_000_000_000
+MEMORY = 3_300_000_000
 
 
 def command(*words):
