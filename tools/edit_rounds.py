@@ -11,10 +11,19 @@ from dataclasses import dataclass, field
 
 # A contract that no longer holds, at its place in the code.
 UNPROVED = re.compile(r"note: (?:\./)?(src/\S+?):(\d+):\d+: it is not proved that")
-# An error in a proof whose words all stand for something, and one about a word that stands for nothing any more.
-NAMES = r"not in scope|has no field|\(nearest: |has no `|was not admitted|that depends? on .* which was rejected"
-PROOF_ERROR = re.compile(rf"(?:\./)?(proofs/\S+?)(?:/[^/\s]+)?\.antt:\d+:\d+: error: (?!.*({NAMES}))")
-NAME_ERROR = re.compile(rf"(?:\./)?(proofs/\S+?)(?:/[^/\s]+)?\.antt:\d+:\d+: error: .*({NAMES})")
+# What is said of a word that a proof cites and the text has no longer, and of a check that met a limit of its own and found nothing.
+NAMES = "|".join((
+    "not in scope", "has no field", r"\(nearest: ", "has no `", "is no name", "is private", "is no constructor", "operand is missing", "expected the end",
+    "cannot continue", "was not admitted", "that depends? on .* which was rejected",
+))
+LIMITS = "ran out of|outgrew the memory limit|stopped at the step limit"
+# Errors in a proof: any, one that refuses what is said, and one about a lost word.
+ERROR = r"(?:\./)?(proofs/\S+?)(?:/[^/\s]+)?\.antt:\d+:\d+: error: "
+PROOF_ERROR = re.compile(rf"{ERROR}(?!.*({NAMES}|{LIMITS}))")
+NAME_ERROR = re.compile(rf"{ERROR}.*({NAMES})")
+# What rt says of an edit that is refused, and of one by which nothing was shown of a contract.
+REFUSED = "refused, as it must be"
+SHOWS_NOTHING = re.compile(rf"only because a proof file names|only by a limit|{NAMES}")
 VERDICT = re.compile(r"fn (\S+): (.*)")
 WAITS = re.compile(r"it (calls|passes) ")
 FUNCTION = re.compile(r"( *)(?:pub(?:\([a-z]+\))? )?fn (\w+)")
@@ -170,19 +179,34 @@ def next_round(pending, most):
     return chosen
 
 
+def joined(said):
+    """The lines of a check, each with the indented ones behind it, which say the rest of an error."""
+    return re.sub(r"(?m)(^\S+: error: .*)((?:\n  .*)+)", lambda it: it[1] + it[2].replace("\n", " "), said).split("\n")
+
+
+def shows(said):
+    """Whether what rt says of an edit shows that a contract refuses it."""
+    return said.startswith(REFUSED) and not SHOWS_NOTHING.search(said)
+
+
 class Checked:
     """What a check said of a crate in which edits were planted."""
 
     def __init__(self, status, said, found):
-        self.status, self.lines, self.found = status, said.split("\n"), found
+        self.status, self.lines, self.found = status, joined(said), found
         self.told = {it[1]: it[2] for it in map(VERDICT.match, self.lines) if it}
         self.errors = [it for it in self.lines if re.match(r"\S+:\d+:\d+: error", it)]
         is_ended = any(it.startswith(("logic=not-proved", "only=")) for it in self.lines)
         self.is_read = status == 1 and is_ended and all(it.lstrip("./").startswith("proofs/") for it in self.errors)
         self.broken = {}
         for line in self.lines:
-            if path := self.owner(line):
+            if (path := self.owner(line)) and self.is_unproved(path):
                 self.broken.setdefault(path, line)
+
+    def is_unproved(self, path):
+        """Whether the check ends by saying that a function isn't proved; a place that is no function's has no such line."""
+        told = [what for name, what in self.told.items() if f"{name}::".startswith(f"{path}::")]
+        return path not in {it.path for it in self.found} or any(it.startswith(("not proved", "no proof")) for it in told)
 
     def owner(self, line):
         """The function whose own goal the line says is broken; another place's name where it is no function's."""

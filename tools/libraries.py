@@ -11,13 +11,14 @@ import hashlib
 import json
 import os
 import re
+import shutil
 import subprocess
 import sys
 
 TOP = os.path.dirname(os.path.dirname(os.path.realpath(__file__)))
 NOTED = f"{TOP}/out/gate.libraries"
 PARTS = ("src", "specs", "proofs")
-# What the check of a large crate takes.
+# What the check of a large crate takes: as much was seen of the prover in a run of the gate.
 MEMORY = 3_300_000_000
 
 
@@ -25,11 +26,25 @@ def command(*words):
     return subprocess.run(words, stdout=subprocess.PIPE, text=True, check=True).stdout.strip()
 
 
+def numbers_in(file):
+    """The numbers of a file of the control group, or none where there is no limit."""
+    try:
+        with open(f"/sys/fs/cgroup/{file}", encoding="ascii") as it:
+            return [int(word) for word in it.read().split()]
+    except (OSError, ValueError):
+        return []
+
+
 def places():
-    """How many checks there are processors and memory for."""
+    """How many checks there are processors and memory for, within what the control group allows."""
     with open("/proc/meminfo", encoding="ascii") as it:
         free = 1024 * int(re.search(r"MemAvailable:\s+(\d+)", it.read())[1])
-    return max(1, min(len(os.sched_getaffinity(0)), free // MEMORY))
+    processors, quota, most, held = len(os.sched_getaffinity(0)), numbers_in("cpu.max"), numbers_in("memory.max"), numbers_in("memory.current")
+    if quota:
+        processors = min(processors, quota[0] // quota[1])
+    if most and held:
+        free = min(free, most[0] - held[0])
+    return max(1, min(processors, free // MEMORY))
 
 
 @functools.lru_cache(None)
@@ -65,12 +80,12 @@ def sum_of(files, row=""):
 
 
 def files_in(folder):
-    return sorted(it for it in glob.glob(f"{folder}/**", recursive=True) if os.path.isfile(it))
+    return sorted(f"{at}/{name}" for at, _, names in os.walk(folder) for name in names)
 
 
 def sources():
-    """What each crate is made of, as one sum, beside its line of crates.txt."""
-    files = {name: [it for part in PARTS for it in files_in(f"{TOP}/crates/{name}/{part}")] for name in rows()}
+    """What each crate is made of and judged by, as one sum: its files, its line of crates.txt, and the handles that are allowed."""
+    files = {name: [f"{TOP}/HANDLES", *(it for part in PARTS for it in files_in(f"{TOP}/crates/{name}/{part}"))] for name in rows()}
     return {name: sum_of(it, repr(rows()[name])) for name, it in files.items()}
 
 
@@ -78,8 +93,15 @@ def folder_of(crate):
     return f"{TOP}/crates/{crate}/out/rlib"
 
 
+def clear():
+    """Removes the libraries that there are, so that those that are there after the gate are its own: it puts earlier ones back."""
+    for at in (f"{TOP}/crates/*/out/rlib", f"{TOP}/.git/rt-aside/*/rlib"):
+        for folder in glob.glob(at):
+            shutil.rmtree(folder)
+
+
 def libraries():
-    """The sum of each library that the gate left. One with a stamp is of the session's own checks, which the gate put back."""
+    """The sum of each library that the gate left. One with a stamp is of the session's own checks."""
     left = [it for it in rows() if os.path.isdir(f"{folder_of(it)}/{it}.rlib") and not os.path.exists(f"{folder_of(it)}/stamp")]
     return {name: sum_of(files_in(f"{folder_of(name)}/{name}.rlib")) for name in left}
 
@@ -90,11 +112,13 @@ def state():
 
 
 def note(made_of):
-    """Notes what the gate left, where nothing has changed of what it was made of."""
+    """Notes what the gate left, and returns whether all is there and nothing has changed of what it was made of."""
     now = state()
-    if made_of == now["sources"]:
+    is_whole = made_of == now["sources"] and all(it in now["libraries"] for crate in rows() for it in below(crate))
+    if is_whole:
         with open(NOTED, "w", encoding="utf-8") as it:
             json.dump(now, it)
+    return is_whole
 
 
 def noted():
