@@ -14,16 +14,18 @@ UNPROVED = re.compile(r"note: (?:\./)?(src/\S+?):(\d+):\d+: it is not proved tha
 # What is said of a word that a proof cites and the text has no longer, and of a check that met a limit of its own and found nothing.
 NAMES = "|".join((
     "not in scope", "has no field", r"\(nearest: ", "has no `", "is no name", "is private", "is no constructor", "operand is missing", "expected the end",
-    "cannot continue", "was not admitted", "that depends? on .* which was rejected",
+    "cannot continue",
 ))
-LIMITS = "ran out of|outgrew the memory limit|stopped at the step limit"
+# What only follows from another error.
+FOLLOWS = "was not admitted|that depends? on .* which was rejected"
+LIMITS = "ran out of|outgrew the memory limit|stopped at the step limit|took more than .* steps"
 # Errors in a proof: any, one that refuses what is said, and one about a lost word.
 ERROR = r"(?:\./)?(proofs/\S+?)(?:/[^/\s]+)?\.antt:\d+:\d+: error: "
-PROOF_ERROR = re.compile(rf"{ERROR}(?!.*({NAMES}|{LIMITS}))")
+PROOF_ERROR = re.compile(rf"{ERROR}(?!.*({NAMES}|{FOLLOWS}|{LIMITS}))")
 NAME_ERROR = re.compile(rf"{ERROR}.*({NAMES})")
 # What rt says of an edit that is refused, and of one by which nothing was shown of a contract.
 REFUSED = "refused, as it must be"
-SHOWS_NOTHING = re.compile(rf"only because a proof file names|only by a limit|{NAMES}")
+SHOWS_NOTHING = re.compile(rf"only because a proof file names|only by a limit|{NAMES}|{FOLLOWS}")
 VERDICT = re.compile(r"fn (\S+): (.*)")
 WAITS = re.compile(r"it (calls|passes) ")
 FUNCTION = re.compile(r"( *)(?:pub(?:\([a-z]+\))? )?fn (\w+)")
