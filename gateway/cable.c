@@ -1,14 +1,10 @@
 #include "cable.h"
 
 #include <errno.h>
-#include <net/if.h>
-#include <string.h>
-#include <sys/socket.h>
-#include <unistd.h>
 
 #include "card.h"
 #include "clock.h"
-#include "datagram.h"
+#include "sockets.h"
 
 static bool is_connection(const cable *it)
 {
@@ -48,14 +44,14 @@ void cable_close(cable *it)
     close_any(&it->listener);
 }
 
-nfds_t cable_waits(const cable *it, struct pollfd polls[2])
+size_t cable_waits(const cable *it, watch list[2])
 {
-    nfds_t count = 0;
+    size_t count = 0;
     bool is_under_way = is_connection(it) && (!it->stream.is_connected || it->stream.out > 0);
     if (it->fd >= 0)
-        polls[count++] = (struct pollfd){it->fd, (short)(is_under_way ? POLLIN | POLLOUT : POLLIN), 0};
+        list[count++] = (watch){.fd = it->fd, .sends = is_under_way};
     if (it->listener >= 0)
-        polls[count++] = (struct pollfd){it->listener, POLLIN, 0};
+        list[count++] = (watch){.fd = it->listener};
     return count;
 }
 
@@ -131,7 +127,7 @@ static bool interface_is_up(cable *it)
 /* One that was taken away is opened again, where it is there or may be made. */
 static bool tap_is_up(cable *it)
 {
-    if (it->fd >= 0 && if_nametoindex(it->set->name) != it->index)
+    if (it->fd >= 0 && interface_number(it->set->name) != it->index)
         close_any(&it->fd);
     if (it->fd < 0)
         it->fd = tap_open(it->set->name, &it->index);
@@ -167,19 +163,18 @@ static ssize_t receive_stream(cable *it, uint8_t *bytes, size_t room)
     return length;
 }
 
-ssize_t cable_receive(cable *it, uint8_t *bytes, size_t room, struct sockaddr_in *from)
+ssize_t cable_receive(cable *it, uint8_t *bytes, size_t room, address *from)
 {
-    socklen_t size = sizeof *from;
     switch (it->set->type) {
     case LINK_DOSBOX:
-        return recvfrom(it->fd, bytes, room, MSG_TRUNC, (struct sockaddr *)from, &size);
+        return datagram_receive(it->fd, bytes, room, from);
     case LINK_QEMU_LISTEN:
     case LINK_QEMU_CONNECT:
         return receive_stream(it, bytes, room);
     case LINK_TAP:
-        return read(it->fd, bytes, room);
+        return tap_receive(it->fd, bytes, room);
     default:
-        return recv(it->fd, bytes, room, MSG_TRUNC);
+        return datagram_receive(it->fd, bytes, room, NULL);
     }
 }
 
@@ -189,11 +184,10 @@ bool cable_send(cable *it, const uint8_t *bytes, size_t length)
         return false;
     if (is_connection(it))
         return it->stream.is_connected && stream_send(&it->stream, it->fd, bytes, length);
-    ssize_t count = it->set->type == LINK_TAP ? write(it->fd, bytes, length) : send(it->fd, bytes, length, MSG_NOSIGNAL);
-    return count == (ssize_t)length;
+    return it->set->type == LINK_TAP ? tap_send(it->fd, bytes, length) : datagram_send(it->fd, bytes, length);
 }
 
-bool cable_send_to(cable *it, const struct sockaddr_in *to, const uint8_t *bytes, size_t length)
+bool cable_send_to(cable *it, const address *to, const uint8_t *bytes, size_t length)
 {
-    return sendto(it->fd, bytes, length, 0, (const struct sockaddr *)to, sizeof *to) == (ssize_t)length;
+    return datagram_send_to(it->fd, to, bytes, length);
 }

@@ -2,12 +2,12 @@
 #ifndef CABLE_H
 #define CABLE_H
 
-#include <poll.h>
 #include <stdbool.h>
 #include <sys/types.h>
 
 #include "settings.h"
 #include "stream.h"
+#include "watch.h"
 
 /* Room for what comes in one piece. What is longer is told by its length. */
 #define MOST_RECEIVED 2048
@@ -20,7 +20,7 @@ typedef struct cable {
     bool was_lost;              /* a connection was, since one looked */
     uint64_t tried;             /* milliseconds of the clock when a connection was begun last */
     unsigned index;             /* of the TAP or the interface */
-    struct sockaddr_in local;   /* where the socket is, with the port that it took */
+    address local;              /* where the socket is, with the port that it took */
     uint8_t card[6];            /* the interface's own address */
 } cable;
 
@@ -30,18 +30,18 @@ const char *cable_open(cable *it, const network_setting *set);
 void cable_close(cable *it);
 
 /* What it waits for: at most two. Returns how many. */
-nfds_t cable_waits(const cable *it, struct pollfd polls[2]);
+size_t cable_waits(const cable *it, watch list[2]);
 
 /* Whether something has come that isn't waited for. */
 bool cable_has_more(const cable *it);
 
 /* The next frame or datagram, and for a datagram who sent it. Returns its length, which may be more than the room (what is beyond is
  * lost), or -1 where there is none now. */
-ssize_t cable_receive(cable *it, uint8_t *bytes, size_t room, struct sockaddr_in *from);
+ssize_t cable_receive(cable *it, uint8_t *bytes, size_t room, address *from);
 
 /* Sends a frame; a datagram to someone. Returns whether it is on its way. */
 bool cable_send(cable *it, const uint8_t *bytes, size_t length);
-bool cable_send_to(cable *it, const struct sockaddr_in *to, const uint8_t *bytes, size_t length);
+bool cable_send_to(cable *it, const address *to, const uint8_t *bytes, size_t length);
 
 /* Whether it can carry something now. Connections that are lost are tried again, once a second, and interfaces looked for. */
 bool cable_is_up(cable *it);

@@ -1,12 +1,11 @@
 #include "capture.h"
 
-#include <errno.h>
 #include <stdio.h>
-#include <string.h>
-#include <time.h>
 
+#include "clock.h"
 #include "ipx.h"
 #include "ipxr.h"
+#include "system.h"
 
 static FILE *file;
 
@@ -15,7 +14,7 @@ static void write_all(const void *bytes, size_t length)
 {
     if (file == NULL || fwrite(bytes, 1, length, file) == length)
         return;
-    fprintf(stderr, "ipxr-gateway: the capture ends: %s\n", strerror(errno));
+    fprintf(stderr, "ipxr-gateway: the capture ends: %s\n", fault_words());
     capture_close();
 }
 
@@ -27,7 +26,7 @@ bool capture_open(const char *name)
         uint16_t version[2];
         uint32_t rest[4];
     } header = {0xA1B2C3D4, {2, 4}, {0, 0, 65535, 1}};
-    file = fopen(name, "wb");
+    file = file_open(name, "wb");
     if (file == NULL)
         return false;
     write_all(&header, sizeof header);
@@ -37,11 +36,11 @@ bool capture_open(const char *name)
 
 void capture_frame(const uint8_t *frame, size_t length)
 {
-    struct timespec now = {0};
+    uint32_t seconds, microseconds;
     if (file == NULL)
         return;
-    clock_gettime(CLOCK_REALTIME, &now);
-    const uint32_t header[4] = {(uint32_t)now.tv_sec, (uint32_t)(now.tv_nsec / 1000), (uint32_t)length, (uint32_t)length};
+    clock_date(&seconds, &microseconds);
+    const uint32_t header[4] = {seconds, microseconds, (uint32_t)length, (uint32_t)length};
     write_all(header, sizeof header);
     write_all(frame, length);
 }
@@ -60,7 +59,7 @@ void capture_packet(const uint8_t *packet, size_t length, const uint8_t from[6])
 void capture_flush(void)
 {
     if (file != NULL && fflush(file) != 0) {
-        fprintf(stderr, "ipxr-gateway: the capture ends: %s\n", strerror(errno));
+        fprintf(stderr, "ipxr-gateway: the capture ends: %s\n", fault_words());
         capture_close();
     }
 }
@@ -70,5 +69,5 @@ void capture_close(void)
     FILE *it = file;
     file = NULL;
     if (it != NULL && fclose(it) != 0)
-        fprintf(stderr, "ipxr-gateway: the capture can't be closed: %s\n", strerror(errno));
+        fprintf(stderr, "ipxr-gateway: the capture can't be closed: %s\n", fault_words());
 }

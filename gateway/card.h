@@ -1,22 +1,34 @@
-/* Ethernet of this machine: interfaces, and TAPs, which are interfaces whose other end is a program. */
+/* Ethernet of this machine: interfaces, and TAPs, which are interfaces whose other end is a program. Where the system has neither, a
+ * configuration that names one is wrong, and the calls below have nothing to do. */
 #ifndef CARD_H
 #define CARD_H
 
 #include <stdbool.h>
-#include <stdint.h>
 #include <stddef.h>
+#include <stdint.h>
+#include <sys/types.h>
+
+/* Whether this system has them. */
+bool has_cards(void);
 
 /* A TAP by its name, made where there is none and it may be made; tells its number. Returns it, or -1. */
 int tap_open(const char *name, unsigned *index);
 
-/* A socket that hears the frames of a kind on an interface; tells the interface's number and its own address. Returns it, or -1: errno
- * is EPROTOTYPE where the interface isn't one of Ethernet. */
+/* The next frame of a TAP, of which what is beyond the room is lost, or -1; and whether one is on its way. */
+ssize_t tap_receive(int fd, uint8_t *frame, size_t room);
+bool tap_send(int fd, const uint8_t *frame, size_t length);
+
+/* A socket that hears the frames of a kind on an interface, and is used as one of datagrams; tells the interface's number and its own
+ * address. Returns it, or -1: errno is EPROTOTYPE where the interface isn't one of Ethernet. */
 int interface_open(const char *name, uint8_t kind, unsigned *index, uint8_t card[6]);
 
 /* Lets a socket hear the interface that has the name now. */
 bool interface_again(int fd, uint8_t kind, unsigned index);
 
-/* The number of the interface that has a name and a carrier and is switched on; 0 where there is none. */
+/* The number of the interface that has a name; 0 where there is none. */
+unsigned interface_number(const char *name);
+
+/* The same, where it has a carrier and is switched on. */
 unsigned interface_up(const char *name);
 
 #endif

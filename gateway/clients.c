@@ -4,19 +4,17 @@
 
 #include "ipx.h"
 
-/* (address and port lie in network order already) */
-void node_of(const struct sockaddr_in *at, uint8_t node[6])
+void node_of(const address *at, uint8_t node[6])
 {
-    memcpy(node, &at->sin_addr, 4);
-    memcpy(node + 4, &at->sin_port, 2);
+    memcpy(node, at->host, sizeof at->host);
+    put16(node + sizeof at->host, at->port);
 }
 
-struct sockaddr_in address_of(const uint8_t node[6])
+address address_of(const uint8_t node[6])
 {
-    struct sockaddr_in at = {0};
-    at.sin_family = AF_INET;
-    memcpy(&at.sin_addr, node, 4);
-    memcpy(&at.sin_port, node + 4, 2);
+    address at;
+    memcpy(at.host, node, sizeof at.host);
+    at.port = get16(node + sizeof at.host);
     return at;
 }
 

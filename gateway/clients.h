@@ -2,10 +2,11 @@
 #ifndef CLIENTS_H
 #define CLIENTS_H
 
-#include <netinet/in.h>
 #include <stdbool.h>
 #include <stddef.h>
 #include <stdint.h>
+
+#include "address.h"
 
 /* When there are as many, the one that was silent longest leaves for a new one. */
 #define MOST_CLIENTS 64
@@ -23,8 +24,8 @@ typedef struct clients {
 } clients;
 
 /* The node of an address, and the address of a node. */
-void node_of(const struct sockaddr_in *at, uint8_t node[6]);
-struct sockaddr_in address_of(const uint8_t node[6]);
+void node_of(const address *at, uint8_t node[6]);
+address address_of(const uint8_t node[6]);
 
 /* The client that has a node, or NULL. */
 client *client_find(clients *it, const uint8_t node[6]);

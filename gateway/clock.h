@@ -1,4 +1,4 @@
-/* The monotonic clock. */
+/* The monotonic clock, and the date. */
 #ifndef CLOCK_H
 #define CLOCK_H
 
@@ -7,5 +7,8 @@
 /* Milliseconds of the clock; what it told last, where it can't be read, and 0 where it never could. It stands still while the machine
  * sleeps. */
 uint64_t clock_now(void);
+
+/* The seconds since 1970 of the world's zone, and the microseconds behind them. */
+void clock_date(uint32_t *seconds, uint32_t *microseconds);
 
 #endif

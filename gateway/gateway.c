@@ -1,9 +1,7 @@
 #include "gateway.h"
 
-#include <arpa/inet.h>
 #include <errno.h>
 #include <inttypes.h>
-#include <poll.h>
 #include <stdio.h>
 #include <string.h>
 
@@ -12,6 +10,7 @@
 #include "ether.h"
 #include "ipx.h"
 #include "note.h"
+#include "system.h"
 #include "tunnel.h"
 
 /* Frames and datagrams that one cable gives before the next has its turn. */
@@ -124,7 +123,7 @@ static network *first_on(gateway *it, const cable *at)
 static void receive(gateway *it, cable *at)
 {
     uint8_t bytes[MOST_RECEIVED];
-    struct sockaddr_in from = {0};
+    address from = {.port = 0};
     for (int k = 0; k < MOST_AT_ONCE && at->fd >= 0; k++) {
         ssize_t length = cable_receive(at, bytes, sizeof bytes, &from);
         if (length < 0) {
@@ -165,14 +164,14 @@ static int patience(const gateway *it)
     return now < next ? (int)(next - now) : 0;
 }
 
-/* Hears a cable, of which `polls` tells what is there. */
-static void attend(gateway *it, cable *at, const struct pollfd *polls, nfds_t count)
+/* Hears a cable, of which `list` tells what is there. */
+static void attend(gateway *it, cable *at, const watch *list, size_t count)
 {
     bool has_changed = false, has_come = cable_has_more(at);
-    for (nfds_t k = 0; k < count; k++) {
-        bool is_packet = polls[k].fd == at->fd && polls[k].revents == POLLIN;
-        has_come = has_come || polls[k].revents != 0;
-        has_changed = has_changed || (polls[k].revents != 0 && !is_packet);
+    for (size_t k = 0; k < count; k++) {
+        bool is_packet = list[k].fd == at->fd && !list[k].has_changed;
+        has_come = has_come || list[k].has_come;
+        has_changed = has_changed || (list[k].has_come && !is_packet);
     }
     if (has_changed)
         look_at_cable(it, at);
@@ -182,13 +181,13 @@ static void attend(gateway *it, cable *at, const struct pollfd *polls, nfds_t co
 
 void gateway_turn(gateway *it, bool waits)
 {
-    struct pollfd polls[2 * IPXR_MOST_PORTS];
-    nfds_t first[IPXR_MOST_PORTS + 1] = {0};
+    watch list[MOST_WATCHED];
+    size_t first[IPXR_MOST_PORTS + 1] = {0};
     for (size_t k = 0; k < it->cable_count; k++)
-        first[k + 1] = first[k] + cable_waits(&it->cables[k], polls + first[k]);
-    if (poll(polls, first[it->cable_count], waits ? patience(it) : 0) >= 0)
+        first[k + 1] = first[k] + cable_waits(&it->cables[k], list + first[k]);
+    if (watch_all(list, first[it->cable_count], waits ? patience(it) : 0))
         for (size_t k = 0; k < it->cable_count; k++)
-            attend(it, &it->cables[k], polls + first[k], first[k + 1] - first[k]);
+            attend(it, &it->cables[k], list + first[k], first[k + 1] - first[k]);
     let_seconds_pass(it);
 }
 
@@ -220,7 +219,7 @@ static cable *cable_of(gateway *it, const network_setting *set)
         return made;
     char words[128];
     link_words(set, words, sizeof words);
-    fprintf(stderr, "ipxr-gateway: line %zu: %s: %s: %s\n", set->line, words, fault, strerror(errno));
+    fprintf(stderr, "ipxr-gateway: line %zu: %s: %s: %s\n", set->line, words, fault, fault_words());
     return NULL;
 }
 
@@ -282,7 +281,7 @@ bool gateway_start(gateway *it)
     }
     it->began = clock_now();
     if (it->began == 0) {
-        fprintf(stderr, "ipxr-gateway: the clock can't be read: %s\n", strerror(errno));
+        fprintf(stderr, "ipxr-gateway: the clock can't be read: %s\n", fault_words());
         return false;
     }
     tell_start(it);

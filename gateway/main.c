@@ -1,38 +1,16 @@
 /* ipxr-gateway: routes IPX between DOSBox' tunnels, the cards of emulators, TAPs and Ethernet. */
-#include <errno.h>
-#include <signal.h>
 #include <stdio.h>
 #include <string.h>
 
 #include "capture.h"
 #include "gateway.h"
 #include "note.h"
+#include "orders.h"
 #include "settings.h"
+#include "system.h"
 
 /* Exit statuses: something can't be opened; the configuration is wrong; the command line is. */
 enum { CANNOT_OPEN = 1, WRONG_CONFIGURATION = 2, WRONG_USE = 64 };
-
-static volatile sig_atomic_t is_over;
-static volatile sig_atomic_t is_asked;
-
-static void end(int number)
-{
-    (void)number;
-    is_over = 1;
-}
-
-static void ask(int number)
-{
-    (void)number;
-    is_asked = 1;
-}
-
-static void on_signal(int number, void (*does)(int))
-{
-    struct sigaction how = {0};
-    how.sa_handler = does;
-    sigaction(number, &how, NULL);
-}
 
 /* What the command line says. */
 typedef struct {
@@ -81,9 +59,9 @@ static void show_use(FILE *file)
 
 static int read_configuration(settings *set, const char *name)
 {
-    FILE *file = fopen(name, "r");
+    FILE *file = file_open(name, "rb");
     if (file == NULL) {
-        fprintf(stderr, "%s: can't be opened: %s\n", name, strerror(errno));
+        fprintf(stderr, "%s: can't be opened: %s\n", name, fault_words());
         return CANNOT_OPEN;
     }
     size_t faults = settings_read(set, file, name, stderr);
@@ -94,27 +72,21 @@ static int read_configuration(settings *set, const char *name)
 static int route(const options *it, const settings *set)
 {
     static gateway gate;
-    on_signal(SIGINT, end);
-    on_signal(SIGTERM, end);
-    on_signal(SIGHUP, end);
-    on_signal(SIGUSR1, ask);
-    on_signal(SIGPIPE, SIG_IGN);
+    orders_hear();
     if (it->is_log)
         note_events();
     if (!gateway_open(&gate, set))
         return CANNOT_OPEN;
     /* (behind the links: where another gateway has them, its capture of that name stays) */
     if (it->capture != NULL && !capture_open(it->capture)) {
-        fprintf(stderr, "ipxr-gateway: %s: can't be opened: %s\n", it->capture, strerror(errno));
+        fprintf(stderr, "ipxr-gateway: %s: can't be opened: %s\n", it->capture, fault_words());
         return CANNOT_OPEN;
     }
     if (!gateway_start(&gate))
         return CANNOT_OPEN;
-    while (!is_over) {
+    while (!is_told_to_end()) {
         /* (what came before somebody asked is in the report) */
-        bool was_asked = is_asked != 0;
-        if (was_asked)
-            is_asked = 0;
+        bool was_asked = is_asked_to_report();
         gateway_turn(&gate, !was_asked);
         if (was_asked) {
             capture_flush();
@@ -126,7 +98,7 @@ static int route(const options *it, const settings *set)
     return 0;
 }
 
-int main(int count, char **words)
+int gateway_main(int count, char **words)
 {
     static settings set;
     options it = {0};
@@ -134,7 +106,6 @@ int main(int count, char **words)
         show_use(it.is_help ? stdout : stderr);
         return it.is_help ? 0 : WRONG_USE;
     }
-    setvbuf(stdout, NULL, _IOLBF, BUFSIZ);
     int fault = read_configuration(&set, it.configuration);
     if (fault != 0)
         return fault;

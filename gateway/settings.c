@@ -1,12 +1,13 @@
 #include "settings.h"
 
-#include <arpa/inet.h>
 #include <errno.h>
 #include <stdlib.h>
 #include <string.h>
 
+#include "card.h"
 #include "ipx.h"
 #include "reader.h"
+#include "system.h"
 #include "words.h"
 
 enum { SHORTEST_LONGEST = 576 };
@@ -22,7 +23,9 @@ static const struct {
     {"dosbox", LINK_DOSBOX},   {"qemu-udp", LINK_QEMU_UDP},   {"qemu-tcp", LINK_QEMU_LISTEN},
     {"tap", LINK_TAP},         {"interface", LINK_INTERFACE},
 };
+enum { LINK_COUNT = sizeof LINKS / sizeof *LINKS };
 #define LINK_WORDS "dosbox, qemu-udp, qemu-tcp, tap or interface"
+#define LINK_WORDS_WITHOUT_CARDS "dosbox, qemu-udp or qemu-tcp"
 
 /* The kinds of frames, and bytes of the longest packet in each; the first stands for the tunnel. */
 static const struct {
@@ -81,10 +84,10 @@ static bool read_shares(reader *r, network_setting *it)
     return true;
 }
 
-static bool read_address(reader *r, struct sockaddr_in *at, bool is_remote)
+static bool read_address(reader *r, address *at, bool is_remote)
 {
     const char *word = reader_word(r);
-    if (word == NULL || !is_address(word, at) || (is_remote && at->sin_port == 0))
+    if (word == NULL || !is_address(word, at) || (is_remote && at->port == 0))
         return reader_fault(r, word, "expected an address in numbers and a port, as 127.0.0.1:5001%s", is_remote ? "" : ", or a port alone");
     return true;
 }
@@ -111,15 +114,23 @@ static bool read_connection(reader *r, network_setting *it)
     return read_address(r, &it->remote, true);
 }
 
+static bool is_card(link_type type)
+{
+    return type == LINK_TAP || type == LINK_INTERFACE;
+}
+
 static bool read_type(reader *r, network_setting *it)
 {
     const char *word = reader_word(r);
-    for (size_t k = 0; word != NULL && k < sizeof LINKS / sizeof *LINKS; k++)
-        if (strcmp(word, LINKS[k].word) == 0) {
-            it->type = LINKS[k].type;
-            return true;
-        }
-    return reader_fault(r, word, "expected %s", LINK_WORDS);
+    size_t k = 0;
+    while (word != NULL && k < LINK_COUNT && strcmp(word, LINKS[k].word) != 0)
+        k++;
+    if (word == NULL || k == LINK_COUNT)
+        return reader_fault(r, word, "expected %s", has_cards() ? LINK_WORDS : LINK_WORDS_WITHOUT_CARDS);
+    it->type = LINKS[k].type;
+    if (is_card(it->type) && !has_cards())
+        return reader_fault(r, word, "expected %s: only Linux has TAPs and interfaces", LINK_WORDS_WITHOUT_CARDS);
+    return true;
 }
 
 static bool read_link(reader *r, network_setting *it)
@@ -170,28 +181,28 @@ static bool read_node(reader *r, network_setting *it)
 
 /* ---- What the words say together ---- */
 
-static void address_words(const struct sockaddr_in *at, char *words, size_t room)
+static void address_words(const address *at, char *words, size_t room)
 {
-    char host[INET_ADDRSTRLEN];
-    snprintf(words, room, "%s:%u", inet_ntop(AF_INET, &at->sin_addr, host, sizeof host), ntohs(at->sin_port));
+    snprintf(words, room, "%u.%u.%u.%u:%u", at->host[0], at->host[1], at->host[2], at->host[3], at->port);
 }
 
-static bool same_address(const struct sockaddr_in *a, const struct sockaddr_in *b)
+static bool same_address(const address *a, const address *b)
 {
-    return a->sin_addr.s_addr == b->sin_addr.s_addr && a->sin_port == b->sin_port;
+    return memcmp(a->host, b->host, sizeof a->host) == 0 && a->port == b->port;
 }
 
 bool same_link(const network_setting *a, const network_setting *b)
 {
     return a->type == b->type && strcmp(a->name, b->name) == 0 && same_address(&a->remote, &b->remote) &&
-           same_address(&a->local, &b->local) && (a->local.sin_port != 0 || a->type == LINK_QEMU_CONNECT || a->name[0] != '\0');
+           same_address(&a->local, &b->local) && (a->local.port != 0 || a->type == LINK_QEMU_CONNECT || a->name[0] != '\0');
 }
 
 /* Whether one address of this machine is, or contains, the other: 0.0.0.0 is all of them. */
-static bool overlap(const struct sockaddr_in *a, const struct sockaddr_in *b)
+static bool overlap(const address *a, const address *b)
 {
-    bool is_all = a->sin_addr.s_addr == htonl(INADDR_ANY) || b->sin_addr.s_addr == htonl(INADDR_ANY);
-    return a->sin_port != 0 && a->sin_port == b->sin_port && (is_all || same_address(a, b));
+    static const address ALL = {.port = 0};
+    bool is_all = memcmp(a->host, ALL.host, sizeof ALL.host) == 0 || memcmp(b->host, ALL.host, sizeof ALL.host) == 0;
+    return a->port != 0 && a->port == b->port && (is_all || same_address(a, b));
 }
 
 /* Whether two links would take one address of this machine. */
@@ -310,7 +321,7 @@ static bool read_lines(reader *r, FILE *file)
     char *line = NULL;
     size_t room = 0;
     ssize_t length;
-    while (errno = 0, (length = getline(&line, &room, file)) >= 0) {
+    while (errno = 0, (length = line_read(&line, &room, file)) >= 0) {
         r->line++;
         if (strlen(line) != (size_t)length)
             reader_fault(r, line, "expected text, there is a byte 0 behind it");
@@ -326,7 +337,7 @@ size_t settings_read(settings *it, FILE *file, const char *name, FILE *complaint
     reader r = {.name = name, .complaints = complaints, .into = it};
     memset(it, 0, sizeof *it);
     if (!read_lines(&r, file)) {
-        fprintf(complaints, "%s: can't be read: %s\n", name, strerror(errno));
+        fprintf(complaints, "%s: can't be read: %s\n", name, fault_words());
         r.faults++;
     } else if (r.faults == 0 && it->count == 0) {
         fprintf(complaints, "%s: expected a line that begins with network\n", name);

@@ -2,17 +2,18 @@
 #ifndef SETTINGS_H
 #define SETTINGS_H
 
-#include <net/if.h>
-#include <netinet/in.h>
 #include <stdbool.h>
 #include <stddef.h>
 #include <stdint.h>
 #include <stdio.h>
 
+#include "address.h"
 #include "ipxr.h"
 
-/* The most sockets that a network's `extend` may name. */
-#define MOST_SOCKETS 16
+enum {
+    MOST_SOCKETS = 16, /* that a network's `extend` may name */
+    NAME_ROOM = 16,    /* bytes of the name of a TAP or an interface, with the 0 behind */
+};
 
 /* What carries a network. */
 typedef enum {
@@ -32,9 +33,9 @@ typedef struct network_setting {
     uint16_t longest;          /* bytes of the longest packet */
     uint16_t routes, services; /* shares of the tables, or IPXR_NO_LIMIT */
     link_type type;
-    struct sockaddr_in local;  /* where datagrams and connections come in */
-    struct sockaddr_in remote; /* where they go */
-    char name[IF_NAMESIZE];       /* of a TAP or an interface */
+    address local;             /* where datagrams and connections come in */
+    address remote;            /* where they go */
+    char name[NAME_ROOM];      /* of a TAP or an interface */
     uint8_t kind;              /* of its frames; IPXR_NO_FRAME in the tunnel */
     bool has_node;             /* whether the line says the gateway's node there */
     uint8_t node[6];

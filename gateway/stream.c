@@ -2,10 +2,9 @@
 
 #include <errno.h>
 #include <string.h>
-#include <sys/socket.h>
-#include <unistd.h>
 
 #include "ipx.h"
+#include "sockets.h"
 
 enum { FRONT = 4 /* bytes of a length */ };
 
@@ -33,7 +32,7 @@ static bool fill(stream *it, int fd)
     it->in -= it->taken;
     memmove(it->coming, it->coming + it->taken, it->in);
     it->taken = 0;
-    ssize_t count = recv(fd, it->coming + it->in, STREAM_ROOM - it->in, 0);
+    ssize_t count = connection_receive(fd, it->coming + it->in, STREAM_ROOM - it->in);
     if (count == 0)
         errno = ECONNRESET;
     if (count <= 0)
@@ -62,7 +61,7 @@ ssize_t stream_receive(stream *it, int fd, uint8_t *frame, size_t room)
 bool stream_push(stream *it, int fd)
 {
     while (it->out > 0) {
-        ssize_t count = send(fd, it->going, it->out, MSG_NOSIGNAL);
+        ssize_t count = connection_send(fd, it->going, it->out);
         if (count < 0)
             return errno == EAGAIN || errno == EINTR || errno == ENOBUFS;
         it->out -= (size_t)count;

@@ -24,7 +24,7 @@ void tunnel_send(network *on, const uint8_t *node, const uint8_t *except, const 
         const uint8_t *at = on->clients.list[k].node;
         if (is_to_all ? except != NULL && same_node(at, except) : !same_node(at, node))
             continue;
-        struct sockaddr_in to = address_of(at);
+        address to = address_of(at);
         if (cable_send_to(on->cable, &to, packet, length))
             sent++;
         else
@@ -94,7 +94,7 @@ static void hand_on(gateway *it, network *on, const uint8_t *packet, size_t leng
         gateway_hear(it, on, packet, length);
 }
 
-void tunnel_hear(gateway *it, network *on, uint8_t *bytes, size_t length, const struct sockaddr_in *from)
+void tunnel_hear(gateway *it, network *on, uint8_t *bytes, size_t length, const address *from)
 {
     uint8_t node[NODE];
     node_of(from, node);

@@ -1,6 +1,5 @@
 #include "words.h"
 
-#include <arpa/inet.h>
 #include <string.h>
 
 static const char DIGITS[] = "0123456789abcdef0123456789ABCDEF";
@@ -58,20 +57,32 @@ bool is_node(const char *word, uint8_t node[6])
     return *at == '\0';
 }
 
-bool is_address(const char *word, struct sockaddr_in *address)
+/* Four numbers of 0 to 255 between dots, which don't begin with a 0 that means nothing. */
+static bool is_host(const char *word, const char *end, uint8_t host[4])
 {
-    char host[INET_ADDRSTRLEN] = "127.0.0.1";
-    const char *colon = strchr(word, ':');
-    size_t length = colon != NULL ? (size_t)(colon - word) : 0;
-    uint32_t port;
-    if (length >= sizeof host || !is_number(colon != NULL ? colon + 1 : word, 65535, &port))
-        return false;
-    if (length > 0) {
-        memcpy(host, word, length);
-        host[length] = '\0';
+    const char *at = word;
+    for (size_t k = 0; k < 4; k++) {
+        if (k > 0 && *at++ != '.')
+            return false;
+        const char *first = at;
+        unsigned value = 0;
+        for (; *at >= '0' && *at <= '9' && value <= 255; at++)
+            value = value * 10 + (unsigned)digit(*at);
+        if (at == first || value > 255 || (*first == '0' && at - first > 1))
+            return false;
+        host[k] = (uint8_t)value;
     }
-    memset(address, 0, sizeof *address);
-    address->sin_family = AF_INET;
-    address->sin_port = htons((uint16_t)port);
-    return inet_pton(AF_INET, host, &address->sin_addr) == 1;
+    return at == end;
+}
+
+bool is_address(const char *word, address *at)
+{
+    static const address OWN = {.host = {127, 0, 0, 1}};
+    const char *colon = strchr(word, ':');
+    uint32_t port;
+    if (!is_number(colon != NULL ? colon + 1 : word, 65535, &port))
+        return false;
+    *at = OWN;
+    at->port = (uint16_t)port;
+    return colon == NULL || colon == word || is_host(word, colon, at->host);
 }

@@ -2,10 +2,11 @@
 #ifndef WORDS_H
 #define WORDS_H
 
-#include <netinet/in.h>
 #include <stdbool.h>
 #include <stddef.h>
 #include <stdint.h>
+
+#include "address.h"
 
 /* Decimal digits, up to a number. */
 bool is_number(const char *word, uint32_t most, uint32_t *number);
@@ -17,6 +18,6 @@ bool is_hexadecimal(const char *word, size_t digits, uint32_t *number);
 bool is_node(const char *word, uint8_t node[6]);
 
 /* PORT, :PORT or ADDRESS:PORT, the address by its four numbers; without one it is 127.0.0.1. */
-bool is_address(const char *word, struct sockaddr_in *address);
+bool is_address(const char *word, address *at);
 
 #endif

@@ -6,7 +6,8 @@ import subprocess
 import tempfile
 import time
 
-from lab import BUILD, TOP, Client, Counts, Gateway, left_out, tunnels
+from lab import Counts, Gateway, left_out, tunnels
+from systems import TOP
 
 DOS = os.path.join(TOP, "tests", "gateway", "dos")
 MOST = 300  # seconds until a DOSBox is taken for lost

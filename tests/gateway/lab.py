@@ -4,26 +4,20 @@ what went well.
 No test depends on how fast the machine is. A test waits for what is to happen, and LIMIT ends it only where it fails. That nothing
 comes is shown by what comes next: what is said in order is heard in order. Where a test needs hours, it sets the clock itself.
 
-The programs lie in build/, where tools/gateway puts them.
+The programs lie in build/, where tools/gateway puts them; systems.py knows which is tried, and how it runs.
 """
 import itertools
 import os
 import random
 import re
 import select
-import signal
 import socket
 import struct
 import subprocess
 import tempfile
 import time
 
-TOP = os.path.dirname(os.path.dirname(os.path.dirname(os.path.realpath(__file__))))
-BUILD = os.path.join(TOP, "build")
-PROGRAM = os.path.join(BUILD, "ipxr-gateway")
-SANITIZED = os.path.join(BUILD, "ipxr-gateway-sanitized")
-TROUBLED = os.path.join(BUILD, "ipxr-gateway-troubled")
-FAST = os.path.join(BUILD, "ipxr-gateway-fast")
+from systems import SYSTEM
 
 LIMIT = 60  # seconds until a test that fails gives up
 AGAIN = 0.5  # seconds until something is said again, where it may have been lost
@@ -100,6 +94,11 @@ def is_routers(bytes_):
 # ---- The gateway ----
 
 
+def text_of(bytes_):
+    """What a program said: on Windows lines end by two bytes."""
+    return bytes_.decode(errors="replace").replace("\r\n", "\n")
+
+
 class Gateway:
     """A gateway that runs, with the ports that its networks took."""
 
@@ -109,13 +108,13 @@ class Gateway:
         with open(self.configuration, "w", encoding="utf-8") as it:
             it.write(text)
         self.networks = sum(line.startswith("network") for line in text.splitlines())
-        self.start(program or (SANITIZED if os.path.exists(SANITIZED) else PROGRAM), options, environment)
+        self.start(program or SYSTEM.program, options, environment)
 
     def start(self, program, options=(), environment=None):
         self.program = program
         self.lines = []
-        self.run = subprocess.Popen(
-            [program, *options, self.configuration],
+        self.run = SYSTEM.run(
+            [*SYSTEM.runner, program, *options, self.configuration],
             stdin=subprocess.DEVNULL,
             stdout=subprocess.PIPE,
             stderr=subprocess.PIPE,
@@ -140,7 +139,7 @@ class Gateway:
                 raise AssertionError(f"the gateway says nothing more: {self.run.stderr.read().decode()}")
             self.rest += piece
         line, self.rest = self.rest.split(b"\n", 1)
-        self.lines.append(line.decode())
+        self.lines.append(line.decode().removesuffix("\r"))
         return self.lines[-1]
 
     def lines_to(self, last):
@@ -151,7 +150,7 @@ class Gateway:
 
     def report(self):
         """What it says when it is asked, as one text: of all that came before, and after all seconds that have passed."""
-        self.run.send_signal(signal.SIGUSR1)
+        self.run.order(SYSTEM.report)
         return "\n".join(self.lines_to("end of report"))
 
     def counted(self, network, what, report=None):
@@ -174,13 +173,13 @@ class Gateway:
         with open(f"/proc/{self.run.pid}/status", encoding="utf-8") as it:
             return int(re.search(r"RssAnon:\s+(\d+)", it.read())[1])
 
-    def end(self, number=signal.SIGTERM, status=0):
+    def end(self, order=SYSTEM.end, status=0):
         """Ends it, and sees that it complained of nothing. Returns all that it said."""
-        self.run.send_signal(number)
+        self.run.order(order)
         out, complaint = self.run.communicate(timeout=LIMIT)
         assert self.run.returncode == status, f"it ended with {self.run.returncode}: {complaint.decode()}"
         assert status != 0 or not complaint, complaint.decode()
-        return "\n".join(self.lines) + (self.rest + out).decode()
+        return "\n".join([*self.lines, text_of(self.rest + out)])
 
     def __enter__(self):
         return self

@@ -5,7 +5,8 @@ import subprocess
 import tempfile
 import time
 
-from lab import AGAIN, GAME, TOP, Client, Counts, Gateway, address, free_ports, left_out, packet, tunnels
+from lab import AGAIN, GAME, Client, Counts, Gateway, address, free_ports, left_out, packet, tunnels
+from systems import TOP
 
 SOURCE = os.path.join(TOP, "tests", "gateway", "pc", "boot.asm")
 PROGRAMS = ("qemu-system-i386", "qemu-system-x86_64")

@@ -3,14 +3,15 @@ import os
 import subprocess
 import sys
 
-from lab import BUILD, PROGRAM, TOP, Gateway, tunnels
+from lab import Gateway, tunnels
+from systems import BUILD, SYSTEM, TOP
 
 
 def main():
     program = os.path.join(BUILD, "speed")
     source = os.path.join(TOP, "tests", "gateway", "speed.c")
     subprocess.run(["cc", "-std=c99", "-O2", "-Wall", "-Wextra", "-pedantic", source, "-o", program], check=True)
-    with Gateway(tunnels(2), PROGRAM) as gate:
+    with Gateway(tunnels(2), SYSTEM.delivered) as gate:
         return subprocess.run([program, str(gate.ports[0x10]), str(gate.ports[0x20])], check=False).returncode
 
 

@@ -6,9 +6,10 @@ import subprocess
 import time
 
 from frames import Station, Tcp, Udp
-from lab import (EVERYONE, FAST, GAME, LIMIT, TROUBLED, Client, Clock, Counts, Gateway, address, reaches, reaches_again, rip_response, sap_response,
+from lab import (EVERYONE, GAME, LIMIT, Client, Clock, Counts, Gateway, address, reaches, reaches_again, rip_response, sap_response,
                  tunnels, until)
 from links import listening
+from systems import SYSTEM
 
 # Each call, the faults that it gives, and how many times it is let fail: the first time, the second, ..
 CALLS = [
@@ -87,7 +88,7 @@ def troubled(text, name, fault, which):
     """A gateway of which one call fails; None where it can't start for that, and says why."""
     environment = {"TROUBLE_CALL": name, "TROUBLE_AT": str(which), "TROUBLE_ERRNO": str(fault)}
     try:
-        return Gateway(text, TROUBLED, ["--pcap", "/dev/null"], environment)
+        return Gateway(text, SYSTEM.troubled, ["--pcap", "/dev/null"], environment)
     except AssertionError as stop:
         why = str(stop).partition("nothing more: ")[2]
         assert re.match(r"(ipxr-gateway|\S+gateway\.conf|/dev/null): \S", why) and "Sanitizer" not in why, f"{name} {which}: {stop}"
@@ -131,7 +132,7 @@ def is_held(gate, routes, services):
 def an_hour():
     """Records are gone in the 180th second, and after an hour, with packets of all kinds, it has no more memory than after some minutes."""
     clock = Clock()
-    with Gateway(tunnels(2), FAST, environment=clock.environment()) as gate:
+    with Gateway(tunnels(2), SYSTEM.fast, environment=clock.environment()) as gate:
         a, b = Client(gate.ports[0x10]), Client(gate.ports[0x20])
         for minutes in range(0, 60, 10):
             for _ in range(30):
@@ -154,7 +155,7 @@ def an_hour():
 def full_tables():
     """With full tables a minute's broadcast goes out whole on 8 networks, and packets pass meanwhile."""
     clock = Clock()
-    with Gateway(tunnels(8), FAST, environment=clock.environment()) as gate:
+    with Gateway(tunnels(8), SYSTEM.fast, environment=clock.environment()) as gate:
         clients = [Client(gate.ports[n]) for n in sorted(gate.ports)]
         a, b = clients[:2]
         # (what is too much at once for a socket is lost, and advertised again)

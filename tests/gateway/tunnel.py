@@ -2,9 +2,11 @@
 import os
 import struct
 import subprocess
+import time
 
-from lab import (EVERYONE, GAME, GATEWAY, LIMIT, NOBODY, TOP, Client, Counts, Gateway, address, comes_next, free_ports, is_routers, packet,
+from lab import (EVERYONE, GAME, GATEWAY, LIMIT, NOBODY, Client, Counts, Gateway, address, comes_next, free_ports, is_routers, packet,
                  reaches, reaches_again, rip_response, sap_response, socket_of, tunnels)
+from systems import SYSTEM, TOP
 
 DECODER = os.path.join(TOP, "crates", "ipxr", "out", "ipxr")  # (where it is built)
 
@@ -181,16 +183,21 @@ def the_capture():
     with Gateway(tunnels(2)) as gate:
         gate.end()
         path = os.path.join(gate.folder.name, "pcap")
+        begun = int(time.time())
         gate.start(gate.program, ["--pcap", path, "--log"])
         a, b, c = Client(gate.ports[0x10]), Client(gate.ports[0x20]), Client(gate.ports[0x10])
-        assert reaches(a, b, b"captured") and reaches(a, c)
+        assert reaches(a, b, b"captured") and reaches(a, c) and gate.report()
+        # (a wrong configuration, status 2, is one that could be read)
+        reader = [*SYSTEM.quick, gate.program, "--check", path]
+        assert subprocess.run(reader, capture_output=True, timeout=LIMIT, check=False).returncode == 2, "others read it while it runs"
         log = gate.end()
         assert " in 00000010 " in log and ": forwarded" in log and ": handed on" in log and " comes to 00000010" in log, log
         with open(path, "rb") as it:
             bytes_ = it.read()
         place, packets = 24, []
         while place < len(bytes_):
-            kept = struct.unpack("=I", bytes_[place + 8 : place + 12])[0]
+            seconds, part, kept = struct.unpack("=III", bytes_[place : place + 12])
+            assert begun <= seconds <= time.time() and part < 1000000, "by this machine's date"
             packets.append(bytes_[place + 16 : place + 16 + kept])
             place += 16 + kept
         assert place == len(bytes_) and all(len(it) >= 60 and it[12:14] == b"\x81\x37" for it in packets)

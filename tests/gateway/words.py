@@ -4,24 +4,37 @@ import os
 import subprocess
 import tempfile
 
-from lab import BUILD, LIMIT, PROGRAM, SANITIZED, TOP, Counts, Gateway, tunnels
+from lab import LIMIT, Counts, Gateway, text_of, tunnels
+from systems import BUILD, SYSTEM, TOP, Windows
 
 HERE = os.path.join(TOP, "tests", "gateway")
+STDIN = "/dev/stdin"
 
 
 def asked(*words, stdin=b"", folder=HERE):
-    """What the program says to words that don't let it route: status, output, complaint."""
-    program = SANITIZED if os.path.exists(SANITIZED) else PROGRAM
-    run = subprocess.run([program, *words], input=stdin, capture_output=True, timeout=LIMIT, cwd=folder)
-    return run.returncode, run.stdout.decode(), run.stderr.decode(errors="replace")
+    """What the program says to words that don't let it route: status, output, complaint. Windows has no file that is standard input: there
+    it reads a file, and what it says of that is told as of standard input."""
+    with tempfile.NamedTemporaryFile() as file:
+        file.write(stdin)
+        file.flush()
+        name = file.name if SYSTEM is Windows else STDIN
+        command = [*SYSTEM.quick, SYSTEM.program, *(name if it == STDIN else it for it in words)]
+        run = subprocess.run(command, input=stdin, capture_output=True, timeout=LIMIT, cwd=folder, check=False)
+    return run.returncode, *(text_of(it).replace(name, STDIN) for it in (run.stdout, run.stderr))
+
+
+def kept(name):
+    """The complaints of a wrong configuration, as they are kept; those of Windows are others where it knows no such link."""
+    own = os.path.join(HERE, f"{name}.windows.out")
+    path = own if SYSTEM is Windows and os.path.exists(own) else os.path.join(HERE, f"{name}.out")
+    with open(path, encoding="utf-8") as it:
+        return it.read()
 
 
 def each_wrong_line():
     """Each wrong line of a configuration is told with its number, its word and what was expected."""
     status, out, complaint = asked("--check", "wrong.conf")
-    with open(os.path.join(HERE, "wrong.out"), encoding="utf-8") as it:
-        kept = it.read()
-    differs = "\n".join(difflib.unified_diff(kept.splitlines(), complaint.splitlines(), lineterm="", n=0))
+    differs = "\n".join(difflib.unified_diff(kept("wrong").splitlines(), complaint.splitlines(), lineterm="", n=0))
     assert (status, out, differs) == (2, "", ""), differs
 
 
@@ -37,7 +50,8 @@ def no_configuration():
     assert asked("--check", "/dev/stdin")[::2] == (2, "/dev/stdin: expected a line that begins with network\n")
     status, _, complaint = asked("--check", "/dev/stdin", stdin=b"network 10\0 1 1424 dosbox 0\n")
     assert status == 2 and "expected text" in complaint
-    assert asked("--check", "..")[0] == 2
+    # (Windows opens no folder)
+    assert asked("--check", "..")[0] == (1 if SYSTEM is Windows else 2)
 
 
 def the_command_line():
@@ -69,6 +83,20 @@ def what_is_right():
     assert asked("--check", "/dev/stdin", stdin=text)[:2] == (0, "/dev/stdin: 1 network, nothing wrong\n")
 
 
+def names_and_marks():
+    """Names in letters of any country, lines that end as on Windows, and a Ctrl-Z, which ends no file."""
+    with tempfile.TemporaryDirectory() as folder:
+        for text, status, told in (
+            (tunnels(2).replace("\n", "\r\n"), 0, ": 2 networks, nothing wrong\n"),
+            (tunnels(1) + "\x1a\nnetwork", 2, ":2: '\\x1A': expected network or extend\n"),
+        ):
+            name = "Müller Ωμέγα.conf"
+            with open(os.path.join(folder, name), "w", encoding="utf-8", newline="") as it:
+                it.write(text)
+            answer = asked("--check", name, folder=folder)
+            assert answer[0] == status and "".join(answer[1:]).startswith(name + told), answer
+
+
 def what_cannot_be_opened():
     """What can't be opened is told with its line, and the gateway ends; a capture that is there stays as it was."""
     with Gateway(tunnels(1)) as gate, tempfile.NamedTemporaryFile() as capture:
@@ -79,7 +107,8 @@ def what_cannot_be_opened():
         assert status == 1 and "line 1: dosbox 127.0.0.1:" in complaint and complaint.endswith(": Address already in use\n")
         with open(capture.name, "rb") as it:
             assert it.read() == b"of another gateway"
-    for link, what in (("interface nowhere0 raw", "can't open the interface"), ("interface lo raw", "it isn't Ethernet")):
+    interfaces = (("interface nowhere0 raw", "can't open the interface"), ("interface lo raw", "it isn't Ethernet"))
+    for link, what in () if SYSTEM is Windows else interfaces:
         status, _, complaint = asked("/dev/stdin", stdin=f"network 20 1 1424 {link}\n".encode())
         assert status == 1 and f"line 1: {link}: {what}: " in complaint, complaint
     assert asked("--pcap", os.path.join(BUILD, "no", "file"), "/dev/stdin", stdin=tunnels(1).encode())[0] == 1
@@ -87,7 +116,8 @@ def what_cannot_be_opened():
 
 def main():
     counts = Counts()
-    for test in (each_wrong_line, nothing_is_opened, no_configuration, the_command_line, what_is_right, what_cannot_be_opened):
+    for test in (each_wrong_line, nothing_is_opened, no_configuration, the_command_line, what_is_right, names_and_marks,
+                 what_cannot_be_opened):
         counts.run(test)
     return counts
 

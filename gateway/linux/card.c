@@ -1,6 +1,6 @@
-/* (Linux alone has these) */
+/* (for the requests and the flags of interfaces) */
 #define _DEFAULT_SOURCE
-#include "card.h"
+#include "../card.h"
 
 #include <arpa/inet.h>
 #include <errno.h>
@@ -15,8 +15,17 @@
 #include <sys/socket.h>
 #include <unistd.h>
 
-#include "datagram.h"
+#include "../settings.h"
+#include "../sockets.h"
 #include "ipxr.h"
+
+/* (a name of a configuration has room for any name of an interface, and no more) */
+typedef char has_room_for_names[NAME_ROOM == IF_NAMESIZE ? 1 : -1];
+
+bool has_cards(void)
+{
+    return true;
+}
 
 /* Asks the system about an interface, or tells it. */
 static bool ask(unsigned long what, const char *name, struct ifreq *about)
@@ -28,6 +37,11 @@ static bool ask(unsigned long what, const char *name, struct ifreq *about)
     close_any(&fd);
     errno = why;
     return is_told;
+}
+
+unsigned interface_number(const char *name)
+{
+    return if_nametoindex(name);
 }
 
 unsigned interface_up(const char *name)
@@ -65,6 +79,16 @@ int tap_open(const char *name, unsigned *index)
     switch_on(name);
     *index = if_nametoindex(name);
     return fd;
+}
+
+ssize_t tap_receive(int fd, uint8_t *frame, size_t room)
+{
+    return read(fd, frame, room);
+}
+
+bool tap_send(int fd, const uint8_t *frame, size_t length)
+{
+    return write(fd, frame, length) == (ssize_t)length;
 }
 
 /* The frames that a socket hears: those of the type, those that begin with FFFFh behind a length, or those of 802.2. */

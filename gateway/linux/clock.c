@@ -1,0 +1,20 @@
+#include "../clock.h"
+
+#include <time.h>
+
+uint64_t clock_now(void)
+{
+    static uint64_t last;
+    struct timespec now;
+    if (clock_gettime(CLOCK_MONOTONIC, &now) == 0)
+        last = (uint64_t)now.tv_sec * 1000 + (uint64_t)now.tv_nsec / 1000000;
+    return last;
+}
+
+void clock_date(uint32_t *seconds, uint32_t *microseconds)
+{
+    struct timespec now = {0};
+    clock_gettime(CLOCK_REALTIME, &now);
+    *seconds = (uint32_t)now.tv_sec;
+    *microseconds = (uint32_t)(now.tv_nsec / 1000);
+}

@@ -1,0 +1,166 @@
+#include "../sockets.h"
+
+#include <errno.h>
+#include <fcntl.h>
+#include <netinet/in.h>
+#include <netinet/tcp.h>
+#include <poll.h>
+#include <string.h>
+#include <sys/socket.h>
+#include <unistd.h>
+
+/* Bytes that the system keeps for the gateway, while it sends to many. */
+enum { KEPT = 1 << 20, MOST_WAITING = 4 };
+
+void close_any(int *fd)
+{
+    int at = *fd;
+    *fd = -1;
+    if (at >= 0)
+        close(at);
+}
+
+/* ---- Addresses ---- */
+
+static struct sockaddr_in to_system(const address *at)
+{
+    struct sockaddr_in it = {0};
+    it.sin_family = AF_INET;
+    it.sin_port = htons(at->port);
+    memcpy(&it.sin_addr, at->host, sizeof at->host);
+    return it;
+}
+
+static address of_system(const struct sockaddr_in *at)
+{
+    address it = {.port = ntohs(at->sin_port)};
+    memcpy(it.host, &at->sin_addr, sizeof it.host);
+    return it;
+}
+
+/* ---- Opening ---- */
+
+/* Makes a socket that doesn't wait, or closes it. */
+static int unwaiting(int fd)
+{
+    int flags = fd < 0 ? -1 : fcntl(fd, F_GETFL);
+    if (flags >= 0 && fcntl(fd, F_SETFL, flags | O_NONBLOCK) == 0 && fcntl(fd, F_SETFD, FD_CLOEXEC) == 0)
+        return fd;
+    int why = errno;
+    close_any(&fd);
+    errno = why;
+    return -1;
+}
+
+/* Whether a socket has an address; tells the port that it took. */
+static bool is_bound(int fd, address *local)
+{
+    struct sockaddr_in at = to_system(local);
+    socklen_t size = sizeof at;
+    if (bind(fd, (const struct sockaddr *)&at, size) != 0 || getsockname(fd, (struct sockaddr *)&at, &size) != 0)
+        return false;
+    *local = of_system(&at);
+    return true;
+}
+
+/* Whether a connection is there or under way; a socket for datagrams hears that address alone. */
+static bool is_connected(int fd, const address *remote)
+{
+    struct sockaddr_in to = to_system(remote);
+    return connect(fd, (const struct sockaddr *)&to, sizeof to) == 0 || errno == EINPROGRESS;
+}
+
+/* The socket, where all is well; else it is closed. */
+static int kept_if(bool is_well, int fd)
+{
+    int why = errno;
+    if (!is_well)
+        close_any(&fd);
+    errno = why;
+    return fd;
+}
+
+int datagram_open(address *local, const address *remote)
+{
+    int kept = KEPT;
+    int fd = unwaiting(socket(AF_INET, SOCK_DGRAM, 0));
+    if (fd < 0)
+        return -1;
+    /* (less is enough: then more is lost when many send at once) */
+    (void)!setsockopt(fd, SOL_SOCKET, SO_RCVBUF, &kept, sizeof kept);
+    return kept_if(is_bound(fd, local) && (remote == NULL || is_connected(fd, remote)), fd);
+}
+
+int listener_open(address *local)
+{
+    int yes = 1;
+    int fd = unwaiting(socket(AF_INET, SOCK_STREAM, 0));
+    if (fd < 0)
+        return -1;
+    bool is_well = setsockopt(fd, SOL_SOCKET, SO_REUSEADDR, &yes, sizeof yes) == 0 && is_bound(fd, local);
+    return kept_if(is_well && listen(fd, MOST_WAITING) == 0, fd);
+}
+
+/* Frames go out at once. */
+static int undelayed(int fd)
+{
+    int yes = 1;
+    if (fd >= 0)
+        (void)!setsockopt(fd, IPPROTO_TCP, TCP_NODELAY, &yes, sizeof yes);
+    return fd;
+}
+
+int listener_take(int listener)
+{
+    return undelayed(unwaiting(accept(listener, NULL, NULL)));
+}
+
+int connection_begin(const address *remote)
+{
+    int fd = undelayed(unwaiting(socket(AF_INET, SOCK_STREAM, 0)));
+    return fd < 0 ? -1 : kept_if(is_connected(fd, remote), fd);
+}
+
+int connection_state(int fd)
+{
+    int fault = 0;
+    socklen_t size = sizeof fault;
+    struct pollfd waiting = {fd, POLLOUT, 0};
+    if (poll(&waiting, 1, 0) <= 0)
+        return 0;
+    return getsockopt(fd, SOL_SOCKET, SO_ERROR, &fault, &size) == 0 && fault == 0 ? 1 : -1;
+}
+
+/* ---- Sending and receiving ---- */
+
+ssize_t datagram_receive(int fd, uint8_t *bytes, size_t room, address *from)
+{
+    struct sockaddr_in at = {0};
+    socklen_t size = sizeof at;
+    if (from == NULL)
+        return recv(fd, bytes, room, MSG_TRUNC);
+    ssize_t length = recvfrom(fd, bytes, room, MSG_TRUNC, (struct sockaddr *)&at, &size);
+    *from = of_system(&at);
+    return length;
+}
+
+bool datagram_send(int fd, const uint8_t *bytes, size_t length)
+{
+    return send(fd, bytes, length, MSG_NOSIGNAL) == (ssize_t)length;
+}
+
+bool datagram_send_to(int fd, const address *to, const uint8_t *bytes, size_t length)
+{
+    struct sockaddr_in at = to_system(to);
+    return sendto(fd, bytes, length, 0, (const struct sockaddr *)&at, sizeof at) == (ssize_t)length;
+}
+
+ssize_t connection_receive(int fd, uint8_t *bytes, size_t room)
+{
+    return recv(fd, bytes, room, 0);
+}
+
+ssize_t connection_send(int fd, const uint8_t *bytes, size_t length)
+{
+    return send(fd, bytes, length, MSG_NOSIGNAL);
+}

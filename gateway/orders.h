@@ -1,0 +1,15 @@
+/* Who runs the gateway gives it orders: to end, or to report. */
+#ifndef ORDERS_H
+#define ORDERS_H
+
+#include <stdbool.h>
+
+/* From now on orders are heard. */
+void orders_hear(void);
+
+bool is_told_to_end(void);
+
+/* Whether somebody has asked for a report since this was asked last. */
+bool is_asked_to_report(void);
+
+#endif

@@ -1,0 +1,45 @@
+/* Sockets of IPv4: datagrams, and connections. All are opened so that no call waits. What fails leaves its fault in errno: EAGAIN where
+ * there is nothing now, or no room. */
+#ifndef SOCKETS_H
+#define SOCKETS_H
+
+#include <stdbool.h>
+#include <stddef.h>
+#include <stdint.h>
+#include <sys/types.h>
+
+#include "address.h"
+
+/* A socket for datagrams at an address; `local` is told the port that it took. With a remote address it hears that one alone.
+ * Returns the socket, or -1. */
+int datagram_open(address *local, const address *remote);
+
+/* The next datagram of a socket, or the next frame of an interface's, and where it is asked for, who sent it. Returns its length,
+ * which may be more than the room (what is beyond is lost), or -1. */
+ssize_t datagram_receive(int fd, uint8_t *bytes, size_t room, address *from);
+
+/* Sends a datagram, or a frame, to where the socket is bound to send; to someone. Returns whether it is on its way. */
+bool datagram_send(int fd, const uint8_t *bytes, size_t length);
+bool datagram_send_to(int fd, const address *to, const uint8_t *bytes, size_t length);
+
+/* Waits at an address for connections; `local` is told the port. Returns the socket, or -1. */
+int listener_open(address *local);
+
+/* The connection that came in, or -1. */
+int listener_take(int listener);
+
+/* Begins a connection. Returns its socket, or -1. */
+int connection_begin(const address *remote);
+
+/* Whether it has come about: 1, 0 not yet, -1 it failed. */
+int connection_state(int fd);
+
+/* What has come on a connection, or 0 where the other end has closed it; as much as it takes of what is to go. Returns how many bytes,
+ * or -1. */
+ssize_t connection_receive(int fd, uint8_t *bytes, size_t room);
+ssize_t connection_send(int fd, const uint8_t *bytes, size_t length);
+
+/* Closes a socket that may be -1, and makes it so. */
+void close_any(int *fd);
+
+#endif

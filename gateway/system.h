@@ -1,0 +1,24 @@
+/* What the gateway asks of the system, beside sockets, cards, the clock and orders. Each system has a folder with its own, and begins
+ * the program there. */
+#ifndef SYSTEM_H
+#define SYSTEM_H
+
+#include <stddef.h>
+#include <stdio.h>
+#include <sys/types.h>
+
+/* The program, by the words of its command line in UTF-8. Each system's own main calls it, once sockets can be opened and what is said is
+ * shown line by line, or before the gateway waits. Returns the exit status. */
+int gateway_main(int count, char **words);
+
+/* Opens a file as fopen does; its name is in UTF-8. */
+FILE *file_open(const char *name, const char *how);
+
+/* Reads a line with its end as getline does, into memory that is made or made larger. Returns its length; -1 at the end of the file, or
+ * where there is a fault in errno. */
+ssize_t line_read(char **line, size_t *room, FILE *file);
+
+/* The words of the fault that is in errno. */
+const char *fault_words(void);
+
+#endif

@@ -1,0 +1,24 @@
+/* Waiting for what comes on sockets. */
+#ifndef WATCH_H
+#define WATCH_H
+
+#include <stdbool.h>
+#include <stddef.h>
+
+#include "ipxr.h"
+
+/* A cable has two at most: a connection, and where connections come in. */
+#define MOST_WATCHED (2 * IPXR_MOST_PORTS)
+
+typedef struct watch {
+    int fd;
+    bool sends;       /* whether it waits, too, until something can be sent, or a connection has come about or failed */
+    bool has_come;    /* something has come of it */
+    bool has_changed; /* and that isn't only something to be received */
+} watch;
+
+/* Waits until something comes, somebody gives an order, or so many milliseconds have passed. Returns false where it isn't known
+ * what has come. */
+bool watch_all(watch *list, size_t count, int milliseconds);
+
+#endif

@@ -1,0 +1,67 @@
+/* Windows has no TAPs and no packet sockets of its own: no configuration gets this far with one. */
+#include "../card.h"
+
+#include <errno.h>
+
+bool has_cards(void)
+{
+    return false;
+}
+
+static int refused(void)
+{
+    errno = ENOSYS;
+    return -1;
+}
+
+int tap_open(const char *name, unsigned *index)
+{
+    (void)name;
+    (void)index;
+    return refused();
+}
+
+ssize_t tap_receive(int fd, uint8_t *frame, size_t room)
+{
+    (void)fd;
+    (void)frame;
+    (void)room;
+    return refused();
+}
+
+bool tap_send(int fd, const uint8_t *frame, size_t length)
+{
+    (void)fd;
+    (void)frame;
+    (void)length;
+    return refused() == 0;
+}
+
+int interface_open(const char *name, uint8_t kind, unsigned *index, uint8_t card[6])
+{
+    (void)name;
+    (void)kind;
+    (void)index;
+    (void)card;
+    return refused();
+}
+
+bool interface_again(int fd, uint8_t kind, unsigned index)
+{
+    (void)fd;
+    (void)kind;
+    (void)index;
+    return refused() == 0;
+}
+
+unsigned interface_number(const char *name)
+{
+    (void)name;
+    return 0;
+}
+
+unsigned interface_up(const char *name)
+{
+    (void)name;
+    return 0;
+}

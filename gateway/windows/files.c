@@ -1,0 +1,48 @@
+#include "../system.h"
+
+#include <errno.h>
+#include <stdbool.h>
+#include <stdlib.h>
+
+#include "text.h"
+
+/* (other programs may read it meanwhile) */
+FILE *file_open(const char *name, const char *how)
+{
+    FILE *file = NULL;
+    wchar_t *wide_name = text_of_utf8(name), *wide_how = text_of_utf8(how);
+    if (wide_name != NULL && wide_how != NULL)
+        file = _wfopen(wide_name, wide_how);
+    else
+        errno = ENOMEM;
+    free(wide_name);
+    free(wide_how);
+    return file;
+}
+
+/* Makes room for so many bytes. */
+static bool has_room(char **line, size_t *room, size_t wanted)
+{
+    if (wanted <= *room)
+        return true;
+    char *larger = realloc(*line, 2 * wanted);
+    if (larger == NULL)
+        return false;
+    *line = larger;
+    *room = 2 * wanted;
+    return true;
+}
+
+ssize_t line_read(char **line, size_t *room, FILE *file)
+{
+    size_t length = 0;
+    for (int c = 0; c != '\n' && (c = getc(file)) != EOF;) {
+        if (!has_room(line, room, length + 2))
+            return -1;
+        (*line)[length++] = (char)c;
+    }
+    if (length == 0 || ferror(file))
+        return -1;
+    (*line)[length] = '\0';
+    return (ssize_t)length;
+}

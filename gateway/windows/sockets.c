@@ -1,0 +1,187 @@
+/* A socket is a small number on Windows too, which an int holds. */
+#include "../sockets.h"
+
+#include <errno.h>
+#include <string.h>
+
+#include "net.h"
+#include <mswsock.h>
+
+/* Bytes that the system keeps for the gateway, while it sends to many. */
+enum { KEPT = 1 << 20, MOST_WAITING = 4 };
+
+/* What a call of Winsock has answered; where it failed, its fault is kept. */
+static int answered(int answer)
+{
+    if (answer == SOCKET_ERROR)
+        keep_fault();
+    return answer;
+}
+
+void close_any(int *fd)
+{
+    int at = *fd;
+    *fd = -1;
+    if (at >= 0)
+        closesocket((SOCKET)at);
+}
+
+/* ---- Addresses ---- */
+
+static struct sockaddr_in to_system(const address *at)
+{
+    struct sockaddr_in it = {.sin_family = AF_INET, .sin_port = htons(at->port)};
+    memcpy(&it.sin_addr, at->host, sizeof at->host);
+    return it;
+}
+
+static address of_system(const struct sockaddr_in *at)
+{
+    address it = {.port = ntohs(at->sin_port)};
+    memcpy(it.host, &at->sin_addr, sizeof it.host);
+    return it;
+}
+
+/* ---- Opening ---- */
+
+/* The socket, where all is well; else it is closed. */
+static int kept_if(bool is_well, int fd)
+{
+    int why = errno;
+    if (!is_well)
+        close_any(&fd);
+    errno = why;
+    return fd;
+}
+
+/* A socket that doesn't wait, or -1. */
+static int unwaiting(SOCKET made)
+{
+    u_long yes = 1;
+    if (made == INVALID_SOCKET) {
+        keep_fault();
+        return -1;
+    }
+    return kept_if(answered(ioctlsocket(made, FIONBIO, &yes)) == 0, (int)made);
+}
+
+static bool set(int fd, int level, int option, int value)
+{
+    return answered(setsockopt((SOCKET)fd, level, option, (const char *)&value, sizeof value)) == 0;
+}
+
+/* Whether a socket has an address, which no other program takes too; tells the port that it took. */
+static bool is_bound(int fd, address *local)
+{
+    struct sockaddr_in at = to_system(local);
+    int size = sizeof at;
+    if (!set(fd, SOL_SOCKET, SO_EXCLUSIVEADDRUSE, 1) || answered(bind((SOCKET)fd, (const struct sockaddr *)&at, size)) != 0 ||
+        answered(getsockname((SOCKET)fd, (struct sockaddr *)&at, &size)) != 0)
+        return false;
+    *local = of_system(&at);
+    return true;
+}
+
+/* Whether a connection is there or under way; a socket for datagrams hears that address alone. */
+static bool is_connected(int fd, const address *remote)
+{
+    struct sockaddr_in to = to_system(remote);
+    return answered(connect((SOCKET)fd, (const struct sockaddr *)&to, sizeof to)) == 0 || errno == EAGAIN;
+}
+
+int datagram_open(address *local, const address *remote)
+{
+    BOOL tells = FALSE;
+    DWORD ignored;
+    int fd = unwaiting(socket(AF_INET, SOCK_DGRAM, 0));
+    if (fd < 0)
+        return -1;
+    /* (that a client has gone is no fault of the socket's) */
+    (void)WSAIoctl((SOCKET)fd, SIO_UDP_CONNRESET, &tells, sizeof tells, NULL, 0, &ignored, NULL, NULL);
+    /* (less is enough: then more is lost when many send at once) */
+    (void)set(fd, SOL_SOCKET, SO_RCVBUF, KEPT);
+    return kept_if(is_bound(fd, local) && (remote == NULL || is_connected(fd, remote)), fd);
+}
+
+int listener_open(address *local)
+{
+    int fd = unwaiting(socket(AF_INET, SOCK_STREAM, 0));
+    if (fd < 0)
+        return -1;
+    return kept_if(is_bound(fd, local) && answered(listen((SOCKET)fd, MOST_WAITING)) == 0, fd);
+}
+
+/* Frames go out at once; and a byte that somebody sends out of band is no fault, which is what it would be told as again and again. */
+static int plain_connection(int fd)
+{
+    if (fd >= 0) {
+        (void)set(fd, IPPROTO_TCP, TCP_NODELAY, 1);
+        (void)set(fd, SOL_SOCKET, SO_OOBINLINE, 1);
+    }
+    return fd;
+}
+
+int listener_take(int listener)
+{
+    return plain_connection(unwaiting(accept((SOCKET)listener, NULL, NULL)));
+}
+
+int connection_begin(const address *remote)
+{
+    int fd = plain_connection(unwaiting(socket(AF_INET, SOCK_STREAM, 0)));
+    return fd < 0 ? -1 : kept_if(is_connected(fd, remote), fd);
+}
+
+int connection_state(int fd)
+{
+    struct timeval at_once = {0, 0};
+    fd_set made, failed;
+    FD_ZERO(&made);
+    FD_ZERO(&failed);
+    FD_SET((SOCKET)fd, &made);
+    FD_SET((SOCKET)fd, &failed);
+    if (select(0, NULL, &made, &failed, &at_once) <= 0)
+        return 0;
+    return FD_ISSET((SOCKET)fd, &failed) ? -1 : 1;
+}
+
+/* ---- Sending and receiving ---- */
+
+/* How much was received. Of a datagram that is longer than the room Windows tells no length: it is one more. */
+static ssize_t received(int length, size_t room)
+{
+    if (length == SOCKET_ERROR && WSAGetLastError() == WSAEMSGSIZE)
+        return (ssize_t)room + 1;
+    return answered(length);
+}
+
+ssize_t datagram_receive(int fd, uint8_t *bytes, size_t room, address *from)
+{
+    struct sockaddr_in at = {.sin_port = 0};
+    int size = sizeof at;
+    ssize_t length = received(recvfrom((SOCKET)fd, (char *)bytes, (int)room, 0, (struct sockaddr *)&at, &size), room);
+    if (from != NULL)
+        *from = of_system(&at);
+    return length;
+}
+
+bool datagram_send(int fd, const uint8_t *bytes, size_t length)
+{
+    return connection_send(fd, bytes, length) == (ssize_t)length;
+}
+
+bool datagram_send_to(int fd, const address *to, const uint8_t *bytes, size_t length)
+{
+    struct sockaddr_in at = to_system(to);
+    return answered(sendto((SOCKET)fd, (const char *)bytes, (int)length, 0, (const struct sockaddr *)&at, sizeof at)) == (int)length;
+}
+
+ssize_t connection_receive(int fd, uint8_t *bytes, size_t room)
+{
+    return answered(recv((SOCKET)fd, (char *)bytes, (int)room, 0));
+}
+
+ssize_t connection_send(int fd, const uint8_t *bytes, size_t length)
+{
+    return answered(send((SOCKET)fd, (const char *)bytes, (int)length, 0));
+}

@@ -1,0 +1,108 @@
+"""Who runs the gateway sees what it does, asks it for reports, and tells it to end."""
+import os
+import pty
+import re
+import select
+import signal
+import struct
+import tempfile
+import time
+
+from lab import LIMIT, RIP, Client, Counts, Gateway, reaches, tunnels, until
+from systems import SYSTEM
+
+UNREACHABLE = 16  # hops
+CTRL_C = b"\x03"
+
+
+def is_farewell(packet, network):
+    """Whether a router says that a network can't be reached any more."""
+    is_response = int.from_bytes(packet[28:30], "big") == RIP and packet[30:32] == b"\0\2"
+    return is_response and (network, UNREACHABLE) in ((it[0], it[1]) for it in struct.iter_unpack(">IHH", packet[32:]))
+
+
+def reports():
+    """Each report that is asked for has what came before, and the gateway goes on."""
+    with Gateway(tunnels(2)) as gate:
+        a, b = Client(gate.ports[0x10]), Client(gate.ports[0x20])
+        for k in range(1, 11):
+            assert reaches(a, b)
+            assert gate.counted(0x10, "in") == k + 1, "with the registration"
+
+
+def lines_come():
+    """With --log a line is shown as soon as there is something to tell, though nobody asks for a report."""
+    with Gateway(tunnels(1), options=["--log"]) as gate:
+        node = Client(gate.ports[0x10]).node.hex().upper()
+        while f"client {node} comes to 00000010" not in gate.line():
+            pass
+
+
+def seconds_pass():
+    """Its seconds are as long as those of this machine."""
+    begun = time.monotonic()
+    with Gateway(tunnels(1)) as gate:
+        known = time.monotonic()
+
+        def has_counted():
+            asked = time.monotonic()
+            seconds = int(re.search(r"(?m)^report after (\d+) s$", gate.report())[1])
+            # (it began before it was known to have, and counts whole ones)
+            assert asked - known - 2 <= seconds <= time.monotonic() - begun, seconds
+            return seconds >= 2
+
+        until(has_counted, "two seconds")
+
+
+def told_to_end():
+    """However it is told to end, neighbours hear that its networks can't be reached any more, and a report is the last that it says."""
+    for order in SYSTEM.ends:
+        with Gateway(tunnels(2)) as gate:
+            client = Client(gate.ports[0x10])
+            said = gate.end(order)
+            assert client.hear(lambda it: is_farewell(it, 0x20)) is not None, order
+            assert "\nreport after " in said and said.endswith("\nend of report\n"), said
+
+
+def told_until(terminal, words):
+    """All that a terminal shows, until it has shown some words."""
+    told, end = b"", time.monotonic() + LIMIT
+    while words not in told:
+        ready, _, _ = select.select([terminal], [], [], max(0, end - time.monotonic()))
+        assert ready, f"never: {words} in {told}"
+        told += os.read(terminal, 65536)
+    return told
+
+
+def typed():
+    """Ctrl-C that is typed at a terminal ends it, with a report."""
+    with tempfile.NamedTemporaryFile("w", encoding="ascii") as configuration:
+        configuration.write(tunnels(2))
+        configuration.flush()
+        process, terminal = pty.fork()
+        if process == 0:
+            words = [*SYSTEM.quick, SYSTEM.program, configuration.name]
+            os.execvp(words[0], words)
+        try:
+            told_until(terminal, b"network 00000020 on")
+            os.write(terminal, CTRL_C)
+            told_until(terminal, b"end of report")
+            _, status = os.waitpid(process, 0)
+        except AssertionError:
+            os.kill(process, signal.SIGKILL)
+            os.waitpid(process, 0)
+            raise
+        finally:
+            os.close(terminal)
+        assert os.waitstatus_to_exitcode(status) == 0
+
+
+def main():
+    counts = Counts()
+    for test in (reports, lines_come, seconds_pass, told_to_end, typed):
+        counts.run(test)
+    return counts
+
+
+if __name__ == "__main__":
+    main()

@@ -1,0 +1,88 @@
+"""The systems for which the gateway is built: how it runs here, how it is asked for a report, and how it is told to end.
+
+The environment's GATEWAY_SYSTEM names the one that is tried. Without it, it is this machine's own, and the gateway is the one with the
+sanitizers, where that is built. For 64-bit ARM it runs by qemu-aarch64; for Windows by Wine, behind console.exe, which gives it the orders
+of a console. The programs lie where tools/gateway puts them.
+"""
+import os
+import signal
+import subprocess
+
+TOP = os.path.dirname(os.path.dirname(os.path.dirname(os.path.realpath(__file__))))
+BUILD = os.path.join(TOP, "build")
+
+
+class Run(subprocess.Popen):
+    """A gateway that runs."""
+
+    def order(self, order):
+        """Gives it one of its system's orders."""
+        self.send_signal(order)
+
+
+class ConsoleRun(subprocess.Popen):
+    """The same at a console of Windows. Each letter that console.exe hears is an order, and that none comes any more kills the gateway."""
+
+    def __init__(self, words, **how):
+        heard, self.orders = os.pipe()
+        try:
+            super().__init__(words, **{**how, "stdin": heard})
+        finally:
+            os.close(heard)
+
+    def order(self, order):
+        os.write(self.orders, order)
+
+    def kill(self):
+        if self.orders is not None:
+            os.close(self.orders)
+            self.orders = None
+
+    def communicate(self, *words, **how):
+        try:
+            return super().communicate(*words, **how)
+        finally:
+            self.kill()
+
+
+def built(*names):
+    """The first of some programs in build/ that is there, or the last."""
+    paths = [os.path.join(BUILD, *it.split("/")) for it in names]
+    return next((it for it in paths if os.path.exists(it)), paths[-1])
+
+
+class Linux:
+    """This machine's own. What stands before the program lets it run and take orders, and `quick` lets it run without."""
+
+    name = "Linux"
+    program = built("ipxr-gateway-sanitized", "ipxr-gateway")
+    delivered = built("ipxr-gateway")
+    troubled, fast = built("ipxr-gateway-troubled"), built("ipxr-gateway-fast")
+    runner = quick = []
+    run = Run
+    report, end = signal.SIGUSR1, signal.SIGTERM
+    ends = (signal.SIGTERM, signal.SIGINT, signal.SIGHUP)
+
+
+class Aarch64(Linux):
+    """Linux on 64-bit ARM."""
+
+    name = "aarch64"
+    program = delivered = built("aarch64/ipxr-gateway")
+    troubled, fast = built("aarch64/ipxr-gateway-troubled"), built("aarch64/ipxr-gateway-fast")
+    runner = quick = ["qemu-aarch64"]
+
+
+class Windows:
+    """Windows on x86-64."""
+
+    name = "Windows"
+    program = delivered = built("windows/ipxr-gateway.exe")
+    quick = ["wine"]
+    runner = ["wine", built("windows/console.exe")]
+    run = ConsoleRun
+    report, end = b"b", b"c"
+    ends = (b"c", b"x")
+
+
+SYSTEM = {"": Linux, "aarch64": Aarch64, "windows": Windows}[os.environ.get("GATEWAY_SYSTEM", "")]
