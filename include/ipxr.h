@@ -34,9 +34,9 @@
  * Everything else is answered with a number: a handle without a router, a second free, a port, a packet or a record that
  * there is not, a buffer too short for a packet, ports that make no router, memory that is refused.
  *
- * WHERE IT RUNS. The library is there for 64-bit Linux on x86-64 and on aarch64, and for 64-bit Windows on x86-64 by gcc or
- * clang: docs/EMBED.md says how each is made. The header is plain C, from C89 on, and plain C++, from C++98 on, where the
- * compiler has stdint.h and stdbool.h.
+ * WHERE IT RUNS. The library is there for 64-bit Linux on x86-64 and on aarch64, and for 64-bit Windows on x86-64:
+ * docs/EMBED.md says how each is made. It is called as the system's C is, so whatever calls C there can call it. The header
+ * is plain C, from C89 on, and plain C++, from C++98 on, where the compiler has stdint.h and stdbool.h.
  */
 #ifndef IPXR_H
 #define IPXR_H
@@ -45,13 +45,8 @@
 #include <stddef.h>
 #include <stdint.h>
 
-/* How these functions are called. On Windows, too, the library is called as on Linux, and the compiler has to be told. */
-#if defined(_WIN64)
-#if !defined(__GNUC__) && !defined(__clang__)
-#error "ipxr.h: on Windows only gcc and clang can call the library"
-#endif
-#define IPXR_CALL __attribute__((sysv_abi))
-#else
+/* What stands before each call, if anything. It is there for who wants __declspec(dllimport), which Windows' DLL doesn't need. */
+#ifndef IPXR_CALL
 #define IPXR_CALL
 #endif
 
@@ -305,10 +300,10 @@ static __inline size_t ipxr_text(int32_t answer, char *text, size_t room)
 }
 
 /* The release that this header is from: its first two numbers are the version of this interface. */
-#define IPXR_RELEASE "1.1.0"
+#define IPXR_RELEASE "1.2.0"
 
 /* The version of this interface: its major number times 65536, plus its minor number. This header is of IPXR_VERSION. */
-#define IPXR_VERSION 65537
+#define IPXR_VERSION 65538
 IPXR_CALL uint32_t ipxr_version(void);
 
 #ifdef __cplusplus

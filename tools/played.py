@@ -10,7 +10,7 @@ TOP = os.path.dirname(os.path.dirname(os.path.realpath(__file__)))
 
 def program():
     """The program that is asked: what IPXR names; else the one that was built, or that of the release in which this lies, or the system's."""
-    here = (f"{TOP}/{it}" for it in ("crates/ipxr/out/ipxr", "bin/ipxr"))
+    here = (f"{TOP}/{it}" for it in ("crates/ipxr/out/ipxr", "bin/ipxr", "ipxr.exe"))
     return os.environ.get("IPXR") or next(filter(os.path.isfile, here), "ipxr")
 
 

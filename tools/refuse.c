@@ -1,9 +1,10 @@
 /* Preloaded into a program, it stands between the program and the C library: one request for memory is refused, one read or
  * one write fails, or every read and write moves one byte. The variable REFUSE says which, as "memory 3", "read 3",
- * "interrupted 3", "write 3", "nothing-taken 3" or "bytes 0"; REFUSE_TELL is a descriptor that gets a byte where a refusal came. */
+ * "interrupted 3", "write 3", "nothing-taken 3" or "bytes 0"; REFUSE_TELL names a file that is made where a refusal came. */
 #define _GNU_SOURCE
 #include <dlfcn.h>
 #include <errno.h>
+#include <fcntl.h>
 #include <stdio.h>
 #include <stdlib.h>
 #include <string.h>
@@ -13,7 +14,7 @@
 static char what[16];
 /* How many calls of that kind go before the one that is refused; none is where it is below zero. */
 static long before = -1;
-static int told = -1;
+static const char *tell;
 
 static void *(*real_malloc)(size_t);
 static void *(*real_realloc)(void *, size_t);
@@ -22,12 +23,11 @@ __attribute__((constructor)) static void begin(void)
 {
     *(void **)&real_malloc = dlsym(RTLD_NEXT, "malloc");
     *(void **)&real_realloc = dlsym(RTLD_NEXT, "realloc");
-    const char *tell = getenv("REFUSE_TELL"), *said = getenv("REFUSE");
+    const char *said = getenv("REFUSE");
     long number;
-    if (tell && said && sscanf(said, "%15s %ld", what, &number) == 2) {
-        told = atoi(tell);
+    tell = getenv("REFUSE_TELL");
+    if (tell && said && sscanf(said, "%15s %ld", what, &number) == 2)
         before = number - 1;
-    }
 }
 
 /* Whether this call of that kind is the one that is refused. */
@@ -37,7 +37,7 @@ static int refused(const char *kind)
         return 0;
     if (before-- > 0)
         return 0;
-    syscall(SYS_write, told, "!", 1);
+    syscall(SYS_close, syscall(SYS_openat, AT_FDCWD, tell, O_WRONLY | O_CREAT, 0600));
     return 1;
 }
 

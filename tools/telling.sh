@@ -17,6 +17,19 @@ prove() {
 # with_heap FOLDER AR: the library with the allocator that was compiled there.
 with_heap() { cp "$1/libipx_c.a" "$1/libipxr.a" && "$2" rs "$1/libipxr.a" "$1/heap.o" 2>build/log; }
 
+# shared FOLDER COMPILER: the shared library, whose name for programs (its soname) has the first number of the release; it shows the calls of the
+# header alone.
+shared() {
+    local release
+    release=$(cat VERSION)
+    "$2" -shared -Wl,-soname,"libipxr.so.${release%%.*}" -Wl,--version-script=include/ipxr.map -Wl,--no-undefined -Wl,-z,relro,-z,now \
+        -Wl,--whole-archive "$1/libipxr.a" -Wl,--no-whole-archive -o "$1/libipxr.so.$release"
+}
+
+calls_of_header() {
+    sed -nE 's/^IPXR_CALL [a-z0-9_]+ (ipxr_[a-z_]+)\(.*/\1/p' include/ipxr.h | sort
+}
+
 # A line for what went well or badly: its name, and the status to judge.
 tell() {
     if [ "$2" = 0 ]; then
@@ -40,7 +53,7 @@ count() {
 prints() {
     local kept=$1
     shift
-    timeout 120 "$@" 2>build/complaint </dev/null | tr -d '\r' | diff "$kept" - && [ ! -s build/complaint ]
+    (set -o pipefail && timeout 120 "$@" 2>build/complaint </dev/null | tr -d '\r' | diff "$kept" -) && [ ! -s build/complaint ]
 }
 
 # ends TEXT COMMAND..: whether a command ends well, prints nothing and complains of nothing.

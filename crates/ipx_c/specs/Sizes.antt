@@ -15,4 +15,4 @@ most_services = MOST_SERVICES
 
 -- a major number and a minor number
 abbrev pub version : ℕ
-version = 1 * 65536 + 1
+version = 1 * 65536 + 2

@@ -19,7 +19,7 @@ use ipx_wire::{Network, Node};
 use std::alloc::Global;
 
 /// The version of the interface: its major number times 65536, plus its minor number.
-const VERSION: u32 = (1 << 16) + 1;
+const VERSION: u32 = (1 << 16) + 2;
 
 /// Makes a router, and frees the one that the handle had. Where none can be made, that one stays.
 #[unsafe(no_mangle)]

@@ -80,23 +80,7 @@ static int32_t port_1_up(ipxr *router)
     return ipxr_port_up(router, 1);
 }
 
-/* (a call of the library isn't called as a function of C everywhere: not on Windows) */
-static int32_t start(ipxr *router)
-{
-    return ipxr_start(router);
-}
-
-static int32_t second(ipxr *router)
-{
-    return ipxr_second(router);
-}
-
-static int32_t stop(ipxr *router)
-{
-    return ipxr_stop(router);
-}
-
-static event *const EVENTS[] = {make, start, learn, forward, second, port_1_down, port_1_up, stop};
+static event *const EVENTS[] = {make, ipxr_start, learn, forward, ipxr_second, port_1_down, port_1_up, ipxr_stop};
 
 /* Makes a call, and where memory was refused makes it again. */
 static int32_t insist(ipxr *router, event *call)

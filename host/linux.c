@@ -1,4 +1,4 @@
-/* What the program asks of the system beside the C library and include/heap.c: its arguments, and the number of the last fault. The
+/* What the program asks of Linux beside the C library and include/heap.c: its arguments, and the number of the last fault. The
  * toolchain brings these for x86-64; tools/platforms builds the program for other processors with this file. */
 #include <errno.h>
 #include <stddef.h>
