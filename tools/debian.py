@@ -1,4 +1,4 @@
-"""Debian's packages of a release, by dpkg-deb."""
+"""Debian's packages of a release for one of its processors, by dpkg-deb."""
 import email.utils
 import gzip
 import hashlib
@@ -7,9 +7,9 @@ import subprocess
 import tempfile
 from typing import NamedTuple
 
+import binaries
 import layout
 
-LIB = "lib/x86_64-linux-gnu"
 UNITS = "lib/systemd/system"
 NO_LICENCE = "No licence has been named: that is the owner's word, which is still to come.\n"
 
@@ -71,25 +71,27 @@ ABOUT = {
         "",
     ),
 }
-WITHOUT_PROGRAMS = {"libipxr-dev"}
+# A program that is linked statically runs on every Debian for its processor, whatever C library that has; lintian asks for a word.
+STATIC = "# (it is meant to be: it asks for nothing but Linux)\n{name}: statically-linked-binary [{file}]\n"
 
 
 class Release(NamedTuple):
     version: str
     author: str
     time: int
-    libc: str
 
 
-def control(name, release, kilobytes):
+def control(name, pieces, release, system):
     section, line, paragraph, more = ABOUT[name]
-    depends = [] if name in WITHOUT_PROGRAMS else [f"libc6 (>= {release.libc})"]
-    depends += [more.format(version=release.version)] if more else []
+    libc = binaries.libc(it.content for it in pieces)
+    depends = ([f"libc6 (>= {libc})"] if libc else []) + ([more.format(version=release.version)] if more else [])
+    asks = f"Depends: {', '.join(depends)}\n" if depends else ""
+    kilobytes = sum(len(it.content) for it in pieces) // 1024 + 1
     suggests = f"Suggests: {SUGGESTED[name]}\n" if name in SUGGESTED else ""
     same = "Multi-Arch: same\n" if name.startswith("lib") else ""
     return (
-        f"Package: {name}\nVersion: {release.version}\nArchitecture: amd64\nMaintainer: {release.author}\n"
-        f"Installed-Size: {kilobytes}\nDepends: {', '.join(depends)}\n{suggests}Section: {section}\nPriority: optional\n{same}"
+        f"Package: {name}\nVersion: {release.version}\nArchitecture: {system.debian}\nMaintainer: {release.author}\n"
+        f"Installed-Size: {kilobytes}\n{asks}{suggests}Section: {section}\nPriority: optional\n{same}"
         f"Description: {line}\n {paragraph}\n"
     )
 
@@ -110,9 +112,17 @@ def of_package(piece):
     return piece._replace(place=piece.place + ".gz", content=gzip.compress(piece.content, 9, mtime=0))
 
 
-def installed(name, pages, release):
+def excuses(name, pieces):
+    """What lintian is told of programs that are linked statically."""
+    programs = [it for it in pieces if it.content.startswith(binaries.ELF) and "bin/" in it.place]
+    told = [STATIC.format(name=name, file=f"usr/{it.place}") for it in programs if not binaries.is_linked(it.content)]
+    return [layout.Piece(name, f"share/lintian/overrides/{name}", "".join(told).encode())] if told else []
+
+
+def installed(name, pieces, pages, release):
     """All files of a package below usr/."""
-    found = [of_package(it) for it in layout.pieces("/usr", LIB, UNITS, is_system=True) if it.package == name]
+    found = [of_package(it) for it in pieces if it.package == name]
+    found += excuses(name, found)
     doc = f"share/doc/{name}"
     texts = {"copyright": NO_LICENCE.encode(), "changelog.gz": changes(name, release)}
     found += [layout.Piece(name, f"{doc}/{it}", text) for it, text in texts.items()]
@@ -137,7 +147,7 @@ def sums(pieces):
     return "".join(f"{hashlib.md5(it.content).hexdigest()}  usr/{it.place}\n" for it in files)
 
 
-def package(name, pieces, release):
+def package(name, pieces, release, system):
     """The bytes of a package."""
     with tempfile.TemporaryDirectory() as folder:
         os.umask(0o022)
@@ -145,8 +155,7 @@ def package(name, pieces, release):
         for it in pieces:
             layout.put(it, f"{root}/usr")
         os.makedirs(f"{root}/DEBIAN")
-        kilobytes = sum(len(it.content) for it in pieces) // 1024 + 1
-        texts = {"control": control(name, release, kilobytes), "md5sums": sums(pieces), **extras(name, release)}
+        texts = {"control": control(name, pieces, release, system), "md5sums": sums(pieces), **extras(name, release)}
         for file, text in texts.items():
             mode = 0o755 if text.startswith("#!") else 0o644
             layout.put(layout.Piece(name, file, text.encode(), mode), f"{root}/DEBIAN")
@@ -156,11 +165,13 @@ def package(name, pieces, release):
             return it.read()
 
 
-def packages(pages, release):
+def packages(system, pages, release):
     """The packages by their file names."""
-    names = {it.package for it in layout.pieces("/usr")}
+    pieces = layout.pieces(system, "/usr", f"lib/{system.multiarch}", UNITS, is_system=True)
+    names = {it.package for it in pieces}
     found = {}
     for name in ABOUT:
         if name in names:
-            found[f"{name}_{release.version}_amd64.deb"] = package(name, installed(name, pages, release), release)
+            file = f"{name}_{release.version}_{system.debian}.deb"
+            found[file] = package(name, installed(name, pieces, pages, release), release, system)
     return found

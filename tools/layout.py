@@ -1,4 +1,4 @@
-"""Where what is built lies once it is installed: for make install, the archive of a release and Debian's packages."""
+"""Where what is built lies once it is installed: for make install, the archives of a release and Debian's packages."""
 import importlib.util
 import os
 import re
@@ -8,11 +8,9 @@ import tempfile
 from importlib.machinery import SourceFileLoader
 from typing import NamedTuple
 
+from systems import IMPORTS, PROGRAM, WINDOWS  # noqa: F401 (tools that play the program ask here where it is)
+
 TOP = os.path.dirname(os.path.dirname(os.path.realpath(__file__)))
-PROGRAM = "crates/ipxr/out/ipxr"
-GATEWAY = "build/ipxr-gateway"
-ARCHIVE = "build/libipxr.a"
-HEADER = "build/ipxr.h"
 # Sections that are never in memory: a program without them is the same program.
 DEAD_WEIGHT = "--strip-unneeded"
 
@@ -40,16 +38,11 @@ def is_built(name):
     return os.path.isfile(f"{TOP}/{name}")
 
 
-def shared():
-    """The shared library's file, and the name by which programs ask for it."""
-    return f"libipxr.so.{version()}", f"libipxr.so.{version().split('.')[0]}"
-
-
-def sizes():
+def sizes(system):
     """What fills the places of a router's sizes: how much the library has room for that is built, as its header says."""
-    if not is_built(HEADER):
+    if not is_built(system.header):
         return {}
-    found = re.findall(r"(?m)^#define IPXR_MOST_(PORTS|ROUTES|SERVICES) (\d+)$", content(HEADER).decode())
+    found = re.findall(r"(?m)^#define IPXR_MOST_(PORTS|ROUTES|SERVICES) (\d+)$", content(system.header).decode())
     return {f"@{name}@": number for name, number in found}
 
 
@@ -61,25 +54,25 @@ def tool(name):
     return module
 
 
-def filled(name, prefix, lib="lib", libs=""):
+def filled(name, values):
     """A file with its places filled in."""
     text = content(name).decode()
-    values = {"@PREFIX@": prefix, "@LIB@": lib, "@LIBS@": libs, "@VERSION@": version(), **sizes()}
-    for word, value in values.items():
+    for word, value in {"@VERSION@": version(), **values}.items():
         text = text.replace(word, value)
     return text.encode()
 
 
-def stamped(name):
-    """A program or a shared library with its release in a section that `ident` and `readelf -p .ident` show, and without symbols. What
-    the system loads is the same. Where there is no objcopy, it is as it was built."""
-    if not shutil.which("objcopy"):
+def stamped(system, name):
+    """A program or a shared library for Linux with its release in a section that `ident` and `readelf -p .ident` show, and without
+    symbols. What the system loads is the same. Where there is no objcopy, it is as it was built."""
+    objcopy = system.tool("objcopy")
+    if not shutil.which(objcopy):
         return content(name)
     with tempfile.TemporaryDirectory() as folder:
         with open(f"{folder}/ident", "w", encoding="ascii") as it:
             it.write(f"$Version: {os.path.basename(name).partition('.')[0]} {version()} $\0")
         added = ["--add-section", f".ident={folder}/ident", "--set-section-flags", ".ident=readonly,contents"]
-        subprocess.run(["objcopy", DEAD_WEIGHT, *added, f"{TOP}/{name}", f"{folder}/stamped"], check=True)
+        subprocess.run([objcopy, DEAD_WEIGHT, *added, f"{TOP}/{name}", f"{folder}/stamped"], check=True)
         with open(f"{folder}/stamped", "rb") as it:
             return it.read()
 
@@ -91,43 +84,72 @@ def manual():
         yield Piece(owners[os.path.basename(place)], f"share/man/{place}", text.encode())
 
 
-def program():
-    yield Piece("ipxr", "bin/ipxr", stamped(PROGRAM), 0o755)
+# ---- Linux ----
+
+
+def program(system):
+    yield Piece("ipxr", "bin/ipxr", stamped(system, system.program), 0o755)
     yield Piece("ipxr", "share/bash-completion/completions/ipxr", content("completions/ipxr.bash"))
     yield Piece("ipxr", "share/zsh/site-functions/_ipxr", content("completions/_ipxr"))
 
 
-def library(lib, system_prefix):
+def library(system, lib, system_prefix):
     """The library for C. Where the system looks for it the pkg-config file names the shared one, elsewhere the static one, with which a
     program runs wherever it is; and there it finds what lies beside it."""
-    file, name = shared()
+    file, name = system.shared(version())
     beside = "${pcfiledir}" + "/.." * (lib.count("/") + 2)
     libs = "-L${libdir} -lipxr" if system_prefix else "${libdir}/libipxr.a"
-    yield Piece("libipxr-dev", "include/ipxr.h", content(HEADER))
-    yield Piece("libipxr-dev", f"{lib}/libipxr.a", content(ARCHIVE))
+    values = {"@PREFIX@": system_prefix or beside, "@LIB@": lib, "@LIBS@": libs, **sizes(system)}
+    yield Piece("libipxr-dev", "include/ipxr.h", content(system.header))
+    yield Piece("libipxr-dev", f"{lib}/libipxr.a", content(system.archive))
     yield Piece("libipxr-dev", f"{lib}/libipxr.so", link=name)
-    yield Piece("libipxr-dev", f"{lib}/pkgconfig/ipxr.pc", filled("include/ipxr.pc.in", system_prefix or beside, lib, libs))
+    yield Piece("libipxr-dev", f"{lib}/pkgconfig/ipxr.pc", filled("include/ipxr.pc.in", values))
     yield Piece("libipxr1", f"{lib}/{name}", link=file)
-    yield Piece("libipxr1", f"{lib}/{file}", stamped(f"build/{file}"))
+    yield Piece("libipxr1", f"{lib}/{file}", stamped(system, f"{system.folder}/{file}"))
 
 
-def gateway(prefix, units):
-    yield Piece("ipxr-gateway", "sbin/ipxr-gateway", stamped(GATEWAY), 0o755)
+def gateway(system, prefix, units):
+    yield Piece("ipxr-gateway", "sbin/ipxr-gateway", stamped(system, system.gateway), 0o755)
     yield Piece("ipxr-gateway", "share/bash-completion/completions/ipxr-gateway", content("completions/ipxr.bash"))
     yield Piece("ipxr-gateway", "share/zsh/site-functions/_ipxr-gateway", content("completions/_ipxr-gateway"))
     yield Piece("ipxr-gateway", "share/ipxr/ipxr-gateway.conf", content("gateway/example.conf"))
-    yield Piece("ipxr-gateway", f"{units}/ipxr-gateway.service", filled("gateway/ipxr-gateway.service.in", prefix))
+    yield Piece("ipxr-gateway", f"{units}/ipxr-gateway.service", filled("gateway/ipxr-gateway.service.in", {"@PREFIX@": prefix}))
 
 
-def pieces(prefix, lib="lib", units="share/ipxr", is_system=False):
-    """All that is built, and what belongs to it; where the system looks for it, or below any prefix."""
-    found = [*program()]
-    if is_built(ARCHIVE):
-        found += library(lib, prefix if is_system else None)
-    if is_built(GATEWAY):
-        found += gateway(prefix, units)
+def pieces(system, prefix, lib="lib", units="share/ipxr", is_system=False):
+    """All that is built for a Linux, and what belongs to it; where the system looks for it, or below any prefix."""
+    found = [*program(system)]
+    if is_built(system.archive):
+        found += library(system, lib, prefix if is_system else None)
+    if is_built(system.gateway):
+        found += gateway(system, prefix, units)
     packages = {it.package for it in found}
     return found + [it for it in manual() if it.package in packages]
+
+
+# ---- Windows ----
+
+
+def windows_configuration():
+    """The example of a configuration with what the gateway has on Windows, its lines ended as editors there end them: each of its
+    paragraphs but those whose networks lie on a card or a TAP."""
+    paragraphs = content("gateway/example.conf").decode().split("\n\n")
+    kept = [it for it in paragraphs if not re.search(r"(?m)^#?\s*network .* (tap|interface) ", it)]
+    return ("\n\n".join(kept).rstrip("\n") + "\n").replace("\n", "\r\n").encode()
+
+
+def windows():
+    """All that is built for Windows, as it was linked: the programs and the library that is loaded with them lie at the top."""
+    at = WINDOWS.folder
+    for file in WINDOWS.programs(version()):
+        yield Piece("ipxr", os.path.basename(file), content(file), 0o755)
+    yield Piece("ipxr", "include/ipxr.h", content(WINDOWS.header))
+    for name in ("libipxr.a", *IMPORTS):
+        yield Piece("ipxr", f"lib/{name}", content(f"{at}/{name}"))
+    yield Piece("ipxr", "gateway.conf", windows_configuration())
+
+
+# ---- A folder ----
 
 
 def put(piece, folder):
