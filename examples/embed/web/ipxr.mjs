@@ -1,0 +1,475 @@
+// An IPX router as a value, for pages and for Node, over libipxr.wasm, which is the library for C as WebAssembly.
+//
+//     import { Router, words } from "./ipxr.mjs";
+//     await Router.load();
+//     const router = new Router([
+//         { network: 0x10, node: [0, 0, 0, 0, 0, 1], cost: 1, longest: 576 },
+//         { network: 0x20, node: [0, 0, 0, 0, 0, 2], cost: 1, longest: 1500 },
+//     ]);
+//     const { outcome, sent } = router.start();
+//     for (const { port, node, bytes } of sent) transmit(port, node, bytes);
+//     router.free();
+//
+// The calls are those of ipxr.h, and so are the numbers below; ipxr.d.mts has the types. What isn't of its type is refused here by a
+// TypeError. All else is judged by the library, whose faults are thrown as IpxrError.
+
+/** What became of an event. */
+export const Outcome = Object.freeze({
+    STARTED: 0,
+    ALREADY_RUNNING: 1,
+    STOPPED: 2,
+    TICKED: 3,
+    LEARNED: 4,
+    ANSWERED: 5,
+    FORWARDED: 6,
+    PROPAGATED: 7,
+    WENT_DOWN: 8,
+    CAME_UP: 9,
+    ALREADY_DOWN: 10,
+    ALREADY_UP: 11,
+});
+
+/** Why an event was dropped. */
+export const Drop = Object.freeze({
+    NOT_RUNNING: 100,
+    MALFORMED_SHORT: 201,
+    MALFORMED_LENGTH_SMALL: 202,
+    MALFORMED_LENGTH_BEYOND: 203,
+    OWN_ECHO: 300,
+    BAD_SOURCE: 400,
+    CROSSED_SHORT: 500,
+    CROSSED_FULL: 600,
+    CROSSED_SEEN: 700,
+    ELSEWHERE: 800,
+    OTHER_SOCKET: 900,
+    NOT_NEIGHBOUR: 1000,
+    BAD_RIP_SHORT: 1101,
+    BAD_RIP_OPERATION: 1102,
+    BAD_RIP_NO_ENTRY: 1103,
+    BAD_RIP_TOO_MANY: 1104,
+    BAD_SAP_SHORT: 1201,
+    BAD_SAP_OPERATION: 1202,
+    BAD_SAP_NO_ENTRY: 1203,
+    BAD_SAP_TOO_MANY: 1204,
+    NEAREST_REPLY: 1300,
+    TOO_MANY_ROUTERS: 1400,
+    FAR_SIDE: 1500,
+    NO_ROUTE: 1600,
+    TOO_LONG: 1700,
+    DOWN_PORT: 1800,
+});
+
+/** What is thrown: the call did nothing. (NO_PACKET, NO_RECORD and SHORT_BUFFER don't come, since nothing here asks for them.) */
+export const Fault = Object.freeze({
+    NO_ROUTER: -1,
+    NO_PORT: -2,
+    NO_PACKET: -3,
+    NO_RECORD: -4,
+    SHORT_BUFFER: -5,
+    OUT_OF_MEMORY: -6,
+    BAD_LONGEST: -11,
+    BAD_COST: -12,
+    BAD_NETWORK: -13,
+    BAD_NODE: -14,
+    NO_PORTS: -15,
+    MANY_PORTS: -16,
+    SAME_NETWORK: -17,
+});
+
+/** How a frame of Ethernet carries a packet. */
+export const Frame = Object.freeze({ ETHERNET2: 1, RAW: 2, LLC: 3, SNAP: 4 });
+
+/** The shortest and the longest frame that is written, in bytes. */
+export const SHORTEST_FRAME = 60;
+export const LONGEST_FRAME = 1514;
+
+/** The broadcast node. */
+export const BROADCAST = Object.freeze([0xff, 0xff, 0xff, 0xff, 0xff, 0xff]);
+
+/** A share of the tables that limits nothing. */
+export const NO_LIMIT = 65535;
+
+// The version of the interface that is needed here, 1.1: its major number times 65536, plus its minor number. A later minor one only adds.
+const NEEDED = 65537;
+const NEXT_MAJOR = 131072;
+
+const NODE = 6;
+const MOST_WORD = 32;
+// No packet is longer. What comes behind so many bytes is padding, at which the router doesn't look.
+const MOST_BYTES = 65535;
+
+// The layout of the header's structs: each field's place, and the size of those that are handed over here.
+const HANDLE_SIZE = 16;
+const PORT = { network: 0, node: 4, cost: 10, longest: 12, routes: 14, services: 16, size: 20 };
+const SENT = { length: 0, port: 8, node: 9 };
+const ROUTE = { network: 0, hops: 4, ticks: 6, node: 8, port: 14, age: 15 };
+const SERVICE = { name: 0, network: 48, node: 52, socket: 58, type: 60, hops: 62, neighbour: 64, port: 70, age: 71, size: 72 };
+
+// Where it is said what block was allocated: whether there is one, and its address. The stack ends here, and no call reaches down so far.
+const ALLOCATED = { at: 16, address: 24 };
+const ALIGNMENT = 8n;
+
+/** A fault: its number, and the header's words as message. */
+export class IpxrError extends Error {
+    constructor(number) {
+        // (there are no words where there was no memory to load the library)
+        super(library ? words(number) : `fault ${number}`);
+        this.number = number;
+    }
+}
+IpxrError.prototype.name = "IpxrError";
+
+// The library in its memory, with room for what its calls take and give.
+class Library {
+    #bytes = new Uint8Array();
+    #view;
+
+    constructor(exports) {
+        this.calls = exports;
+        this.input = this.allocated(MOST_BYTES);
+        this.output = this.allocated(MOST_BYTES);
+        // (the longest of them)
+        this.record = this.allocated(SERVICE.size);
+        this.nodes = this.allocated(2 * NODE);
+        this.to = BigInt(this.nodes);
+        this.from = BigInt(this.nodes + NODE);
+        this.given = BigInt(this.input);
+        this.taken = BigInt(this.output);
+        this.told = BigInt(this.record);
+        this.room = BigInt(MOST_BYTES);
+    }
+
+    // The memory. (One that grew has another buffer, and the old one has no bytes any more.)
+    get bytes() {
+        if (this.#bytes.length === 0) this.#look();
+        return this.#bytes;
+    }
+
+    get view() {
+        if (this.#bytes.length === 0) this.#look();
+        return this.#view;
+    }
+
+    #look() {
+        this.#bytes = new Uint8Array(this.calls.memory.buffer);
+        this.#view = new DataView(this.calls.memory.buffer);
+    }
+
+    // The address of a block.
+    allocated(size) {
+        this.calls.rattle_alloc(BigInt(ALLOCATED.at), BigInt(size), ALIGNMENT);
+        if (this.view.getUint32(ALLOCATED.at, true) === 0) throw new IpxrError(Fault.OUT_OF_MEMORY);
+        return this.view.getUint32(ALLOCATED.address, true);
+    }
+
+    deallocate(address) {
+        this.calls.rattle_dealloc(BigInt(address));
+    }
+
+    // Puts bytes where they are given to a call, and returns how many they are.
+    give(bytes) {
+        const given = bytes.length > MOST_BYTES ? bytes.subarray(0, MOST_BYTES) : bytes;
+        this.bytes.set(given, this.input);
+        return BigInt(given.length);
+    }
+
+    // A copy of what is there.
+    copied(address, length) {
+        return this.bytes.slice(address, address + length);
+    }
+}
+
+let library;
+let loading;
+
+function loaded() {
+    if (!library) throw new Error("the library isn't loaded: await Router.load() comes first");
+    return library;
+}
+
+// (a window in a page has a class of its own for the same)
+function isBytes(value) {
+    return ArrayBuffer.isView(value) && value[Symbol.toStringTag] === "Uint8Array";
+}
+
+// The bytes of a file by its path, or of what an address gives; a path is Node's alone.
+async function fetched(source) {
+    const isPath = typeof source === "string" && !/^[a-z][a-z0-9+.-]+:/i.test(source);
+    if (globalThis.process?.versions?.node && (isPath || `${source}`.startsWith("file:"))) {
+        // (bundlers for pages refuse this module where they see its name)
+        const { readFile } = await import(/* webpackIgnore: true */ /* @vite-ignore */ ["node:fs", "promises"].join("/"));
+        return readFile(isPath ? source : new URL(source));
+    }
+    return received(await fetch(source));
+}
+
+async function received(response) {
+    if (!response.ok) throw new Error(`${response.url}: ${response.status} ${response.statusText}`);
+    return response.arrayBuffer();
+}
+
+async function moduleOf(given) {
+    const source = await given;
+    if (source instanceof WebAssembly.Module) return source;
+    if (source instanceof ArrayBuffer || isBytes(source)) return WebAssembly.compile(source);
+    if (typeof source === "string" || source instanceof URL) return WebAssembly.compile(await fetched(source));
+    if (typeof source?.arrayBuffer === "function") return WebAssembly.compile(await received(source));
+    throw new TypeError("the library is loaded from bytes, an address, a path, a Response or a module");
+}
+
+async function instantiated(source) {
+    const { exports } = await WebAssembly.instantiate(await moduleOf(source), {});
+    const version = exports.ipxr_version?.() ?? 0;
+    if (version < NEEDED || version >= NEXT_MAJOR) throw new Error(`the library is of version ${version}, and ${NEEDED} is needed`);
+    return new Library(exports);
+}
+
+function whole(value, most, what) {
+    if (!Number.isInteger(value) || value < 0 || value > most) throw new TypeError(`${what} isn't a whole number from 0 to ${most}`);
+    return value;
+}
+
+function bytesOf(value, what) {
+    if (!isBytes(value)) throw new TypeError(`${what} isn't a Uint8Array`);
+    return value;
+}
+
+function nodeOf(value, what) {
+    const isList = Array.isArray(value) || isBytes(value);
+    if (!isList || value.length !== NODE) throw new TypeError(`${what} isn't six bytes`);
+    return Array.from(value, (it) => whole(it, 0xff, `a byte of ${what}`));
+}
+
+// The ports as they lie in memory. (They are read before anything is called, since a getter may call.)
+function packed(ports) {
+    if (!Array.isArray(ports)) throw new TypeError("the ports aren't an array");
+    const bytes = new Uint8Array(PORT.size * ports.length);
+    const view = new DataView(bytes.buffer);
+    for (const [k, port] of ports.entries()) {
+        if (typeof port !== "object" || port === null) throw new TypeError(`port ${k} isn't an object`);
+        const at = PORT.size * k;
+        view.setUint32(at + PORT.network, whole(port.network, 0xffffffff, `the network of port ${k}`), true);
+        bytes.set(nodeOf(port.node, `the node of port ${k}`), at + PORT.node);
+        view.setUint16(at + PORT.cost, whole(port.cost, 0xffff, `the cost of port ${k}`), true);
+        view.setUint16(at + PORT.longest, whole(port.longest, 0xffff, `the longest packet of port ${k}`), true);
+        view.setUint16(at + PORT.routes, whole(port.routes ?? NO_LIMIT, 0xffff, `the routes of port ${k}`), true);
+        view.setUint16(at + PORT.services, whole(port.services ?? NO_LIMIT, 0xffff, `the services of port ${k}`), true);
+    }
+    return bytes;
+}
+
+// An answer that is no fault.
+function judged(answer) {
+    if (answer < 0) throw new IpxrError(answer);
+    return answer;
+}
+
+// A block with these bytes.
+function blockOf(bytes) {
+    const at = library.allocated(bytes.length);
+    library.bytes.set(bytes, at);
+    return at;
+}
+
+// The address of a handle with a router of these ports.
+function made(ports) {
+    const given = blockOf(ports);
+    try {
+        const handle = blockOf(new Uint8Array(HANDLE_SIZE));
+        const answer = library.calls.ipxr_make(BigInt(handle), BigInt(given), BigInt(ports.length / PORT.size));
+        if (answer < 0) library.deallocate(handle);
+        judged(answer);
+        return handle;
+    } finally {
+        library.deallocate(given);
+    }
+}
+
+function release(handle) {
+    library.calls.ipxr_free(BigInt(handle));
+    library.deallocate(handle);
+}
+
+// Routers that nobody knows any more.
+const forgotten = new FinalizationRegistry(release);
+
+/** A router. Each event returns what became of it, and the packets that are to be sent. */
+export class Router {
+    // The address of its handle, or nothing once it is freed.
+    #handle;
+
+    /** Loads the library, once for all routers; where that failed, it can be asked again. */
+    static async load(source = new URL("libipxr.wasm", import.meta.url)) {
+        loading ??= instantiated(source).then(
+            (it) => void (library = it),
+            (why) => {
+                loading = undefined;
+                throw why;
+            },
+        );
+        return loading;
+    }
+
+    constructor(ports) {
+        loaded();
+        const handle = made(packed(ports));
+        this.#handle = BigInt(handle);
+        forgotten.register(this, handle, this);
+    }
+
+    /** Gives its memory back. A second time nothing is done; all other calls throw NO_ROUTER from now on. */
+    free() {
+        if (this.#handle === undefined) return;
+        forgotten.unregister(this);
+        release(Number(this.#handle));
+        this.#handle = undefined;
+    }
+
+    start() {
+        return this.#happened(library.calls.ipxr_start(this.#there()));
+    }
+
+    stop() {
+        return this.#happened(library.calls.ipxr_stop(this.#there()));
+    }
+
+    second() {
+        return this.#happened(library.calls.ipxr_second(this.#there()));
+    }
+
+    packet(port, bytes) {
+        const handle = this.#there();
+        whole(port, 0xff, "the port");
+        const length = library.give(bytesOf(bytes, "the packet"));
+        return this.#happened(library.calls.ipxr_packet(handle, port, library.given, length));
+    }
+
+    portDown(port) {
+        return this.#happened(library.calls.ipxr_port_down(this.#there(), whole(port, 0xff, "the port")));
+    }
+
+    portUp(port) {
+        return this.#happened(library.calls.ipxr_port_up(this.#there(), whole(port, 0xff, "the port")));
+    }
+
+    isRunning() {
+        return judged(library.calls.ipxr_is_running(this.#there())) === 1;
+    }
+
+    isUp(port) {
+        return judged(library.calls.ipxr_is_up(this.#there(), whole(port, 0xff, "the port"))) === 1;
+    }
+
+    routes() {
+        const { calls } = library;
+        const handle = this.#there();
+        return this.#records(calls.ipxr_routes(handle), calls.ipxr_route, routeAt);
+    }
+
+    services() {
+        const { calls } = library;
+        const handle = this.#there();
+        return this.#records(calls.ipxr_services(handle), calls.ipxr_service, serviceAt);
+    }
+
+    #there() {
+        if (this.#handle === undefined) throw new IpxrError(Fault.NO_ROUTER);
+        return this.#handle;
+    }
+
+    // What became of an event, with the packets that it sent, which are then taken out.
+    #happened(outcome) {
+        judged(outcome);
+        const { calls } = library;
+        const count = Number(calls.ipxr_sent(this.#handle));
+        const sent = [];
+        for (let k = 0; k < count; k++) sent.push(this.#packet(k));
+        if (count > 0) calls.ipxr_clear(this.#handle);
+        return { outcome, sent };
+    }
+
+    #packet(index) {
+        const { view, record } = library;
+        judged(library.calls.ipxr_get(this.#handle, BigInt(index), library.told, library.taken, library.room));
+        const node = library.copied(record + SENT.node, NODE);
+        const bytes = library.copied(library.output, view.getUint32(record + SENT.length, true));
+        return { port: view.getUint8(record + SENT.port), node, bytes };
+    }
+
+    #records(count, call, read) {
+        const { view, record, told } = library;
+        return Array.from({ length: Number(count) }, (_, k) => {
+            judged(call(this.#handle, BigInt(k), told));
+            return read(view, record);
+        });
+    }
+}
+if (Symbol.dispose) Router.prototype[Symbol.dispose] = Router.prototype.free;
+
+function routeAt(view, at) {
+    return {
+        network: view.getUint32(at + ROUTE.network, true),
+        hops: view.getUint16(at + ROUTE.hops, true),
+        ticks: view.getUint16(at + ROUTE.ticks, true),
+        node: library.copied(at + ROUTE.node, NODE),
+        port: view.getUint8(at + ROUTE.port),
+        age: view.getUint8(at + ROUTE.age),
+    };
+}
+
+function serviceAt(view, at) {
+    return {
+        name: textAt(at + SERVICE.name, SERVICE.network - SERVICE.name),
+        network: view.getUint32(at + SERVICE.network, true),
+        node: library.copied(at + SERVICE.node, NODE),
+        socket: view.getUint16(at + SERVICE.socket, true),
+        type: view.getUint16(at + SERVICE.type, true),
+        hops: view.getUint16(at + SERVICE.hops, true),
+        neighbour: library.copied(at + SERVICE.neighbour, NODE),
+        port: view.getUint8(at + SERVICE.port),
+        age: view.getUint8(at + SERVICE.age),
+    };
+}
+
+// The bytes before a 0, each as the character of its number.
+function textAt(at, most) {
+    const bytes = library.bytes.subarray(at, at + most);
+    const end = bytes.indexOf(0);
+    return String.fromCharCode(...(end < 0 ? bytes : bytes.subarray(0, end)));
+}
+
+/** The words of an outcome, a drop or a fault; of any other number none. */
+export function words(answer) {
+    const { calls, taken, output } = loaded();
+    if (!Number.isInteger(answer) || answer !== (answer | 0)) throw new TypeError("the answer isn't a whole number of 32 bits");
+    const length = Number(calls.ipxr_word(answer, taken, BigInt(MOST_WORD)));
+    return length === 0 ? "" : textAt(output, length);
+}
+
+/** Whether an outcome is a drop: nothing was done, and nothing is sent. */
+export function isDrop(outcome) {
+    return outcome >= Drop.NOT_RUNNING;
+}
+
+/** The version of the library's interface: its major number times 65536, plus its minor number. */
+export function version() {
+    return loaded().calls.ipxr_version();
+}
+
+/** How a frame carries a packet, and the packet with what comes behind it, within the same buffer; null where it carries none. */
+export function readFrame(frame) {
+    const { calls, given, told } = loaded();
+    const kind = calls.ipxr_frame_read(given, library.give(bytesOf(frame, "the frame")), told);
+    return kind === 0 ? null : { kind, packet: frame.subarray(library.view.getUint32(library.record, true)) };
+}
+
+/** The frame in which a packet is sent to a node from a node; null where a frame of that kind can't carry it. */
+export function writeFrame(kind, to, from, packet) {
+    const { calls, given, taken, nodes } = loaded();
+    whole(kind, 0xff, "the kind");
+    const ends = [...nodeOf(to, "the destination"), ...nodeOf(from, "the source")];
+    const length = library.give(bytesOf(packet, "the packet"));
+    library.bytes.set(ends, nodes);
+    const written = Number(calls.ipxr_frame_write(kind, library.to, library.from, given, length, taken, library.room));
+    return written === 0 ? null : library.copied(library.output, written);
+}
