@@ -1,0 +1,178 @@
+// What is built by hand: each act makes lines of a script, and says where they go. The script stays the truth.
+import { padded } from "./bytes.mjs";
+import { bytesTyped, digits, packetOf, Wrong } from "./words.mjs";
+
+export const MOST_PORTS = 8;
+const [MOST_ROUTERS, MOST_SECONDS] = [32, 86400];
+const SETTLE = "settle 1000000";
+const LIMIT = 1000;
+const ALL = "all";
+
+const network = (typed) => digits("network", typed, 4);
+
+// A node that no port of that network has: of router 2, port 0 it is 000000000301.
+export function freeNode(script, router, port, net) {
+    const there = script.routers.flatMap((it) => it.ports).filter((it) => padded(it.network, 8) === net);
+    const taken = new Set(there.map((it) => padded(it.node, 12)));
+    let it = (router + 1) * 256 + port + 1;
+    while (taken.has(padded(it.toString(16), 12))) it += 0x10000;
+    return padded(it.toString(16), 12);
+}
+
+const portLine = (script, router, port, net) => `port ${net} ${freeNode(script, router, port, net)} 1 576`;
+
+// Behind which line the next router goes.
+function behindRouters(script) {
+    if (script.routers.length) return script.routers[script.routers.length - 1].last + 1;
+    return script.acts.length ? script.acts[0].line : script.lines.length - (script.text.endsWith("\n") || !script.text ? 1 : 0);
+}
+
+// Seconds that were typed.
+export function timePassed(name, typed) {
+    if (!/^\s*\d{1,7}\s*$/.test(typed) || +typed < 1 || +typed > MOST_SECONDS) throw new Wrong(name, `a number, 1 to ${MOST_SECONDS}`);
+    return +typed;
+}
+
+// ---- Choices of a form ----
+
+const routers = (script) => script.routers.map((it, k) => [String(k), it.name]);
+const ports = (script) => script.routers.flatMap((it, k) => it.ports.map((port, n) => [`${k} ${n}`, `${it.name} port ${n}, net ${port.network}`]));
+const hosts = (script) => script.hosts.map((it) => [`${it.network}.${it.node}`, `${it.node} on net ${it.network}`]);
+const networks = (script) => script.networks.map((it) => [it, `net ${it}`]);
+const links = (script) => [...networks(script).map(([it, label]) => [`net ${it}`, `all ports on ${label}`]), ...ports(script)];
+
+// The routers and ports of a choice: one port, or all those of a network.
+function portsOf(script, choice) {
+    if (!choice.startsWith("net ")) return [choice];
+    const all = script.routers.flatMap((it, k) => it.ports.map((port, n) => ({ network: port.network, word: `${k} ${n}` })));
+    return all.filter((it) => it.network === choice.slice(4)).map((it) => it.word);
+}
+
+// By which port a packet of a host comes in: the first on its network that is up.
+function entry(script, host, state) {
+    const net = host.split(".")[0];
+    const all = portsOf(script, `net ${net}`);
+    const isUp = (word) => state[+word.split(" ")[0]]?.up[+word.split(" ")[1]];
+    if (!all.length) throw new Wrong("from", "no router is on its network");
+    return all.find(isUp) ?? all[0];
+}
+
+// What is chosen on the map, as the first choice of a form.
+function chosenPort(chosen) {
+    const [kind, first, second] = chosen.split(" ");
+    return kind === "port" ? `${first} ${second}` : kind === "network" ? `net ${first}` : undefined;
+}
+
+export const chosenFirst = (kind, chosen) => (chosen.startsWith(`${kind} `) ? chosen.slice(kind.length + 1) : undefined);
+const link = (script, chosen, label) => [{ name: "link", label, choices: links(script), value: chosenPort(chosen) }];
+
+// ---- The acts ----
+
+// Of each: its label, the fields of its form, and its lines: `fixed` go behind a line, `now` behind the command that is shown.
+export const ACTS = {
+    router: {
+        label: "+ Router", title: "Add a router",
+        fields: () => [{ name: "networks", label: "On networks", value: "", hint: "such as 10 20" }],
+        lines(script, { networks: typed }) {
+            const nets = [...new Set(typed.trim().split(/[\s,]+/).filter((it) => it).map((it) => digits("networks", it, 4)))];
+            if (!nets.length || nets.length > MOST_PORTS) throw new Wrong("networks", `1 to ${MOST_PORTS} networks`);
+            if (script.routers.length >= MOST_ROUTERS) throw new Wrong("networks", `there are ${MOST_ROUTERS} routers already`);
+            const number = script.routers.length;
+            return { fixed: behindRouters(script), lines: ["router", ...nets.map((it, k) => portLine(script, number, k, it))] };
+        },
+    },
+    network: {
+        label: "+ Network", title: "Join a router to a network", needs: routers,
+        fields: (script, chosen) => [
+            { name: "router", label: "Router", choices: routers(script), value: chosenFirst("router", chosen) },
+            { name: "network", label: "Network", value: chosenFirst("network", chosen) ?? "", hint: "such as 30" }],
+        lines(script, it) {
+            const router = script.routers[+it.router];
+            if (router.ports.length >= MOST_PORTS) throw new Wrong("router", `it has ${MOST_PORTS} ports already`);
+            return { fixed: router.last + 1, lines: [portLine(script, +it.router, router.ports.length, network(it.network))] };
+        },
+    },
+    host: {
+        label: "+ Host", title: "Add a host", needs: networks, lacks: "add a network first",
+        fields: (script, chosen) => [
+            { name: "network", label: "On network", choices: networks(script), value: chosenFirst("network", chosen) },
+            { name: "node", label: "Node", value: "AA" }],
+        lines: (script, it) => ({ fixed: behindRouters(script), lines: [`# host ${padded(it.network, 8)}.${digits("node", it.node, 6)}`] }),
+    },
+    start: {
+        label: "Start", title: "Start routers", needs: routers,
+        fields: (script, chosen) => [
+            { name: "router", label: "Router", choices: [[ALL, "all"], ...routers(script)], value: chosenFirst("router", chosen) }],
+        lines: (script, it) => ({ now: [...(it.router === ALL ? script.routers.map((_, k) => `start ${k}`) : [`start ${it.router}`]), SETTLE] }),
+    },
+    stop: {
+        label: "Stop", title: "Stop a router", needs: routers,
+        fields: (script, chosen) => [{ name: "router", label: "Router", choices: routers(script), value: chosenFirst("router", chosen) }],
+        lines: (_, it) => ({ now: [`stop ${it.router}`, SETTLE] }),
+    },
+    time: {
+        label: "Time", title: "Let time pass",
+        fields: () => [
+            { name: "seconds", label: "Seconds", value: "60" },
+            { name: "every", label: "Packets arrive after each", value: "10", hint: "seconds" }],
+        lines(_, it) {
+            const [seconds, every] = [timePassed("seconds", it.seconds), timePassed("every", it.every)];
+            const found = [];
+            for (let left = seconds; left > 0; left -= every) found.push(`second ${Math.min(left, every)}`, SETTLE);
+            return { now: found };
+        },
+    },
+    down: {
+        label: "Break", title: "Break a link", needs: ports, fields: (script, chosen) => link(script, chosen, "Which loses it"),
+        lines: (script, it) => ({ now: [...portsOf(script, it.link).map((word) => `down ${word}`), SETTLE] }),
+    },
+    up: {
+        label: "Mend", title: "Mend a link", needs: ports, fields: (script, chosen) => link(script, chosen, "Which has it again"),
+        lines: (script, it) => ({ now: [...portsOf(script, it.link).map((word) => `up ${word}`), SETTLE] }),
+    },
+    send: {
+        label: "Send", title: "Send a packet from here to there", needs: hosts, lacks: "add hosts first",
+        fields: (script, chosen) => [
+            { name: "from", label: "From host", choices: hosts(script), value: chosenFirst("host", chosen) },
+            { name: "to", label: "To host", choices: hosts(script), value: script.hosts[1] && `${script.hosts[1].network}.${script.hosts[1].node}` }],
+        lines(script, it, state) {
+            const [fromNetwork, fromNode] = it.from.split(".");
+            const [toNetwork, toNode] = it.to.split(".");
+            const hex = packetOf("data", { fromNetwork, fromNode, toNetwork, toNode, toSocket: "4003" });
+            return { now: [`trace ${entry(script, it.from, state)} ${LIMIT} ${hex}`] };
+        },
+    },
+    forge: {
+        label: "Forge", title: "Forge a response of a router", needs: ports,
+        fields: (script, chosen) => [
+            { name: "link", label: "It comes to", choices: ports(script), value: chosenPort(chosen) },
+            { name: "node", label: "In the name of node", value: "EE" }, { name: "network", label: "It offers network", value: "99" },
+            { name: "hops", label: "Hops", value: "1", hint: "16: gone" }, { name: "ticks", label: "Ticks", value: "1" }],
+        lines(script, it) {
+            const [router, port] = it.link.split(" ");
+            const { network: net } = script.routers[+router].ports[+port];
+            const hex = packetOf("rip-response", {
+                toNetwork: net, fromNetwork: net, fromNode: it.node, fromSocket: "453", routes: `${it.network} ${it.hops} ${it.ticks}`,
+            });
+            return { now: [`in ${it.link} ${hex}`, SETTLE] };
+        },
+    },
+    bytes: {
+        label: "Bytes", title: "Any bytes come in", needs: ports,
+        fields: (script, chosen, packet) => [
+            { name: "link", label: "By port", choices: ports(script), value: chosenPort(chosen) },
+            { name: "hex", label: "Bytes", value: packet, hint: "those of the pane Packet" }],
+        lines: (_, it) => ({ now: [`in ${it.link} ${bytesTyped("hex", it.hex) || "-"}`, SETTLE] }),
+    },
+};
+
+// The script with the lines of an act, and the last of these lines by its number. `at` is the line of the command that is shown, or -1.
+export function edited(script, at, { fixed, lines, now }) {
+    const texts = script.lines.map((it) => it.text);
+    if (texts[texts.length - 1] === "") texts.pop();
+    const first = script.acts.length ? script.acts[0].line : texts.length;
+    const place = Math.min(fixed ?? (at < 0 ? first : at + 1), texts.length);
+    const added = lines ?? now;
+    texts.splice(place, 0, ...added);
+    return { text: `${texts.join("\n")}\n`, line: place + added.length - 1, isNow: Boolean(now) };
+}

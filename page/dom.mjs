@@ -1,0 +1,64 @@
+// Elements of the page. Whatever comes from a file, a script or a link is put there as text alone: nothing here reads HTML.
+import { tree } from "./drawing.mjs";
+
+// A large drawing becomes smaller to fit, but not so small that it can't be read: then it is moved.
+const LEAST = 0.65;
+const SVG = "http://www.w3.org/2000/svg";
+
+// An element with attributes, listeners (names that begin with "on"), properties (with a dot in front), and what is inside.
+export function made(name, attributes = {}, ...inner) {
+    const it = document.createElement(name);
+    for (const [key, value] of Object.entries(attributes)) {
+        if (key.startsWith("on")) it.addEventListener(key.slice(2), value);
+        else if (key.startsWith(".")) it[key.slice(1)] = value;
+        else if (value !== false && value !== undefined) it.setAttribute(key, value === true ? "" : value);
+    }
+    it.append(...inner.flat().filter((one) => one !== null && one !== undefined));
+    return it;
+}
+
+export const find = (selector, within = document) => within.querySelector(selector);
+
+// The colours of drawings are those of the page; the number of each drawing is in the names of its arrows.
+let drawings = 0;
+const palette = (number) => new Proxy({}, { get: (_, name) => (name === "ids" ? `arrow-${number}-` : `var(--${name})`) });
+
+function svg(node) {
+    if (typeof node === "string") return document.createTextNode(node);
+    const [name, attributes, inner] = node;
+    const it = document.createElementNS(SVG, name);
+    for (const [key, value] of Object.entries(attributes)) if (key !== "xmlns") it.setAttribute(key, value);
+    it.append(...inner.map(svg));
+    return it;
+}
+
+// The elements of a drawing. `choose` is told the key of what is clicked, or chosen by a key.
+export function svgOf(drawing, choose) {
+    const it = svg(tree(drawing, palette(++drawings)));
+    it.querySelector("title").remove(); // (it would be shown wherever one points)
+    for (const side of ["width", "height"]) it.style.setProperty(`min-${side}`, `${Math.round(it.getAttribute(side) * LEAST)}px`);
+    it.setAttribute("role", "group");
+    it.setAttribute("aria-label", drawing.title);
+    const chosen = (event) => event.target.closest?.("[data-key]")?.dataset.key;
+    it.addEventListener("click", (event) => choose?.(chosen(event) ?? ""));
+    it.addEventListener("keydown", (event) => {
+        if (event.key !== "Enter" && event.key !== " ") return;
+        event.preventDefault();
+        choose?.(chosen(event) ?? "");
+    });
+    return it;
+}
+
+// Hands a file to who sits there.
+export function save(name, content, type = "text/plain") {
+    const link = made("a", { href: URL.createObjectURL(new Blob([content], { type })), download: name });
+    link.click();
+    setTimeout(() => URL.revokeObjectURL(link.href), 60000);
+}
+
+// What is said below the heading, until the next is said.
+export function tell(text, isFault = false) {
+    const place = find("#told");
+    place.textContent = text;
+    place.classList.toggle("fault", isFault);
+}

@@ -1,0 +1,177 @@
+// The map of an internet: routers in square boxes, networks in round ones, hosts as words; and on it the way of a traced packet.
+import { Drawing, widthOf } from "./drawing.mjs";
+import { places } from "./layout.mjs";
+
+const APART = 92;
+const HIGH = { router: 32, network: 22, host: 20 };
+// How much is left free around each.
+const SPACE = { router: 22, network: 9, host: 8 };
+// How far a way stands aside of the line, and in how many pieces a line is.
+const ASIDE = 6;
+const PIECES = 32;
+
+const labelOf = { router: (it) => it.name, network: (it) => `net ${it.network}`, host: (it) => it.node };
+
+function sized(kind, it) {
+    const label = labelOf[kind](it);
+    return { kind, it, label, wide: Math.max(widthOf(label, kind === "router" ? 14 : 12) + 16, kind === "router" ? 44 : 30), high: HIGH[kind] };
+}
+
+// The points and lines of a script's map, with a place for each point. It changes with routers, ports and hosts alone; a tall one is for a
+// narrow window.
+export function plan(script, isTall = false) {
+    const networks = script.networks.map((network) => ({ network }));
+    const hosts = script.hosts.filter((it) => script.networks.includes(it.network));
+    const points = [
+        ...script.routers.map((it, number) => ({ ...sized("router", it), key: `router ${number}`, number })),
+        ...networks.map((it) => ({ ...sized("network", it), key: `network ${it.network}` })),
+        ...hosts.map((it) => ({ ...sized("host", it), key: `host ${it.network}.${it.node}` })),
+    ];
+    const at = new Map(points.map((it, k) => [it.key, k]));
+    const lines = script.routers.flatMap((router, number) => router.ports.map((port, k) => (
+        { from: number, to: at.get(`network ${port.network}`), router: number, port: k })));
+    hosts.forEach((it) => lines.push({ from: at.get(`host ${it.network}.${it.node}`), to: at.get(`network ${it.network}`) }));
+    const room = points.map((it) => [it.wide / 2 + SPACE[it.kind], it.high / 2 + SPACE[it.kind]]);
+    const found = places(points.length, lines.map((it) => [it.from, it.to]), room, APART, isTall);
+    points.forEach((it, k) => (it.place = found[k]));
+    return { points, lines, at };
+}
+
+const between = (a, b, share) => [a[0] + (b[0] - a[0]) * share, a[1] + (b[1] - a[1]) * share];
+
+// Where a line from a box leaves it, as a share of the line.
+function leaving(box, to) {
+    const [x, y] = [Math.abs(to[0] - box.place[0]) || 1e-9, Math.abs(to[1] - box.place[1]) || 1e-9];
+    return Math.min((box.wide / 2) / x, (box.high / 2) / y, 1);
+}
+
+// A line moved aside, to the right of who goes along it.
+function aside(start, end, far) {
+    const [x, y] = [end[0] - start[0], end[1] - start[1]];
+    const length = Math.hypot(x, y) || 1;
+    return [start, end].map((it) => [it[0] - (y / length) * far, it[1] + (x / length) * far]);
+}
+
+// Places from the first of a list over the others to the last, in small steps, aside of the straight lines between them.
+function wayOver(list, far) {
+    const found = [];
+    for (let k = 1; k < list.length; k++) {
+        const [start, end] = aside(list[k - 1], list[k], far);
+        for (let n = 0; n <= PIECES; n++) found.push(between(start, end, n / PIECES));
+    }
+    return found;
+}
+
+const outside = (points, boxes) => points.filter(([x, y]) => boxes.every((it) => (
+    Math.abs(x - it.place[0]) > it.wide / 2 + 4 || Math.abs(y - it.place[1]) > it.high / 2 + 4)));
+
+class InternetMap {
+    constructor(script, found, { state, changed = [], chosen = "", trace = [] }) {
+        Object.assign(this, { script, plan: found, state, changed, chosen, trace, drawing: new Drawing("map") });
+    }
+
+    point(key) {
+        return this.plan.points[this.plan.at.get(key)];
+    }
+
+    isUp(router, port) {
+        return this.state?.[router]?.up[port] ?? true;
+    }
+
+    drawLines() {
+        for (const { from, to, router, port } of this.plan.lines) {
+            const [here, there] = [this.plan.points[from], this.plan.points[to]];
+            if (router === undefined) {
+                this.drawing.line([here.place, there.place], { colour: "pale", dashes: "2 4" });
+                continue;
+            }
+            const isUp = this.isUp(router, port);
+            const { network } = this.script.routers[router].ports[port];
+            const key = `port ${router} ${port}`;
+            const label = `port ${port} of ${this.script.routers[router].name} on network ${network}, ${isUp ? "up" : "down"}`;
+            this.drawing.thing(key, label, () => this.drawPort(here, there, { isUp, port, isChosen: this.chosen === key }));
+        }
+    }
+
+    drawPort(here, there, { isUp, port, isChosen }) {
+        const colour = isChosen ? "chosen" : isUp ? (this.trace.length ? "pale" : "ink") : "alarm";
+        this.drawing.line([here.place, there.place], { colour, width: isChosen ? 3 : 1.5, dashes: isUp ? "" : "5 4" });
+        const [first, last] = [leaving(here, there.place), 1 - leaving(there, here.place)];
+        if (!isUp) {
+            const [x, y] = between(here.place, there.place, (first + last) / 2);
+            this.drawing.words(x, y, "✕", { size: 15, colour: "alarm", halo: true, bold: true });
+        }
+        const length = Math.hypot(there.place[0] - here.place[0], there.place[1] - here.place[1]);
+        const [x, y] = between(here.place, there.place, Math.min(first + 11 / length, (first + last) / 2));
+        this.drawing.words(x, y, String(port), { size: 10, colour: isUp ? "quiet" : "alarm", halo: true });
+    }
+
+    drawPoints() {
+        for (const it of this.plan.points) this.drawing.thing(it.key, this.spoken(it), () => this.drawPoint(it));
+    }
+
+    // What a point is, for who doesn't see it.
+    spoken(it) {
+        if (it.kind === "network") return `network ${it.it.network}`;
+        if (it.kind === "host") return `host ${it.it.node} on network ${it.it.network}`;
+        return `router ${it.label}, ${this.state?.[it.number]?.runs ? "running" : "stopped"}${this.changed[it.number] ? ", its tables changed" : ""}`;
+    }
+
+    drawPoint({ kind, key, label, wide, high, number, place: [x, y] }) {
+        const isChosen = this.chosen === key;
+        const line = { colour: isChosen ? "chosen" : "ink", thick: isChosen ? 3 : 1.5 };
+        if (kind === "host") {
+            this.drawing.box(x, y, wide, high, { ...line, colour: isChosen ? "chosen" : "pale", corner: 3, thick: isChosen ? 3 : 1 });
+            this.drawing.words(x, y, label, { size: 12, colour: "quiet" });
+            return;
+        }
+        if (kind === "network") {
+            this.drawing.box(x, y, wide, high, { ...line, fill: "network", corner: high / 2 });
+            this.drawing.words(x, y, label, { size: 12 });
+            return;
+        }
+        const runs = this.state?.[number]?.runs ?? true;
+        this.drawing.box(x, y, wide, high, { ...line, fill: runs ? "router" : "off", corner: 4, dashes: runs ? "" : "4 3" });
+        this.drawing.words(x, y, label, { size: 14, bold: true, colour: runs ? "ink" : "quiet" });
+        if (this.changed[number]) this.drawing.words(x + wide / 2, y - high / 2, "●", { size: 13, colour: "changed", halo: true });
+    }
+
+    // The ways of packets, each beside the line on which it goes, with the numbers of the receptions of a trace.
+    drawWays() {
+        return this.trace.map(({ from, host, network, to, text, colour }) => {
+            const [over, end] = [this.point(`network ${network}`), this.point(`router ${to}`)];
+            const start = from < 0 ? this.point(host) ?? over : this.point(`router ${from}`);
+            const way = outside(wayOver([...new Set([start, over, end])].map((it) => it.place), from < 0 ? -ASIDE : ASIDE), [start, end]);
+            if (way.length < 2) return null;
+            this.drawing.line(way, { colour, width: 2.5, arrow: true });
+            const last = outside(wayOver([over.place, end.place], from < 0 ? -ASIDE : ASIDE), [over, end]);
+            return { at: (last.length ? last : way)[Math.floor((last.length || way.length) * (from < 0 ? 0.6 : 0.3))], text, colour };
+        });
+    }
+
+    // From the last router to the host for which a packet left, where the map has it.
+    drawEnds(ends) {
+        for (const { router, key } of ends) {
+            const [start, host] = [this.point(`router ${router}`), this.point(key)];
+            if (!start || !host) continue;
+            const way = outside(wayOver([start.place, this.point(`network ${host.it.network}`).place, host.place], ASIDE), [start, host]);
+            if (way.length > 1) this.drawing.line(way, { colour: "way", width: 2.5, arrow: true });
+        }
+    }
+
+    whole(ends) {
+        this.drawLines();
+        const numbers = this.drawWays();
+        this.drawEnds(ends);
+        this.drawPoints();
+        for (const it of numbers) {
+            if (!it?.text) continue;
+            this.drawing.box(...it.at, widthOf(it.text, 10) + 10, 15, { fill: it.colour, colour: it.colour, corner: 7.5, thick: 0 });
+            this.drawing.words(...it.at, it.text, { size: 10, colour: "paper", bold: true });
+        }
+        return this.drawing;
+    }
+}
+
+// The drawing of a script's map: `shown` has the state of routers and ports, whose tables changed, what is chosen, and the ways of a trace.
+export const drawMap = (script, found, shown = {}) => new InternetMap(script, found, shown).whole(shown.ends ?? []);

@@ -1,0 +1,120 @@
+// The pane Internet: the map of a script of `ipxr internet`, the tables of the router that is chosen, and acts that write lines.
+import { drawMap, plan } from "./internet_map.mjs";
+import { ends, receptions, ways, waysOf } from "./traces.mjs";
+import { made, svgOf } from "./dom.mjs";
+import { captureOf } from "./pcap.mjs";
+import { isChanged } from "./timeline.mjs";
+import { padded } from "./bytes.mjs";
+import { recordsOf } from "./records.mjs";
+import { ScriptPane } from "./pane_script.mjs";
+import { Stopped } from "./program.mjs";
+import { tablesOf } from "./tables_view.mjs";
+
+// The width of windows (as in style.css) in which a map stands upright.
+const NARROW = "(max-width: 820px)";
+
+// As many packets of a settle are told in words.
+const MOST_TOLD = 60;
+
+export class InternetPane extends ScriptPane {
+    constructor(program, kind, page, aside) {
+        super(program, kind, page);
+        this.aside = aside;
+    }
+
+    // The plan changes only with routers, ports and hosts, so that the map stays as it is while a script is typed.
+    plan() {
+        const isTall = matchMedia(NARROW).matches;
+        const shape = JSON.stringify([isTall, this.script.routers.map((it) => [it.name, it.ports.map((port) => port.network)]), this.script.hosts]);
+        if (shape === this.shape) return;
+        this.shape = shape;
+        this.found = this.script.routers.length ? plan(this.script, isTall) : null;
+        if (!this.found?.at.has(this.chosen)) this.chosen = this.script.routers.length ? "router 0" : "";
+    }
+
+    draw(step, found, moved = null) {
+        Object.assign(this, { last: [step, found, moved] });
+        const focused = this.picture.contains(document.activeElement) ? document.activeElement.dataset.key : null;
+        if (!this.found) {
+            this.drawing = null;
+            this.picture.replaceChildren(made("p", { class: "none" }, "Choose an example, or add a router."));
+            this.tables.replaceChildren();
+            return;
+        }
+        const copies = receptions(step.said);
+        this.drawing = drawMap(this.script, this.found, {
+            state: step.state, changed: found.map(isChanged), chosen: this.chosen, ends: ends(copies),
+            trace: moved ? waysOf(moved.packets, moved.kinds) : ways(copies, this.script.routers),
+        });
+        this.picture.replaceChildren(svgOf(this.drawing, (key) => this.choose(key)));
+        if (focused) this.picture.querySelector(`[data-key="${CSS.escape(focused)}"]`)?.focus();
+        this.drawTables(step, found);
+        if (copies.length) this.said.textContent = copies.map((it) => this.sentence(it)).join("\n");
+        if (moved) this.said.textContent = [...step.said, ...moved.sentences].join("\n");
+        else if (step.words[0] === "settle") this.follow(step, found);
+    }
+
+    // The packets that a settle handed out are found aside, and drawn when they are there.
+    async follow(step, found) {
+        if (this.followed !== this.steps) {
+            this.followed = this.steps;
+            this.moved = this.aside.ask("moves", { text: this.shown.text });
+        }
+        try {
+            const packets = (await this.moved).get(step.line);
+            if (!packets?.length || this.steps[this.at] !== step) return;
+            const read = await this.aside.run("decode", captureOf(packets.slice(0, MOST_TOLD)));
+            const labels = recordsOf(read.text).records;
+            const moved = { packets, kinds: labels.map((it) => it.kind), sentences: this.told(packets, labels) };
+            if (this.steps[this.at] === step) this.draw(step, found, moved);
+        } catch (why) {
+            if (!(why instanceof Stopped)) throw why;
+            this.followed = null;
+        }
+    }
+
+    told(packets, labels) {
+        const nameOf = (it) => this.script.routers[it].name;
+        const lines = labels.map((it, k) => `${nameOf(packets[k].from)} to ${nameOf(packets[k].to)}, net ${packets[k].network}: ${it.text}`);
+        return packets.length > labels.length ? [...lines, `and ${packets.length - labels.length} more`] : lines;
+    }
+
+    sentence(it) {
+        const router = this.script.routers[it.router];
+        return `${it.number}  ${router?.name}, from net ${router?.ports[it.port]?.network}: ${it.outcome}`;
+    }
+
+    choose(key) {
+        if (key && key !== this.chosen) {
+            this.chosen = key;
+            this.draw(...this.last);
+        }
+    }
+
+    drawTables(step, found) {
+        const [kind, first, second] = this.chosen.split(" ");
+        if (kind === "router" || kind === "port") this.drawRouter(+first, step, found[+first]);
+        else this.drawNetwork(kind === "network" ? first : first?.split(".")[0], step);
+    }
+
+    drawRouter(number, step, found) {
+        const router = this.script.routers[number];
+        if (!router) return this.tables.replaceChildren();
+        const state = step.state[number];
+        const ports = router.ports.map((it, k) => `${k}: net ${it.network}${state.up[k] ? "" : " (down)"}`).join(", ");
+        const nameOf = (port, node) => this.script.routers.find((it) => it.ports.some((one) => (
+            one.network === router.ports[port]?.network && padded(one.node, 12) === node)))?.name ?? node.replace(/^0+/, "");
+        return this.tables.replaceChildren(made("h2", {}, `Router ${router.name}`),
+            made("p", {}, `${state.runs ? "running" : "stopped"} · ports ${ports}`),
+            ...(found ? tablesOf(found, { nameOf, networkOf: (port) => router.ports[port]?.network ?? "?" }) : []));
+    }
+
+    // Who is on a network, and whether the ports there are up.
+    drawNetwork(network, step) {
+        const all = this.script.routers.flatMap((it, k) => it.ports.map((port, n) => ({ ...port, name: it.name, isUp: step.state[k].up[n] })));
+        const ports = all.filter((it) => it.network === network);
+        const lines = ports.map((it) => `${it.name}, node ${it.node}, cost ${it.cost}: ${it.isUp ? "up" : "down"}`);
+        const hosts = this.script.hosts.filter((it) => it.network === network).map((it) => `host ${it.node}`);
+        this.tables.replaceChildren(made("h2", {}, `Network ${network}`), made("ul", {}, [...lines, ...hosts].map((it) => made("li", {}, it))));
+    }
+}

@@ -1,0 +1,46 @@
+// The pane Router: who sent what to whom in a script of `ipxr replay`, and the tables of the router.
+import { drawLadder, ofSteps, packetsOf } from "./ladder.mjs";
+import { made, svgOf } from "./dom.mjs";
+import { captureOf } from "./pcap.mjs";
+import { recordsOf } from "./records.mjs";
+import { ScriptPane } from "./pane_script.mjs";
+import { short } from "./bytes.mjs";
+import { tablesOf } from "./tables_view.mjs";
+
+// As many rows around the shown step are drawn.
+const MOST_ROWS = 120;
+
+export class RouterPane extends ScriptPane {
+    async draw(step, found) {
+        const networks = this.script.routers[0].ports.map((it) => it.network);
+        const ladder = await this.ladder(networks);
+        const rows = around(ladder.rows, `step ${this.at}`);
+        this.drawing = drawLadder({ ...ladder, rows }, `step ${this.at}`);
+        if (!this.drawing) this.picture.replaceChildren(made("p", { class: "none" }, "Choose an example, or type a script."));
+        else this.picture.replaceChildren(svgOf(this.drawing, (key) => key && this.show(+key.split(" ")[1])));
+        this.picture.querySelector(`[data-key="step ${this.at}"]`)?.scrollIntoView({ block: "nearest" });
+        const state = step.state[0];
+        const ports = networks.map((it, k) => `${k}: net ${it}${state.up[k] ? "" : " (down)"}`).join(", ");
+        this.tables.replaceChildren(made("p", {}, `${state.runs ? "running" : "stopped"}${ports ? ` · ports ${ports}` : ""}`),
+            ...tablesOf(found[0], { nameOf: (_, node) => short(node), networkOf: (port) => networks[port] ?? "?" }));
+    }
+
+    // The rows of all steps, by what the program says of their packets. They are kept until the script changes.
+    async ladder(networks) {
+        if (this.ladderOf !== this.steps) {
+            const [steps, packets] = [this.steps, packetsOf(this.steps)];
+            const read = await this.program.run("decode", captureOf(packets));
+            const labels = recordsOf(read.text).records.map((it) => (it.isPacket ? it : { kind: "data", text: "no packet" }));
+            Object.assign(this, { ladderOf: steps, rows: ofSteps(steps, networks, labels) });
+        }
+        return this.rows;
+    }
+}
+
+// The rows that are drawn: those around a step.
+function around(rows, key) {
+    if (rows.length <= MOST_ROWS) return rows;
+    const at = Math.max(rows.findIndex((it) => it.key === key), 0);
+    const first = Math.min(Math.max(at - MOST_ROWS / 2, 0), rows.length - MOST_ROWS);
+    return rows.slice(first, first + MOST_ROWS);
+}

@@ -1,0 +1,75 @@
+// What the text of a script says: its lines, its routers with their ports, hosts, and the commands that act. This only reads the words; whether a
+// line is right, and what it does, says the program.
+import { EVERYONE, short } from "./bytes.mjs";
+
+const [DESTINATION, SOURCE, PACKET] = [12, 36, 60];
+const NAMED = /\b(\w+) \(router (\d+)\)/g;
+const HOST = /^#\s*host ([0-9A-Fa-f]{1,8})\.([0-9A-Fa-f]{1,12})\b/;
+
+const wordsOf = (line) => (line.startsWith("#") ? [] : line.trim().split(/[ \t]+/).filter((it) => it));
+
+// Which router, port and bytes a command of an internet is about; of one router, its number is 0.
+export function aim(words, isInternet) {
+    const skipped = isInternet ? 2 : 1;
+    if (words[0] === "in") return { router: isInternet ? +words[1] : 0, port: +words[skipped], hex: words[skipped + 1] ?? "" };
+    if (words[0] === "trace") return { router: +words[1], port: +words[2], hex: words[4] ?? "" };
+    const router = isInternet ? +words[1] : 0;
+    return { router, port: words.length > skipped ? +words[skipped] : -1, hex: "" };
+}
+
+function routersOf(lines, isInternet) {
+    const routers = isInternet ? [] : [{ ports: [], line: 0, last: 0 }];
+    lines.forEach((it, k) => {
+        const [command, network, node, cost] = it.words;
+        if (isInternet && command === "router") routers.push({ ports: [], line: k, last: k });
+        if (command !== "port" || !node || !routers.length) return;
+        const router = routers[routers.length - 1];
+        router.ports.push({ network: short(network), node: short(node), cost: +cost || 1, line: k });
+        router.last = k;
+    });
+    return routers;
+}
+
+function nameAll(routers, lines, isInternet) {
+    const comments = lines.filter((it) => it.text.startsWith("#")).map((it) => it.text).join(" ");
+    const named = new Map([...comments.matchAll(NAMED)].map(([, name, number]) => [+number, name]));
+    routers.forEach((it, k) => (it.name = named.get(k) ?? (isInternet ? `R${k}` : "router")));
+}
+
+// Whose address stands in the digits of a packet.
+const addressAt = (hex, at) => ({ network: short(hex.slice(at, at + 8)), node: short(hex.slice(at + 8, at + 20)) });
+
+// The hosts: those of comments `# host NETWORK.NODE`, and who packets come from or are for, on networks of the routers.
+function hostsOf(lines, routers, isInternet) {
+    const ports = new Set(routers.flatMap((it) => it.ports.map((port) => `${port.network}.${port.node}`)));
+    const networks = new Set(routers.flatMap((it) => it.ports.map((port) => port.network)));
+    const found = new Map();
+    const add = ({ network, node }) => {
+        const key = `${network}.${node}`;
+        if (networks.has(network) && !ports.has(key) && node !== EVERYONE && node !== "0") found.set(key, { network, node });
+    };
+    for (const { text, words } of lines) {
+        const said = HOST.exec(text);
+        if (said) add({ network: short(said[1]), node: short(said[2]) });
+        const { router, port, hex } = aim(words, isInternet);
+        if (hex.length < PACKET || !["in", "trace"].includes(words[0])) continue;
+        const source = addressAt(hex, SOURCE);
+        add(source.network === "0" ? { ...source, network: routers[router]?.ports[port]?.network } : source);
+        add(addressAt(hex, DESTINATION));
+    }
+    return [...found.values()];
+}
+
+export function parsed(text, isInternet = true) {
+    const lines = text.split("\n").map((it) => ({ text: it.replace(/\r$/, ""), words: wordsOf(it.replace(/\r$/, "")) }));
+    const routers = routersOf(lines, isInternet);
+    nameAll(routers, lines, isInternet);
+    const acts = lines.flatMap((it, line) => (it.words.length && !["router", "port"].includes(it.words[0]) ? [{ line, words: it.words }] : []));
+    return {
+        text, lines, routers, acts, isInternet, hosts: hostsOf(lines, routers, isInternet),
+        networks: [...new Set(routers.flatMap((it) => it.ports.map((port) => port.network)))],
+    };
+}
+
+// Whether a text is a script of an internet.
+export const isOfInternet = (text) => /^[ \t]*router\b/m.test(text);

@@ -1,0 +1,80 @@
+// A list of very many rows, of which only those in sight are there.
+import { made } from "./dom.mjs";
+
+const [ROW, MORE] = [24, 12];
+// Browsers refuse higher elements; a longer list is scrolled in larger steps.
+const HIGHEST = 8000000;
+
+export class VirtualList {
+    // `rowsAt(from, to)` promises rows; `cells(row)` are the texts of one; `chosen(row)` is told which was chosen.
+    constructor({ label, heads, rowsAt, cells, chosen }) {
+        Object.assign(this, { rowsAt, cells, chosen, count: 0, current: -1, round: 0 });
+        this.space = made("div", { class: "space" });
+        this.rows = made("div", { class: "rows" });
+        this.scroller = made("div", { class: "scroller", tabindex: "0", role: "grid", "aria-label": label, onscroll: () => this.draw(),
+            onkeydown: (event) => this.key(event) }, this.space, this.rows);
+        this.element = made("div", { class: "list" },
+            made("div", { class: "row heads", "aria-hidden": "true" }, heads.map((it) => made("span", {}, it))), this.scroller);
+        new ResizeObserver(() => this.draw()).observe(this.scroller);
+    }
+
+    get high() {
+        return Math.min(this.count * ROW, HIGHEST);
+    }
+
+    // How many pixels of the list one of the scroller is.
+    get scale() {
+        const [all, seen] = [this.count * ROW, this.scroller.clientHeight];
+        return this.high > seen ? (all - seen) / (this.high - seen) : 1;
+    }
+
+    reset(count) {
+        this.count = count;
+        this.current = -1;
+        this.space.style.height = `${this.high}px`;
+        this.scroller.setAttribute("aria-rowcount", count);
+        this.scroller.scrollTop = 0;
+        return this.draw();
+    }
+
+    async draw() {
+        const round = ++this.round;
+        const top = this.scroller.scrollTop * this.scale;
+        const first = Math.max(Math.floor(top / ROW) - MORE, 0);
+        const last = Math.min(Math.ceil((top + this.scroller.clientHeight) / ROW) + MORE, this.count);
+        const found = first < last ? await this.rowsAt(first, last).catch(() => []) : [];
+        if (round !== this.round) return;
+        this.rows.replaceChildren(...found.map((it, k) => this.row(it, first + k)));
+        this.rows.style.transform = `translateY(${this.scroller.scrollTop - (top - first * ROW)}px)`;
+    }
+
+    row(it, number) {
+        const isChosen = number === this.current;
+        return made("div", { class: `row ${it.kind ?? ""}`, role: "row", "aria-rowindex": number + 1, "aria-selected": String(isChosen),
+            onclick: () => this.choose(number, it) }, this.cells(it).map((text) => made("span", { role: "gridcell" }, text)));
+    }
+
+    async choose(number, row) {
+        if (number < 0 || number >= this.count) return;
+        this.current = number;
+        const it = row ?? (await this.rowsAt(number, number + 1))[0];
+        this.sight(number);
+        await this.draw();
+        this.chosen(it);
+    }
+
+    // Brings a row into sight.
+    sight(number) {
+        const [top, seen] = [this.scroller.scrollTop * this.scale, this.scroller.clientHeight];
+        const wanted = number * ROW < top ? number * ROW : (number + 1) * ROW > top + seen ? (number + 1) * ROW - seen : top;
+        if (wanted !== top) this.scroller.scrollTop = wanted / this.scale;
+    }
+
+    key(event) {
+        const page = Math.max(Math.floor(this.scroller.clientHeight / ROW) - 1, 1);
+        const steps = { ArrowDown: 1, ArrowUp: -1, PageDown: page, PageUp: -page, Home: -this.count, End: this.count };
+        if (!(event.key in steps) || !this.count) return;
+        event.preventDefault();
+        this.choose(Math.min(Math.max(this.current + steps[event.key], 0), this.count - 1));
+    }
+}
