@@ -4,7 +4,7 @@ PREFIX ?= /usr/local
 PROGRAM = crates/ipxr/out/ipxr
 MINUTES ?= 60
 
-.PHONY: run try show build embed aarch64 windows gateway test edits fuzz bench dist release-test install
+.PHONY: run try show build embed aarch64 windows portable wasm page web gateway test edits fuzz bench dist release-test install
 
 # Proves and builds all, then plays the worked script and prints what the router sent and learned.
 run: build
@@ -27,9 +27,27 @@ build:
 embed:
 	@tools/embed
 
-# The same for 64-bit Linux on ARM, and for Windows: build/aarch64, build/windows. Needs a compiler for it; docs/EMBED.md.
+# The program, the library for C and the gateway for 64-bit Linux on ARM, and for Windows: build/aarch64, build/windows. Needs a compiler for
+# it; docs/EMBED.md.
 aarch64 windows:
 	@tools/platforms $@
+
+# The program as one file of portable C, build/portable/ipxr.c. Needs wasm2c, of Debian's package wabt.
+portable:
+	@tools/portable
+
+# The program and the library for C as WebAssembly: build/wasm.
+wasm:
+	@tools/wasm
+
+# The page with the whole program in it, build/ipxr.html, for any browser; docs/PAGE.md.
+page:
+	@tools/wasm
+	@tools/page
+
+# The router for JavaScript, in pages and in Node: build/web; docs/EMBED.md.
+web:
+	@tools/web
 
 # Builds build/ipxr-gateway, which joins DOSBox' networks, cards of emulators and Ethernet. Needs a C compiler; docs/GATEWAY.md.
 gateway:
@@ -52,15 +70,20 @@ fuzz: build embed
 bench:
 	@tools/bench
 
-# Puts what the gate proved and built into dist/: the archive of a release and Debian's packages, with their sums; docs/authors/RELEASING.md.
-# DRAFT=1 makes a draft where the gate wasn't run on this commit.
+# Puts what the gate proved and built into dist/, and what is compiled from it for other systems: archives and Debian's packages, with their sums;
+# docs/authors/RELEASING.md. DRAFT=1 makes a draft where the gate wasn't run on this commit.
 dist:
+	@$(if $(DRAFT),,tools/platforms all)
 	@tools/dist $(if $(DRAFT),--draft)
 
-# What make test leaves out since it takes long: the library for C and the program proved anew for 64-bit ARM and played there; then two
-# copies that give one sum, lintian, and the packages in a fresh root.
+# What make test leaves out since it takes long: the programs for other systems, played there; then two copies that give one sum, lintian, and the
+# packages and archives in fresh roots.
 release-test:
 	@tools/platforms test-aarch64
+	@tools/platforms test-windows
+	@tools/platforms test-wasm
+	@tools/portable test
+	@tools/page test
 	@tools/release root
 
 # Puts the proved program into PREFIX/bin with its manual pages and completions; the library for C with its header, its pkg-config file
