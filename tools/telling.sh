@@ -49,11 +49,13 @@ count() {
     [ $failed = 0 ]
 }
 
-# Whether a command prints what a file has, within two minutes, and complains of nothing; what differs is shown.
+# Whether a command prints what a file has, within two minutes, and complains of nothing; what differs is shown, and the complaint.
 prints() {
     local kept=$1
     shift
-    (set -o pipefail && timeout 120 "$@" 2>build/complaint </dev/null | tr -d '\r' | diff "$kept" -) && [ ! -s build/complaint ]
+    (set -o pipefail && timeout 120 "$@" 2>build/complaint </dev/null | tr -d '\r' | diff "$kept" -) && [ ! -s build/complaint ] && return
+    head -5 build/complaint
+    return 1
 }
 
 # ends TEXT COMMAND..: whether a command ends well, prints nothing and complains of nothing.
