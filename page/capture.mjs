@@ -82,7 +82,8 @@ class Capture {
 
     row(k) {
         const place = this.place(k);
-        return { ...recordOf(this.textAt(place).trimEnd().split("\n")), place, time: this.time(place) };
+        const link = place < this.places.starts.length ? this.places.link(place) : null;
+        return { ...recordOf(this.textAt(place).trimEnd().split("\n")), place, time: this.time(place), link };
     }
 
     rows(from, to) {

@@ -60,7 +60,15 @@ export class Drawing {
         this.shapes = outer;
         this.shapes.push({ kind: "thing", key, label, shapes: inner });
     }
+
+    // Another drawing, its left upper corner here. What were things there are none here.
+    put(other, left, top) {
+        this.covers([left, top], [left + other.right - other.left, top + other.bottom - other.top]);
+        this.shapes.push({ kind: "group", x: left - other.left, y: top - other.top, shapes: flat(other.shapes) });
+    }
 }
+
+const flat = (shapes) => shapes.flatMap((it) => (it.kind === "thing" ? flat(it.shapes) : [it]));
 
 const ELEMENTS = {
     line: (it, palette) => ["polyline", {
@@ -77,13 +85,15 @@ const ELEMENTS = {
         ...(it.bold && { "font-weight": "600" }),
         ...(it.halo && { stroke: palette.paper, "stroke-width": 4, "stroke-linejoin": "round", "paint-order": "stroke" }),
     }, [it.text]],
-    thing: (it, palette) => ["g", { tabindex: "0", role: "button", "aria-label": it.label, "data-key": it.key },
+    // (in a file nothing can be chosen)
+    thing: (it, palette) => ["g", { ...(palette !== PAPER && { tabindex: "0", role: "button" }), "aria-label": it.label, "data-key": it.key },
         it.shapes.map((inner) => element(inner, palette))],
+    group: (it, palette) => ["g", { transform: `translate(${number(it.x)} ${number(it.y)})` }, it.shapes.map((inner) => element(inner, palette))],
 };
 
 const element = (it, palette) => ELEMENTS[it.kind](it, palette);
 
-const colours = (shapes) => shapes.flatMap((it) => (it.kind === "thing" ? colours(it.shapes) : it.arrow ? [it.colour] : []));
+const colours = (shapes) => shapes.flatMap((it) => (it.shapes ? colours(it.shapes) : it.arrow ? [it.colour] : []));
 
 const head = (colour, palette) => ["marker", {
     id: `${palette.ids}${colour}`, viewBox: "0 0 10 10", refX: 9, refY: 5, markerWidth: 11, markerHeight: 11, markerUnits: "userSpaceOnUse",
@@ -106,12 +116,13 @@ export function tree(drawing, palette = PAPER, margin = 14) {
 
 const escaped = (text) => String(text).replace(/&/g, "&amp;").replace(/</g, "&lt;").replace(/>/g, "&gt;").replace(/"/g, "&quot;");
 
-// The text of a file.
+// The text of a file, with a line for each element but those inside of others.
 export function textOf(node) {
     if (typeof node === "string") return escaped(node);
     const [name, attributes, inner] = node;
     const said = Object.entries(attributes).map(([key, value]) => ` ${key}="${escaped(value)}"`).join("");
-    return inner.length ? `<${name}${said}>${inner.map(textOf).join("")}</${name}>` : `<${name}${said}/>`;
+    const feed = name === "svg" ? "\n" : "";
+    return inner.length ? `<${name}${said}>${feed}${inner.map((it) => textOf(it) + feed).join("")}</${name}>` : `<${name}${said}/>`;
 }
 
 export const svgText = (drawing) => `${textOf(tree(drawing))}\n`;

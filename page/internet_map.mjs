@@ -6,9 +6,14 @@ const APART = 92;
 const HIGH = { router: 32, network: 22, host: 20 };
 // How much is left free around each.
 const SPACE = { router: 22, network: 9, host: 8 };
-// How far a way stands aside of the line, and in how many pieces a line is.
+// How far a way stands aside of the line, and how far its number may; and in how many pieces a line is.
 const ASIDE = 6;
+const FARTHER = [11, 20, 30, 40];
 const PIECES = 32;
+// Where the number of a way may stand, as a share of what is seen of one of its lines.
+const SHARES = [0.25, 0.5, 0.1, 0.75];
+// As many sentences stand below each other.
+const MOST_LINES = 8;
 
 const labelOf = { router: (it) => it.name, network: (it) => `net ${it.network}`, host: (it) => it.node };
 
@@ -18,8 +23,8 @@ function sized(kind, it) {
 }
 
 // The points and lines of a script's map, with a place for each point. It changes with routers, ports and hosts alone; a tall one is for a
-// narrow window.
-export function plan(script, isTall = false) {
+// narrow window or for one beside others, `apart` is the length of a line.
+export function plan(script, isTall = false, apart = APART) {
     const networks = script.networks.map((network) => ({ network }));
     const hosts = script.hosts.filter((it) => script.networks.includes(it.network));
     const points = [
@@ -32,7 +37,7 @@ export function plan(script, isTall = false) {
         { from: number, to: at.get(`network ${port.network}`), router: number, port: k })));
     hosts.forEach((it) => lines.push({ from: at.get(`host ${it.network}.${it.node}`), to: at.get(`network ${it.network}`) }));
     const room = points.map((it) => [it.wide / 2 + SPACE[it.kind], it.high / 2 + SPACE[it.kind]]);
-    const found = places(points.length, lines.map((it) => [it.from, it.to]), room, APART, isTall);
+    const found = places(points.length, lines.map((it) => [it.from, it.to]), room, apart, isTall);
     points.forEach((it, k) => (it.place = found[k]));
     return { points, lines, at };
 }
@@ -64,6 +69,14 @@ function wayOver(list, far) {
 
 const outside = (points, boxes) => points.filter(([x, y]) => boxes.every((it) => (
     Math.abs(x - it.place[0]) > it.wide / 2 + 4 || Math.abs(y - it.place[1]) > it.high / 2 + 4)));
+
+// Where the number of a way may stand on its line between two boxes, the best place first.
+function placesBeside(from, to, isOpposite) {
+    return FARTHER.flatMap((far) => {
+        const line = outside(wayOver([from.place, to.place], isOpposite ? -far : far), [from, to]);
+        return line.length ? SHARES.map((share) => line[Math.floor(line.length * share)]) : [];
+    });
+}
 
 class InternetMap {
     constructor(script, found, { state, changed = [], chosen = "", trace = [] }) {
@@ -144,9 +157,22 @@ class InternetMap {
             const way = outside(wayOver([...new Set([start, over, end])].map((it) => it.place), from < 0 ? -ASIDE : ASIDE), [start, end]);
             if (way.length < 2) return null;
             this.drawing.line(way, { colour, width: 2.5, arrow: true });
-            const last = outside(wayOver([over.place, end.place], from < 0 ? -ASIDE : ASIDE), [over, end]);
-            return { at: (last.length ? last : way)[Math.floor((last.length || way.length) * (from < 0 ? 0.6 : 0.3))], text, colour };
+            return { places: [...placesBeside(over, end, from < 0), ...placesBeside(start, over, from < 0), way[0]], text, colour };
         });
+    }
+
+    // Each number where it covers neither a box nor a number that is there, if there is such a place on its way.
+    drawNumbers(numbers) {
+        const taken = this.plan.points.map(({ place, wide, high }) => ({ place, wide, high }));
+        for (const { places, text, colour } of numbers.filter((it) => it?.text)) {
+            const size = { wide: widthOf(text, 10) + 10, high: 15 };
+            const isFree = (place) => taken.every((it) => (
+                Math.abs(it.place[0] - place[0]) > (it.wide + size.wide) / 2 || Math.abs(it.place[1] - place[1]) > (it.high + size.high) / 2));
+            const place = places.find(isFree) ?? places[0];
+            taken.push({ place, ...size });
+            this.drawing.box(...place, size.wide, size.high, { fill: colour, colour, corner: 7.5, thick: 0 });
+            this.drawing.words(...place, text, { size: 10, colour: "paper", bold: true });
+        }
     }
 
     // From the last router to the host for which a packet left, where the map has it.
@@ -159,19 +185,27 @@ class InternetMap {
         }
     }
 
-    whole(ends) {
-        this.drawLines();
+    // Sentences below the map, in columns.
+    drawSentences(sentences) {
+        const [left, top, middle] = [this.drawing.left, this.drawing.bottom + 26, Math.ceil(sentences.length / Math.ceil(sentences.length / MOST_LINES))];
+        const wide = Math.max(...sentences.map((it) => widthOf(it.text, 13))) + 30;
+        sentences.forEach((it, k) => {
+            const [x, y] = [left + wide * Math.floor(k / middle), top + 21 * (k % middle)];
+            this.drawing.words(x, y, it.text, { anchor: "start", colour: it.isLost ? "alarm" : "ink" });
+        });
+    }
+
+    whole(ends, sentences) {
         const numbers = this.drawWays();
         this.drawEnds(ends);
+        this.drawLines();
         this.drawPoints();
-        for (const it of numbers) {
-            if (!it?.text) continue;
-            this.drawing.box(...it.at, widthOf(it.text, 10) + 10, 15, { fill: it.colour, colour: it.colour, corner: 7.5, thick: 0 });
-            this.drawing.words(...it.at, it.text, { size: 10, colour: "paper", bold: true });
-        }
+        this.drawNumbers(numbers);
+        if (sentences.length) this.drawSentences(sentences);
         return this.drawing;
     }
 }
 
-// The drawing of a script's map: `shown` has the state of routers and ports, whose tables changed, what is chosen, and the ways of a trace.
-export const drawMap = (script, found, shown = {}) => new InternetMap(script, found, shown).whole(shown.ends ?? []);
+// The drawing of a script's map: `shown` has the state of routers and ports, whose tables changed, what is chosen, the ways of a trace, and
+// sentences that stand below.
+export const drawMap = (script, found, shown = {}) => new InternetMap(script, found, shown).whole(shown.ends ?? [], shown.words ?? []);

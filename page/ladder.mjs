@@ -1,4 +1,5 @@
-// A ladder: who sent what to whom, and when. Each party has a line downwards, each packet an arrow.
+// A ladder: who sent what to whom, and when. Each party has a line downwards, each packet an arrow; it goes by the routers that carry it, as far
+// as is known: the nodes of its frame are theirs where they aren't those of the packet.
 import { EVERYONE, short } from "./bytes.mjs";
 import { Drawing, widthOf } from "./drawing.mjs";
 
@@ -21,20 +22,37 @@ function partiesOf(records) {
     return ({ network, node }) => {
         if (node === EVERYONE) return parseInt(network, 16) ? `all of ${short(network)}` : "all";
         const known = networks.get(node);
-        return `${short(known?.size === 1 ? [...known][0] : network)}.${short(node)}`;
+        const own = known?.size === 1 ? [...known][0] : network;
+        return own ? `${short(own)}.${short(node)}` : short(node);
     };
 }
 
 const isAll = (it) => it.startsWith("all");
 
+// The nodes of the routers that a packet came from and goes to, where its frame names others than the packet does.
+function carriers({ from, to, link }) {
+    if (!link) return [];
+    const sender = link.from === from.node || link.from === EVERYONE ? [] : [link.from];
+    const receiver = link.to === to.node || to.node === EVERYONE || link.to === EVERYONE ? [] : [link.to];
+    return [...sender, ...receiver];
+}
+
+// The parties in the order in which they appear, a router between those for whom it carries; those that stand for all come last.
+function inOrder(rows) {
+    const found = new Set(rows.flatMap((it) => (it.start ? [it.start, ...it.by, it.end] : [])));
+    return [...[...found].filter((it) => !isAll(it)), ...[...found].filter(isAll)];
+}
+
 // The rows and parties of the records of a capture.
 export function ofRecords(records) {
     const party = partiesOf(records.filter((it) => it.isPacket));
     const rows = records.map((it) => (it.isPacket
-        ? { key: `record ${it.place}`, second: it.time, start: party(it.from), end: party(it.to), kind: it.kind, text: it.text }
+        ? {
+            key: `record ${it.place}`, second: it.time, start: party(it.from), by: carriers(it).map((node) => party({ network: "", node })),
+            end: party(it.to), kind: it.kind, text: it.text,
+        }
         : { key: `record ${it.place}`, second: it.time, text: it.text }));
-    const found = [...new Set(rows.flatMap((it) => (it.start ? [it.start, it.end] : [])))];
-    return { rows, parties: [...found.filter((it) => !isAll(it)), ...found.filter(isAll)] };
+    return { rows, parties: inOrder(rows), routers: new Set(rows.flatMap((it) => it.by ?? [])) };
 }
 
 // ---- Scripts of a router ----
@@ -51,13 +69,19 @@ export function packetsOf(steps) {
     });
 }
 
+// What a packet says, and whom it is for where its arrow doesn't end there.
+function whither({ kind, text, to }, end) {
+    const target = kind === "data" && to && to.node !== EVERYONE ? `${short(to.network)}.${short(to.node)}` : end;
+    return { kind, text: target === end ? text : `${text} for ${target}` };
+}
+
 function rowsOf(step, key, networks, labels) {
     const dropped = step.said.find((it) => it.startsWith("drop "))?.slice(5) ?? "";
     const rows = [];
     const label = () => labels.next().value ?? { kind: "data", text: "" };
     if (step.words[0] === "in") {
         const hex = (step.words[2] ?? "").replace("-", "").toUpperCase();
-        rows.push({ start: heard(hex), end: "router", port: +step.words[1], ...label(), lost: dropped });
+        rows.push({ start: heard(hex), end: "router", port: +step.words[1], ...whither(label(), ""), lost: dropped });
     } else if (["start", "stop", "down", "up"].includes(step.words[0])) {
         const port = step.words.length > 1 ? ` port ${step.words[1]}, network ${networks[+step.words[1]] ?? "?"}` : "";
         rows.push({ text: step.words[0] + port, lost: dropped });
@@ -65,7 +89,7 @@ function rowsOf(step, key, networks, labels) {
     for (const line of step.said.filter((it) => it.startsWith("out "))) {
         const [, port, node] = line.split(" ");
         const end = node === EVERYONE ? `all of ${networks[+port]}` : `${networks[+port]}.${short(node)}`;
-        rows.push({ start: "router", end, port: +port, ...label() });
+        rows.push({ start: "router", end, port: +port, ...whither(label(), end) });
     }
     return rows.map((it) => ({ ...it, key, second: step.second }));
 }
@@ -80,7 +104,7 @@ export function ofSteps(steps, networks, labels) {
     }
     const left = [...sides.keys()].filter((it) => sides.get(it) === 0).sort((a, b) => isAll(a) - isAll(b));
     const right = [...sides.keys()].filter((it) => sides.get(it) !== 0).sort((a, b) => sides.get(a) - sides.get(b) || isAll(b) - isAll(a));
-    return { rows, parties: [...left, "router", ...right] };
+    return { rows, parties: [...left, "router", ...right], routers: new Set(["router"]) };
 }
 
 // ---- Drawing ----
@@ -94,28 +118,48 @@ function shortened(text, room) {
     return it;
 }
 
+// The arrow of a packet, by each router that carries it. Where it turns back it goes on a little lower.
+function drawWay(drawing, row, places, y) {
+    let [down, before] = [0, 0];
+    for (let k = 1; k < places.length; k++) {
+        const [from, to] = [places[k - 1], places[k]];
+        const aside = to > from ? 4 : -4;
+        if (before && aside !== before) down += 6;
+        before = aside;
+        drawing.line([[from + (k > 1 ? 0 : aside), y + down], [to - aside, y + down]], { colour: row.kind, width: 2, arrow: true });
+        if (k > 1) drawing.box(from, y + down / 2, 10, 10 + down, { fill: row.kind, colour: row.kind, corner: 5, thick: 0 });
+    }
+    return before;
+}
+
 function drawRow(drawing, row, y, place, right) {
     if (!row.start) {
         drawing.line([[LEFT, y], [right, y]], { colour: "pale", width: 1, dashes: "2 4" });
         drawing.words((LEFT + right) / 2, y, row.text + (row.lost ? `: dropped, ${row.lost}` : ""), { size: 12, halo: true });
         return;
     }
-    const [start, end] = [place.get(row.start), place.get(row.end)];
-    if (start === end) {
-        drawing.words(start, y, row.text, { size: 11, colour: row.kind, halo: true });
+    const places = [row.start, ...(row.by ?? []), row.end].map((it) => place.get(it)).filter((it, k, all) => it !== all[k - 1]);
+    if (places.length < 2) {
+        drawing.words(places[0], y, row.text, { size: 11, colour: row.kind, halo: true });
         return;
     }
-    const aside = end > start ? 4 : -4;
-    drawing.line([[start + aside, y], [end - aside, y]], { colour: row.kind, width: 2, arrow: true });
-    drawing.words((start + end) / 2, y - 10, shortened(row.text, Math.abs(end - start) - 8), { size: 11, colour: row.kind, halo: true });
+    const [first, last, end] = [Math.min(...places), Math.max(...places), places[places.length - 1]];
+    const aside = drawWay(drawing, row, places, y);
+    drawing.words((first + last) / 2, y - 10, shortened(row.text, last - first - 8), { size: 11, colour: row.kind, halo: true });
     if (row.lost) {
         const anchor = aside > 0 ? "start" : "end";
         drawing.words(end + 2 * aside, y + 1, `✕ ${row.lost}`, { size: 11, colour: "alarm", anchor, halo: true });
     }
 }
 
+// What a row is, for who doesn't see it.
+function spoken({ start, by = [], end, text, lost }) {
+    const way = start ? `${[start, ...by, end].join(" to ")}: ` : "";
+    return `${way}${text}${lost ? `, dropped: ${lost}` : ""}`;
+}
+
 // The drawing of rows between parties; the row with the chosen key is marked.
-export function drawLadder({ rows, parties }, chosen = "") {
+export function drawLadder({ rows, parties, routers = new Set() }, chosen = "") {
     const drawing = new Drawing("ladder");
     if (!rows.length) return null;
     const lane = Math.max(NARROWEST, Math.min(WIDEST, Math.floor(WIDTH / Math.max(parties.length, 1))));
@@ -123,7 +167,7 @@ export function drawLadder({ rows, parties }, chosen = "") {
     const [right, bottom] = [LEFT + 120 + lane * Math.max(parties.length - 1, 0), TOP + ROW * rows.length];
     for (const [name, x] of place) {
         drawing.line([[x, TOP - 20], [x, bottom]], { colour: "pale", width: 1 });
-        const isRouter = name === "router";
+        const isRouter = routers.has(name);
         drawing.box(x, TOP - 32, widthOf(name, 12) + 18, 24, { fill: isRouter ? "router" : "paper", corner: isRouter ? 3 : 12 });
         drawing.words(x, TOP - 32, name, { size: 12, bold: isRouter });
     }
@@ -133,8 +177,7 @@ export function drawLadder({ rows, parties }, chosen = "") {
         if (row.key === chosen) drawing.box((LEFT + right) / 2, y - 4, right - LEFT + 20, ROW - 4, { fill: "router", colour: "router", thick: 0 });
         if (row.second !== last) drawing.words(LEFT - 14, y, atSecond(row.second), { size: 11, colour: "quiet", anchor: "end" });
         last = row.second;
-        drawing.thing(row.key, `${row.start ? `${row.start} to ${row.end}: ` : ""}${row.text}${row.lost ? `, dropped: ${row.lost}` : ""}`,
-            () => drawRow(drawing, row, y, place, right));
+        drawing.thing(row.key, spoken(row), () => drawRow(drawing, row, y, place, right));
     });
     return drawing;
 }

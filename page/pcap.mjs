@@ -1,5 +1,5 @@
 // Captures byte by byte: those that are made of packets, and where the records of one begin.
-import { bytesOf, EVERYONE, joined } from "./bytes.mjs";
+import { bytesOf, EVERYONE, hexOf, joined } from "./bytes.mjs";
 
 const [HEADER, RECORD] = [24, 16];
 const [MICRO, NANO] = [0xa1b2c3d4, 0xa1b23c4d];
@@ -7,7 +7,7 @@ const ETHERNET = 1;
 const IPX_TYPE = 0x8137;
 const MOST_KEPT = 262144;
 const [SOURCE, PACKET] = [44, 60];
-const MACS = 12;
+const [MACS, NODE] = [12, 6];
 
 export function header() {
     const it = new DataView(new ArrayBuffer(HEADER));
@@ -70,6 +70,13 @@ export class Places {
     time(k) {
         const at = this.starts[k];
         return this.view.getUint32(at, this.order.isLittle) + this.view.getUint32(at + 4, this.order.isLittle) * this.order.part;
+    }
+
+    // The nodes between which a frame went: those of its own header, not of the packet in it.
+    link(k) {
+        const at = this.starts[k] + RECORD;
+        const node = (from) => hexOf(this.bytes.subarray(from, from + NODE));
+        return { to: node(at), from: node(at + NODE) };
     }
 
     frame(k) {

@@ -130,6 +130,28 @@ export function finer(script) {
     return { text: text.join("\n"), origins };
 }
 
+// A script in which each second counts by itself where something is sent in it; nothing where there are none but single ones.
+export function toldApart(script, said) {
+    const isSent = ({ line, words }) => words[0] === "second" && +words[1] > 1 && said[line].some((it) => it.startsWith("out "));
+    const times = new Map(script.acts.filter(isSent).map(({ line, words }) => [line, +words[1]]));
+    if (!times.size) return null;
+    const lines = script.lines.flatMap(({ text }, k) => (times.has(k) ? Array(times.get(k)).fill({ text: "second 1", k }) : [{ text, k }]));
+    return { text: lines.map((it) => it.text).join("\n"), origins: lines.map((it) => it.k) };
+}
+
+// Puts the seconds of a line together again in which nothing is said, with the answers of each line.
+export function together(fine, said) {
+    const found = [];
+    fine.text.split("\n").forEach((text, k) => {
+        const last = found[found.length - 1];
+        const isIdle = text === "second 1" && !said[k].length;
+        if (isIdle && last?.idle && last.origin === fine.origins[k]) last.idle++;
+        else found.push({ text, idle: isIdle ? 1 : 0, origin: fine.origins[k], said: said[k] });
+    });
+    const lines = found.map((it) => (it.idle ? `second ${it.idle}` : it.text));
+    return { text: lines.join("\n"), origins: found.map((it) => it.origin), said: found.map((it) => it.said) };
+}
+
 // Leaves out deliveries that found nothing left: all but the first of a settle of which nothing waited.
 export function withoutIdle(fine, said) {
     const text = fine.text.split("\n");

@@ -1,0 +1,148 @@
+// Draws a script or a capture as SVG, with the page's modules.
+import { readdirSync, readFileSync, writeFileSync } from "node:fs";
+import { basename } from "node:path";
+import { fileURLToPath } from "node:url";
+import { Fault, played, run } from "./program.mjs";
+import { drawLadder, ofRecords, ofSteps, packetsOf } from "../page/ladder.mjs";
+import { drawMoments, mapAt } from "../page/side_by_side.mjs";
+import { receptions, sentences } from "../page/traces.mjs";
+import { captureOf } from "../page/pcap.mjs";
+import { isOfInternet } from "../page/script.mjs";
+import { openCapture } from "../page/capture.mjs";
+import { plan } from "../page/internet_map.mjs";
+import { recordsOf } from "../page/records.mjs";
+import { steps } from "../page/timeline.mjs";
+import { svgText } from "../page/drawing.mjs";
+
+const HELP = `tools/picture draws a script or a capture as SVG to standard output:
+
+    tools/picture SCRIPT.internet               the map of an internet at the end of the script
+    tools/picture --after LINE SCRIPT.internet  the map after a line of the script
+    tools/picture --trace N SCRIPT.internet     the map at the Nth trace, with the way of its packet
+    tools/picture --steps SCRIPT.internet       maps side by side: before something fails, as it fails, and afterwards
+    tools/picture SCRIPT.script                 who sent what to whom, and when: a ladder
+    tools/picture CAPTURE.pcap                  the same of a capture, also of pcapng
+    tools/picture --kept [FOLDER]               draws the pictures of the stories in examples, or in another folder
+
+A file of another name is taken for what it holds. The program ipxr says what happens: the one that the variable IPXR names; else the built
+one, that of the archive in which this lies, or the system's. docs/PICTURES.md shows pictures of each kind.
+`;
+const USAGE = "usage: tools/picture [--after LINE | --trace N | --steps] FILE, or --kept [FOLDER], or --help";
+// Which trace of a story its second picture shows; a story that isn't named has none.
+const SHOWN_TRACES = { ring: 4, "counting-up": 2, forged: 5, "second-wait": 2 };
+const KIND = /\.(internet|script|pcap)$/;
+// How captures begin that are read.
+const MAGICS = ["d4c3b2a1", "a1b2c3d4", "4d3cb2a1", "a1b23c4d", "0a0d0d0a"];
+const EXAMPLES = fileURLToPath(new URL("../examples", import.meta.url));
+
+// ---- Maps ----
+
+function mapOf(name, { script, said }, how) {
+    if (!script.networks.length) throw new Fault(`${name} has no router with a port`);
+    const all = steps(script, said);
+    if (how.word === "--steps") {
+        const drawing = drawMoments(script, all);
+        if (!drawing) throw new Fault(`in ${name} no port goes down, and no router stops`);
+        return drawing;
+    }
+    return mapAt(script, plan(script), ...shownStep(name, script, all, how));
+}
+
+// The step whose map is shown, and what is shown with it.
+function shownStep(name, script, all, { word, number }) {
+    if (word === "--trace") {
+        const traces = all.filter((it) => it.words[0] === "trace" && !it.said[0]?.startsWith("line "));
+        if (number > traces.length) throw new Fault(`${name} has ${traces.length} traces`);
+        const step = traces[number - 1];
+        return [step, { words: sentences(receptions(step.said), script) }];
+    }
+    if (word === "--after") {
+        if (number > script.lines.length) throw new Fault(`${name} has ${script.lines.length} lines`);
+        return [still(all.filter((it) => it.line < number).pop())];
+    }
+    return [still(all[all.length - 1])];
+}
+
+// A step without the way of a packet.
+const still = (step) => ({ ...step, said: [] });
+
+// ---- Ladders ----
+
+function ladderOf({ script, said }) {
+    const all = steps(script, said);
+    const read = recordsOf(run("decode", captureOf(packetsOf(all))).text).records;
+    const labels = read.map((it) => (it.isPacket ? it : { kind: "data", text: "no packet" }));
+    return drawLadder(ofSteps(all, script.routers[0].ports.map((it) => it.network), labels));
+}
+
+function captureLadder(content) {
+    const capture = openCapture(new Uint8Array(content), (bytes) => {
+        const { text, ...done } = run("decode", bytes);
+        return { ...done, text: Buffer.from(text, "latin1") };
+    });
+    return drawLadder(ofRecords(capture.ladder(capture.count)));
+}
+
+// ---- Files ----
+
+function kindOf(name, content) {
+    const named = KIND.exec(name);
+    if (named) return named[1];
+    if (MAGICS.includes(content.subarray(0, 4).toString("hex"))) return "pcap";
+    return isOfInternet(content.toString("utf8")) ? "internet" : "script";
+}
+
+function drawingOf(file, how) {
+    const content = readFileSync(file);
+    const kind = kindOf(file, content);
+    if (kind === "internet") return mapOf(file, played(content.toString("utf8"), true), how);
+    if (how.word) throw new Fault(`${file} is no script of an internet: ${how.word} is for those`);
+    const drawing = kind === "script" ? ladderOf(played(content.toString("utf8"), false)) : captureLadder(content);
+    if (!drawing) throw new Fault(`${file} has no packet to draw`);
+    return drawing;
+}
+
+// The text of a picture.
+function picture(file, how = {}) {
+    return svgText(Object.assign(drawingOf(file, how), { title: basename(file) }));
+}
+
+// The pictures of a folder's stories: of internets those of before and after where something fails, and the traces that are named above.
+function writeKept(folder) {
+    for (const file of readdirSync(folder).filter((it) => KIND.test(it)).sort()) {
+        const name = file.replace(KIND, "");
+        const content = readFileSync(`${folder}/${file}`, "utf8");
+        const fails = file.endsWith(".internet") && /^(down|stop) /m.test(content);
+        writeFileSync(`${folder}/${name}.svg`, picture(`${folder}/${file}`, fails ? { word: "--steps" } : {}));
+        const number = SHOWN_TRACES[name];
+        if (number) writeFileSync(`${folder}/${name}-trace.svg`, picture(`${folder}/${file}`, { word: "--trace", number }));
+    }
+}
+
+// ---- Words ----
+
+// What the words ask for: a file and how it is drawn; or nothing, where they are wrong.
+function asked(words) {
+    const [word, ...more] = words;
+    if (["--after", "--trace"].includes(word) && more.length === 2 && /^[1-9]\d*$/.test(more[0])) {
+        return { file: more[1], how: { word, number: +more[0] } };
+    }
+    if (word === "--steps" && more.length === 1) return { file: more[0], how: { word } };
+    return words.length === 1 && !word.startsWith("--") ? { file: word, how: {} } : null;
+}
+
+function main(words) {
+    if (words.join() === "--help") return process.stdout.write(HELP);
+    if (words[0] === "--kept" && words.length < 3) return writeKept(words[1] ?? EXAMPLES);
+    const found = asked(words);
+    if (!found) throw new Fault(USAGE);
+    return process.stdout.write(picture(found.file, found.how));
+}
+
+try {
+    main(process.argv.slice(2));
+} catch (why) {
+    if (!(why instanceof Fault) && !why.code) throw why;
+    process.stderr.write(`${why.message.startsWith("usage") ? "" : "tools/picture: "}${why.message}\n`);
+    process.exitCode = 1;
+}
