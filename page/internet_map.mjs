@@ -110,13 +110,13 @@ class InternetMap {
         const colour = isChosen ? "chosen" : isUp ? (this.trace.length ? "pale" : "ink") : "alarm";
         this.drawing.line([here.place, there.place], { colour, width: isChosen ? 3 : 1.5, dashes: isUp ? "" : "5 4" });
         const [first, last] = [leaving(here, there.place), 1 - leaving(there, here.place)];
-        if (!isUp) {
-            const [x, y] = between(here.place, there.place, (first + last) / 2);
-            this.drawing.words(x, y, "✕", { size: 15, colour: "alarm", halo: true, bold: true });
-        }
         const length = Math.hypot(there.place[0] - here.place[0], there.place[1] - here.place[1]);
-        const [x, y] = between(here.place, there.place, Math.min(first + 11 / length, (first + last) / 2));
-        this.drawing.words(x, y, String(port), { size: 10, colour: isUp ? "quiet" : "alarm", halo: true });
+        const at = Math.min(first + 11 / length, (first + last) / 2);
+        this.drawing.words(...between(here.place, there.place, at), String(port), { size: 10, colour: isUp ? "quiet" : "alarm", halo: true });
+        if (!isUp) {
+            const middle = Math.max((first + last) / 2, (at + last) / 2);
+            this.drawing.words(...between(here.place, there.place, middle), "✕", { size: 15, colour: "alarm", halo: true, bold: true });
+        }
     }
 
     drawPoints() {
@@ -157,7 +157,8 @@ class InternetMap {
             const way = outside(wayOver([...new Set([start, over, end])].map((it) => it.place), from < 0 ? -ASIDE : ASIDE), [start, end]);
             if (way.length < 2) return null;
             this.drawing.line(way, { colour, width: 2.5, arrow: true });
-            return { places: [...placesBeside(over, end, from < 0), ...placesBeside(start, over, from < 0), way[0]], text, colour };
+            const places = [...placesBeside(over, end, from < 0), ...placesBeside(start, over, from < 0), way[0]];
+            return { places, text, colour };
         });
     }
 
@@ -167,7 +168,8 @@ class InternetMap {
         for (const { places, text, colour } of numbers.filter((it) => it?.text)) {
             const size = { wide: widthOf(text, 10) + 10, high: 15 };
             const isFree = (place) => taken.every((it) => (
-                Math.abs(it.place[0] - place[0]) > (it.wide + size.wide) / 2 || Math.abs(it.place[1] - place[1]) > (it.high + size.high) / 2));
+                Math.abs(it.place[0] - place[0]) > (it.wide + size.wide) / 2
+                || Math.abs(it.place[1] - place[1]) > (it.high + size.high) / 2));
             const place = places.find(isFree) ?? places[0];
             taken.push({ place, ...size });
             this.drawing.box(...place, size.wide, size.high, { fill: colour, colour, corner: 7.5, thick: 0 });
@@ -187,7 +189,8 @@ class InternetMap {
 
     // Sentences below the map, in columns.
     drawSentences(sentences) {
-        const [left, top, middle] = [this.drawing.left, this.drawing.bottom + 26, Math.ceil(sentences.length / Math.ceil(sentences.length / MOST_LINES))];
+        const [left, top] = [this.drawing.left, this.drawing.bottom + 26];
+        const middle = Math.ceil(sentences.length / Math.ceil(sentences.length / MOST_LINES));
         const wide = Math.max(...sentences.map((it) => widthOf(it.text, 13))) + 30;
         sentences.forEach((it, k) => {
             const [x, y] = [left + wide * Math.floor(k / middle), top + 21 * (k % middle)];

@@ -1,5 +1,5 @@
-// A ladder: who sent what to whom, and when. Each party has a line downwards, each packet an arrow; it goes by the routers that carry it, as far
-// as is known: the nodes of its frame are theirs where they aren't those of the packet.
+// A ladder: who sent what to whom, and when. Each party has a line downwards, each packet an arrow. It goes by the routers that carry it: theirs
+// are the nodes of its frame where they aren't those of the packet.
 import { EVERYONE, short } from "./bytes.mjs";
 import { Drawing, widthOf } from "./drawing.mjs";
 
@@ -72,7 +72,7 @@ export function packetsOf(steps) {
 // What a packet says, and whom it is for where its arrow doesn't end there.
 function whither({ kind, text, to }, end) {
     const target = kind === "data" && to && to.node !== EVERYONE ? `${short(to.network)}.${short(to.node)}` : end;
-    return { kind, text: target === end ? text : `${text} for ${target}` };
+    return { kind, text: target === end ? text : `${text}, for ${target}` };
 }
 
 function rowsOf(step, key, networks, labels) {

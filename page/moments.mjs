@@ -1,5 +1,5 @@
-// The moments of a run that are shown side by side: before something fails, as it fails, and later, whenever a traced packet fares otherwise than
-// the last one did. A port that goes down or up is such an event, and a router that stops, or starts again.
+// The moments of a run that are shown side by side: before something fails, as it fails, and later, whenever a traced packet fares otherwise
+// than the last one did. A port that goes down or up is such an event, and a router that stops, or starts again.
 import { outcome, receptions } from "./traces.mjs";
 
 // The steps at which something changes that was running.
@@ -73,7 +73,8 @@ export function moments(script, steps) {
         let shown = traces.length && steps[traces[0]].second === steps[last].second ? traces.shift() : last;
         add(shown, told(steps, script, event));
         for (const k of traces) {
-            if (steps[k].said.join() !== steps[shown].said.join()) add(k, later(steps[k].second - steps[last].second));
+            const isOther = steps[k].said.join() !== steps[shown].said.join();
+            if (isOther) add(k, later(steps[k].second - steps[last].second));
             shown = k;
         }
     });

@@ -1,10 +1,11 @@
 // The pane Internet: the map of a script of `ipxr internet`, the tables of the router that is chosen, and acts that write lines.
-import { drawMap, plan } from "./internet_map.mjs";
-import { ends, receptions, ways, waysOf } from "./traces.mjs";
+import { drawMoments, mapAt } from "./side_by_side.mjs";
 import { made, svgOf } from "./dom.mjs";
+import { receptions, sentences, waysOf } from "./traces.mjs";
 import { captureOf } from "./pcap.mjs";
 import { isChanged } from "./timeline.mjs";
 import { padded } from "./bytes.mjs";
+import { plan } from "./internet_map.mjs";
 import { recordsOf } from "./records.mjs";
 import { ScriptPane } from "./pane_script.mjs";
 import { Stopped } from "./program.mjs";
@@ -20,6 +21,14 @@ export class InternetPane extends ScriptPane {
     constructor(program, kind, page, aside) {
         super(program, kind, page);
         this.aside = aside;
+    }
+
+    right() {
+        const it = super.right();
+        this.beside = made("input", { type: "checkbox", onchange: () => this.draw(...this.last) });
+        const label = made("label", { class: "fine", title: "before something fails, as it fails, and afterwards" }, this.beside, "side by side");
+        it.querySelector(".fine").after(label);
+        return it;
     }
 
     // The plan changes only with routers, ports and hosts, so that the map stays as it is while a script is typed.
@@ -41,17 +50,20 @@ export class InternetPane extends ScriptPane {
             this.tables.replaceChildren();
             return;
         }
-        const copies = receptions(step.said);
-        this.drawing = drawMap(this.script, this.found, {
-            state: step.state, changed: found.map(isChanged), chosen: this.chosen, ends: ends(copies),
-            trace: moved ? waysOf(moved.packets, moved.kinds) : ways(copies, this.script.routers),
-        });
-        this.picture.replaceChildren(svgOf(this.drawing, (key) => this.choose(key)));
+        this.drawing = this.beside.checked ? drawMoments(this.script, this.steps) : this.mapOf(step, found, moved);
+        if (this.drawing) this.picture.replaceChildren(svgOf(this.drawing, (key) => this.choose(key)));
+        else this.picture.replaceChildren(made("p", { class: "none" }, "No port goes down here, and no router stops."));
         if (focused) this.picture.querySelector(`[data-key="${CSS.escape(focused)}"]`)?.focus();
         this.drawTables(step, found);
-        if (copies.length) this.said.textContent = copies.map((it) => this.sentence(it)).join("\n");
+        const copies = receptions(step.said);
+        if (copies.length) this.said.textContent = sentences(copies, this.script).map((it) => it.text).join("\n");
         if (moved) this.said.textContent = [...step.said, ...moved.sentences].join("\n");
         else if (step.words[0] === "settle") this.follow(step, found);
+    }
+
+    mapOf(step, found, moved) {
+        const ways = moved && { trace: waysOf(moved.packets, moved.kinds) };
+        return mapAt(this.script, this.found, step, { changed: found.map(isChanged), chosen: this.chosen, ...ways });
     }
 
     // The packets that a settle handed out are found aside, and drawn when they are there.
@@ -79,13 +91,11 @@ export class InternetPane extends ScriptPane {
         return packets.length > labels.length ? [...lines, `and ${packets.length - labels.length} more`] : lines;
     }
 
-    sentence(it) {
-        const router = this.script.routers[it.router];
-        return `${it.number}  ${router?.name}, from net ${router?.ports[it.port]?.network}: ${it.outcome}`;
-    }
-
     choose(key) {
-        if (key && key !== this.chosen) {
+        if (key.startsWith("moment ")) {
+            this.beside.checked = false;
+            this.show(+key.split(" ")[1]);
+        } else if (key && key !== this.chosen) {
             this.chosen = key;
             this.draw(...this.last);
         }

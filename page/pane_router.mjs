@@ -1,7 +1,9 @@
 // The pane Router: who sent what to whom in a script of `ipxr replay`, and the tables of the router.
 import { drawLadder, ofSteps, packetsOf } from "./ladder.mjs";
+import { answers, steps, together, toldApart } from "./timeline.mjs";
 import { made, svgOf } from "./dom.mjs";
 import { captureOf } from "./pcap.mjs";
+import { parsed } from "./script.mjs";
 import { recordsOf } from "./records.mjs";
 import { ScriptPane } from "./pane_script.mjs";
 import { short } from "./bytes.mjs";
@@ -10,7 +12,19 @@ import { tablesOf } from "./tables_view.mjs";
 // As many rows around the shown step are drawn.
 const MOST_ROWS = 120;
 
+// A script that lasts longer isn't told apart into the seconds in which something is sent.
+const MOST_SECONDS = 20000;
+
 export class RouterPane extends ScriptPane {
+    async coarse(script, said) {
+        const apart = lasting(script) <= MOST_SECONDS && toldApart(script, said);
+        if (!apart) return super.coarse(script, said);
+        const again = await this.program.run(this.kind.verb, apart.text, true);
+        const fine = together(apart, answers(again.text, again.ends, apart.origins.length));
+        const shown = parsed(fine.text, false);
+        return { shown, origins: fine.origins, steps: steps(shown, fine.said) };
+    }
+
     async draw(step, found) {
         const networks = this.script.routers[0].ports.map((it) => it.network);
         const ladder = await this.ladder(networks);
@@ -36,6 +50,8 @@ export class RouterPane extends ScriptPane {
         return this.rows;
     }
 }
+
+const lasting = (script) => script.acts.reduce((sum, { words }) => sum + (words[0] === "second" ? +words[1] : 0), 0);
 
 // The rows that are drawn: those around a step.
 function around(rows, key) {

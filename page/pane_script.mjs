@@ -137,13 +137,17 @@ export class ScriptPane {
     async refined(script, done) {
         const said = answers(done.text, done.ends, script.lines.length);
         const isFine = this.fine.checked && script.acts.length <= MOST_FINE && done.status === 0;
-        if (!isFine) return { shown: script, origins: null, steps: steps(script, said) };
+        if (!isFine) return this.coarse(script, said);
         const first = finer(script);
         const tried = await this.program.run(this.kind.verb, first.text, true);
         const fine = withoutIdle(first, answers(tried.text, tried.ends, first.origins.length));
         const again = await this.program.run(this.kind.verb, fine.text, true);
         const shown = Object.assign(parsed(fine.text, script.isInternet), { hosts: script.hosts });
         return { shown, origins: fine.origins, steps: steps(shown, answers(again.text, again.ends, shown.lines.length)) };
+    }
+
+    coarse(script, said) {
+        return { shown: script, origins: null, steps: steps(script, said) };
     }
 
     lineOf(step) {

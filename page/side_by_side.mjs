@@ -53,7 +53,8 @@ export function drawMoments(script, steps) {
         const x = (k % columns) * (wide + BETWEEN);
         const y = Math.floor(k / columns) * (bottom - top + above + BETWEEN);
         const label = `${headOf(it)}${it.says ? `; ${it.says.text}` : ""}`;
-        drawing.thing(`moment ${it.step}`, label, () => drawMoment(drawing, maps[k], words[k], { x, y, above, wide, high: bottom - top, left, top }));
+        const room = { x, y, above, wide, high: bottom - top, left, top };
+        drawing.thing(`moment ${it.step}`, label, () => drawMoment(drawing, maps[k], words[k], room));
     });
     return drawing;
 }

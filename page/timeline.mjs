@@ -135,7 +135,8 @@ export function toldApart(script, said) {
     const isSent = ({ line, words }) => words[0] === "second" && +words[1] > 1 && said[line].some((it) => it.startsWith("out "));
     const times = new Map(script.acts.filter(isSent).map(({ line, words }) => [line, +words[1]]));
     if (!times.size) return null;
-    const lines = script.lines.flatMap(({ text }, k) => (times.has(k) ? Array(times.get(k)).fill({ text: "second 1", k }) : [{ text, k }]));
+    const linesOf = ({ text }, k) => (times.has(k) ? Array(times.get(k)).fill({ text: "second 1", k }) : [{ text, k }]);
+    const lines = script.lines.flatMap(linesOf);
     return { text: lines.map((it) => it.text).join("\n"), origins: lines.map((it) => it.k) };
 }
 

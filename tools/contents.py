@@ -13,8 +13,11 @@ MOVED = {"include/heap.c": "examples/embed/heap.c"}
 # What is WebAssembly, with where it lies: the library for C, beside what loads it; and the page. Each with the command that builds it.
 WEB = {"build/web/libipxr.wasm": "make web", "build/ipxr.html": "make page"}
 PLACES = {"build/web/libipxr.wasm": "examples/embed/web/libipxr.wasm", "build/ipxr.html": "ipxr.html"}
-MODULES = ["drawing.py", "internet_map.py", "ladder.py", "pcap.py", "places.py", "played.py"]
-TOOLS = [f"tools/{it}" for it in ["json", "picture", "to-pcap", *MODULES]]
+# With what of the page tools/picture draws, and reads captures.
+DRAWING = "drawing internet_map ladder layout moments records script side_by_side timeline traces".split()
+READING = "bytes capture conversations pcap pcapng".split()
+MODULES = [f"page/{it}.mjs" for it in DRAWING + READING]
+TOOLS = [f"tools/{it}" for it in ["json", "pcap.py", "picture", "picture.mjs", "program.mjs", "to-pcap"]] + MODULES
 LINK = re.compile(r"(?<!!)\[([^]]*)\]\(([^)#\s]+)(#[^)]*)?\)")
 
 

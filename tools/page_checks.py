@@ -285,6 +285,21 @@ def internet(b, _):
     settled(b, "internet")
 
 
+def beside(b, _):
+    """Internet: before a failure, in it and afterwards, side by side; a click goes there"""
+    opened(b)
+    shows(b, "internet")
+    settled(b, "internet")
+    b.run("document.querySelectorAll('#pane-internet .fine input')[1].click()")
+    heads = b.run("return [...document.querySelectorAll('#pane-internet .picture g[data-key]')].map((it) => it.getAttribute('aria-label'))")
+    same([it.partition(";")[0] for it in heads[:2]], ["70 s: before", "70 s: net AB fails at A and B"], "moments")
+    same(len(heads), 6, "moments of the ring")
+    b.run("document.querySelectorAll('#pane-internet .picture g[data-key]')[2].dispatchEvent(new MouseEvent('click', { bubbles: true }))")
+    settled(b, "internet")
+    want("120 s" in text(b, "#pane-internet .moment"), "the moment that was clicked on")
+    same(count(b, "#pane-internet .picture g[data-key^='router ']"), 4, "one map again")
+
+
 def moving(b, _):
     """Internet: the packets of each settle of the examples are followed, as many as ipxr internet says; one by one in slow motion"""
     opened(b)
@@ -572,7 +587,7 @@ def stopped(b, folder):
 
 
 EVERYWHERE = [
-    texts, silent, capture, filters, fields_agree, dropped, large, internet, quick, moving, wrong_line, built, keyboard, router, router_built,
+    texts, silent, capture, filters, fields_agree, dropped, large, internet, quick, beside, moving, wrong_line, built, keyboard, router, router_built,
     packet, back_and_forth, shared, harmless, long, stopped,
 ]
 
