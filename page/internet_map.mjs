@@ -5,7 +5,7 @@ import { places } from "./layout.mjs";
 const APART = 92;
 const HIGH = { router: 32, network: 22, host: 20 };
 // How much is left free around each.
-const SPACE = { router: 22, network: 9, host: 8 };
+const SPACE = { router: 26, network: 18, host: 10 };
 // How far a way stands aside of the line, and how far its number may; and in how many pieces a line is.
 const ASIDE = 6;
 const FARTHER = [11, 20, 30, 40];

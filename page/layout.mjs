@@ -3,7 +3,7 @@
 
 const ROUNDS = 300;
 // From how many places it is begun, of which the best is taken; of many points from two, since each takes long.
-const [STARTS, MANY] = [6, 40];
+const [STARTS, MANY] = [12, 40];
 const STILL = 2e-3;
 
 // The number of lines between any two points; points without a way between them are a little farther apart than any others.
@@ -116,6 +116,39 @@ function separated(places, room, rounds = 60) {
     return places;
 }
 
+// ---- How good places are ----
+
+const side = (a, b, c) => Math.sign((b[0] - a[0]) * (c[1] - a[1]) - (b[1] - a[1]) * (c[0] - a[0]));
+const isCrossed = ([a, b], [c, d]) => side(a, b, c) * side(a, b, d) < 0 && side(c, d, a) * side(c, d, b) < 0;
+
+// Whether a line goes through a box around a place.
+function isThrough([a, b], [x, y], [wide, high]) {
+    let [from, to] = [0, 1];
+    for (const [start, end, low, most] of [[a[0], b[0], x - wide, x + wide], [a[1], b[1], y - high, y + high]]) {
+        const way = end - start || 1e-9;
+        const [one, other] = [(low - start) / way, (most - start) / way];
+        [from, to] = [Math.max(from, Math.min(one, other)), Math.min(to, Math.max(one, other))];
+    }
+    return from < to;
+}
+
+// How many lines cross, and how many go through boxes that they don't end at, of which each counts as several.
+const OF_BOX = 3;
+function faults(places, lines, room) {
+    const ends = lines.map((line) => line.map((it) => places[it]));
+    let sum = 0;
+    for (let k = 0; k < lines.length; k++) {
+        for (let j = 0; j < k; j++) if (isCrossed(ends[k], ends[j])) sum++;
+        places.forEach((it, n) => {
+            if (!lines[k].includes(n) && isThrough(ends[k], it, room[n].map((half) => half * 0.7))) sum += OF_BOX;
+        });
+    }
+    return sum;
+}
+
+// As much worse a fault makes places than others whose distances are as right.
+const WORSE = 0.15;
+
 // Lies as it does, or stands, as the picture ought to be.
 function laid(places, isTall) {
     const wide = [0, 1].map((axis) => Math.max(...places.map((it) => it[axis])) - Math.min(...places.map((it) => it[axis])));
@@ -131,8 +164,9 @@ export function places(count, lines, room, apart, isTall = false) {
     for (let seed = 0; seed < starts; seed++) {
         const found = start(count, seed);
         for (let round = 0; round < ROUNDS && moved(found, far) > STILL; round++);
-        const badness = stress(found, far);
-        if (!best || badness < best.badness * 0.999) best = { found, badness };
+        const placed = separated(laid(turned(found), isTall).map(([x, y]) => [x * apart, y * apart]), room);
+        const badness = (stress(found, far) + 1e-3) * (1 + WORSE * faults(placed, lines, room));
+        if (!best || badness < best.badness * 0.999) best = { placed, badness };
     }
-    return separated(laid(turned(best.found), isTall).map(([x, y]) => [x * apart, y * apart]), room);
+    return best.placed;
 }

@@ -296,7 +296,7 @@ def beside(b, _):
     same(len(heads), 6, "moments of the ring")
     b.run("document.querySelectorAll('#pane-internet .picture g[data-key]')[2].dispatchEvent(new MouseEvent('click', { bubbles: true }))")
     settled(b, "internet")
-    want("120 s" in text(b, "#pane-internet .moment"), "the moment that was clicked on")
+    want(text(b, "#pane-internet .moment").startswith("Second 120"), "the moment that was clicked on")
     same(count(b, "#pane-internet .picture g[data-key^='router ']"), 4, "one map again")
 
 

@@ -23,6 +23,7 @@ const HELP = `tools/picture draws a script or a capture as SVG to standard outpu
     tools/picture SCRIPT.script                 who sent what to whom, and when: a ladder
     tools/picture CAPTURE.pcap                  the same of a capture, also of pcapng
     tools/picture --kept [FOLDER]               draws the pictures of the stories in examples, or in another folder
+    tools/picture --bench                       measures how long pictures of long scripts take
 
 A file of another name is taken for what it holds. The program ipxr says what happens: the one that the variable IPXR names; else the built
 one, that of the archive in which this lies, or the system's. docs/PICTURES.md shows pictures of each kind.
@@ -119,6 +120,36 @@ function writeKept(folder) {
     }
 }
 
+// ---- How long it takes ----
+
+const LENGTHS = [500, 1000, 2000, 4000];
+const PORTS = ["port 00000010 000000000001 1 576", "port 00000020 000000000002 1 576"];
+const RESPONSE = "FFFF0028000100000020FFFFFFFFFFFF0453000000200000000000BB045300020000003000010002";
+const PACKET = "FFFF001E0000000000200000000000CC4003000000100000000000AA4003";
+
+// A script of one router, and one of an internet, of so many lines each, in which in turn time passes, packets come, and ports go down and up.
+const LONG = {
+    script: (count) => [...PORTS, "start", ...filled(count - 3, ["second 20", `in 1 ${RESPONSE}`, `in 0 ${PACKET}`])],
+    internet: (count) => ["router", ...PORTS, "router", "port 00000020 000000000003 1 576", "start 0", "start 1",
+        ...filled(count - 7, ["second 20", "settle 1000", `trace 0 0 100 ${PACKET}`, "down 1 0", "settle 1000", "up 1 0"])],
+};
+const filled = (count, lines) => Array.from({ length: count }, (_, k) => lines[k % lines.length]);
+
+function bench() {
+    const draw = {
+        ladder: (count) => ladderOf(played(LONG.script(count).join("\n"), false)),
+        map: (count) => mapOf("", played(LONG.internet(count).join("\n"), true), {}),
+        "side by side": (count) => mapOf("", played(LONG.internet(count).join("\n"), true), { word: "--steps" }),
+    };
+    for (const [name, one] of Object.entries(draw)) {
+        for (const count of LENGTHS) {
+            const begun = performance.now();
+            const bytes = svgText(one(count)).length;
+            process.stdout.write(`${name} of ${count} lines: ${Math.round(performance.now() - begun)} ms, ${bytes} bytes\n`);
+        }
+    }
+}
+
 // ---- Words ----
 
 // What the words ask for: a file and how it is drawn; or nothing, where they are wrong.
@@ -134,6 +165,7 @@ function asked(words) {
 function main(words) {
     if (words.join() === "--help") return process.stdout.write(HELP);
     if (words[0] === "--kept" && words.length < 3) return writeKept(words[1] ?? EXAMPLES);
+    if (words.join() === "--bench") return bench();
     const found = asked(words);
     if (!found) throw new Fault(USAGE);
     return process.stdout.write(picture(found.file, found.how));
