@@ -80,7 +80,7 @@ function placesBeside(from, to, isOpposite) {
 
 class InternetMap {
     constructor(script, found, { state, changed = [], chosen = "", trace = [] }) {
-        Object.assign(this, { script, plan: found, state, changed, chosen, trace, drawing: new Drawing("map") });
+        Object.assign(this, { script, plan: found, state, changed, chosen, trace, marks: [], drawing: new Drawing("map") });
     }
 
     point(key) {
@@ -112,11 +112,15 @@ class InternetMap {
         const [first, last] = [leaving(here, there.place), 1 - leaving(there, here.place)];
         const length = Math.hypot(there.place[0] - here.place[0], there.place[1] - here.place[1]);
         const at = Math.min(first + 11 / length, (first + last) / 2);
-        this.drawing.words(...between(here.place, there.place, at), String(port), { size: 10, colour: isUp ? "quiet" : "alarm", halo: true });
-        if (!isUp) {
-            const middle = Math.max((first + last) / 2, (at + last) / 2);
-            this.drawing.words(...between(here.place, there.place, middle), "✕", { size: 15, colour: "alarm", halo: true, bold: true });
-        }
+        this.mark(between(here.place, there.place, at), String(port), { size: 10, colour: isUp ? "quiet" : "alarm" });
+        const middle = between(here.place, there.place, (Math.max(first, at) + last) / 2);
+        if (!isUp) this.mark(middle, "✕", { size: 15, colour: "alarm", bold: true });
+    }
+
+    // A sign on a line, which no number of a way may cover.
+    mark(place, text, how) {
+        this.marks.push({ place, wide: how.size, high: how.size });
+        this.drawing.words(...place, text, { ...how, halo: true });
     }
 
     drawPoints() {
@@ -164,7 +168,7 @@ class InternetMap {
 
     // Each number where it covers neither a box nor a number that is there, if there is such a place on its way.
     drawNumbers(numbers) {
-        const taken = this.plan.points.map(({ place, wide, high }) => ({ place, wide, high }));
+        const taken = [...this.marks, ...this.plan.points];
         for (const { places, text, colour } of numbers.filter((it) => it?.text)) {
             const size = { wide: widthOf(text, 10) + 10, high: 15 };
             const isFree = (place) => taken.every((it) => (

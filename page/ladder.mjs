@@ -60,9 +60,12 @@ export function ofRecords(records) {
 const [SOURCE, PACKET] = [36, 60];
 const heard = (hex) => (hex.length >= PACKET ? `${short(hex.slice(SOURCE, SOURCE + 8))}.${short(hex.slice(SOURCE + 8, SOURCE + 20))}` : "?");
 
+// What is said of a wrong line, which does nothing.
+const wrongOf = (step) => step.said.find((it) => it.startsWith("line "));
+
 // The packets that the steps of a script send or receive, in order: each with its second, and the node that it is sent to.
 export function packetsOf(steps) {
-    return steps.flatMap((step) => {
+    return steps.filter((it) => !wrongOf(it)).flatMap((step) => {
         const came = step.words[0] === "in" ? [{ hex: (step.words[2] ?? "").replace("-", "").toUpperCase(), second: step.second }] : [];
         const sent = step.said.filter((it) => it.startsWith("out ")).map((it) => it.split(" "));
         return [...came, ...sent.map((it) => ({ hex: it[3], node: it[2], second: step.second }))];
@@ -77,6 +80,7 @@ function whither({ kind, text, to }, end) {
 
 function rowsOf(step, key, networks, labels) {
     const dropped = step.said.find((it) => it.startsWith("drop "))?.slice(5) ?? "";
+    if (wrongOf(step)) return [{ key, second: step.second, text: wrongOf(step), isWrong: true }];
     const rows = [];
     const label = () => labels.next().value ?? { kind: "data", text: "" };
     if (step.words[0] === "in") {
@@ -135,7 +139,9 @@ function drawWay(drawing, row, places, y) {
 function drawRow(drawing, row, y, place, right) {
     if (!row.start) {
         drawing.line([[LEFT, y], [right, y]], { colour: "pale", width: 1, dashes: "2 4" });
-        drawing.words((LEFT + right) / 2, y, row.text + (row.lost ? `: dropped, ${row.lost}` : ""), { size: 12, halo: true });
+        drawing.words((LEFT + right) / 2, y, row.text + (row.lost ? `: dropped, ${row.lost}` : ""), {
+            size: 12, halo: true, colour: row.isWrong ? "alarm" : "ink",
+        });
         return;
     }
     const places = [row.start, ...(row.by ?? []), row.end].map((it) => place.get(it)).filter((it, k, all) => it !== all[k - 1]);

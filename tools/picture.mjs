@@ -46,22 +46,29 @@ function mapOf(name, { script, said }, how) {
         if (!drawing) throw new Fault(`in ${name} no port goes down, and no router stops`);
         return drawing;
     }
-    return mapAt(script, plan(script), ...shownStep(name, script, all, how));
+    const [step, words] = shownStep(name, script, all, how);
+    return mapAt(script, plan(script), step, { words: [...words, ...wrongLine(all)] });
 }
 
-// The step whose map is shown, and what is shown with it.
+// The line that is wrong, where one is, as a sentence: what stands behind it wasn't played.
+function wrongLine(all) {
+    const wrong = all[all.length - 1].said.find((it) => it.startsWith("line "));
+    return wrong ? [{ text: wrong, isLost: true }] : [];
+}
+
+// The step whose map is shown, and what is said of it.
 function shownStep(name, script, all, { word, number }) {
     if (word === "--trace") {
         const traces = all.filter((it) => it.words[0] === "trace" && !it.said[0]?.startsWith("line "));
         if (number > traces.length) throw new Fault(`${name} has ${traces.length} traces`);
         const step = traces[number - 1];
-        return [step, { words: sentences(receptions(step.said), script) }];
+        return [step, sentences(receptions(step.said), script)];
     }
     if (word === "--after") {
         if (number > script.lines.length) throw new Fault(`${name} has ${script.lines.length} lines`);
-        return [still(all.filter((it) => it.line < number).pop())];
+        return [still(all.filter((it) => it.line < number).pop()), []];
     }
-    return [still(all[all.length - 1])];
+    return [still(all[all.length - 1]), []];
 }
 
 // A step without the way of a packet.
@@ -171,6 +178,8 @@ function main(words) {
     return process.stdout.write(picture(found.file, found.how));
 }
 
+// Who reads may have had enough.
+process.stdout.on("error", (why) => process.exit(why.code === "EPIPE" ? 0 : 1));
 try {
     main(process.argv.slice(2));
 } catch (why) {

@@ -101,17 +101,21 @@ function answersOf(script) {
         if (reader.at >= lines.length) break;
         said[line] = reader.take(words);
     }
-    const wrong = /^line (\d+): (\w+)$/.exec(lines[lines.length - 1] ?? "");
-    return { said, wrong: wrong && { line: origins[wrong[1] - 1] + 1, word: wrong[2] } };
+    return renumbered(said, origins);
+}
+
+// Answers in which the number of a wrong line is that of the line which it is of.
+function renumbered(said, origins) {
+    const mended = (text) => text.replace(/^line (\d+):/, (_, number) => `line ${origins[number - 1] + 1}:`);
+    return said.map((lines) => lines.map(mended));
 }
 
 // A script with the answers to each of its lines; of one router each second in which it sends something is a line of its own.
 export function played(text, isInternet) {
     const script = parsed(text, isInternet);
-    const first = answersOf(script);
-    if (isInternet) return { script, ...first };
-    const apart = toldApart(script, first.said);
-    if (!apart) return { script, ...first };
-    const fine = together(apart, answersOf(parsed(apart.text, false)).said);
-    return { script: parsed(fine.text, false), said: fine.said, wrong: first.wrong };
+    const said = answersOf(script);
+    const apart = isInternet ? null : toldApart(script, said);
+    if (!apart) return { script, said };
+    const fine = together(apart, renumbered(answersOf(parsed(apart.text, false)), apart.origins));
+    return { script: parsed(fine.text, false), said: fine.said };
 }

@@ -44,9 +44,9 @@ def labels(picture, start):
 
 
 def drawn(*words):
-    """The picture that is drawn, or what is said instead."""
+    """The picture that is drawn, or an empty one."""
     status, text = run("tools/picture", *words)
-    return "" if status else text
+    return "<svg/>" if status else text
 
 
 def try_kept(folder):
