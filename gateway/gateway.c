@@ -9,6 +9,7 @@
 #include "clock.h"
 #include "ether.h"
 #include "ipx.h"
+#include "node.h"
 #include "note.h"
 #include "system.h"
 #include "tunnel.h"
@@ -193,20 +194,6 @@ void gateway_turn(gateway *it, bool waits)
 
 /* ---- Start and end ---- */
 
-/* The gateway's node on a network: the card's own address, what the line says, or one that is made up: of the tunnel one that no
- * datagram comes from, else one that the network's number makes its own. */
-static void choose_node(network *on)
-{
-    static const uint8_t of_tunnel[NODE] = {0, 0, 0, 0, 0, 1};
-    uint8_t made_up[NODE] = {0x02, 'I'};
-    put32(made_up + 2, on->set->network);
-    const uint8_t *node = on->set->type == LINK_DOSBOX      ? of_tunnel
-                          : on->set->type == LINK_INTERFACE ? on->cable->card
-                          : on->set->has_node               ? on->set->node
-                                                            : made_up;
-    memcpy(on->node, node, NODE);
-}
-
 /* The cable of a network: one that is open already, where two networks share it. Each network of an interface has a socket of its own. */
 static cable *cable_of(gateway *it, const network_setting *set)
 {
@@ -217,9 +204,8 @@ static cable *cable_of(gateway *it, const network_setting *set)
     const char *fault = cable_open(made, set);
     if (fault == NULL)
         return made;
-    char words[128];
-    link_words(set, words, sizeof words);
-    fprintf(stderr, "ipxr-gateway: line %zu: %s: %s: %s\n", set->line, words, fault, fault_words());
+    char words[LINK_ROOM];
+    fprintf(stderr, "ipxr-gateway: line %zu: %s: %s: %s\n", set->line, link_words(set, words), fault, fault_words());
     return NULL;
 }
 
@@ -231,7 +217,7 @@ static bool open_all(gateway *it, const settings *set)
         on->cable = cable_of(it, on->set);
         if (on->cable == NULL)
             return false;
-        choose_node(on);
+        node_choose(on->set, on->cable, on->node);
         on->is_up = true;
     }
     return true;
@@ -257,11 +243,11 @@ static int32_t make(gateway *it)
 static void tell_start(const gateway *it)
 {
     for (size_t k = 0; k < it->count; k++) {
-        char words[128], node[WORDS];
+        char words[LINK_ROOM], node[WORDS];
         network_setting taken = *it->networks[k].set;
         taken.local = it->networks[k].cable->local;
-        link_words(&taken, words, sizeof words);
-        printf("network %08" PRIX32 " on %s, node %s\n", taken.network, words, node_words(it->networks[k].node, node));
+        printf("network %08" PRIX32 " on %s, node %s\n", taken.network, link_words(&taken, words),
+               node_words(it->networks[k].node, node));
     }
 }
 

@@ -19,12 +19,11 @@ static void show_clients(const network *on)
 
 static void show_network(const network *on)
 {
-    char words[128], node[WORDS];
+    char words[LINK_ROOM], node[WORDS];
     network_setting taken = *on->set;
     taken.local = on->cable->local;
-    link_words(&taken, words, sizeof words);
     printf("network %08" PRIX32 " %s, cost %u, longest %u, on %s, node %s\n", taken.network, on->is_up ? "up" : "down", taken.cost,
-           taken.longest, words, node_words(on->node, node));
+           taken.longest, link_words(&taken, words), node_words(on->node, node));
     printf("  in %" PRIu64 ", out %" PRIu64, on->counts.in, on->counts.out);
     if (taken.socket_count > 0)
         printf(", extended %" PRIu64, on->counts.extended);

@@ -88,7 +88,8 @@ static bool read_address(reader *r, address *at, bool is_remote)
 {
     const char *word = reader_word(r);
     if (word == NULL || !is_address(word, at) || (is_remote && at->port == 0))
-        return reader_fault(r, word, "expected an address in numbers and a port, as 127.0.0.1:5001%s", is_remote ? "" : ", or a port alone");
+        return reader_fault(r, word, "expected an address in numbers and a port, as 127.0.0.1:5001%s",
+                            is_remote ? "" : ", or a port alone");
     return true;
 }
 
@@ -181,11 +182,6 @@ static bool read_node(reader *r, network_setting *it)
 
 /* ---- What the words say together ---- */
 
-static void address_words(const address *at, char *words, size_t room)
-{
-    snprintf(words, room, "%u.%u.%u.%u:%u", at->host[0], at->host[1], at->host[2], at->host[3], at->port);
-}
-
 static bool same_address(const address *a, const address *b)
 {
     return memcmp(a->host, b->host, sizeof a->host) == 0 && a->port == b->port;
@@ -221,9 +217,8 @@ static bool is_single(reader *r, const network_setting *it)
         if (is_shared && it->kind == other->kind)
             return reader_fault(r, kind_word(it->kind), "expected another kind of frames, line %zu has these there", other->line);
         if (!is_shared && takes_the_same(it, other)) {
-            char words[32];
-            address_words(&it->local, words, sizeof words);
-            return reader_fault(r, words, "expected another port, line %zu has this one", other->line);
+            char words[ADDRESS_ROOM];
+            return reader_fault(r, address_words(&it->local, words), "expected another port, line %zu has this one", other->line);
         }
     }
     return true;
@@ -232,11 +227,10 @@ static bool is_single(reader *r, const network_setting *it)
 /* Whether datagrams go to somebody else: at its own address the gateway would hear itself. */
 static bool is_for_another(reader *r, const network_setting *it)
 {
-    char words[32];
+    char words[ADDRESS_ROOM];
     if (it->type != LINK_QEMU_UDP || !overlap(&it->local, &it->remote))
         return true;
-    address_words(&it->remote, words, sizeof words);
-    return reader_fault(r, words, "expected QEMU's address, this is the gateway's own");
+    return reader_fault(r, address_words(&it->remote, words), "expected QEMU's address, this is the gateway's own");
 }
 
 static bool fits(reader *r, const network_setting *it)
@@ -244,7 +238,8 @@ static bool fits(reader *r, const network_setting *it)
     char longest[8];
     snprintf(longest, sizeof longest, "%u", it->longest);
     return it->longest <= KINDS[it->kind].longest ||
-           reader_fault(r, longest, "expected the bytes of the longest packet, %d to %d on this link", SHORTEST_LONGEST, KINDS[it->kind].longest);
+           reader_fault(r, longest, "expected the bytes of the longest packet, %d to %d on this link", SHORTEST_LONGEST,
+                        KINDS[it->kind].longest);
 }
 
 /* ---- Lines ---- */
@@ -348,28 +343,29 @@ size_t settings_read(settings *it, FILE *file, const char *name, FILE *complaint
 
 /* ---- What a link is called ---- */
 
-void link_words(const network_setting *it, char *words, size_t room)
+const char *link_words(const network_setting *it, char words[LINK_ROOM])
 {
-    char local[32], remote[32];
-    address_words(&it->local, local, sizeof local);
-    address_words(&it->remote, remote, sizeof remote);
+    char local[ADDRESS_ROOM], remote[ADDRESS_ROOM];
+    address_words(&it->local, local);
+    address_words(&it->remote, remote);
     const char *kind = kind_word(it->kind);
     switch (it->type) {
     case LINK_DOSBOX:
-        snprintf(words, room, "dosbox %s", local);
+        snprintf(words, LINK_ROOM, "dosbox %s", local);
         break;
     case LINK_QEMU_UDP:
-        snprintf(words, room, "qemu-udp %s %s %s", local, remote, kind);
+        snprintf(words, LINK_ROOM, "qemu-udp %s %s %s", local, remote, kind);
         break;
     case LINK_QEMU_LISTEN:
-        snprintf(words, room, "qemu-tcp listen %s %s", local, kind);
+        snprintf(words, LINK_ROOM, "qemu-tcp listen %s %s", local, kind);
         break;
     case LINK_QEMU_CONNECT:
-        snprintf(words, room, "qemu-tcp connect %s %s", remote, kind);
+        snprintf(words, LINK_ROOM, "qemu-tcp connect %s %s", remote, kind);
         break;
     case LINK_TAP:
     case LINK_INTERFACE:
-        snprintf(words, room, "%s %s %s", it->type == LINK_TAP ? "tap" : "interface", it->name, kind);
+        snprintf(words, LINK_ROOM, "%s %s %s", it->type == LINK_TAP ? "tap" : "interface", it->name, kind);
         break;
     }
+    return words;
 }

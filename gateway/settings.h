@@ -55,8 +55,10 @@ size_t settings_read(settings *it, FILE *file, const char *name, FILE *complaint
 /* Whether two networks are on one link, which is opened once for both. */
 bool same_link(const network_setting *a, const network_setting *b);
 
+enum { LINK_ROOM = 96 /* bytes of a link in words, with the 0 behind */ };
+
 /* The words of a kind of frame, and of a link with its addresses or name. */
 const char *kind_word(uint8_t kind);
-void link_words(const network_setting *it, char *words, size_t room);
+const char *link_words(const network_setting *it, char words[LINK_ROOM]);
 
 #endif

@@ -1,5 +1,6 @@
 #include "words.h"
 
+#include <stdio.h>
 #include <string.h>
 
 static const char DIGITS[] = "0123456789abcdef0123456789ABCDEF";
@@ -85,4 +86,10 @@ bool is_address(const char *word, address *at)
     *at = OWN;
     at->port = (uint16_t)port;
     return colon == NULL || colon == word || is_host(word, colon, at->host);
+}
+
+const char *address_words(const address *at, char words[ADDRESS_ROOM])
+{
+    snprintf(words, ADDRESS_ROOM, "%u.%u.%u.%u:%u", at->host[0], at->host[1], at->host[2], at->host[3], at->port);
+    return words;
 }

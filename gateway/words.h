@@ -1,4 +1,4 @@
-/* The words of a configuration: numbers, nodes and addresses. Each function says whether the whole word is one. */
+/* The words of a configuration: numbers, nodes and addresses. Each function that reads one says whether the whole word is one. */
 #ifndef WORDS_H
 #define WORDS_H
 
@@ -19,5 +19,10 @@ bool is_node(const char *word, uint8_t node[6]);
 
 /* PORT, :PORT or ADDRESS:PORT, the address by its four numbers; without one it is 127.0.0.1. */
 bool is_address(const char *word, address *at);
+
+enum { ADDRESS_ROOM = 24 /* bytes of an address in words, with the 0 behind */ };
+
+/* The words of an address, with its port. */
+const char *address_words(const address *at, char words[ADDRESS_ROOM]);
 
 #endif

@@ -100,33 +100,31 @@ def text_of(bytes_):
 
 
 class Gateway:
-    """A gateway that runs, with the ports that its networks took."""
+    """A gateway that runs, with the ports that its networks took, and its nodes there."""
 
-    def __init__(self, text, program=None, options=(), environment=None):
+    def __init__(self, text, program=None, options=(), environment=None, before=()):
         self.folder = tempfile.TemporaryDirectory()
         self.configuration = os.path.join(self.folder.name, "gateway.conf")
         with open(self.configuration, "w", encoding="utf-8") as it:
             it.write(text)
         self.networks = sum(line.startswith("network") for line in text.splitlines())
-        self.start(program or SYSTEM.program, options, environment)
+        self.start(program or SYSTEM.program, options, environment, before)
 
-    def start(self, program, options=(), environment=None):
+    def start(self, program, options=(), environment=None, before=()):
+        """Starts it, behind the words of a program that starts others, and waits until it has told each network."""
         self.program = program
-        self.lines = []
+        self.lines, self.looked = [], 0
         self.run = SYSTEM.run(
-            [*SYSTEM.runner, program, *options, self.configuration],
+            [*before, *SYSTEM.runner, program, *options, self.configuration],
             stdin=subprocess.DEVNULL,
             stdout=subprocess.PIPE,
             stderr=subprocess.PIPE,
             env={**os.environ, **(environment or {})},
         )
         self.rest = b""
-        self.ports = {}
+        self.ports, self.nodes = {}, {}
         while len(self.ports) < self.networks:
-            line = self.line()
-            found = re.match(r"network (\w{8}) on (?:\S+) (?:listen )?(?:127[\d.]+:(\d+))?", line)
-            if found:
-                self.ports[int(found[1], 16)] = int(found[2] or 0)
+            self.line()
 
     def line(self):
         """The next line of its output."""
@@ -140,7 +138,26 @@ class Gateway:
             self.rest += piece
         line, self.rest = self.rest.split(b"\n", 1)
         self.lines.append(line.decode().removesuffix("\r"))
+        self.learn(self.lines[-1])
         return self.lines[-1]
+
+    def learn(self, line):
+        """What a line tells of a network's port and node."""
+        place = r"\S+ (?:listen )?(?:127[\d.]+:(\d+))?(?:.*, node (\w{12}))?"
+        found = re.search(rf"\bnetwork (\w{{8}}) (?:on|is up:|is down:|has another node:) {place}", line)
+        if found:
+            self.ports[int(found[1], 16)] = int(found[2] or 0)
+        if found and found[3]:
+            self.nodes[int(found[1], 16)] = bytes.fromhex(found[3])
+
+    def told(self, words):
+        """Waits for a line with some words, behind the one that was waited for before. Returns it."""
+        while True:
+            while self.looked < len(self.lines):
+                self.looked += 1
+                if words in self.lines[self.looked - 1]:
+                    return self.lines[self.looked - 1]
+            self.line()
 
     def lines_to(self, last):
         lines = []
@@ -155,7 +172,7 @@ class Gateway:
 
     def counted(self, network, what, report=None):
         """A number of a network in the report, 0 where it isn't there."""
-        text = report or self.report()
+        text = (report or self.report()).partition("report after ")[2]
         part = text.split(f"network {network:08X} ", 1)[1].split("\nnetwork ", 1)[0].split("\nroutes:", 1)[0]
         found = re.search(rf"(?:^|\W){re.escape(what)}:? (\d+)", part)
         return int(found[1]) if found else 0

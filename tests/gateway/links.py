@@ -10,11 +10,6 @@ from systems import SYSTEM, Windows
 STATION = bytes.fromhex("020000000AA1")
 
 
-def made_up(network):
-    """The gateway's node where nothing says it."""
-    return b"\x02I" + network.to_bytes(4, "big")
-
-
 def listening(port=0):
     it = socket.socket()
     it.settimeout(LIMIT)
@@ -26,7 +21,7 @@ def listening(port=0):
 def connected(gate, network, kind, last=1):
     """A station that connects to the gateway, and its connection. It is heard as soon as the router has greeted it."""
     connection = socket.create_connection(("127.0.0.1", gate.ports[network]))
-    station = Station(Tcp(connection), kind, network, STATION[:5] + bytes([last]), made_up(network))
+    station = Station(Tcp(connection), kind, network, STATION[:5] + bytes([last]), gate.nodes[network])
     assert station.hear(is_routers) is not None, "the router greets a link that comes up"
     return station, connection
 
@@ -56,12 +51,12 @@ def datagrams():
     """A card that sends a frame a datagram reaches a DOSBox by each kind of frame, the node said or made up."""
     for kind in KINDS:
         wire = Udp()
-        node = bytes.fromhex("02005E0000F1") if kind == "llc" else made_up(0x20)
         said = " node 02:00:5e:00:00:f1" if kind == "llc" else ""
         text = tunnels(1) + f"network 20 1 1490 qemu-udp 0 127.0.0.1:{wire.port} {kind}{said}\n"
         with Gateway(text) as gate:
             wire.to = gate.ports[0x20]
-            station = Station(wire, kind, 0x20, STATION, node)
+            assert kind != "llc" or gate.nodes[0x20] == bytes.fromhex("02005E0000F1")
+            station = Station(wire, kind, 0x20, STATION, gate.nodes[0x20])
             far = Client(gate.ports[0x10])
             both_ways(gate, station, far)
 
@@ -72,13 +67,13 @@ def two_networks_on_a_link():
     (wire.to,) = free_ports(1)
     text = "".join(f"network {n} 1 1490 qemu-udp {wire.to} {wire.port} {kind}\n" for n, kind in ((20, "raw"), (30, "llc")))
     with Gateway(text) as gate:
-        a = Station(wire, "raw", 0x20, STATION, made_up(0x20))
-        b = Station(wire, "llc", 0x30, STATION, made_up(0x30))
+        a = Station(wire, "raw", 0x20, STATION, gate.nodes[0x20])
+        b = Station(wire, "llc", 0x30, STATION, gate.nodes[0x30])
         assert reaches(a, b) and reaches(b, a)
         wire.send(frame("snap", EVERYONE, STATION, packet(b.at(), a.at())))
         wire.send(frame("raw", EVERYONE, STATION, b"\0\0" + packet(b.at(), a.at())[2:]))
         wire.send(frame("raw", b"\x02\0\0\0\0\x99", STATION, packet(b.at(), a.at())))
-        wire.send(frame("raw", EVERYONE, made_up(0x20), packet(b.at(), a.at())))
+        wire.send(frame("raw", EVERYONE, gate.nodes[0x20], packet(b.at(), a.at())))
         wire.send(b"short")
         wire.send(b"")
         assert reaches(a, b)
@@ -92,7 +87,7 @@ def long_frames():
     wire = Udp()
     with Gateway(tunnels(1) + f"network 20 1 1500 qemu-udp 0 {wire.port} ethernet2\n") as gate:
         wire.to = gate.ports[0x20]
-        station, far = Station(wire, "ethernet2", 0x20, STATION, made_up(0x20)), Client(gate.ports[0x10])
+        station, far = Station(wire, "ethernet2", 0x20, STATION, gate.nodes[0x20]), Client(gate.ports[0x10])
         for size in (1471, 2000, 2018, 2019, 9000, 60000):
             station.say(far.at(), bytes(size))
         assert reaches(station, far)
@@ -143,7 +138,7 @@ def a_connection_goes():
         far = Client(gate.ports[0x10])
         for _ in range(2):
             connection, _ = place.accept()
-            station = Station(Tcp(connection), "llc", 0x20, STATION, made_up(0x20))
+            station = Station(Tcp(connection), "llc", 0x20, STATION, gate.nodes[0x20])
             assert station.hear(is_routers)
             both_ways(gate, station, far)
             connection.close()
@@ -156,7 +151,26 @@ def nobody_listens_yet():
         until(lambda: int(re.search(r"(?m)^report after (\d+) s$", gate.report())[1]) >= 2, "two seconds")
         assert "network 00000020 down" in gate.report()
         connection, _ = listening(port).accept()
-        assert Station(Tcp(connection), "llc", 0x20, STATION, made_up(0x20)).hear(is_routers)
+        assert Station(Tcp(connection), "llc", 0x20, STATION, gate.nodes[0x20]).hear(is_routers)
+
+
+def places_joined(here, there):
+    """Sees that two gateways join networks 10 and 30 by network 20, by the words for its link at each."""
+    text = "network {} 1 1424 dosbox 127.0.0.1:0\nnetwork 20 1 1490 {}\n"
+    with Gateway(text.format(10, here)) as one, Gateway(text.format(30, there)) as other:
+        assert one.nodes[0x20] != other.nodes[0x20]
+        one.until("\n  00000030 hops 1 ")
+        other.until("\n  00000010 hops 1 ")
+        near, far = Client(one.ports[0x10]), Client(other.ports[0x30])
+        assert reaches(near, far)[4] == 2 and reaches(far, near)[4] == 2, "two routers"
+        assert one.counted(0x20, "own frame") == other.counted(0x20, "own frame") == 0
+
+
+def two_gateways():
+    """Two gateways on one network, neither with a node in its line, join the networks of two places: by datagrams and by a connection."""
+    here, there = free_ports(2)
+    places_joined(f"qemu-udp {here} {there} raw", f"qemu-udp {there} {here} raw")
+    places_joined(f"qemu-tcp listen {here} llc", f"qemu-tcp connect {here} llc")
 
 
 def extended():
@@ -165,7 +179,7 @@ def extended():
     text = tunnels(1, extra="extend 4003\n") + f"network 20 1 1490 qemu-udp 0 {wire.port} raw\nextend 4003 4004\n"
     with Gateway(text) as gate:
         wire.to = gate.ports[0x20]
-        station, far = Station(wire, "raw", 0x20, STATION, made_up(0x20)), Client(gate.ports[0x10])
+        station, far = Station(wire, "raw", 0x20, STATION, gate.nodes[0x20]), Client(gate.ports[0x10])
         far.say(address(0, EVERYONE, GAME), b"from DOSBox")
         assert station.hear() == packet(address(0x20, EVERYONE, GAME), far.at(), b"from DOSBox")
         station.say(address(0, EVERYONE, GAME), b"from the wire", node=EVERYONE)
@@ -184,7 +198,7 @@ def nobody_listens():
 def main():
     counts = Counts()
     for test in (datagrams, two_networks_on_a_link, long_frames, a_connection_comes, a_newer_connection, a_connection_goes,
-                 nobody_listens_yet, extended):
+                 nobody_listens_yet, two_gateways, extended):
         counts.run(test)
     if SYSTEM is Windows:
         left_out("whether what is sent to nobody is counted", "Windows doesn't tell it, though Wine does")

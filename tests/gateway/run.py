@@ -7,6 +7,7 @@ import dosbox
 import links
 import orders
 import pc
+import siphash
 import troubles
 import tunnel
 import wires
@@ -14,7 +15,7 @@ import words
 from lab import left_out
 from systems import SYSTEM, Windows
 
-TESTS = {it.__name__: it for it in (words, orders, tunnel, links, troubles, wires, dosbox, pc)}
+TESTS = {it.__name__: it for it in (words, siphash, orders, tunnel, links, troubles, wires, dosbox, pc)}
 
 
 def has_loopback():

@@ -58,6 +58,7 @@ class Linux:
     program = built("ipxr-gateway-sanitized", "ipxr-gateway")
     delivered = built("ipxr-gateway")
     troubled, fast = built("ipxr-gateway-troubled"), built("ipxr-gateway-fast")
+    siphash = built("siphash")
     runner = quick = []
     run = Run
     report, end = signal.SIGUSR1, signal.SIGTERM
@@ -70,6 +71,7 @@ class Aarch64(Linux):
     name = "aarch64"
     program = delivered = built("aarch64/ipxr-gateway")
     troubled, fast = built("aarch64/ipxr-gateway-troubled"), built("aarch64/ipxr-gateway-fast")
+    siphash = built("aarch64/siphash")
     runner = quick = ["qemu-aarch64"]
 
 
@@ -78,6 +80,7 @@ class Windows:
 
     name = "Windows"
     program = delivered = built("windows/ipxr-gateway.exe")
+    siphash = built("windows/siphash.exe")
     quick = ["wine"]
     runner = ["wine", built("windows/console.exe")]
     run = ConsoleRun

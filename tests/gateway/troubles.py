@@ -54,7 +54,7 @@ def is_heard(gate, listener):
     while time.monotonic() < end:
         try:
             with socket.create_connection(("127.0.0.1", gate.ports[0x40])) as connection:
-                station = Station(Tcp(connection), "raw", 0x40, bytes.fromhex("020000000AA2"), b"\x02I\0\0\0\x40")
+                station = Station(Tcp(connection), "raw", 0x40, bytes.fromhex("020000000AA2"), gate.nodes[0x40])
                 return reaches_again(station, listener)
         except ConnectionError:
             continue
@@ -66,7 +66,7 @@ def goes_on(gate, card):
     a, b = Client(gate.ports[0x10], registers=False), Client(gate.ports[0x20], registers=False)
     a.network, b.network = 0x10, 0x20
     card.to = gate.ports[0x30]
-    station = Station(card, "llc", 0x30, bytes.fromhex("020000000AA1"), b"\x02I\0\0\0\x30")
+    station = Station(card, "llc", 0x30, bytes.fromhex("020000000AA1"), gate.nodes[0x30])
     for one, other in ((a, b), (b, station), (station, a)):
         # (the first packet of a client tells the gateway that it is there)
         other.say(one.at(), b"I am here")

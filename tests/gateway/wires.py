@@ -5,10 +5,11 @@ import shutil
 import socket
 import subprocess
 import sys
+import tempfile
 
 from frames import KINDS, Packets, Station
 from lab import AGAIN, Client, Counts, Gateway, comes_next, left_out, reaches, reaches_again, says, tunnels, until
-from links import both_ways, made_up
+from links import both_ways, places_joined
 from troubles import ends_well, troubled
 
 STATION = bytes.fromhex("020000000AA1")
@@ -32,7 +33,7 @@ def all_kinds():
     make_pair()
     text = tunnels(1) + "".join(f"network {20 + k} 1 1490 interface v0 {kind}\n" for k, kind in enumerate(KINDS))
     with Gateway(text) as gate:
-        node = bytes.fromhex(next(it for it in gate.lines if "interface v0" in it)[-12:])
+        node = gate.nodes[0x20]
         far = Client(gate.ports[0x10])
         for network in range(0x20, 0x24):
             gate.until(f"network {network:08X} up")
@@ -53,7 +54,7 @@ def a_short_mtu():
     ip("link", "set", "v0", "mtu", "1400")
     text = tunnels(1) + "".join(f"network {20 + k} 1 1490 interface v0 {kind}\n" for k, kind in enumerate(KINDS))
     with Gateway(text) as gate:
-        node = bytes.fromhex(next(it for it in gate.lines if "interface v0" in it)[-12:])
+        node = gate.nodes[0x20]
         far = Client(gate.ports[0x10])
         for k, kind in enumerate(KINDS):
             host = Station(Packets("v1", kind), kind, 0x20 + k, STATION, node)
@@ -78,17 +79,46 @@ def a_cable_is_pulled():
             gate.until("network 00000020 up")
         ip("link", "del", "v0")
         gate.until("network 00000020 down")
-        node = gate.lines[1][-12:]
         make_pair()
-        ip("link", "set", "v0", "address", ":".join(node[k : k + 2] for k in range(0, 12, 2)))
+        ip("link", "set", "v0", "address", gate.nodes[0x20].hex(":"))
         gate.until("network 00000020 up")
-        host = Station(Packets("v1", "raw"), "raw", 0x20, STATION, bytes.fromhex(node))
+        host = Station(Packets("v1", "raw"), "raw", 0x20, STATION, gate.nodes[0x20])
         both_ways(gate, host, far)
     ip("link", "del", "v0")
 
 
-def behind_tap(kind, network):
-    return Station(Packets("ipx0", kind), kind, network, STATION, made_up(network))
+def two_gateways():
+    """Two gateways on one cable join the networks of two places."""
+    make_pair()
+    places_joined("interface v0 raw", "interface v1 raw")
+    ip("link", "del", "v0")
+
+
+def as_machine(number):
+    """The words that start a program on a machine of another number."""
+    return ["unshare", "-m", "sh", "-c", 'mount --bind "$0" /etc/machine-id && exec "$@"', number]
+
+
+def made_up_nodes():
+    """A made-up node stays from start to start, and is another on another machine, network or link; it is a local one."""
+    machines = []
+    for letter in "ab":
+        machines.append(tempfile.NamedTemporaryFile("w", encoding="ascii"))
+        machines[-1].write(letter * 32 + "\n")
+        machines[-1].flush()
+
+    def nodes(machine):
+        text = "".join(f"network {n} 1 1490 qemu-tcp {it} raw\n" for n, it in ((20, "listen 0"), (21, "listen 0"), (22, "connect 9")))
+        with Gateway(text, before=as_machine(machines[machine].name)) as gate:
+            return list(gate.nodes.values())
+
+    first, again, other = nodes(0), nodes(0), nodes(1)
+    assert first == again and len({*first, *other}) == 6, (first, again, other)
+    assert all(it[0] == 2 for it in first + other)
+
+
+def behind_tap(gate, kind, network):
+    return Station(Packets("ipx0", kind), kind, network, STATION, gate.nodes[network])
 
 
 def a_tap():
@@ -96,7 +126,7 @@ def a_tap():
     with Gateway(tunnels(1) + "network 20 1 1490 tap ipx0 raw\nnetwork 30 1 1490 tap ipx0 snap\n") as gate:
         far = Client(gate.ports[0x10])
         gate.until("network 00000030 up")
-        a, b = behind_tap("raw", 0x20), behind_tap("snap", 0x30)
+        a, b = behind_tap(gate, "raw", 0x20), behind_tap(gate, "snap", 0x30)
         both_ways(gate, a, far)
         both_ways(gate, b, far)
         assert reaches(a, b) and reaches(b, a)
@@ -104,12 +134,12 @@ def a_tap():
         gate.until("network 00000020 down")
         ip("link", "set", "ipx0", "up")
         gate.until("network 00000020 up")
-        both_ways(gate, behind_tap("raw", 0x20), far)
+        both_ways(gate, behind_tap(gate, "raw", 0x20), far)
         numbers = {index for index, _ in socket.if_nameindex()}
         ip("link", "del", "ipx0")
         until(lambda: any(name == "ipx0" and index not in numbers for index, name in socket.if_nameindex()), "it is made again")
         gate.until("network 00000020 up")
-        both_ways(gate, behind_tap("raw", 0x20), far)
+        both_ways(gate, behind_tap(gate, "raw", 0x20), far)
 
 
 # Each call that only cards and TAPs make, or make in another way, its fault, and how many times it is let fail.
@@ -127,11 +157,11 @@ CALLS = [
 ]
 
 
-def is_well(far):
+def is_well(gate, far):
     """Whether packets go there and back behind the TAP that is there now. Where the gateway couldn't switch it on, somebody else does."""
     try:
         ip("link", "set", "ipx0", "up")
-        station = behind_tap("snap", 0x30)
+        station = behind_tap(gate, "snap", 0x30)
         return says(station, far, b"there", AGAIN) and says(far, station, b"back", AGAIN)
     except (AssertionError, OSError):
         return False  # (it is just made again)
@@ -142,11 +172,11 @@ def one_fails(name, fault, which):
     gate = troubled(tunnels(1) + "network 20 1 1490 interface v0 raw\nnetwork 30 1 1490 tap ipx0 snap\n", name, fault, which)
     if gate is None:
         return
-    node = bytes.fromhex(next(it for it in gate.lines if "interface v0" in it)[-12:])
     far = Client(gate.ports[0x10])
-    host = Station(Packets("v1", "raw"), "raw", 0x20, STATION, node)
+    gate.until("network 00000020 up")
+    host = Station(Packets("v1", "raw"), "raw", 0x20, STATION, gate.nodes[0x20])
     assert reaches_again(host, far) and reaches_again(far, host), f"{name} {which}: the card"
-    until(lambda: is_well(far), f"{name} {which}: the TAP")
+    until(lambda: is_well(gate, far), f"{name} {which}: the TAP")
     ends_well(gate, f"{name} {which}")
 
 
@@ -172,12 +202,17 @@ def inside():
     """In the network of its own."""
     counts = Counts()
     ip("link", "set", "lo", "up")
+    if subprocess.run([*as_machine(__file__), "true"], stderr=subprocess.DEVNULL, check=False).returncode == 0:
+        counts.run(made_up_nodes)
+    else:
+        left_out("nodes of other machines", "no machine's number can be put in the place of this one's")
     has_pairs = can(lambda: ip("link", "add", "v0", "type", "veth", "peer", "name", "v1"))
     if has_pairs:
         ip("link", "del", "v0")
         counts.run(all_kinds)
         counts.run(a_short_mtu)
-        counts.run(a_cable_is_pulled)
+        for test in (a_cable_is_pulled, two_gateways):
+            counts.run(test)
     else:
         left_out("interfaces", "no pair of them can be made")
     if can(lambda: os.close(os.open("/dev/net/tun", os.O_RDWR))):

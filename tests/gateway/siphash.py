@@ -1,0 +1,21 @@
+"""The hash of which made-up nodes are made."""
+import subprocess
+
+from lab import LIMIT, Counts
+from systems import SYSTEM
+
+
+def vectors():
+    """SipHash-2-4 gives each of the 64 hashes that its authors published."""
+    run = subprocess.run([*SYSTEM.quick, SYSTEM.siphash], capture_output=True, timeout=LIMIT, check=False)
+    assert run.returncode == 0, run.stdout.decode() + run.stderr.decode()
+
+
+def main():
+    counts = Counts()
+    counts.run(vectors)
+    return counts
+
+
+if __name__ == "__main__":
+    main()
