@@ -93,12 +93,18 @@ static bool read_address(reader *r, address *at, bool is_remote)
     return true;
 }
 
+/* Whether Linux takes it for the name of one interface: with a % it would make up a number, and with the others it takes none. */
+static bool is_name(const char *word)
+{
+    return strlen(word) < NAME_ROOM && strpbrk(word, "%/:") == NULL && strcmp(word, ".") != 0 && strcmp(word, "..") != 0;
+}
+
 static bool read_name(reader *r, network_setting *it)
 {
     const char *word = reader_word(r);
-    if (word == NULL || strlen(word) >= sizeof it->name || strchr(word, '/') != NULL)
-        return reader_fault(r, word, "expected the name of %s, of at most %zu letters",
-                     it->type == LINK_TAP ? "a TAP" : "an interface", sizeof it->name - 1);
+    if (word == NULL || !is_name(word))
+        return reader_fault(r, word, "expected the name of %s, of at most %d letters, without %% / and :",
+                            it->type == LINK_TAP ? "a TAP" : "an interface", NAME_ROOM - 1);
     strcpy(it->name, word);
     return true;
 }
