@@ -5,6 +5,7 @@
 #include "clock.h"
 #include "ipx.h"
 #include "ipxr.h"
+#include "output.h"
 #include "system.h"
 
 static FILE *file;
@@ -14,7 +15,7 @@ static void write_all(const void *bytes, size_t length)
 {
     if (file == NULL || fwrite(bytes, 1, length, file) == length)
         return;
-    fprintf(stderr, "ipxr-gateway: the capture ends: %s\n", fault_words());
+    complain("ipxr-gateway: the capture ends: %s", fault_words());
     capture_close();
 }
 
@@ -59,7 +60,7 @@ void capture_packet(const uint8_t *packet, size_t length, const uint8_t from[6])
 void capture_flush(void)
 {
     if (file != NULL && fflush(file) != 0) {
-        fprintf(stderr, "ipxr-gateway: the capture ends: %s\n", fault_words());
+        complain("ipxr-gateway: the capture ends: %s", fault_words());
         capture_close();
     }
 }
@@ -69,5 +70,5 @@ void capture_close(void)
     FILE *it = file;
     file = NULL;
     if (it != NULL && fclose(it) != 0)
-        fprintf(stderr, "ipxr-gateway: the capture can't be closed: %s\n", fault_words());
+        complain("ipxr-gateway: the capture can't be closed: %s", fault_words());
 }

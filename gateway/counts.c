@@ -3,6 +3,7 @@
 #include <inttypes.h>
 
 #include "note.h"
+#include "output.h"
 
 static const char *const WORDS_OF[REASONS] = {
     [TOO_LONG] = "longer than the link carries",
@@ -28,13 +29,13 @@ void count_drop(counts *it, int32_t answer)
         it->dropped[answer / 100][answer % 100]++;
 }
 
-void counts_show(const counts *it, FILE *file)
+void counts_show(const counts *it)
 {
     char words[WORDS];
     for (int why = 0; why < REASONS; why++)
         if (it->lost[why] > 0)
-            fprintf(file, "  lost: %s: %" PRIu64 "\n", WORDS_OF[why], it->lost[why]);
+            say("  lost: %s: %" PRIu64, WORDS_OF[why], it->lost[why]);
     for (int answer = 0; answer < MOST_HUNDREDS * 100; answer++)
         if (answer % 100 < MOST_REST && it->dropped[answer / 100][answer % 100] > 0)
-            fprintf(file, "  %s: %" PRIu64 "\n", answer_words(answer, words), it->dropped[answer / 100][answer % 100]);
+            say("  %s: %" PRIu64, answer_words(answer, words), it->dropped[answer / 100][answer % 100]);
 }

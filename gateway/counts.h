@@ -3,7 +3,6 @@
 #define COUNTS_H
 
 #include <stdint.h>
-#include <stdio.h>
 
 /* Why the gateway lets go of a packet before the router hears it, or behind the router. */
 typedef enum {
@@ -36,7 +35,7 @@ const char *reason_words(reason why);
 /* Counts a drop of the router, by its number. */
 void count_drop(counts *it, int32_t answer);
 
-/* A line for each reason for which something was lost. */
-void counts_show(const counts *it, FILE *file);
+/* Says a line for each reason for which something was lost. */
+void counts_show(const counts *it);
 
 #endif

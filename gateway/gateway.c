@@ -11,6 +11,7 @@
 #include "ipx.h"
 #include "node.h"
 #include "note.h"
+#include "output.h"
 #include "system.h"
 #include "tunnel.h"
 
@@ -205,7 +206,7 @@ static cable *cable_of(gateway *it, const network_setting *set)
     if (fault == NULL)
         return made;
     char words[LINK_ROOM];
-    fprintf(stderr, "ipxr-gateway: line %zu: %s: %s: %s\n", set->line, link_words(set, words), fault, fault_words());
+    complain("ipxr-gateway: line %zu: %s: %s: %s", set->line, link_words(set, words), fault, fault_words());
     return NULL;
 }
 
@@ -246,8 +247,8 @@ static void tell_start(const gateway *it)
         char words[LINK_ROOM], node[WORDS];
         network_setting taken = *it->networks[k].set;
         taken.local = it->networks[k].cable->local;
-        printf("network %08" PRIX32 " on %s, node %s\n", taken.network, link_words(&taken, words),
-               node_words(it->networks[k].node, node));
+        say("network %08" PRIX32 " on %s, node %s", taken.network, link_words(&taken, words),
+            node_words(it->networks[k].node, node));
     }
 }
 
@@ -262,12 +263,12 @@ bool gateway_start(gateway *it)
     char words[WORDS];
     int32_t made = make(it);
     if (made < 0) {
-        fprintf(stderr, "ipxr-gateway: %s\n", answer_words(made, words));
+        complain("ipxr-gateway: %s", answer_words(made, words));
         return false;
     }
     it->began = clock_now();
     if (it->began == 0) {
-        fprintf(stderr, "ipxr-gateway: the clock can't be read: %s\n", fault_words());
+        complain("ipxr-gateway: the clock can't be read: %s", fault_words());
         return false;
     }
     tell_start(it);

@@ -6,6 +6,7 @@
 #include "gateway.h"
 #include "note.h"
 #include "orders.h"
+#include "output.h"
 #include "settings.h"
 #include "system.h"
 
@@ -69,17 +70,17 @@ static int read_configuration(settings *set, const char *name)
     return faults == 0 ? 0 : WRONG_CONFIGURATION;
 }
 
+/* Routes until it is told to end. */
 static int route(const options *it, const settings *set)
 {
     static gateway gate;
-    orders_hear();
     if (it->is_log)
         note_events();
     if (!gateway_open(&gate, set))
         return CANNOT_OPEN;
     /* (behind the links: where another gateway has them, its capture of that name stays) */
     if (it->capture != NULL && !capture_open(it->capture)) {
-        fprintf(stderr, "ipxr-gateway: %s: can't be opened: %s\n", it->capture, fault_words());
+        complain("ipxr-gateway: %s: can't be opened: %s", it->capture, fault_words());
         return CANNOT_OPEN;
     }
     if (!gateway_start(&gate))
@@ -98,6 +99,18 @@ static int route(const options *it, const settings *set)
     return 0;
 }
 
+static int route_and_say(const options *it, const settings *set)
+{
+    orders_hear();
+    if (!output_begin()) {
+        fprintf(stderr, "ipxr-gateway: no thread for the output: %s\n", fault_words());
+        return CANNOT_OPEN;
+    }
+    int status = route(it, set);
+    output_end();
+    return status;
+}
+
 int gateway_main(int count, char **words)
 {
     static settings set;
@@ -113,5 +126,5 @@ int gateway_main(int count, char **words)
         printf("%s: %zu %s, nothing wrong\n", it.configuration, set.count, set.count == 1 ? "network" : "networks");
         return 0;
     }
-    return route(&it, &set);
+    return route_and_say(&it, &set);
 }

@@ -7,6 +7,10 @@
 #include "clock.h"
 #include "ipx.h"
 #include "ipxr.h"
+#include "output.h"
+
+/* Bytes of a line, without the seconds. */
+enum { MOST_NOTE = 512 };
 
 static bool is_on;
 
@@ -24,13 +28,13 @@ void note(const char *format, ...)
 {
     if (!is_on)
         return;
+    char line[MOST_NOTE];
     uint64_t now = clock_now();
     va_list rest;
     va_start(rest, format);
-    printf("%" PRIu64 ".%03" PRIu64 " ", now / 1000, now % 1000);
-    vprintf(format, rest);
-    putchar('\n');
+    vsnprintf(line, sizeof line, format, rest);
     va_end(rest);
+    say("%" PRIu64 ".%03" PRIu64 " %s", now / 1000, now % 1000, line);
 }
 
 const char *node_words(const uint8_t *node, char words[WORDS])

@@ -7,8 +7,8 @@
 #include <stdio.h>
 #include <sys/types.h>
 
-/* The program, by the words of its command line in UTF-8. Each system's own main calls it, once sockets can be opened and what is said is
- * shown line by line, or before the gateway waits. Returns the exit status. */
+/* The program, by the words of its command line in UTF-8. Each system's own main calls it, once sockets can be opened. Returns the exit
+ * status. */
 int gateway_main(int count, char **words);
 
 /* Opens a file as fopen does; its name is in UTF-8. */

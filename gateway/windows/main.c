@@ -15,7 +15,7 @@ static void give_console_back(void)
     SetConsoleOutputCP(console_letters);
 }
 
-/* What is said is in UTF-8. It is kept until the gateway waits or ends: Windows knows no lines. */
+/* What is said is in UTF-8. It is kept until the program ends, but for what a gateway says that routes. */
 static void take_console(void)
 {
     setvbuf(stdout, NULL, _IOFBF, KEPT);

@@ -1,7 +1,5 @@
 #include "../watch.h"
 
-#include <stdio.h>
-
 #include "bell.h"
 
 /* What is waited for, and afterwards what came: something to receive, room to send, a connection that failed. */
@@ -40,9 +38,6 @@ bool watch_all(watch *list, size_t count, int milliseconds)
 {
     sets all;
     fill(&all, list, count);
-    /* (Windows shows no output line by line) */
-    fflush(stdout);
-    fflush(stderr);
     if (!waits(&all, milliseconds))
         return false;
     if (bell_socket() != INVALID_SOCKET && FD_ISSET(bell_socket(), &all.receive))

@@ -8,11 +8,12 @@ import struct
 import tempfile
 import time
 
-from lab import LIMIT, RIP, Client, Counts, Gateway, reaches, tunnels, until
+from lab import EVERYONE, GAME, LIMIT, RIP, Client, Counts, Gateway, address, reaches, tunnels, until
 from systems import SYSTEM
 
 UNREACHABLE = 16  # hops
 CTRL_C = b"\x03"
+STALLED = 1000  # broadcasts, whose lines are more than the gateway and a pipe keep
 
 
 def is_farewell(packet, network):
@@ -64,6 +65,28 @@ def told_to_end():
             assert "\nreport after " in said and said.endswith("\nend of report\n"), said
 
 
+def is_routed(client, listener, count):
+    """Whether so many broadcasts pass, of which each gives a line for each of 32 networks."""
+    for k in range(count):
+        client.say(address(0, EVERYONE, GAME), b"%d" % k)
+        if listener.hear()[30:] != b"%d" % k:
+            return False
+    return True
+
+
+def nobody_reads():
+    """While nobody reads its lines it routes on; then it tells how many are missing. It ends, though nobody reads that."""
+    with Gateway(tunnels(32, extra="extend 4003\n"), options=["--log"]) as gate:
+        a, b = Client(gate.ports[0x10]), Client(gate.ports[0x20])
+        assert is_routed(a, b, STALLED)
+        missing = re.fullmatch(r"(\d+) lines are missing here: they weren't read in time", gate.told("lines are missing here"))
+        assert missing and int(missing[1]) > 0
+        assert is_routed(a, b, 1) and gate.told("out 00000020")
+        assert is_routed(a, b, STALLED)
+        gate.run.order(SYSTEM.end)
+        assert gate.run.wait(timeout=LIMIT) == 0
+
+
 def told_until(terminal, words):
     """All that a terminal shows, until it has shown some words."""
     told, end = b"", time.monotonic() + LIMIT
@@ -99,7 +122,7 @@ def typed():
 
 def main():
     counts = Counts()
-    for test in (reports, lines_come, seconds_pass, told_to_end, typed):
+    for test in (reports, lines_come, nobody_reads, seconds_pass, told_to_end, typed):
         counts.run(test)
     return counts
 

@@ -1,0 +1,87 @@
+#include "../writer.h"
+
+#include <errno.h>
+
+#include "net.h"
+
+enum { SECOND = 1000 /* milliseconds */, MOST = 4096 /* bytes that are written at once */ };
+
+static const DWORD FILES[WRITERS] = {STD_OUTPUT_HANDLE, STD_ERROR_HANDLE};
+
+static struct {
+    CRITICAL_SECTION lock;
+    CONDITION_VARIABLE woken;
+    void (*write_on)(writer which);
+    writer which;
+} writers[WRITERS];
+
+static DWORD WINAPI run(void *at)
+{
+    writer which = *(writer *)at;
+    writers[which].write_on(which);
+    return 0;
+}
+
+bool writer_begin(writer which, void (*write_on)(writer which))
+{
+    writers[which].which = which;
+    writers[which].write_on = write_on;
+    InitializeCriticalSection(&writers[which].lock);
+    InitializeConditionVariable(&writers[which].woken);
+    HANDLE thread = CreateThread(NULL, 0, run, &writers[which].which, 0, NULL);
+    if (thread == NULL) {
+        errno = EAGAIN;
+        return false;
+    }
+    CloseHandle(thread);
+    return true;
+}
+
+void writer_lock(writer which)
+{
+    EnterCriticalSection(&writers[which].lock);
+}
+
+void writer_unlock(writer which)
+{
+    LeaveCriticalSection(&writers[which].lock);
+}
+
+bool writer_wait(writer which, int milliseconds)
+{
+    return SleepConditionVariableCS(&writers[which].woken, &writers[which].lock, milliseconds == FOREVER ? INFINITE : (DWORD)milliseconds);
+}
+
+void writer_wake(writer which)
+{
+    WakeAllConditionVariable(&writers[which].woken);
+}
+
+/* The bytes with Windows' ends of lines. Returns how many these are. */
+static DWORD with_ends(const char *bytes, size_t count, char *words)
+{
+    DWORD length = 0;
+    for (size_t k = 0; k < count; k++) {
+        if (bytes[k] == '\n')
+            words[length++] = '\r';
+        words[length++] = bytes[k];
+    }
+    return length;
+}
+
+/* (without the C library's stream, whose lock would be held while the program ends) */
+ssize_t writer_write(writer which, const char *bytes, size_t count)
+{
+    char words[2 * MOST];
+    size_t piece = count < MOST ? count : MOST;
+    DWORD length = with_ends(bytes, piece, words), taken = 0, written = 0;
+    while (taken < length && WriteFile(GetStdHandle(FILES[which]), words + taken, length - taken, &written, NULL))
+        taken += written;
+    if (taken == length)
+        return (ssize_t)piece;
+    DWORD why = GetLastError();
+    if (why == ERROR_BROKEN_PIPE || why == ERROR_NO_DATA || why == ERROR_INVALID_HANDLE)
+        return -1;
+    Sleep(SECOND);
+    return taken > 0 ? (ssize_t)piece : 0;
+}

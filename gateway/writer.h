@@ -1,0 +1,28 @@
+/* Threads that write to standard output and to standard error. Each has a lock; what is gathered for it is changed between writer_lock and
+ * writer_unlock alone. */
+#ifndef WRITER_H
+#define WRITER_H
+
+#include <stdbool.h>
+#include <stddef.h>
+#include <sys/types.h>
+
+typedef enum { OUTPUT, COMPLAINTS, WRITERS } writer;
+
+/* Begins a thread, which calls a function that never returns; it ends with the program. Returns false where there can be none. */
+bool writer_begin(writer which, void (*write_on)(writer which));
+
+void writer_lock(writer which);
+void writer_unlock(writer which);
+
+enum { FOREVER = -1 /* milliseconds */ };
+
+/* With the lock: lets go of it until the other thread calls writer_wake, or the milliseconds have passed. Returns false where they have. */
+bool writer_wait(writer which, int milliseconds);
+void writer_wake(writer which);
+
+/* Without the lock: writes some bytes, and waits as long as that takes. Returns how many; 0 where it can't be now, after a second; -1 where
+ * nobody reads them any more. */
+ssize_t writer_write(writer which, const char *bytes, size_t count);
+
+#endif
