@@ -3,7 +3,7 @@
 #include <errno.h>
 
 #include "card.h"
-#include "clock.h"
+#include "pc.h"
 #include "sockets.h"
 
 static bool is_connection(const cable *it)
@@ -11,12 +11,10 @@ static bool is_connection(const cable *it)
     return it->set->type == LINK_QEMU_LISTEN || it->set->type == LINK_QEMU_CONNECT;
 }
 
-const char *cable_open(cable *it, const network_setting *set)
+/* Opens it. Returns NULL, or what went wrong. */
+static const char *open_link(cable *it)
 {
-    it->set = set;
-    it->fd = it->listener = -1;
-    it->local = set->local;
-    stream_clear(&it->stream);
+    const network_setting *set = it->set;
     switch (set->type) {
     case LINK_DOSBOX:
         it->fd = datagram_open(&it->local, NULL);
@@ -36,6 +34,23 @@ const char *cable_open(cable *it, const network_setting *set)
         it->fd = interface_open(set->name, set->kind, &it->index, it->card);
         return it->fd >= 0 ? NULL : errno == EPROTOTYPE ? "it isn't Ethernet" : "can't open the interface";
     }
+}
+
+const char *cable_open(cable *it, const network_setting *set)
+{
+    it->set = set;
+    it->fd = it->listener = -1;
+    it->local = set->local;
+    stream_clear(&it->stream);
+    it->lacks = set->type == LINK_QEMU_LISTEN ? "nobody is connected" : set->type == LINK_QEMU_CONNECT ? "not connected yet" : NULL;
+    return open_link(it);
+}
+
+const char *cable_words(const cable *it, const network_setting *set, char words[LINK_ROOM])
+{
+    network_setting taken = *set;
+    taken.local = it->local;
+    return link_words(&taken, words);
 }
 
 void cable_close(cable *it)
@@ -60,26 +75,6 @@ bool cable_has_more(const cable *it)
     return it->stream.is_connected && stream_has_frame(&it->stream);
 }
 
-/* ---- Connections ---- */
-
-static void disconnect(cable *it)
-{
-    it->was_lost = it->was_lost || it->stream.is_connected;
-    close_any(&it->fd);
-    stream_clear(&it->stream);
-}
-
-/* A connection that comes in takes the place of the one before. */
-static void accept_newest(cable *it)
-{
-    int fd = listener_take(it->listener);
-    if (fd < 0)
-        return;
-    disconnect(it);
-    it->fd = fd;
-    it->stream.is_connected = true;
-}
-
 bool cable_was_lost(cable *it)
 {
     bool was_lost = it->was_lost;
@@ -87,51 +82,42 @@ bool cable_was_lost(cable *it)
     return was_lost;
 }
 
-static void connect_again(cable *it)
-{
-    uint64_t now = clock_now();
-    if (it->fd < 0 && it->tried != 0 && now - it->tried < 1000)
-        return;
-    if (it->fd < 0) {
-        it->fd = connection_begin(&it->set->remote);
-        it->tried = now;
-    }
-    int state = it->fd < 0 ? -1 : connection_state(it->fd);
-    if (state < 0)
-        disconnect(it);
-    it->stream.is_connected = state > 0;
-}
+/* ---- Whether it is up ---- */
 
-static bool connection_is_up(cable *it)
+/* Whether a card is up; else what it lacks. */
+static bool card_is_up(cable *it, card_state state)
 {
-    if (it->listener >= 0)
-        accept_newest(it);
-    else if (!it->stream.is_connected)
-        connect_again(it);
-    if (it->stream.is_connected && !stream_push(&it->stream, it->fd))
-        disconnect(it);
-    return it->stream.is_connected;
+    static const char *const LACKS[] = {
+        [CARD_ABSENT] = "it isn't there", [CARD_OFF] = "it is switched off", [CARD_UNPLUGGED] = "no carrier"};
+    it->fault = 0;
+    it->lacks = state == CARD_UP ? NULL : LACKS[state];
+    return state == CARD_UP;
 }
-
-/* ---- Interfaces ---- */
 
 /* One that was taken away and is there again has another number. */
 static bool interface_is_up(cable *it)
 {
-    unsigned index = interface_up(it->set->name);
-    if (index != 0 && index != it->index && interface_again(it->fd, it->set->kind, index))
+    unsigned index;
+    card_state state = interface_state(it->set->name, &index);
+    if (state != CARD_ABSENT && index != it->index && interface_again(it->fd, it->set->kind, index))
         it->index = index;
-    return index != 0 && index == it->index;
+    return card_is_up(it, index == it->index ? state : CARD_ABSENT);
 }
 
 /* One that was taken away is opened again, where it is there or may be made. */
 static bool tap_is_up(cable *it)
 {
-    if (it->fd >= 0 && interface_number(it->set->name) != it->index)
-        close_any(&it->fd);
-    if (it->fd < 0)
-        it->fd = tap_open(it->set->name, &it->index);
-    return it->fd >= 0 && interface_up(it->set->name) != 0;
+    unsigned index;
+    card_state state = interface_state(it->set->name, &index);
+    if (it->fd >= 0 && index == it->index)
+        return card_is_up(it, state);
+    close_any(&it->fd);
+    it->fd = tap_open(it->set->name, &it->index);
+    if (it->fd >= 0)
+        return card_is_up(it, interface_state(it->set->name, &index));
+    it->lacks = "can't open the TAP";
+    it->fault = errno;
+    return false;
 }
 
 bool cable_is_up(cable *it)
@@ -139,7 +125,7 @@ bool cable_is_up(cable *it)
     switch (it->set->type) {
     case LINK_QEMU_LISTEN:
     case LINK_QEMU_CONNECT:
-        return connection_is_up(it);
+        return pc_is_up(it);
     case LINK_TAP:
         return tap_is_up(it);
     case LINK_INTERFACE:
@@ -159,7 +145,7 @@ static ssize_t receive_stream(cable *it, uint8_t *bytes, size_t room)
     }
     ssize_t length = stream_receive(&it->stream, it->fd, bytes, room);
     if (length < 0 && errno != EAGAIN && errno != EINTR)
-        disconnect(it);
+        pc_goes(it);
     return length;
 }
 

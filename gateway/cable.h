@@ -21,7 +21,10 @@ typedef struct cable {
     uint64_t tried;             /* milliseconds of the clock when a connection was begun last */
     unsigned index;             /* of the TAP or the interface */
     address local;              /* where the socket is, with the port that it took */
-    uint8_t card[6];            /* the interface's own address */
+    address peer;               /* who came in and is connected */
+    uint8_t card[6];            /* the interface's own address; zeros while it isn't known */
+    const char *lacks;          /* what it had to have to be up, when one looked last; */
+    int fault;                  /* and the system's number for it, or 0 */
 } cable;
 
 /* Opens what the setting says. Returns NULL, or in words what went wrong; then errno has the reason. */
@@ -43,8 +46,12 @@ ssize_t cable_receive(cable *it, uint8_t *bytes, size_t room, address *from);
 bool cable_send(cable *it, const uint8_t *bytes, size_t length);
 bool cable_send_to(cable *it, const address *to, const uint8_t *bytes, size_t length);
 
-/* Whether it can carry something now. Connections that are lost are tried again, once a second, and interfaces looked for. */
+/* Whether it can carry something now; where it can't, `lacks` and `fault` tell why. Connections that are lost are tried again, once a
+ * second, and interfaces looked for. */
 bool cable_is_up(cable *it);
+
+/* The words of a setting's link on it, with the port that it took. */
+const char *cable_words(const cable *it, const network_setting *set, char words[LINK_ROOM]);
 
 /* Whether a connection was lost since this was asked last; there may be another already. */
 bool cable_was_lost(cable *it);

@@ -25,10 +25,14 @@ int interface_open(const char *name, uint8_t kind, unsigned *index, uint8_t card
 /* Lets a socket hear the interface that has the name now. */
 bool interface_again(int fd, uint8_t kind, unsigned index);
 
-/* The number of the interface that has a name; 0 where there is none. */
-unsigned interface_number(const char *name);
+typedef enum {
+    CARD_ABSENT,
+    CARD_OFF,       /* it is switched off */
+    CARD_UNPLUGGED, /* it has no carrier */
+    CARD_UP,
+} card_state;
 
-/* The same, where it has a carrier and is switched on. */
-unsigned interface_up(const char *name);
+/* How the interface is that has a name now. Tells its number, or 0 where there is none. */
+card_state interface_state(const char *name, unsigned *index);
 
 #endif

@@ -2,17 +2,13 @@
 
 #include <errno.h>
 #include <inttypes.h>
-#include <stdio.h>
-#include <string.h>
 
 #include "capture.h"
 #include "clock.h"
 #include "ether.h"
 #include "ipx.h"
-#include "node.h"
+#include "links.h"
 #include "note.h"
-#include "output.h"
-#include "system.h"
 #include "tunnel.h"
 
 /* Frames and datagrams that one cable gives before the next has its turn. */
@@ -88,31 +84,6 @@ void gateway_hear(gateway *it, network *on, const uint8_t *packet, size_t length
 
 /* ---- Turns ---- */
 
-/* Tells the router where a network's link was lost, or is there again. */
-static void look_at(gateway *it, network *on, bool is_up)
-{
-    uint8_t port = (uint8_t)(on - it->networks);
-    if (on->is_up == is_up)
-        return;
-    if ((is_up ? ipxr_port_up(&it->router, port) : ipxr_port_down(&it->router, port)) < 0)
-        return; /* (no memory: it is tried again with the next look) */
-    on->is_up = is_up;
-    note("network %08" PRIX32 " is %s", on->set->network, is_up ? "up" : "down");
-    gateway_send_all(it);
-}
-
-static void look_at_cable(gateway *it, cable *at)
-{
-    bool is_up = cable_is_up(at), was_lost = cable_was_lost(at);
-    for (size_t k = 0; k < it->count; k++) {
-        if (it->networks[k].cable != at)
-            continue;
-        if (was_lost)
-            look_at(it, &it->networks[k], false);
-        look_at(it, &it->networks[k], is_up);
-    }
-}
-
 static network *first_on(gateway *it, const cable *at)
 {
     size_t k = 0;
@@ -130,7 +101,7 @@ static void receive(gateway *it, cable *at)
         ssize_t length = cable_receive(at, bytes, sizeof bytes, &from);
         if (length < 0) {
             if (errno != EAGAIN)
-                look_at_cable(it, at);
+                links_look(it, at);
             return;
         }
         if (at->set->type == LINK_DOSBOX)
@@ -146,8 +117,7 @@ static void let_seconds_pass(gateway *it)
     uint64_t passed = (clock_now() - it->began) / 1000;
     if (it->told >= passed)
         return;
-    for (size_t k = 0; k < it->cable_count; k++)
-        look_at_cable(it, &it->cables[k]);
+    links_look_at_all(it);
     for (; it->told < passed; it->told++) {
         if (ipxr_second(&it->router) < 0)
             break; /* (no memory: the second is given again) */
@@ -176,7 +146,7 @@ static void attend(gateway *it, cable *at, const watch *list, size_t count)
         has_changed = has_changed || (list[k].has_come && !is_packet);
     }
     if (has_changed)
-        look_at_cable(it, at);
+        links_look(it, at);
     if (has_come)
         receive(it, at);
 }
@@ -191,99 +161,4 @@ void gateway_turn(gateway *it, bool waits)
         for (size_t k = 0; k < it->cable_count; k++)
             attend(it, &it->cables[k], list + first[k], first[k + 1] - first[k]);
     let_seconds_pass(it);
-}
-
-/* ---- Start and end ---- */
-
-/* The cable of a network: one that is open already, where two networks share it. Each network of an interface has a socket of its own. */
-static cable *cable_of(gateway *it, const network_setting *set)
-{
-    for (size_t k = 0; k < it->cable_count; k++)
-        if (set->type != LINK_INTERFACE && same_link(it->cables[k].set, set))
-            return &it->cables[k];
-    cable *made = &it->cables[it->cable_count++];
-    const char *fault = cable_open(made, set);
-    if (fault == NULL)
-        return made;
-    char words[LINK_ROOM];
-    complain("ipxr-gateway: line %zu: %s: %s: %s", set->line, link_words(set, words), fault, fault_words());
-    return NULL;
-}
-
-static bool open_all(gateway *it, const settings *set)
-{
-    for (size_t k = 0; k < set->count; k++) {
-        network *on = &it->networks[it->count++];
-        on->set = &set->networks[k];
-        on->cable = cable_of(it, on->set);
-        if (on->cable == NULL)
-            return false;
-        node_choose(on->set, on->cable, on->node);
-        on->is_up = true;
-    }
-    return true;
-}
-
-static int32_t make(gateway *it)
-{
-    ipxr_port ports[IPXR_MOST_PORTS] = {{0}};
-    for (size_t k = 0; k < it->count; k++) {
-        const network_setting *set = it->networks[k].set;
-        ports[k].network = set->network;
-        memcpy(ports[k].node, it->networks[k].node, NODE);
-        ports[k].cost = set->cost;
-        ports[k].longest = set->longest;
-        ports[k].routes = set->routes;
-        ports[k].services = set->services;
-    }
-    int32_t made = ipxr_make(&it->router, ports, it->count);
-    return made < 0 ? made : ipxr_start(&it->router);
-}
-
-/* Where each network is: the port of an address that was taken free, and the gateway's node. */
-static void tell_start(const gateway *it)
-{
-    for (size_t k = 0; k < it->count; k++) {
-        char words[LINK_ROOM], node[WORDS];
-        network_setting taken = *it->networks[k].set;
-        taken.local = it->networks[k].cable->local;
-        say("network %08" PRIX32 " on %s, node %s", taken.network, link_words(&taken, words),
-            node_words(it->networks[k].node, node));
-    }
-}
-
-bool gateway_open(gateway *it, const settings *set)
-{
-    memset(it, 0, sizeof *it);
-    return open_all(it, set);
-}
-
-bool gateway_start(gateway *it)
-{
-    char words[WORDS];
-    int32_t made = make(it);
-    if (made < 0) {
-        complain("ipxr-gateway: %s", answer_words(made, words));
-        return false;
-    }
-    it->began = clock_now();
-    if (it->began == 0) {
-        complain("ipxr-gateway: the clock can't be read: %s", fault_words());
-        return false;
-    }
-    tell_start(it);
-    for (size_t k = 0; k < it->cable_count; k++)
-        look_at_cable(it, &it->cables[k]);
-    gateway_send_all(it);
-    return true;
-}
-
-void gateway_stop(gateway *it)
-{
-    ipxr_stop(&it->router);
-    gateway_send_all(it);
-    ipxr_free(&it->router);
-    for (size_t k = 0; k < it->cable_count; k++)
-        cable_close(&it->cables[k]);
-    capture_close();
 }

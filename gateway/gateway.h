@@ -16,6 +16,8 @@ typedef struct network {
     cable *cable;
     uint8_t node[6]; /* the gateway's own there */
     bool is_up;
+    const char *lacks; /* what it was told to lack, while it is down; */
+    int fault;         /* and the system's number for it, or 0 */
     counts counts;
     clients clients; /* of DOSBox' tunnel */
 } network;

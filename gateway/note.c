@@ -24,17 +24,29 @@ bool notes_events(void)
     return is_on;
 }
 
-void note(const char *format, ...)
+static void tell(const char *format, va_list rest)
 {
-    if (!is_on)
-        return;
     char line[MOST_NOTE];
     uint64_t now = clock_now();
+    vsnprintf(line, sizeof line, format, rest);
+    say("%" PRIu64 ".%03" PRIu64 " %s", now / 1000, now % 1000, line);
+}
+
+void note(const char *format, ...)
+{
     va_list rest;
     va_start(rest, format);
-    vsnprintf(line, sizeof line, format, rest);
+    if (is_on)
+        tell(format, rest);
     va_end(rest);
-    say("%" PRIu64 ".%03" PRIu64 " %s", now / 1000, now % 1000, line);
+}
+
+void event(const char *format, ...)
+{
+    va_list rest;
+    va_start(rest, format);
+    tell(format, rest);
+    va_end(rest);
 }
 
 const char *node_words(const uint8_t *node, char words[WORDS])

@@ -13,8 +13,9 @@
 void note_events(void);
 bool notes_events(void);
 
-/* A line of an event, with the seconds of the clock before it, where events are told. */
+/* A line of an event, with the seconds of the clock before it: where events are told, and one that is always told. */
 void note(const char *format, ...);
+void event(const char *format, ...);
 
 /* A node by its twelve digits; network, node and socket at a place of a header. */
 const char *node_words(const uint8_t *node, char words[WORDS]);

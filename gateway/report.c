@@ -21,15 +21,14 @@ static void show_clients(const network *on)
 static void show_network(const network *on)
 {
     char words[LINK_ROOM], node[WORDS], extended[40] = "";
-    network_setting taken = *on->set;
-    taken.local = on->cable->local;
-    say("network %08" PRIX32 " %s, cost %u, longest %u, on %s, node %s", taken.network, on->is_up ? "up" : "down", taken.cost,
-        taken.longest, link_words(&taken, words), node_words(on->node, node));
-    if (taken.socket_count > 0)
+    const network_setting *set = on->set;
+    say("network %08" PRIX32 " %s, cost %u, longest %u, on %s, node %s", set->network, on->is_up ? "up" : "down", set->cost,
+        set->longest, cable_words(on->cable, on->set, words), node_words(on->node, node));
+    if (set->socket_count > 0)
         snprintf(extended, sizeof extended, ", extended %" PRIu64, on->counts.extended);
     say("  in %" PRIu64 ", out %" PRIu64 "%s", on->counts.in, on->counts.out, extended);
     counts_show(&on->counts);
-    if (taken.type == LINK_DOSBOX)
+    if (set->type == LINK_DOSBOX)
         show_clients(on);
 }
 

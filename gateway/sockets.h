@@ -25,8 +25,8 @@ bool datagram_send_to(int fd, const address *to, const uint8_t *bytes, size_t le
 /* Waits at an address for connections; `local` is told the port. Returns the socket, or -1. */
 int listener_open(address *local);
 
-/* The connection that came in, or -1. */
-int listener_take(int listener);
+/* The connection that came in, and who began it; or -1. */
+int listener_take(int listener, address *from);
 
 /* Begins a connection. Returns its socket, or -1. */
 int connection_begin(const address *remote);

@@ -39,17 +39,15 @@ static bool ask(unsigned long what, const char *name, struct ifreq *about)
     return is_told;
 }
 
-unsigned interface_number(const char *name)
+card_state interface_state(const char *name, unsigned *index)
 {
-    return if_nametoindex(name);
-}
-
-unsigned interface_up(const char *name)
-{
-    struct ifreq about = {0};
-    if (!ask(SIOCGIFFLAGS, name, &about) || !(about.ifr_flags & IFF_UP) || !(about.ifr_flags & IFF_RUNNING))
-        return 0;
-    return if_nametoindex(name);
+    struct ifreq flags = {0};
+    *index = if_nametoindex(name);
+    if (*index == 0 || !ask(SIOCGIFFLAGS, name, &flags))
+        return CARD_ABSENT;
+    if (!(flags.ifr_flags & IFF_UP))
+        return CARD_OFF;
+    return flags.ifr_flags & IFF_RUNNING ? CARD_UP : CARD_UNPLUGGED;
 }
 
 /* Switches an interface on. Who may not is told nothing: somebody else may do it later. */

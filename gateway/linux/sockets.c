@@ -110,9 +110,13 @@ static int undelayed(int fd)
     return fd;
 }
 
-int listener_take(int listener)
+int listener_take(int listener, address *from)
 {
-    return undelayed(unwaiting(accept(listener, NULL, NULL)));
+    struct sockaddr_in at = {0};
+    socklen_t size = sizeof at;
+    int fd = undelayed(unwaiting(accept(listener, (struct sockaddr *)&at, &size)));
+    *from = of_system(&at);
+    return fd;
 }
 
 int connection_begin(const address *remote)

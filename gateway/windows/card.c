@@ -54,14 +54,9 @@ bool interface_again(int fd, uint8_t kind, unsigned index)
     return refused() == 0;
 }
 
-unsigned interface_number(const char *name)
+card_state interface_state(const char *name, unsigned *index)
 {
     (void)name;
-    return 0;
-}
-
-unsigned interface_up(const char *name)
-{
-    (void)name;
-    return 0;
+    *index = 0;
+    return CARD_ABSENT;
 }

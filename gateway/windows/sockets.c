@@ -121,9 +121,13 @@ static int plain_connection(int fd)
     return fd;
 }
 
-int listener_take(int listener)
+int listener_take(int listener, address *from)
 {
-    return plain_connection(unwaiting(accept((SOCKET)listener, NULL, NULL)));
+    struct sockaddr_in at = {.sin_port = 0};
+    int size = sizeof at;
+    int fd = plain_connection(unwaiting(accept((SOCKET)listener, (struct sockaddr *)&at, &size)));
+    *from = of_system(&at);
+    return fd;
 }
 
 int connection_begin(const address *remote)

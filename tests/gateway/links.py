@@ -98,16 +98,21 @@ def long_frames():
 
 
 def a_connection_comes():
-    """A card that connects is heard; the link is down before and after, and its network unreachable."""
+    """A card that connects is heard, and told with its address; the link is down before and after, and its network unreachable."""
     with Gateway(tunnels(1) + "network 20 1 1490 qemu-tcp listen 0 snap\n") as gate:
         far = Client(gate.ports[0x10])
+        link = f"qemu-tcp listen 127.0.0.1:{gate.ports[0x20]} snap"
+        assert gate.told("network 00000020 is down").endswith(f": {link}: nobody is connected")
         assert "network 00000020 down" in gate.report()
         for _ in range(3):
             station, connection = connected(gate, 0x20, "snap")
+            up = gate.told("network 00000020 is up")
+            assert f": {link}, node " in up and up.endswith(f", with 127.0.0.1:{connection.getsockname()[1]}"), up
             both_ways(gate, station, far)
             assert "network 00000020 up" in gate.report()
             connection.close()
             far.say(station.at(), b"?")
+            assert gate.told("network 00000020 is down").endswith(f": {link}: nobody is connected")
             gate.until("network 00000020 down")
 
 

@@ -1,0 +1,74 @@
+#include "links.h"
+
+#include <errno.h>
+#include <inttypes.h>
+#include <string.h>
+
+#include "note.h"
+#include "system.h"
+#include "words.h"
+
+static void tell_up(network *on)
+{
+    char link[LINK_ROOM], node[WORDS], pc[ADDRESS_ROOM];
+    bool has_come_in = on->set->type == LINK_QEMU_LISTEN;
+    event("network %08" PRIX32 " is up: %s, node %s%s%s", on->set->network, cable_words(on->cable, on->set, link),
+          node_words(on->node, node), has_come_in ? ", with " : "", has_come_in ? address_words(&on->cable->peer, pc) : "");
+    on->lacks = NULL;
+}
+
+/* Tells what a network lacks, where that wasn't told. */
+static void tell_down(network *on)
+{
+    char link[LINK_ROOM];
+    const cable *at = on->cable;
+    if (at->lacks == NULL || (on->lacks != NULL && strcmp(on->lacks, at->lacks) == 0 && on->fault == at->fault))
+        return;
+    on->lacks = at->lacks;
+    on->fault = errno = at->fault;
+    event("network %08" PRIX32 " is down: %s: %s%s%s", on->set->network, cable_words(at, on->set, link), at->lacks,
+          at->fault != 0 ? ": " : "", at->fault != 0 ? fault_words() : "");
+}
+
+static void look_at(gateway *it, network *on, bool is_up)
+{
+    uint8_t port = (uint8_t)(on - it->networks);
+    if (on->is_up == is_up)
+        return;
+    if ((is_up ? ipxr_port_up(&it->router, port) : ipxr_port_down(&it->router, port)) < 0)
+        return; /* (no memory: it is tried again with the next look) */
+    on->is_up = is_up;
+    if (is_up)
+        tell_up(on);
+    else
+        tell_down(on);
+}
+
+static void look(gateway *it, cable *at)
+{
+    bool is_up = cable_is_up(at), was_lost = cable_was_lost(at);
+    for (size_t k = 0; k < it->count; k++) {
+        network *on = &it->networks[k];
+        if (on->cable != at)
+            continue;
+        if (was_lost)
+            look_at(it, on, false);
+        look_at(it, on, is_up);
+        if (!on->is_up)
+            tell_down(on);
+    }
+}
+
+void links_look(gateway *it, cable *at)
+{
+    look(it, at);
+    gateway_send_all(it);
+}
+
+/* (what the router has to say is sent once it is known where nobody hears it) */
+void links_look_at_all(gateway *it)
+{
+    for (size_t k = 0; k < it->cable_count; k++)
+        look(it, &it->cables[k]);
+    gateway_send_all(it);
+}

@@ -1,0 +1,11 @@
+/* The links of the networks: whether they are up. A line tells each that goes down or comes up, and why. */
+#ifndef LINKS_H
+#define LINKS_H
+
+#include "gateway.h"
+
+/* Looks at a cable, or at all, and tells the router what has changed on their networks. */
+void links_look(gateway *it, cable *at);
+void links_look_at_all(gateway *it);
+
+#endif

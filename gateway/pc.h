@@ -1,0 +1,13 @@
+/* The PC at the other end of a `qemu-tcp`: one at a time. */
+#ifndef PC_H
+#define PC_H
+
+#include "cable.h"
+
+/* Whether a PC is connected now. One that comes in takes the place of the one before; one that is called is called again, once a second. */
+bool pc_is_up(cable *it);
+
+/* Takes it for gone. */
+void pc_goes(cable *it);
+
+#endif

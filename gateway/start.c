@@ -1,0 +1,104 @@
+/* How the gateway begins and ends. */
+#include <inttypes.h>
+#include <string.h>
+
+#include "capture.h"
+#include "clock.h"
+#include "gateway.h"
+#include "ipx.h"
+#include "links.h"
+#include "node.h"
+#include "note.h"
+#include "output.h"
+#include "system.h"
+
+/* ---- Links ---- */
+
+/* The cable of a network: one that is open already, where two networks share it. Each network of an interface has a socket of its own. */
+static cable *cable_of(gateway *it, const network_setting *set)
+{
+    char words[LINK_ROOM];
+    for (size_t k = 0; k < it->cable_count; k++)
+        if (set->type != LINK_INTERFACE && same_link(it->cables[k].set, set))
+            return &it->cables[k];
+    cable *made = &it->cables[it->cable_count++];
+    const char *fault = cable_open(made, set);
+    if (fault == NULL)
+        return made;
+    const char *reason = fault_words();
+    complain("ipxr-gateway: line %zu: %s: %s: %s", set->line, link_words(set, words), fault, reason);
+    return NULL;
+}
+
+bool gateway_open(gateway *it, const settings *set)
+{
+    memset(it, 0, sizeof *it);
+    for (size_t k = 0; k < set->count; k++) {
+        network *on = &it->networks[it->count++];
+        on->set = &set->networks[k];
+        on->cable = cable_of(it, on->set);
+        if (on->cable == NULL)
+            return false;
+        on->is_up = true;
+    }
+    return true;
+}
+
+/* ---- The router ---- */
+
+/* Makes the router with the nodes that the gateway has now, and starts it. Where it can't be made, all is as it was. */
+static int32_t make(gateway *it)
+{
+    ipxr_port ports[IPXR_MOST_PORTS] = {{0}};
+    for (size_t k = 0; k < it->count; k++) {
+        const network_setting *set = it->networks[k].set;
+        ports[k].network = set->network;
+        node_choose(set, it->networks[k].cable, ports[k].node);
+        ports[k].cost = set->cost;
+        ports[k].longest = set->longest;
+        ports[k].routes = set->routes;
+        ports[k].services = set->services;
+    }
+    int32_t made = ipxr_make(&it->router, ports, it->count);
+    for (size_t k = 0; made >= 0 && k < it->count; k++)
+        memcpy(it->networks[k].node, ports[k].node, NODE);
+    return made < 0 ? made : ipxr_start(&it->router);
+}
+
+/* Where each network is: the port of an address that was taken free, and the gateway's node. */
+static void tell_start(const gateway *it)
+{
+    char words[LINK_ROOM], node[WORDS];
+    for (size_t k = 0; k < it->count; k++) {
+        const network *on = &it->networks[k];
+        say("network %08" PRIX32 " on %s, node %s", on->set->network, cable_words(on->cable, on->set, words), node_words(on->node, node));
+    }
+}
+
+bool gateway_start(gateway *it)
+{
+    char words[WORDS];
+    int32_t made = make(it);
+    if (made < 0) {
+        complain("ipxr-gateway: %s", answer_words(made, words));
+        return false;
+    }
+    it->began = clock_now();
+    if (it->began == 0) {
+        complain("ipxr-gateway: the clock can't be read: %s", fault_words());
+        return false;
+    }
+    tell_start(it);
+    links_look_at_all(it);
+    return true;
+}
+
+void gateway_stop(gateway *it)
+{
+    ipxr_stop(&it->router);
+    gateway_send_all(it);
+    ipxr_free(&it->router);
+    for (size_t k = 0; k < it->cable_count; k++)
+        cable_close(&it->cables[k]);
+    capture_close();
+}
