@@ -94,11 +94,11 @@ static bool card_is_up(cable *it, card_state state)
     return state == CARD_UP;
 }
 
-/* One that was taken away and is there again has another number. */
+/* One that was taken away and is there again has another number, and perhaps another address. */
 static bool interface_is_up(cable *it)
 {
     unsigned index;
-    card_state state = interface_state(it->set->name, &index);
+    card_state state = interface_state(it->set->name, &index, it->card);
     if (state != CARD_ABSENT && index != it->index && interface_again(it->fd, it->set->kind, index))
         it->index = index;
     return card_is_up(it, index == it->index ? state : CARD_ABSENT);
@@ -108,13 +108,14 @@ static bool interface_is_up(cable *it)
 static bool tap_is_up(cable *it)
 {
     unsigned index;
-    card_state state = interface_state(it->set->name, &index);
+    uint8_t of_host[6];
+    card_state state = interface_state(it->set->name, &index, of_host);
     if (it->fd >= 0 && index == it->index)
         return card_is_up(it, state);
     close_any(&it->fd);
     it->fd = tap_open(it->set->name, &it->index);
     if (it->fd >= 0)
-        return card_is_up(it, interface_state(it->set->name, &index));
+        return card_is_up(it, interface_state(it->set->name, &index, of_host));
     it->lacks = "can't open the TAP";
     it->fault = errno;
     return false;

@@ -32,7 +32,7 @@ typedef enum {
     CARD_UP,
 } card_state;
 
-/* How the interface is that has a name now. Tells its number, or 0 where there is none. */
-card_state interface_state(const char *name, unsigned *index);
+/* How the interface is that has a name now. Tells its number, or 0 where there is none; and its own address, where it is there. */
+card_state interface_state(const char *name, unsigned *index, uint8_t card[6]);
 
 #endif

@@ -118,6 +118,7 @@ static void let_seconds_pass(gateway *it)
     if (it->told >= passed)
         return;
     links_look_at_all(it);
+    gateway_renew(it);
     for (; it->told < passed; it->told++) {
         if (ipxr_second(&it->router) < 0)
             break; /* (no memory: the second is given again) */

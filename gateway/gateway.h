@@ -38,6 +38,9 @@ bool gateway_open(gateway *it, const settings *set);
 /* Starts the router on the open links. Returns false where it can't start, which is told on standard error. */
 bool gateway_start(gateway *it);
 
+/* Where a card has another address than before, the router says goodbye, and begins anew: the ports of a router keep their nodes. */
+void gateway_renew(gateway *it);
+
 /* Hands on what has come, and lets seconds pass. Where it waits, something comes first, or a signal or the next second. */
 void gateway_turn(gateway *it, bool waits);
 
@@ -63,6 +66,9 @@ void gateway_lose(network *on, reason why);
 
 /* A line for a packet that came on a network, and what became of it, where events are told. */
 void gateway_note(const network *on, const uint8_t *packet, size_t length, const char *became);
+
+/* Whether the network's card has another address than the router knows. */
+bool has_new_address(const network *on);
 
 /* Whether a header's destination is on the network where the packet came: no network, that one, or all. */
 bool is_for_here(const network *on, const uint8_t *packet);

@@ -33,8 +33,8 @@ static void tell_down(network *on)
 static void look_at(gateway *it, network *on, bool is_up)
 {
     uint8_t port = (uint8_t)(on - it->networks);
-    if (on->is_up == is_up)
-        return;
+    if (on->is_up == is_up || (is_up && has_new_address(on)))
+        return; /* (a card that isn't known yet comes up with its own address, gateway_renew) */
     if ((is_up ? ipxr_port_up(&it->router, port) : ipxr_port_down(&it->router, port)) < 0)
         return; /* (no memory: it is tried again with the next look) */
     on->is_up = is_up;

@@ -1,4 +1,4 @@
-/* How the gateway begins and ends. */
+/* How the gateway begins, begins anew, and ends. */
 #include <inttypes.h>
 #include <string.h>
 
@@ -91,6 +91,42 @@ bool gateway_start(gateway *it)
     tell_start(it);
     links_look_at_all(it);
     return true;
+}
+
+bool has_new_address(const network *on)
+{
+    return !is_no_node(on->cable->card) && !same_node(on->cable->card, on->node);
+}
+
+/* Tells the new address of each card that has one. Returns whether any has. */
+static bool tell_new_addresses(const gateway *it)
+{
+    char words[LINK_ROOM], node[WORDS];
+    bool has = false;
+    for (size_t k = 0; k < it->count; k++) {
+        const network *on = &it->networks[k];
+        if (!has_new_address(on))
+            continue;
+        has = true;
+        event("network %08" PRIX32 " has another node: %s, node %s", on->set->network, cable_words(on->cable, on->set, words),
+              node_words(on->cable->card, node));
+    }
+    return has;
+}
+
+void gateway_renew(gateway *it)
+{
+    if (!tell_new_addresses(it) && ipxr_is_running(&it->router) == 1)
+        return;
+    ipxr_stop(&it->router);
+    gateway_send_all(it);
+    if (make(it) < 0)
+        return; /* (no memory: it is tried again with the next second) */
+    for (size_t k = 0; k < it->count; k++)
+        if (!it->networks[k].is_up && ipxr_port_down(&it->router, (uint8_t)k) < 0)
+            it->networks[k].is_up = true; /* (and the next look tells the router) */
+    gateway_send_all(it);
+    links_look_at_all(it);
 }
 
 void gateway_stop(gateway *it)

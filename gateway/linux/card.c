@@ -39,12 +39,13 @@ static bool ask(unsigned long what, const char *name, struct ifreq *about)
     return is_told;
 }
 
-card_state interface_state(const char *name, unsigned *index)
+card_state interface_state(const char *name, unsigned *index, uint8_t card[6])
 {
-    struct ifreq flags = {0};
+    struct ifreq about = {0}, flags = {0};
     *index = if_nametoindex(name);
-    if (*index == 0 || !ask(SIOCGIFFLAGS, name, &flags))
+    if (*index == 0 || !ask(SIOCGIFHWADDR, name, &about) || !ask(SIOCGIFFLAGS, name, &flags))
         return CARD_ABSENT;
+    memcpy(card, about.ifr_hwaddr.sa_data, 6);
     if (!(flags.ifr_flags & IFF_UP))
         return CARD_OFF;
     return flags.ifr_flags & IFF_RUNNING ? CARD_UP : CARD_UNPLUGGED;

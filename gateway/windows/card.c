@@ -54,9 +54,10 @@ bool interface_again(int fd, uint8_t kind, unsigned index)
     return refused() == 0;
 }
 
-card_state interface_state(const char *name, unsigned *index)
+card_state interface_state(const char *name, unsigned *index, uint8_t card[6])
 {
     (void)name;
+    (void)card;
     *index = 0;
     return CARD_ABSENT;
 }

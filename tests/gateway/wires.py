@@ -1,5 +1,6 @@
 """Ethernet interfaces and TAPs, in a network of the test's own: nothing of this machine's network is touched."""
 import errno
+import json
 import os
 import shutil
 import socket
@@ -83,17 +84,43 @@ def a_cable_is_pulled():
         assert gate.told("network 00000020 is down").endswith(": interface v0 raw: it isn't there")
         gate.until("network 00000020 down")
         make_pair()
-        ip("link", "set", "v0", "address", gate.nodes[0x20].hex(":"))
         gate.told("network 00000020 is up")
         host = Station(Packets("v1", "raw"), "raw", 0x20, STATION, gate.nodes[0x20])
         both_ways(gate, host, far)
     ip("link", "del", "v0")
 
 
+def own_address(name):
+    run = subprocess.run(["ip", "-j", "link", "show", name], stdout=subprocess.PIPE, check=True)
+    return bytes.fromhex(json.loads(run.stdout)[0]["address"].replace(":", ""))
+
+
 def two_gateways():
     """Two gateways on one cable join the networks of two places."""
     make_pair()
     places_joined("interface v0 raw", "interface v1 raw")
+    ip("link", "del", "v0")
+
+
+def a_new_address():
+    """A card's new address is learned: stations find the gateway there, and its frames leave with it."""
+    make_pair()
+    new = bytes.fromhex("02005E000077")
+    with Gateway(tunnels(1) + "network 20 1 1490 interface v0 raw\nnetwork 30 1 1490 qemu-tcp listen 0 raw\n") as gate:
+        far = Client(gate.ports[0x10])
+        assert gate.told("network 00000030 is down")
+        both_ways(gate, Station(Packets("v1", "raw"), "raw", 0x20, STATION, gate.nodes[0x20]), far)
+        ip("link", "set", "v0", "address", new.hex(":"))
+        assert gate.told("network 00000020 has another node") and gate.nodes[0x20] == new
+        host = Station(Packets("v1", "raw"), "raw", 0x20, STATION, new)
+        both_ways(gate, host, far)
+        far.say(host.at(), b"whose")
+        while not (heard := host.wire.receive()[0]).rstrip(bytes(1)).endswith(b"whose"):
+            pass
+        assert heard[6:12] == new
+        report = gate.report()
+        assert "network 00000030 down" in report and gate.counted(0x20, "own frame", report) == 0
+        assert not any("is down" in it or "is up" in it for it in gate.lines[gate.looked :]), "nothing else changed"
     ip("link", "del", "v0")
 
 
@@ -216,7 +243,7 @@ def inside():
         ip("link", "del", "v0")
         counts.run(all_kinds)
         counts.run(a_short_mtu)
-        for test in (a_cable_is_pulled, two_gateways):
+        for test in (a_cable_is_pulled, two_gateways, a_new_address):
             counts.run(test)
     else:
         left_out("interfaces", "no pair of them can be made")
