@@ -3,8 +3,12 @@
 #include <errno.h>
 
 #include "card.h"
+#include "clock.h"
 #include "pc.h"
 #include "sockets.h"
+
+/* Milliseconds from one try to open something to the next. */
+enum { BETWEEN = 1000 };
 
 static bool is_connection(const cable *it)
 {
@@ -36,14 +40,38 @@ static const char *open_link(cable *it)
     }
 }
 
+/* The same; it has the port that it took only where it is open. */
+static const char *opened(cable *it)
+{
+    it->local = it->set->local;
+    const char *lacks = open_link(it);
+    if (lacks != NULL)
+        it->local = it->set->local;
+    return lacks;
+}
+
+/* Whether a fault is of what may come by itself: an address that the machine is given later, a card, a way to another machine. */
+static bool is_not_there_yet(int fault)
+{
+    return fault == EADDRNOTAVAIL || fault == ENODEV || fault == ENXIO || fault == ENETDOWN || fault == ENETUNREACH ||
+           fault == EHOSTUNREACH;
+}
+
 const char *cable_open(cable *it, const network_setting *set)
 {
     it->set = set;
     it->fd = it->listener = -1;
-    it->local = set->local;
     stream_clear(&it->stream);
-    it->lacks = set->type == LINK_QEMU_LISTEN ? "nobody is connected" : set->type == LINK_QEMU_CONNECT ? "not connected yet" : NULL;
-    return open_link(it);
+    it->tried = clock_now();
+    it->lacks = opened(it);
+    it->fault = errno;
+    if (it->lacks != NULL)
+        return is_not_there_yet(errno) ? NULL : it->lacks;
+    if (is_connection(it)) {
+        it->lacks = it->listener >= 0 ? "nobody is connected" : "not connected yet";
+        it->fault = it->tried = 0;
+    }
+    return NULL;
 }
 
 const char *cable_words(const cable *it, const network_setting *set, char words[LINK_ROOM])
@@ -84,6 +112,21 @@ bool cable_was_lost(cable *it)
 
 /* ---- Whether it is up ---- */
 
+/* Opens what was not there, once a second. Returns whether it is there now. */
+static bool opens_now(cable *it)
+{
+    uint64_t now = clock_now();
+    if (it->fd >= 0 || it->listener >= 0 || it->set->type == LINK_QEMU_CONNECT)
+        return true;
+    if (now - it->tried < BETWEEN)
+        return false;
+    it->tried = now;
+    const char *lacks = opened(it);
+    it->fault = lacks != NULL ? errno : 0;
+    it->lacks = lacks != NULL ? lacks : is_connection(it) ? "nobody is connected" : NULL;
+    return lacks == NULL;
+}
+
 /* Whether a card is up; else what it lacks. */
 static bool card_is_up(cable *it, card_state state)
 {
@@ -110,19 +153,17 @@ static bool tap_is_up(cable *it)
     unsigned index;
     uint8_t of_host[6];
     card_state state = interface_state(it->set->name, &index, of_host);
-    if (it->fd >= 0 && index == it->index)
+    if (index == it->index)
         return card_is_up(it, state);
     close_any(&it->fd);
-    it->fd = tap_open(it->set->name, &it->index);
-    if (it->fd >= 0)
-        return card_is_up(it, interface_state(it->set->name, &index, of_host));
-    it->lacks = "can't open the TAP";
-    it->fault = errno;
-    return false;
+    it->tried = 0;
+    return opens_now(it) && card_is_up(it, interface_state(it->set->name, &index, of_host));
 }
 
 bool cable_is_up(cable *it)
 {
+    if (!opens_now(it))
+        return false;
     switch (it->set->type) {
     case LINK_QEMU_LISTEN:
     case LINK_QEMU_CONNECT:

@@ -18,7 +18,7 @@ typedef struct cable {
     int listener;               /* where connections come in, or -1 */
     stream stream;              /* what of a connection is under way */
     bool was_lost;              /* a connection was, since one looked */
-    uint64_t tried;             /* milliseconds of the clock when a connection was begun last */
+    uint64_t tried;             /* milliseconds of the clock when it was opened, or a connection begun, last */
     unsigned index;             /* of the TAP or the interface */
     address local;              /* where the socket is, with the port that it took */
     address peer;               /* who came in and is connected */
@@ -27,7 +27,8 @@ typedef struct cable {
     int fault;                  /* and the system's number for it, or 0 */
 } cable;
 
-/* Opens what the setting says. Returns NULL, or in words what went wrong; then errno has the reason. */
+/* Opens what the setting says. An address or a card that isn't there yet is waited for: cable_is_up opens it later. Returns NULL, or in
+ * words what went wrong; then errno has the reason. */
 const char *cable_open(cable *it, const network_setting *set);
 
 void cable_close(cable *it);
@@ -46,8 +47,8 @@ ssize_t cable_receive(cable *it, uint8_t *bytes, size_t room, address *from);
 bool cable_send(cable *it, const uint8_t *bytes, size_t length);
 bool cable_send_to(cable *it, const address *to, const uint8_t *bytes, size_t length);
 
-/* Whether it can carry something now; where it can't, `lacks` and `fault` tell why. Connections that are lost are tried again, once a
- * second, and interfaces looked for. */
+/* Whether it can carry something now; where it can't, `lacks` and `fault` tell why. What isn't open is tried again, once a second, and
+ * interfaces are looked for. */
 bool cable_is_up(cable *it);
 
 /* The words of a setting's link on it, with the port that it took. */

@@ -32,7 +32,8 @@ typedef struct gateway {
     uint64_t told;  /* seconds that the router has heard of since */
 } gateway;
 
-/* Opens the links of all networks. Returns false where one can't be opened, which is told on standard error. */
+/* Opens the links of all networks; what isn't there yet is waited for. Returns false where one can't be opened, which is told on
+ * standard error. */
 bool gateway_open(gateway *it, const settings *set);
 
 /* Starts the router on the open links. Returns false where it can't start, which is told on standard error. */

@@ -181,6 +181,10 @@ class Gateway:
         """Waits until its report has some words. Returns the report."""
         return until(lambda: (lambda report: words in report and report)(self.report()), words)
 
+    def until_open(self, *networks):
+        """Waits until the ports of networks are known, where an address may have to be waited for."""
+        until(lambda: self.report() and all(self.ports[it] for it in networks), "open links")
+
     def until_counted(self, network, what, number):
         """Waits until a network has counted so many."""
         until(lambda: self.counted(network, what) == number, f"{number} {what}")
@@ -237,11 +241,11 @@ class Clock:
 class Client:
     """A DOSBox, as far as the gateway sees it."""
 
-    def __init__(self, port, host="127.0.0.1", registers=True):
+    def __init__(self, port, host="127.0.0.1", registers=True, to="127.0.0.1"):
         self.udp = socket.socket(socket.AF_INET, socket.SOCK_DGRAM)
         self.udp.setsockopt(socket.SOL_SOCKET, socket.SO_RCVBUF, ROOM)
         self.udp.bind((host, 0))
-        self.udp.connect(("127.0.0.1", port))
+        self.udp.connect((to, port))
         own, own_port = self.udp.getsockname()
         self.node = socket.inet_aton(own) + struct.pack(">H", own_port)
         self.network = 0

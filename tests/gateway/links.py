@@ -159,6 +159,20 @@ def nobody_listens_yet():
         assert Station(Tcp(connection), "llc", 0x20, STATION, gate.nodes[0x20]).hear(is_routers)
 
 
+def an_address_comes_later():
+    """An address that the machine doesn't have is waited for, which is told; the other networks are routed meanwhile."""
+    text = "".join(f"network {n} 1 1424 {it}\n" for n, it in ((40, "dosbox 192.0.2.1:2130"), (50, "qemu-tcp listen 192.0.2.1:5003 raw")))
+    with Gateway(tunnels(2) + text) as gate:
+        lacks = [(50, "qemu-tcp listen 192.0.2.1:5003 raw: can't listen there")]
+        if SYSTEM is Windows:
+            left_out("an address for datagrams that isn't there yet", "Wine takes any")
+        else:
+            lacks.insert(0, (40, "dosbox 192.0.2.1:2130: can't take the address"))
+        for network, what in lacks:
+            assert gate.told(f"network 000000{network} is down").endswith(f": {what}: Cannot assign requested address")
+        assert reaches(Client(gate.ports[0x10]), Client(gate.ports[0x20]))
+
+
 def places_joined(here, there):
     """Sees that two gateways join networks 10 and 30 by network 20, by the words for its link at each."""
     text = "network {} 1 1424 dosbox 127.0.0.1:0\nnetwork 20 1 1490 {}\n"
@@ -203,7 +217,7 @@ def nobody_listens():
 def main():
     counts = Counts()
     for test in (datagrams, two_networks_on_a_link, long_frames, a_connection_comes, a_newer_connection, a_connection_goes,
-                 nobody_listens_yet, two_gateways, extended):
+                 nobody_listens_yet, an_address_comes_later, two_gateways, extended):
         counts.run(test)
     if SYSTEM is Windows:
         left_out("whether what is sent to nobody is counted", "Windows doesn't tell it, though Wine does")

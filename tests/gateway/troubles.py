@@ -63,6 +63,7 @@ def is_heard(gate, listener):
 
 def goes_on(gate, card):
     """Sees that everybody hears everybody, though not at the first try."""
+    gate.until_open(0x10, 0x20, 0x30, 0x40)
     a, b = Client(gate.ports[0x10], registers=False), Client(gate.ports[0x20], registers=False)
     a.network, b.network = 0x10, 0x20
     card.to = gate.ports[0x30]

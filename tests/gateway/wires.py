@@ -95,6 +95,34 @@ def own_address(name):
     return bytes.fromhex(json.loads(run.stdout)[0]["address"].replace(":", ""))
 
 
+def a_card_comes_later():
+    """A card that isn't there yet is waited for, which is told. The gateway's node is its address then."""
+    with Gateway(tunnels(1) + "network 20 1 1490 interface v0 raw\nnetwork 21 1 1490 interface v0 llc\n") as gate:
+        assert gate.told("network 00000020 is down").endswith(": interface v0 raw: can't open the interface: No such device")
+        made_up = gate.nodes[0x20]
+        far = Client(gate.ports[0x10])
+        make_pair()
+        assert gate.told("network 00000021 has another node")
+        assert gate.told("network 00000021 is up")
+        assert made_up != gate.nodes[0x20] == gate.nodes[0x21] == own_address("v0")
+        both_ways(gate, Station(Packets("v1", "raw"), "raw", 0x20, STATION, gate.nodes[0x20]), far)
+        both_ways(gate, Station(Packets("v1", "llc"), "llc", 0x21, STATION, gate.nodes[0x20]), far)
+    ip("link", "del", "v0")
+
+
+def an_address_comes_later():
+    """An address of this machine, and a way to another, that aren't there yet are waited for, and told."""
+    text = "network 10 1 1424 dosbox 10.77.0.1:2130\nnetwork 20 1 1490 qemu-udp 0.0.0.0:5001 10.77.0.9:5002 raw\n"
+    with Gateway(text) as gate:
+        assert gate.told("network 00000010 is down").endswith("can't take the address: Cannot assign requested address")
+        assert gate.told("network 00000020 is down").endswith("can't take the addresses: Network is unreachable")
+        make_pair()
+        ip("addr", "add", "10.77.0.1/24", "dev", "v0")
+        assert gate.told("network 00000010 is up") and gate.told("network 00000020 is up")
+        assert Client(2130, "10.77.0.1", to="10.77.0.1").network == 0x10
+    ip("link", "del", "v0")
+
+
 def two_gateways():
     """Two gateways on one cable join the networks of two places."""
     make_pair()
@@ -204,6 +232,7 @@ def one_fails(name, fault, which):
     gate = troubled(tunnels(1) + "network 20 1 1490 interface v0 raw\nnetwork 30 1 1490 tap ipx0 snap\n", name, fault, which)
     if gate is None:
         return
+    gate.until_open(0x10)
     far = Client(gate.ports[0x10])
     gate.until("network 00000020 up")
     host = Station(Packets("v1", "raw"), "raw", 0x20, STATION, gate.nodes[0x20])
@@ -243,7 +272,7 @@ def inside():
         ip("link", "del", "v0")
         counts.run(all_kinds)
         counts.run(a_short_mtu)
-        for test in (a_cable_is_pulled, two_gateways, a_new_address):
+        for test in (a_cable_is_pulled, a_card_comes_later, an_address_comes_later, two_gateways, a_new_address):
             counts.run(test)
     else:
         left_out("interfaces", "no pair of them can be made")

@@ -107,10 +107,9 @@ def what_cannot_be_opened():
         assert status == 1 and "line 1: dosbox 127.0.0.1:" in complaint and complaint.endswith(": Address already in use\n")
         with open(capture.name, "rb") as it:
             assert it.read() == b"of another gateway"
-    interfaces = (("interface nowhere0 raw", "can't open the interface"), ("interface lo raw", "it isn't Ethernet"))
-    for link, what in () if SYSTEM is Windows else interfaces:
-        status, _, complaint = asked("/dev/stdin", stdin=f"network 20 1 1424 {link}\n".encode())
-        assert status == 1 and f"line 1: {link}: {what}: " in complaint, complaint
+    if SYSTEM is not Windows:
+        status, _, complaint = asked("/dev/stdin", stdin=b"network 20 1 1424 interface lo raw\n")
+        assert status == 1 and "line 1: interface lo raw: it isn't Ethernet: " in complaint, complaint
     assert asked("--pcap", os.path.join(BUILD, "no", "file"), "/dev/stdin", stdin=tunnels(1).encode())[0] == 1
 
 
