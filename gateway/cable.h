@@ -22,6 +22,8 @@ typedef struct cable {
     unsigned index;             /* of the TAP or the interface */
     address local;              /* where the socket is, with the port that it took */
     address peer;               /* who came in and is connected */
+    uint64_t refused;           /* how many came in while somebody was */
+    uint64_t told;              /* milliseconds of the clock when that was told last */
     uint8_t card[6];            /* the interface's own address; zeros while it isn't known */
     const char *lacks;          /* what it had to have to be up, when one looked last; */
     int fault;                  /* and the system's number for it, or 0 */

@@ -1,11 +1,16 @@
+/* QEMU connects once, when it starts. So a PC that is connected stays, and whoever else comes in is refused at once: another PC, or
+ * somebody who looks for open ports. A PC has gone where its connection is closed or fails, where it says what isn't frames, and where its
+ * machine hasn't acknowledged anything for a minute (sockets.h). */
 #include "pc.h"
 
 #include <errno.h>
 
 #include "clock.h"
+#include "note.h"
 #include "sockets.h"
+#include "words.h"
 
-/* Milliseconds from one call to the next. */
+/* Milliseconds from one call, or from one line about those who are refused, to the next. */
 enum { BETWEEN = 1000 };
 
 void pc_goes(cable *it)
@@ -19,17 +24,33 @@ void pc_goes(cable *it)
     stream_clear(&it->stream);
 }
 
-/* A connection that comes in takes the place of the one before. */
-static void take_newest(cable *it)
+static void refuse(cable *it, int fd, const address *from)
+{
+    char who[ADDRESS_ROOM], pc[ADDRESS_ROOM], link[LINK_ROOM];
+    uint64_t now = clock_now();
+    connection_drop(&fd);
+    it->refused++;
+    if (it->told != 0 && now - it->told < BETWEEN)
+        return;
+    it->told = now;
+    event("%s is refused at %s: %s is connected there", address_words(from, who), cable_words(it, it->set, link),
+          address_words(&it->peer, pc));
+}
+
+static void take_or_refuse(cable *it)
 {
     address from;
-    int fd = listener_take(it->listener, &from);
-    if (fd < 0)
+    /* (what the PC said last is heard first: behind it may stand that it went) */
+    if (it->stream.is_connected && (stream_has_frame(&it->stream) || connection_has_more(it->fd)))
         return;
-    pc_goes(it);
-    it->fd = fd;
-    it->peer = from;
-    it->stream.is_connected = true;
+    int fd = listener_take(it->listener, &from);
+    if (fd >= 0 && it->stream.is_connected) {
+        refuse(it, fd, &from);
+    } else if (fd >= 0) {
+        it->fd = fd;
+        it->peer = from;
+        it->stream.is_connected = true;
+    }
 }
 
 /* Calls the PC, or looks what became of the call. */
@@ -53,8 +74,10 @@ static void call(cable *it)
 
 bool pc_is_up(cable *it)
 {
+    if (it->stream.is_connected && connection_is_dead(it->fd))
+        pc_goes(it);
     if (it->listener >= 0)
-        take_newest(it);
+        take_or_refuse(it);
     else if (!it->stream.is_connected)
         call(it);
     if (it->stream.is_connected && !stream_push(&it->stream, it->fd))

@@ -4,7 +4,8 @@
 
 #include "cable.h"
 
-/* Whether a PC is connected now. One that comes in takes the place of the one before; one that is called is called again, once a second. */
+/* Whether a PC is connected now. One that comes in is taken where there is none, else refused; one that is called is called again, once a
+ * second. */
 bool pc_is_up(cable *it);
 
 /* Takes it for gone. */

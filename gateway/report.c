@@ -28,6 +28,8 @@ static void show_network(const network *on)
         snprintf(extended, sizeof extended, ", extended %" PRIu64, on->counts.extended);
     say("  in %" PRIu64 ", out %" PRIu64 "%s", on->counts.in, on->counts.out, extended);
     counts_show(&on->counts);
+    if (set->type == LINK_QEMU_LISTEN && on->cable->refused > 0)
+        say("  refused: %" PRIu64, on->cable->refused);
     if (set->type == LINK_DOSBOX)
         show_clients(on);
 }

@@ -25,7 +25,8 @@ bool datagram_send_to(int fd, const address *to, const uint8_t *bytes, size_t le
 /* Waits at an address for connections; `local` is told the port. Returns the socket, or -1. */
 int listener_open(address *local);
 
-/* The connection that came in, and who began it; or -1. */
+/* The connection that came in, and who began it; or -1. A connection is lost where the machine at its other end hasn't acknowledged
+ * anything for a minute, like one whose plug was pulled. */
 int listener_take(int listener, address *from);
 
 /* Begins a connection. Returns its socket, or -1. */
@@ -34,6 +35,12 @@ int connection_begin(const address *remote);
 /* Whether it has come about: 1, 0 not yet, -1 it failed. */
 int connection_state(int fd);
 
+/* Whether the other end has not acknowledged for a minute what was sent to it, and the system would go on trying. */
+bool connection_is_dead(int fd);
+
+/* Whether something has come that wasn't received yet, or that it was closed. */
+bool connection_has_more(int fd);
+
 /* What has come on a connection, or 0 where the other end has closed it; as much as it takes of what is to go. Returns how many bytes,
  * or -1. */
 ssize_t connection_receive(int fd, uint8_t *bytes, size_t room);
@@ -41,5 +48,8 @@ ssize_t connection_send(int fd, const uint8_t *bytes, size_t length);
 
 /* Closes a socket that may be -1, and makes it so. */
 void close_any(int *fd);
+
+/* The same for a connection of which nothing is to stay: its port is free at once. */
+void connection_drop(int *fd);
 
 #endif

@@ -1,3 +1,5 @@
+/* (for what the system knows of a connection) */
+#define _DEFAULT_SOURCE
 #include "../sockets.h"
 
 #include <errno.h>
@@ -11,6 +13,9 @@
 
 /* Bytes that the system keeps for the gateway, while it sends to many. */
 enum { KEPT = 1 << 20, MOST_WAITING = 4 };
+
+/* Seconds of silence, after which a connection is asked whether it is there; from one question to the next; and how many there are. */
+enum { SILENT = 20, AGAIN = 20, TIMES = 2, MINUTE = SILENT + AGAIN * TIMES, MILLISECONDS = 1000 };
 
 void close_any(int *fd)
 {
@@ -101,12 +106,21 @@ int listener_open(address *local)
     return kept_if(is_well && listen(fd, MOST_WAITING) == 0, fd);
 }
 
-/* Frames go out at once. */
-static int undelayed(int fd)
+static void set(int fd, int level, int option, int value)
 {
-    int yes = 1;
-    if (fd >= 0)
-        (void)!setsockopt(fd, IPPROTO_TCP, TCP_NODELAY, &yes, sizeof yes);
+    (void)!setsockopt(fd, level, option, &value, sizeof value);
+}
+
+/* Frames go out at once; and whether the other end is there is known after a minute. */
+static int plain_connection(int fd)
+{
+    if (fd < 0)
+        return fd;
+    set(fd, IPPROTO_TCP, TCP_NODELAY, 1);
+    set(fd, SOL_SOCKET, SO_KEEPALIVE, 1);
+    set(fd, IPPROTO_TCP, TCP_KEEPIDLE, SILENT);
+    set(fd, IPPROTO_TCP, TCP_KEEPINTVL, AGAIN);
+    set(fd, IPPROTO_TCP, TCP_KEEPCNT, TIMES);
     return fd;
 }
 
@@ -114,14 +128,14 @@ int listener_take(int listener, address *from)
 {
     struct sockaddr_in at = {0};
     socklen_t size = sizeof at;
-    int fd = undelayed(unwaiting(accept(listener, (struct sockaddr *)&at, &size)));
+    int fd = plain_connection(unwaiting(accept(listener, (struct sockaddr *)&at, &size)));
     *from = of_system(&at);
     return fd;
 }
 
 int connection_begin(const address *remote)
 {
-    int fd = undelayed(unwaiting(socket(AF_INET, SOCK_STREAM, 0)));
+    int fd = plain_connection(unwaiting(socket(AF_INET, SOCK_STREAM, 0)));
     return fd < 0 ? -1 : kept_if(is_connected(fd, remote), fd);
 }
 
@@ -133,6 +147,29 @@ int connection_state(int fd)
     if (poll(&waiting, 1, 0) <= 0)
         return 0;
     return getsockopt(fd, SOL_SOCKET, SO_ERROR, &fault, &size) == 0 && fault == 0 ? 1 : -1;
+}
+
+void connection_drop(int *fd)
+{
+    struct linger none = {.l_onoff = 1, .l_linger = 0};
+    (void)!setsockopt(*fd, SOL_SOCKET, SO_LINGER, &none, sizeof none);
+    close_any(fd);
+}
+
+/* (while something is under way nobody is asked whether he is there, and Linux tries for a quarter of an hour. Who acknowledges, but takes
+ * nothing, as a PC that is halted, has nothing under way) */
+bool connection_is_dead(int fd)
+{
+    struct tcp_info about = {0};
+    socklen_t size = sizeof about;
+    return getsockopt(fd, IPPROTO_TCP, TCP_INFO, &about, &size) == 0 && about.tcpi_unacked > 0 &&
+           about.tcpi_last_ack_recv >= MINUTE * MILLISECONDS;
+}
+
+bool connection_has_more(int fd)
+{
+    char byte;
+    return recv(fd, &byte, sizeof byte, MSG_PEEK) >= 0 || errno != EAGAIN;
 }
 
 /* ---- Sending and receiving ---- */

@@ -5,10 +5,15 @@
 #include <string.h>
 
 #include "net.h"
+#include <mstcpip.h>
 #include <mswsock.h>
 
 /* Bytes that the system keeps for the gateway, while it sends to many. */
 enum { KEPT = 1 << 20, MOST_WAITING = 4 };
+
+/* Milliseconds of silence, after which a connection is asked whether it is there; and each until it is asked again, which Windows does ten
+ * times. Together a minute. */
+enum { SILENT = 20000, AGAIN = 4000 };
 
 /* What a call of Winsock has answered; where it failed, its fault is kept. */
 static int answered(int answer)
@@ -111,12 +116,16 @@ int listener_open(address *local)
     return kept_if(is_bound(fd, local) && answered(listen((SOCKET)fd, MOST_WAITING)) == 0, fd);
 }
 
-/* Frames go out at once; and a byte that somebody sends out of band is no fault, which is what it would be told as again and again. */
+/* Frames go out at once; whether the other end is there is known after a minute; and a byte that somebody sends out of band is no fault,
+ * which is what it would be told as again and again. */
 static int plain_connection(int fd)
 {
+    struct tcp_keepalive asks = {.onoff = 1, .keepalivetime = SILENT, .keepaliveinterval = AGAIN};
+    DWORD ignored;
     if (fd >= 0) {
         (void)set(fd, IPPROTO_TCP, TCP_NODELAY, 1);
         (void)set(fd, SOL_SOCKET, SO_OOBINLINE, 1);
+        (void)WSAIoctl((SOCKET)fd, SIO_KEEPALIVE_VALS, &asks, sizeof asks, NULL, 0, &ignored, NULL, NULL);
     }
     return fd;
 }
@@ -147,6 +156,26 @@ int connection_state(int fd)
     if (select(0, NULL, &made, &failed, &at_once) <= 0)
         return 0;
     return FD_ISSET((SOCKET)fd, &failed) ? -1 : 1;
+}
+
+void connection_drop(int *fd)
+{
+    struct linger none = {.l_onoff = 1, .l_linger = 0};
+    (void)setsockopt((SOCKET)*fd, SOL_SOCKET, SO_LINGER, (const char *)&none, sizeof none);
+    close_any(fd);
+}
+
+/* (Windows ends a connection by itself on which nobody acknowledges what is under way, before a minute is over) */
+bool connection_is_dead(int fd)
+{
+    (void)fd;
+    return false;
+}
+
+bool connection_has_more(int fd)
+{
+    char byte;
+    return recv((SOCKET)fd, &byte, sizeof byte, MSG_PEEK) >= 0 || WSAGetLastError() != WSAEWOULDBLOCK;
 }
 
 /* ---- Sending and receiving ---- */

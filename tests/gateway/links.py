@@ -116,21 +116,42 @@ def a_connection_comes():
             gate.until("network 00000020 down")
 
 
-def a_newer_connection():
-    """A newer connection takes the place of an older one; frames come in pieces; what isn't frames ends it."""
+def one_pc_at_a_time():
+    """While a PC is connected others are refused, and told; it stays. Where it goes, the next is taken at once."""
     with Gateway(tunnels(1) + "network 20 1 1490 qemu-tcp listen 0 raw\n") as gate:
         far = Client(gate.ports[0x10])
-        _, older = connected(gate, 0x20, "raw")
-        station, newer = connected(gate, 0x20, "raw", last=2)
-        assert reaches(far, station) and is_closed(older)
+        station, pc = connected(gate, 0x20, "raw")
+        for _ in range(50):
+            with socket.create_connection(("127.0.0.1", gate.ports[0x20])) as scanner:
+                assert is_closed(scanner)
+        link = f"qemu-tcp listen 127.0.0.1:{gate.ports[0x20]} raw"
+        refused = gate.told("is refused")
+        assert refused.endswith(f" is refused at {link}: 127.0.0.1:{pc.getsockname()[1]} is connected there"), (refused, link, pc)
+        both_ways(gate, station, far)
+        assert gate.counted(0x20, "refused") == 50
+        # (all that it said is heard, and that it went, before the next is looked at)
+        for last in range(2, 6):
+            for k in range(200):
+                station.say(far.at(), b"%d" % k)
+            pc.close()
+            station, pc = connected(gate, 0x20, "raw", last)
+            assert [far.hear()[30:] for _ in range(200)] == [b"%d" % k for k in range(200)]
+        assert reaches(far, station) and gate.counted(0x20, "refused") == 50
+
+
+def a_stream():
+    """Frames come in pieces, and many at once; what isn't frames ends the connection."""
+    with Gateway(tunnels(1) + "network 20 1 1490 qemu-tcp listen 0 raw\n") as gate:
+        far = Client(gate.ports[0x10])
+        station, pc = connected(gate, 0x20, "raw")
         whole = frame("raw", station.gateway, STATION, packet(far.at(), station.at(), b"pieces"))
         for byte in len(whole).to_bytes(4, "big") + whole:
-            newer.sendall(bytes([byte]))
+            pc.sendall(bytes([byte]))
         assert far.hear()[30:] == b"pieces"
-        newer.sendall((len(whole).to_bytes(4, "big") + whole) * 200)
+        pc.sendall((len(whole).to_bytes(4, "big") + whole) * 200)
         assert all(far.hear()[30:] == b"pieces" for _ in range(200))
-        newer.sendall(b"GET / HTTP/1.0\r\n\r\n")
-        assert is_closed(newer)
+        pc.sendall(b"GET / HTTP/1.0\r\n\r\n")
+        assert is_closed(pc)
         again, _ = connected(gate, 0x20, "raw", last=3)
         assert reaches(far, again)
 
@@ -216,7 +237,7 @@ def nobody_listens():
 
 def main():
     counts = Counts()
-    for test in (datagrams, two_networks_on_a_link, long_frames, a_connection_comes, a_newer_connection, a_connection_goes,
+    for test in (datagrams, two_networks_on_a_link, long_frames, a_connection_comes, one_pc_at_a_time, a_stream, a_connection_goes,
                  nobody_listens_yet, an_address_comes_later, two_gateways, extended):
         counts.run(test)
     if SYSTEM is Windows:

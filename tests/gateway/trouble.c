@@ -2,11 +2,14 @@
  * own by --wrap, so it goes along with the sanitizers.
  *
  *     TROUBLE_CALL=NAME TROUBLE_AT=N TROUBLE_ERRNO=E   the Nth call of that name fails, once, with that errno
- *     TROUBLE_CLOCK=FILE                               the monotonic clock stands at the second that the file says */
+ *     TROUBLE_CLOCK=FILE                               the monotonic clock stands at the second that the file says
+ *     TROUBLE_HASTE=N                                  a connection is known to be dead N times as soon */
+#define _DEFAULT_SOURCE
 #include <errno.h>
 #include <fcntl.h>
 #include <net/if.h>
 #include <netinet/in.h>
+#include <netinet/tcp.h>
 #include <poll.h>
 #include <stdarg.h>
 #include <stdbool.h>
@@ -45,8 +48,6 @@ static bool fails(const char *name)
 TROUBLED(int, socket, -1, (int a, int b, int c), (a, b, c))
 TROUBLED(int, bind, -1, (int a, const struct sockaddr *b, socklen_t c), (a, b, c))
 TROUBLED(int, getsockname, -1, (int a, struct sockaddr *b, socklen_t *c), (a, b, c))
-TROUBLED(int, setsockopt, -1, (int a, int b, int c, const void *d, socklen_t e), (a, b, c, d, e))
-TROUBLED(int, getsockopt, -1, (int a, int b, int c, void *d, socklen_t *e), (a, b, c, d, e))
 TROUBLED(int, connect, -1, (int a, const struct sockaddr *b, socklen_t c), (a, b, c))
 TROUBLED(int, listen, -1, (int a, int b), (a, b))
 TROUBLED(int, accept, -1, (int a, struct sockaddr *b, socklen_t *c), (a, b, c))
@@ -64,6 +65,31 @@ TROUBLED(int, fflush, EOF, (FILE *a), (a))
 TROUBLED(ssize_t, getline, -1, (char **a, size_t *b, FILE *c), (a, b, c))
 TROUBLED(void *, malloc, NULL, (size_t a), (a))
 TROUBLED(void *, realloc, NULL, (void *a, size_t b), (a, b))
+
+static int haste(void)
+{
+    int times = (int)number_of("TROUBLE_HASTE");
+    return times > 0 ? times : 1;
+}
+
+int __real_setsockopt(int fd, int level, int option, const void *value, socklen_t size);
+int __wrap_setsockopt(int fd, int level, int option, const void *value, socklen_t size);
+int __wrap_setsockopt(int fd, int level, int option, const void *value, socklen_t size)
+{
+    bool is_time = level == IPPROTO_TCP && (option == TCP_KEEPIDLE || option == TCP_KEEPINTVL);
+    int sooner = is_time ? *(const int *)value / haste() : 0;
+    return fails("setsockopt") ? -1 : __real_setsockopt(fd, level, option, is_time ? &sooner : value, size);
+}
+
+int __real_getsockopt(int fd, int level, int option, void *value, socklen_t *size);
+int __wrap_getsockopt(int fd, int level, int option, void *value, socklen_t *size);
+int __wrap_getsockopt(int fd, int level, int option, void *value, socklen_t *size)
+{
+    int answer = fails("getsockopt") ? -1 : __real_getsockopt(fd, level, option, value, size);
+    if (answer == 0 && level == IPPROTO_TCP && option == TCP_INFO)
+        ((struct tcp_info *)value)->tcpi_last_ack_recv *= (unsigned)haste();
+    return answer;
+}
 
 int __real_fcntl(int fd, int what, ...);
 int __wrap_fcntl(int fd, int what, ...);

@@ -10,7 +10,8 @@ import tempfile
 
 from frames import KINDS, Packets, Station
 from lab import AGAIN, Client, Counts, Gateway, comes_next, left_out, reaches, reaches_again, says, tunnels, until
-from links import both_ways, places_joined
+from links import both_ways, connected, places_joined
+from systems import SYSTEM
 from troubles import ends_well, troubled
 
 STATION = bytes.fromhex("020000000AA1")
@@ -152,6 +153,23 @@ def a_new_address():
     ip("link", "del", "v0")
 
 
+def a_dead_pc():
+    """A PC whose machine is gone without a word gives way after a minute (here 3 seconds), whether or not something was under way."""
+    make_pair()
+    text = "network 20 1 1490 qemu-tcp listen 0 raw\nnetwork 30 1 1490 interface v0 raw\n"
+    with Gateway(text, SYSTEM.troubled, environment={"TROUBLE_HASTE": "20"}) as gate:
+        host = Station(Packets("v1", "raw"), "raw", 0x30, STATION, gate.nodes[0x30])
+        for is_under_way in (False, True):
+            station, _ = connected(gate, 0x20, "raw")
+            assert reaches(host, station) and gate.told("network 00000020 is up")
+            ip("link", "set", "lo", "down")
+            if is_under_way:
+                host.say(station.at(), b"is lost")
+            assert gate.told("network 00000020 is down").endswith("nobody is connected")
+            ip("link", "set", "lo", "up")
+    ip("link", "del", "v0")
+
+
 def as_machine(number):
     """The words that start a program on a machine of another number."""
     return ["unshare", "-m", "sh", "-c", 'mount --bind "$0" /etc/machine-id && exec "$@"', number]
@@ -272,7 +290,7 @@ def inside():
         ip("link", "del", "v0")
         counts.run(all_kinds)
         counts.run(a_short_mtu)
-        for test in (a_cable_is_pulled, a_card_comes_later, an_address_comes_later, two_gateways, a_new_address):
+        for test in (a_cable_is_pulled, a_card_comes_later, an_address_comes_later, two_gateways, a_new_address, a_dead_pc):
             counts.run(test)
     else:
         left_out("interfaces", "no pair of them can be made")
