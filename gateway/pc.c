@@ -53,7 +53,7 @@ static void take_or_refuse(cable *it)
     }
 }
 
-/* Calls the PC, or looks what became of the call. */
+/* Calls the PC, or looks what became of the call. Where nobody listens, the system may connect a socket with itself. */
 static void call(cable *it)
 {
     uint64_t now = clock_now();
@@ -64,6 +64,11 @@ static void call(cable *it)
         it->tried = now;
     }
     int state = it->fd < 0 ? -1 : connection_state(it->fd);
+    if (state > 0 && connection_is_own(it->fd)) {
+        connection_drop(&it->fd);
+        errno = ECONNREFUSED;
+        state = -1;
+    }
     if (state < 0) {
         it->lacks = "can't connect";
         it->fault = errno;

@@ -156,6 +156,14 @@ void connection_drop(int *fd)
     close_any(fd);
 }
 
+bool connection_is_own(int fd)
+{
+    struct sockaddr_in own = {0}, other = {0};
+    socklen_t size = sizeof own, other_size = sizeof other;
+    return getsockname(fd, (struct sockaddr *)&own, &size) == 0 && getpeername(fd, (struct sockaddr *)&other, &other_size) == 0 &&
+           own.sin_port == other.sin_port && own.sin_addr.s_addr == other.sin_addr.s_addr;
+}
+
 /* (while something is under way nobody is asked whether he is there, and Linux tries for a quarter of an hour. Who acknowledges, but takes
  * nothing, as a PC that is halted, has nothing under way) */
 bool connection_is_dead(int fd)

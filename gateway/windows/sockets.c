@@ -165,6 +165,15 @@ void connection_drop(int *fd)
     close_any(fd);
 }
 
+bool connection_is_own(int fd)
+{
+    struct sockaddr_in own = {.sin_port = 0}, other = {.sin_port = 0};
+    int size = sizeof own, other_size = sizeof other;
+    return getsockname((SOCKET)fd, (struct sockaddr *)&own, &size) == 0 &&
+           getpeername((SOCKET)fd, (struct sockaddr *)&other, &other_size) == 0 && own.sin_port == other.sin_port &&
+           own.sin_addr.s_addr == other.sin_addr.s_addr;
+}
+
 /* (Windows ends a connection by itself on which nobody acknowledges what is under way, before a minute is over) */
 bool connection_is_dead(int fd)
 {

@@ -8,14 +8,15 @@ import subprocess
 import sys
 import tempfile
 
-from frames import KINDS, Packets, Station
-from lab import AGAIN, Client, Counts, Gateway, comes_next, left_out, reaches, reaches_again, says, tunnels, until
-from links import both_ways, connected, places_joined
+from frames import KINDS, Packets, Station, Tcp
+from lab import AGAIN, Client, Counts, Gateway, comes_next, is_routers, left_out, reaches, reaches_again, says, tunnels, until
+from links import both_ways, connected, listening, places_joined
 from systems import SYSTEM
 from troubles import ends_well, troubled
 
 STATION = bytes.fromhex("020000000AA1")
 INSIDE = "--inside"
+ANY_PORTS = "32768 60999"  # as Linux begins
 
 
 def ip(*words):
@@ -153,6 +154,34 @@ def a_new_address():
     ip("link", "del", "v0")
 
 
+def let_take(ports):
+    """Lets sockets that ask for any port take these alone."""
+    with open("/proc/sys/net/ipv4/ip_local_port_range", "w", encoding="ascii") as it:
+        it.write(ports)
+
+
+def meets_itself(port):
+    """Whether the system connects a socket with itself."""
+    with socket.socket() as it:
+        it.setsockopt(socket.SOL_SOCKET, socket.SO_LINGER, bytes([1, 0, 0, 0, 0, 0, 0, 0]))
+        it.connect(("127.0.0.1", port))
+        return it.getsockname() == it.getpeername()
+
+
+def nobody_but_itself():
+    """Where nobody listens the gateway is down, though the system would connect it with itself; it is up once somebody listens."""
+    port = 40000
+    let_take(f"{port} {port}")
+    assert meets_itself(port)
+    with Gateway(f"network 20 1 1490 qemu-tcp connect {port} raw\n") as gate:
+        assert gate.told("can't connect").endswith(f"127.0.0.1:{port} raw: can't connect: Connection refused")
+        until(lambda: "report after 2 s" in gate.report(), "two seconds")
+        assert not any("is up" in it for it in gate.lines)
+        let_take(ANY_PORTS)
+        connection, _ = listening(port).accept()
+        assert Station(Tcp(connection), "raw", 0x20, STATION, gate.nodes[0x20]).hear(is_routers)
+
+
 def a_dead_pc():
     """A PC whose machine is gone without a word gives way after a minute (here 3 seconds), whether or not something was under way."""
     make_pair()
@@ -285,6 +314,10 @@ def inside():
         counts.run(made_up_nodes)
     else:
         left_out("nodes of other machines", "no machine's number can be put in the place of this one's")
+    if can(lambda: let_take(ANY_PORTS)):
+        counts.run(nobody_but_itself)
+    else:
+        left_out("a connection with itself", "the ports that the system gives can't be set")
     has_pairs = can(lambda: ip("link", "add", "v0", "type", "veth", "peer", "name", "v1"))
     if has_pairs:
         ip("link", "del", "v0")
