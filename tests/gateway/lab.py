@@ -104,6 +104,7 @@ class Gateway:
 
     def __init__(self, text, program=None, options=(), environment=None, before=()):
         self.folder = tempfile.TemporaryDirectory()
+        os.chmod(self.folder.name, 0o755)  # (for a gateway that runs as another user)
         self.configuration = os.path.join(self.folder.name, "gateway.conf")
         with open(self.configuration, "w", encoding="utf-8") as it:
             it.write(text)

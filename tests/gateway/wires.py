@@ -17,6 +17,7 @@ from troubles import ends_well, troubled
 STATION = bytes.fromhex("020000000AA1")
 INSIDE = "--inside"
 ANY_PORTS = "32768 60999"  # as Linux begins
+NOBODY, GROUP = 65534, 64242  # numbers of a user and of a group that own nothing
 
 
 def ip(*words):
@@ -222,6 +223,41 @@ def made_up_nodes():
     assert all(it[0] == 2 for it in first + other)
 
 
+def as_nobody(*groups):
+    """The words that start a program as a user who isn't root, in some groups."""
+    # (setpriv itself has root's rights still when it starts one)
+    groups = f"--groups={','.join(map(str, groups))}" if groups else "--clear-groups"
+    return ["setpriv", f"--reuid={NOBODY}", f"--regid={NOBODY}", groups, "sh", "-c", 'exec "$0" "$@"']
+
+
+def rights_of_a_group():
+    """Rights that a group alone has, as GATEWAY.md gives them: a user in it has cards and TAPs; others can't start the gateway."""
+    make_pair()
+    text = "network 20 1 1490 interface v0 raw\n"
+    # (the device for TAPs is everybody's, as systems have it; it needs the right too)
+    if os.stat("/dev/net/tun").st_mode & 0o006 == 0o006:
+        text += "network 30 1 1490 tap ipx7 raw\n"
+    else:
+        left_out("TAPs by the rights of a group", "the device for them is root's alone")
+    with tempfile.TemporaryDirectory() as folder:
+        os.chmod(folder, 0o755)
+        program = shutil.copy(SYSTEM.delivered, os.path.join(folder, "ipxr-gateway"))
+        os.chmod(program, 0o750)
+        os.chown(program, 0, GROUP)
+        subprocess.run(["setcap", "cap_net_raw,cap_net_admin=ep", program], check=True)
+        with Gateway(text, program, before=as_nobody(GROUP)) as gate:
+            for network in gate.nodes:
+                gate.until(f"network {network:08X} up")
+        for groups, rights, why in (((), "cap_net_raw,cap_net_admin=ep", "Permission denied"), ((GROUP,), "=", "Operation not permitted")):
+            subprocess.run(["setcap", rights, program], check=True)
+            try:
+                with Gateway(text, program, before=as_nobody(*groups)):
+                    raise OSError("it starts without rights")
+            except AssertionError as stop:
+                assert why in str(stop), stop
+    ip("link", "del", "v0")
+
+
 def behind_tap(gate, kind, network):
     return Station(Packets("ipx0", kind), kind, network, STATION, gate.nodes[network])
 
@@ -306,6 +342,13 @@ def can(test):
     return True
 
 
+def can_give_rights():
+    """Whether files can be given rights here, that a program has which the system itself runs."""
+    with open("/proc/self/uid_map", encoding="ascii") as it:
+        is_root = it.read().split() == ["0", "0", "4294967295"]
+    return is_root and SYSTEM.name == "Linux" and all(map(shutil.which, ("setcap", "setpriv")))
+
+
 def inside():
     """In the network of its own."""
     counts = Counts()
@@ -325,6 +368,10 @@ def inside():
         counts.run(a_short_mtu)
         for test in (a_cable_is_pulled, a_card_comes_later, an_address_comes_later, two_gateways, a_new_address, a_dead_pc):
             counts.run(test)
+        if can_give_rights():
+            counts.run(rights_of_a_group)
+        else:
+            left_out("the rights of a group", "they want root, setcap and setpriv, and a gateway for this machine")
     else:
         left_out("interfaces", "no pair of them can be made")
     if can(lambda: os.close(os.open("/dev/net/tun", os.O_RDWR))):
