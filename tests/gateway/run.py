@@ -10,12 +10,13 @@ import pc
 import siphash
 import troubles
 import tunnel
+import unit
 import wires
 import words
 from lab import left_out
 from systems import SYSTEM, Windows
 
-TESTS = {it.__name__: it for it in (words, siphash, orders, tunnel, links, troubles, wires, dosbox, pc)}
+TESTS = {it.__name__: it for it in (words, siphash, unit, orders, tunnel, links, troubles, wires, dosbox, pc)}
 
 
 def has_loopback():

@@ -1,0 +1,49 @@
+"""The unit for systemd."""
+import os
+import re
+import shutil
+import subprocess
+import tempfile
+
+from lab import Counts, left_out
+from systems import SYSTEM, TOP, Windows
+
+MOST = 2.9  # of systemd's 10.0 for a service that may do everything
+
+
+def little_is_allowed():
+    """The unit allows the gateway little beside what it needs: systemd gives it at most 2.9 points of exposure, of ten."""
+    with tempfile.TemporaryDirectory() as folder:
+        unit = os.path.join(folder, "ipxr-gateway.service")
+        with open(os.path.join(TOP, "gateway", "ipxr-gateway.service.in"), encoding="ascii") as it:
+            text = it.read().replace("@PREFIX@", "/usr")
+        with open(unit, "w", encoding="ascii") as it:
+            it.write(text)
+        words = ["systemd-analyze", "security", "--offline=true", "--no-pager", unit]
+        told = subprocess.run(words, capture_output=True, text=True, check=False)
+    found = re.search(r"Overall exposure level for ipxr-gateway.service: ([0-9.]+)", told.stdout)
+    assert found, told.stdout + told.stderr
+    print(f"        exposure {found[1]}", flush=True)
+    assert float(found[1]) <= MOST, told.stdout
+
+
+def knows_offline():
+    """Whether there is a systemd-analyze that judges files."""
+    if not shutil.which("systemd-analyze"):
+        return False
+    return "--offline" in subprocess.run(["systemd-analyze", "--help"], capture_output=True, text=True, check=False).stdout
+
+
+def main():
+    counts = Counts()
+    if SYSTEM is Windows:
+        left_out("the unit for systemd", "there is none on Windows")
+    elif not knows_offline():
+        left_out("the unit for systemd", "no systemd-analyze that judges files")
+    else:
+        counts.run(little_is_allowed)
+    return counts
+
+
+if __name__ == "__main__":
+    main()
