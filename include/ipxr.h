@@ -126,7 +126,7 @@ extern "C" {
 #define IPXR_NO_PORT (-2)       /* there is no port of that number */
 #define IPXR_NO_PACKET (-3)     /* there is no packet of that number */
 #define IPXR_NO_RECORD (-4)     /* there is no route or service of that number */
-#define IPXR_SHORT_BUFFER (-5)  /* the packet is longer than the buffer; its length is told */
+#define IPXR_SHORT_BUFFER (-5)  /* the packet is longer than the buffer; ipxr_get tells its length */
 #define IPXR_OUT_OF_MEMORY (-6) /* the allocator refused; the call can be made again */
 /* of ipxr_make alone: */
 #define IPXR_BAD_LONGEST (-11)  /* a port's longest packet is under 576 bytes */
@@ -136,6 +136,12 @@ extern "C" {
 #define IPXR_NO_PORTS (-15)     /* there are no ports */
 #define IPXR_MANY_PORTS (-16)   /* there are more than IPXR_MOST_PORTS */
 #define IPXR_SAME_NETWORK (-17) /* two ports are on one network */
+/* of the calls that write packets alone: */
+#define IPXR_BAD_OPERATION (-21) /* neither a request nor a response */
+#define IPXR_NO_ENTRIES (-22)    /* there is no route or service to write */
+#define IPXR_MANY_ENTRIES (-23)  /* there are more routes or services than a packet may have */
+#define IPXR_BAD_NAME (-24)      /* a service's name is empty, or has no 0 behind it */
+#define IPXR_LONG_PACKET (-25)   /* with its data the packet would have more than 65,535 bytes */
 
 /* ---- Values ---- */
 
@@ -194,6 +200,30 @@ typedef struct ipxr_service_record {
     uint8_t port;      /* the port by which it came */
     uint8_t age;       /* seconds since it was advertised last: under 180 */
 } ipxr_service_record;
+
+/* An address, of a packet that is written: a socket on a node of a network. */
+typedef struct ipxr_address {
+    uint32_t network; /* 0 is the network at hand */
+    uint8_t node[6];  /* or the broadcast */
+    uint16_t socket;
+} ipxr_address;
+
+/* A route of a packet that is written. */
+typedef struct ipxr_route_entry {
+    uint32_t network; /* where it leads, or, in a request, what is asked for: FFFFFFFFh is all */
+    uint16_t hops;    /* routers on the way: 16 where it is unreachable, and FFFFh in a request */
+    uint16_t ticks;   /* ticks for the way: FFFFh in a request */
+} ipxr_route_entry;
+
+/* A service of a packet that is written: its fields are the first of an ipxr_service_record. */
+typedef struct ipxr_service_entry {
+    uint8_t name[48]; /* its name, 1 to 47 bytes, and a 0 behind: the rest is written as zeros */
+    uint32_t network; /* where it is offered: network, node and socket */
+    uint8_t node[6];
+    uint16_t socket;
+    uint16_t type;    /* its type, as 4 for a file server */
+    uint16_t hops;    /* routers on the way: 16 where it is unreachable */
+} ipxr_service_entry;
 
 /* ---- Making and freeing ---- */
 
@@ -284,6 +314,45 @@ IPXR_CALL uint8_t ipxr_frame_read(const uint8_t *frame, size_t length, size_t *f
  * with a checksum, since nobody would know it as IPX. */
 IPXR_CALL size_t ipxr_frame_write(uint8_t kind, const uint8_t to[6], const uint8_t from[6], const uint8_t *packet, size_t length,
                                   uint8_t *frame, size_t room);
+
+/* ---- Packets of your own ----
+ * For what a program puts on its networks itself: a server or a client inside of it, or a test. They need no router and keep nothing.
+ * Each writes a whole packet, without a checksum (FFFFh), to the front of `buffer`, which has room for `room` bytes, and returns its
+ * length; the rest of the buffer stays as it was. Or it returns the first of its faults, in the order in which they stand here, and
+ * writes nothing. What was written is what ipxr_packet takes, ipxr_frame_write carries, and a router on the way reads. */
+
+/* The sockets to which routing information and service advertising go, and from which routers send them. */
+#define IPXR_RIP_SOCKET 0x0453
+#define IPXR_SAP_SOCKET 0x0452
+
+/* The operations of routing information. */
+#define IPXR_RIP_REQUEST 1
+#define IPXR_RIP_RESPONSE 2
+
+/* How many routes, and how many services, one packet has at most. 576 bytes are room enough for as many. */
+#define IPXR_PACKET_ROUTES 50
+#define IPXR_PACKET_SERVICES 7
+
+/* Writes a request or a response of routing information, with `count` routes: 32 bytes, and 8 for each. IPXR_BAD_OPERATION,
+ * IPXR_NO_ENTRIES, IPXR_MANY_ENTRIES, IPXR_SHORT_BUFFER. */
+IPXR_CALL int32_t ipxr_write_rip(const ipxr_address *from, const ipxr_address *to, uint16_t operation, const ipxr_route_entry *routes,
+                                 size_t count, uint8_t *buffer, size_t room);
+
+/* Writes a query for the services of a type, or of every type, which is FFFFh: for all of them where `nearest` is 0, and otherwise for
+ * the nearest one. It has 34 bytes. IPXR_SHORT_BUFFER. */
+IPXR_CALL int32_t ipxr_write_query(const ipxr_address *from, const ipxr_address *to, uint8_t nearest, uint16_t type, uint8_t *buffer,
+                                   size_t room);
+
+/* Writes a response of `count` services: a general one where `nearest` is 0, and otherwise one to a query for the nearest service. It
+ * has 32 bytes, and 64 for each. IPXR_NO_ENTRIES, IPXR_MANY_ENTRIES, IPXR_BAD_NAME, IPXR_SHORT_BUFFER. */
+IPXR_CALL int32_t ipxr_write_sap(const ipxr_address *from, const ipxr_address *to, uint8_t nearest, const ipxr_service_entry *services,
+                                 size_t count, uint8_t *buffer, size_t room);
+
+/* Writes a packet of any type: 30 bytes, and its data. `control` is how many routers it came through: 0 of a packet that sets out. Of
+ * type 20, NetBIOS, the data begin with 32 bytes of room for the networks crossed, of which the first `control` tell one each; those of
+ * a packet that sets out are 0. IPXR_LONG_PACKET, IPXR_SHORT_BUFFER. */
+IPXR_CALL int32_t ipxr_write_packet(const ipxr_address *from, const ipxr_address *to, uint8_t type, uint8_t control, const uint8_t *data,
+                                    size_t length, uint8_t *buffer, size_t room);
 
 /* ---- Words ---- */
 

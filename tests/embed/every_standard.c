@@ -38,10 +38,23 @@ static int carries_none(void)
            ipxr_frame_read(PORT.node, sizeof PORT.node, &front) == IPXR_NO_FRAME;
 }
 
+/* Of 30 bytes, of 34, of a route and of a service. */
+static int writes(void)
+{
+    static const ipxr_address HERE = {0x10, {0, 0, 0, 0, 0, 1}, IPXR_RIP_SOCKET};
+    static const ipxr_route_entry ROUTE = {0x20, 1, 2};
+    static const ipxr_service_entry SERVICE = {{'A', 0}, 0x20, {0, 0, 0, 0, 0, 1}, 0x451, 4, 1};
+    uint8_t bytes[576];
+    return ipxr_write_packet(&HERE, &HERE, 0, 0, PORT.node, 0, bytes, sizeof bytes) == 30 &&
+           ipxr_write_query(&HERE, &HERE, 0, 4, bytes, sizeof bytes) == 34 &&
+           ipxr_write_rip(&HERE, &HERE, IPXR_RIP_RESPONSE, &ROUTE, 1, bytes, sizeof bytes) == 40 &&
+           ipxr_write_sap(&HERE, &HERE, 0, &SERVICE, 1, bytes, sizeof bytes) == 96;
+}
+
 int main(void)
 {
     ipxr router = IPXR_NONE;
-    int is_right = has_none(&router) && has_words() && carries_none() && ipxr_version() == IPXR_VERSION;
+    int is_right = has_none(&router) && has_words() && carries_none() && writes() && ipxr_version() == IPXR_VERSION;
     is_right = is_right && ipxr_make(&router, PORTS, 1) == 0 && ipxr_start(&router) == IPXR_STARTED;
     ipxr_clear(&router);
     ipxr_free(&router);

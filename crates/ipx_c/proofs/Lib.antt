@@ -1,4 +1,5 @@
 mod FirstBad
 mod MachineBox
+mod Placed
 mod Unmade
 pub mod examples

@@ -14,7 +14,7 @@ use Rattle.ipx_router.specs.declared.ports_fault.PortsFault.TheVariants.{NoPort 
 use Rattle.ipx_router.specs.declared.why.Why.{Why}
 use Rattle.ipx_router.specs.declared.why.Why.TheVariants.{NotRunning, Malformed, OwnEcho, BadSource, CrossedShort, CrossedFull, CrossedSeen, Elsewhere, OtherSocket, NotNeighbour, BadRip, BadSap, NearestReply, TooManyRouters, FarSide, NoRoute, TooLong, DownPort}
 use Rattle.ipx_c.specs.declared.fault.Fault.{Fault}
-use Rattle.ipx_c.specs.declared.fault.Fault.TheVariants.{NoRouter, NoPort, NoPacket, NoRecord, ShortBuffer, OutOfMemory, Port, Ports}
+use Rattle.ipx_c.specs.declared.fault.Fault.TheVariants.{NoRouter, NoPort, NoPacket, NoRecord, ShortBuffer, OutOfMemory, Port, Ports, Operation, NoEntries, ManyEntries, Name, LongPacket}
 
 -- ---- why an event was dropped
 
@@ -92,6 +92,11 @@ fault_number (Port Node) = 14
 fault_number (Ports NoPorts) = 15
 fault_number (Ports ManyPorts) = 16
 fault_number (Ports SameNetwork) = 17
+fault_number Operation = 21
+fault_number NoEntries = 22
+fault_number ManyEntries = 23
+fault_number Name = 24
+fault_number LongPacket = 25
 
 -- ---- the numbers as C hears them
 
@@ -108,3 +113,8 @@ done = pos 0
 abbrev pub code_of : Result Outcome Fault → ℤ
 code_of (Ok outcome) = outcome_code outcome
 code_of (Err fault) = fault_code fault
+
+-- of a call that answers how many bytes it wrote
+abbrev pub count_code : Result ℕ Fault → ℤ
+count_code (Ok count) = pos count
+count_code (Err fault) = fault_code fault

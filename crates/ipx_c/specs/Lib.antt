@@ -12,6 +12,8 @@ pub mod Copies
 pub mod Reads
 -- frames
 pub mod Kinds
+-- packets that are written
+pub mod Writes
 -- words
 pub mod Words
 -- nothing that a public contract says

@@ -9,7 +9,7 @@ use Rattle.ipx_router.specs.declared.port.PortFault.TheVariants.{Longest, Cost, 
 use Rattle.ipx_router.specs.declared.ports_fault.PortsFault.TheVariants.{NoPort as NoPorts, TooMany as ManyPorts, SameNetwork}
 use Rattle.ipx_router.specs.declared.why.Why.TheVariants.{NotRunning, Malformed, OwnEcho, BadSource, CrossedShort, CrossedFull, CrossedSeen, Elsewhere, OtherSocket, NotNeighbour, BadRip, BadSap, NearestReply, TooManyRouters, FarSide, NoRoute, TooLong, DownPort}
 use Rattle.ipx_c.specs.Codes.{outcome_number, fault_number}
-use Rattle.ipx_c.specs.declared.fault.Fault.TheVariants.{NoRouter, NoPort, NoPacket, NoRecord, ShortBuffer, OutOfMemory, Port, Ports}
+use Rattle.ipx_c.specs.declared.fault.Fault.TheVariants.{NoRouter, NoPort, NoPacket, NoRecord, ShortBuffer, OutOfMemory, Port, Ports, Operation, NoEntries, ManyEntries, Name, LongPacket}
 
 -- of what became of an event
 abbrev pub event_word : ℕ → List ℕ
@@ -73,7 +73,12 @@ fault_word n =
     if n == fault_number (Port Node) then codes "bad node" else
     if n == fault_number (Ports NoPorts) then codes "no ports" else
     if n == fault_number (Ports ManyPorts) then codes "too many ports" else
-    if n == fault_number (Ports SameNetwork) then codes "same network" else []
+    if n == fault_number (Ports SameNetwork) then codes "same network" else
+    if n == fault_number Operation then codes "bad operation" else
+    if n == fault_number NoEntries then codes "no entries" else
+    if n == fault_number ManyEntries then codes "too many entries" else
+    if n == fault_number Name then codes "bad name" else
+    if n == fault_number LongPacket then codes "packet too long" else []
 
 -- from here on the numbers are those of drops
 abbrev pub first_drop : ℕ

@@ -1,6 +1,6 @@
 //! The numbers by which C hears what became of a call; the header has a name for each.
 ghost use Rattle.std.specs.Prelude.{◌≡◌};
-ghost use Rattle.ipx_c.specs.Codes.{packet_number, rip_number, sap_number, why_number, outcome_number, fault_number, fault_code, code_of};
+ghost use Rattle.ipx_c.specs.Codes.{packet_number, rip_number, sap_number, why_number, outcome_number, fault_number, fault_code, code_of, count_code};
 
 use crate::fault::Fault;
 use ipx_router::{Outcome, PortFault, PortsFault, Why};
@@ -15,6 +15,16 @@ pub(crate) fn code_of(became: Result<Outcome, Fault>) -> i32
 {
     match became {
         Ok(outcome) => i32::from(outcome_number(outcome)),
+        Err(fault) => fault_code(fault),
+    }
+}
+
+/// How many bytes were written, or the number of why none were.
+pub(crate) fn count_code(written: Result<u16, Fault>) -> i32
+    ensures { result ≡ count_code written }
+{
+    match written {
+        Ok(count) => i32::from(count),
         Err(fault) => fault_code(fault),
     }
 }
@@ -43,6 +53,11 @@ fn fault_number(fault: Fault) -> u16
         Fault::Ports(PortsFault::NoPort) => 15,
         Fault::Ports(PortsFault::TooMany) => 16,
         Fault::Ports(PortsFault::SameNetwork) => 17,
+        Fault::Operation => 21,
+        Fault::NoEntries => 22,
+        Fault::ManyEntries => 23,
+        Fault::Name => 24,
+        Fault::LongPacket => 25,
     }
 }
 

@@ -29,4 +29,19 @@ pub enum Fault {
     /// Ports that make no router.
     #[error("{0}")]
     Ports(PortsFault),
+    /// An operation that is neither a request nor a response.
+    #[error("neither a request nor a response")]
+    Operation,
+    /// A packet without a route or a service.
+    #[error("no entries")]
+    NoEntries,
+    /// More routes or services than a packet may have.
+    #[error("more entries than a packet may have")]
+    ManyEntries,
+    /// A name that is empty, or has no zero behind it.
+    #[error("no name")]
+    Name,
+    /// More data than a packet may have.
+    #[error("more data than a packet may have")]
+    LongPacket,
 }

@@ -7,6 +7,7 @@
 //! - How many ports, routes and services a router can have stands in `sizes`, whose constants `specs/Sizes` names. `tools/sized`
 //!   writes that file anew for a library of other sizes.
 //! - Frames of Ethernet are read and written as `ipx_capture` does, by the numbers of their kinds (`Kinds`).
+//! - Packets are written by the writers of `ipx_wire`, of values that C gives (`Writes`).
 //! - `cell` is the only place with a raw pointer; its proofs, and those alone, are walks by hand.
 //! - A handle isn't `Drop`: what doesn't hand its machine on, or put it into an empty one, doesn't compile or isn't proved. So no
 //!   call loses a router. That `ipxr_free` and `ipxr_make` free is one line in `making`, `drop(machine)`, which no clause can say.
@@ -25,6 +26,7 @@ mod sending;
 mod sizes;
 mod values;
 mod words;
+mod writing;
 
 pub use crate::events::{
     ipxr_packet, ipxr_port_down, ipxr_port_up, ipxr_second, ipxr_start, ipxr_stop,
@@ -38,5 +40,8 @@ pub use crate::reading::{
     ipxr_is_running, ipxr_is_up, ipxr_route, ipxr_routes, ipxr_service, ipxr_services,
 };
 pub use crate::sending::{ipxr_clear, ipxr_get, ipxr_sent};
-pub use crate::values::{PacketSent, PortValues, RouteRecord, ServiceRecord};
+pub use crate::values::{
+    AddressValues, PacketSent, PortValues, RouteEntry, RouteRecord, ServiceEntry, ServiceRecord,
+};
 pub use crate::words::ipxr_word;
+pub use crate::writing::{ipxr_write_packet, ipxr_write_query, ipxr_write_rip, ipxr_write_sap};

@@ -67,7 +67,7 @@ fn copy_out(machine: &Machine, index: usize, sent: &mut PacketSent, buffer: &mut
 }
 
 /// Copies bytes to the front of a buffer that has room for them.
-fn put(buffer: &mut [u8], bytes: &[u8])
+pub(crate) fn put(buffer: &mut [u8], bytes: &[u8])
     requires { length bytes.now ≤ length buffer.old }
     ensures { buffer.new ≡ bytes.now ++ drop (length bytes.now) buffer.old }
 {

@@ -59,3 +59,35 @@ pub struct ServiceRecord {
     /// In seconds.
     pub age: u8,
 }
+
+/// An address, as C gives it.
+#[repr(C)]
+#[derive(Clone, Copy)]
+pub struct AddressValues {
+    pub network: u32,
+    pub node: [u8; 6],
+    pub socket: u16,
+}
+
+/// A route of a packet, as C gives it.
+#[repr(C)]
+#[derive(Clone, Copy)]
+pub struct RouteEntry {
+    pub network: u32,
+    pub hops: u16,
+    pub ticks: u16,
+}
+
+/// A service of a packet, as C gives it.
+#[repr(C)]
+#[derive(Clone, Copy)]
+pub struct ServiceEntry {
+    /// Its name, a zero, and anything behind.
+    pub name: [u8; 48],
+    pub network: u32,
+    pub node: [u8; 6],
+    pub socket: u16,
+    /// Its type.
+    pub kind: u16,
+    pub hops: u16,
+}

@@ -114,6 +114,11 @@ fn fault_word(number: u32) -> &'static str
         15 => "no ports",
         16 => "too many ports",
         17 => "same network",
+        21 => "bad operation",
+        22 => "no entries",
+        23 => "too many entries",
+        24 => "bad name",
+        25 => "packet too long",
         _ => "",
     }
 }

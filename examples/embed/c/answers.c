@@ -107,6 +107,37 @@ static void with_a_router(ipxr *router)
     tell_number("is_running", ipxr_is_running(router));
 }
 
+/* A buffer that is untouched where nothing is written. */
+static void packets_that_are_not_written(void)
+{
+    static const ipxr_address here = {0x10, {0, 0, 0, 0, 0, 2}, IPXR_SAP_SOCKET};
+    static const ipxr_route_entry routes[IPXR_PACKET_ROUTES + 1] = {{0x20, 1, 2}};
+    ipxr_service_entry services[IPXR_PACKET_SERVICES + 1] = {{"A", 0x20, {0, 0, 0, 0, 0, 1}, 0x451, 4, 1}};
+    static const uint8_t data[65536];
+    static uint8_t bytes[65536];
+
+    printf("packets\n");
+    tell_number("operation 3", ipxr_write_rip(&here, &here, 3, routes, 0, bytes, 0));
+    tell_number("no route", ipxr_write_rip(&here, &here, IPXR_RIP_REQUEST, routes, 0, bytes, 0));
+    tell_number("51 routes", ipxr_write_rip(&here, &here, IPXR_RIP_RESPONSE, routes, IPXR_PACKET_ROUTES + 1, bytes, 0));
+    tell_number("one route into 39 bytes", ipxr_write_rip(&here, &here, IPXR_RIP_RESPONSE, routes, 1, bytes, 39));
+    tell_number("a query into 33 bytes", ipxr_write_query(&here, &here, 0, 4, bytes, 33));
+    tell_number("no service", ipxr_write_sap(&here, &here, 0, services, 0, bytes, 0));
+    tell_number("8 services", ipxr_write_sap(&here, &here, 0, services, IPXR_PACKET_SERVICES + 1, bytes, 0));
+    tell_number("a second name that is empty", ipxr_write_sap(&here, &here, 0, services, 2, bytes, 0));
+    memset(services[0].name, 'A', sizeof services[0].name);
+    tell_number("a name of 48 bytes", ipxr_write_sap(&here, &here, 0, services, 1, bytes, sizeof bytes));
+    services[0].name[47] = 0;
+    tell_number("of 47 bytes, into 95 bytes", ipxr_write_sap(&here, &here, 0, services, 1, bytes, 95));
+    tell_number("65,506 bytes of data", ipxr_write_packet(&here, &here, 0, 0, data, 65506, bytes, sizeof bytes));
+    tell_number("65,505 into 65,534 bytes", ipxr_write_packet(&here, &here, 0, 0, data, 65505, bytes, 65534));
+    printf("the buffer begins %02X\n", bytes[0]);
+    tell_number("50 routes", ipxr_write_rip(&here, &here, IPXR_RIP_RESPONSE, routes, IPXR_PACKET_ROUTES, bytes, 432));
+    tell_number("a service", ipxr_write_sap(&here, &here, 0, services, 1, bytes, 96));
+    tell_number("65,505 bytes of data", ipxr_write_packet(&here, &here, 0, 0, data, 65505, bytes, 65535));
+    printf("the buffer begins %02X\n", bytes[0]);
+}
+
 static void words(void)
 {
     uint8_t word[8] = "as was";
@@ -124,6 +155,7 @@ int main(void)
     without_a_router();
     tell_number("make", ipxr_make(&router, PORTS, 2));
     with_a_router(&router);
+    packets_that_are_not_written();
     words();
     ipxr_free(&router);
     ipxr_free(&router);

@@ -154,6 +154,51 @@ static void show_arguments(ipxr *router)
     tell("port 1 comes up", ipxr_port_up(router, 1));
 }
 
+/* ---- Packets that are written ---- */
+
+static const ipxr_address FROM = {.network = 0xB1B2B3B4, .node = {0xB5, 0xB6, 0xB7, 0xB8, 0xB9, 0xBA}, .socket = 0xBBBC};
+static const ipxr_address TO = {.network = 0xC1C2C3C4, .node = {0xC5, 0xC6, 0xC7, 0xC8, 0xC9, 0xCA}, .socket = 0xCBCC};
+
+static const ipxr_route_entry WAYS[2] = {
+    {.network = 0xD1D2D3D4, .hops = 0xD5D6, .ticks = 0xD7D8},
+    {.network = 0xE1E2E3E4, .hops = 0xE5E6, .ticks = 0xE7E8},
+};
+
+static const ipxr_service_entry OFFERS[2] = {
+    {.name = "FILES", .network = 0x01020304, .node = {5, 6, 7, 8, 9, 10}, .socket = 0x0B0C, .type = 0x0D0E, .hops = 0x0F10},
+    {.name = "PRINT", .network = 0x11121314, .node = {21, 22, 23, 24, 25, 26}, .socket = 0x1B1C, .type = 0x1D1E, .hops = 0x1F20},
+};
+
+/* The packet, and whether behind it the buffer is as it was. */
+static void show_written(const char *what, const uint8_t *bytes, int32_t length)
+{
+    printf("%s: ", what);
+    if (length < 0)
+        printf("%d", (int)length);
+    else
+        print_hex(bytes, (size_t)length);
+    printf("%s\n", length < 0 || bytes[length] == 0xA5 ? "" : " and more");
+}
+
+static void write_packets(void)
+{
+    static const uint8_t DATA[3] = {0xF1, 0xF2, 0xF3};
+    uint8_t bytes[IPXR_LONGEST_FRAME];
+    memset(bytes, 0xA5, sizeof bytes);
+    show_written("a request", bytes, ipxr_write_rip(&FROM, &TO, IPXR_RIP_REQUEST, WAYS, 1, bytes, sizeof bytes));
+    memset(bytes, 0xA5, sizeof bytes);
+    show_written("a response", bytes, ipxr_write_rip(&FROM, &TO, IPXR_RIP_RESPONSE, WAYS, 2, bytes, sizeof bytes));
+    memset(bytes, 0xA5, sizeof bytes);
+    show_written("a query", bytes, ipxr_write_query(&FROM, &TO, 0, 0xA1A2, bytes, sizeof bytes));
+    show_written("for the nearest", bytes, ipxr_write_query(&FROM, &TO, 1, 0xA1A2, bytes, sizeof bytes));
+    memset(bytes, 0xA5, sizeof bytes);
+    show_written("a service", bytes, ipxr_write_sap(&FROM, &TO, 1, OFFERS, 1, bytes, sizeof bytes));
+    memset(bytes, 0xA5, sizeof bytes);
+    show_written("two services", bytes, ipxr_write_sap(&FROM, &TO, 0, OFFERS, 2, bytes, sizeof bytes));
+    memset(bytes, 0xA5, sizeof bytes);
+    show_written("data", bytes, ipxr_write_packet(&FROM, &TO, 0xA3, 0xA4, DATA, sizeof DATA, bytes, sizeof bytes));
+}
+
 int main(void)
 {
     ipxr router = {0};
@@ -168,6 +213,7 @@ int main(void)
     show_longest(&router, 0);
     show_longest(&router, 1);
     show_arguments(&router);
+    write_packets();
     ipxr_free(&router);
     return 0;
 }

@@ -11,28 +11,38 @@
 
 enum { CABLE, INSIDE, PORTS, LONGEST = 576, PERIOD = 60 };
 
-static const uint8_t SERVER[6] = {0, 0, 0, 0, 0, 2};
+/* A type of services, and the type of a client's packets for one. */
+enum { FILE_SERVER = 4, NCP = 17 };
 
-/* What the server advertises: that it is there. */
-static const uint8_t OFFER[96] = {
-    0xFF, 0xFF, 0, 96, 0, 4,                                       /* no checksum, 96 bytes, the type of SAP */
-    0, 0, 0, 0xE0, 0xFF, 0xFF, 0xFF, 0xFF, 0xFF, 0xFF, 0x04, 0x52, /* to all nodes of network E0, to the socket of SAP */
-    0, 0, 0, 0xE0, 0, 0, 0, 0, 0, 2, 0x04, 0x52,                   /* from the server's node there */
-    0, 2, 0, 4, 'F', 'I', 'L', 'E', 'S',                           /* a response: a file server of that name */
-    [82] = 0, 0, 0, 0xE0, 0, 0, 0, 0, 0, 2, 0x04, 0x51, 0, 1,      /* at that network, node and socket, one router away */
-};
+/* The server and a client as addresses, and all nodes of their networks. */
+static const ipxr_address SERVICE = {0xE0, {0, 0, 0, 0, 0, 2}, 0x0451}, CC = {0x10, {0, 0, 0, 0, 0, 0xCC}, 0x4003};
+static const ipxr_address ALL_INSIDE = {0xE0, {0xFF, 0xFF, 0xFF, 0xFF, 0xFF, 0xFF}, IPXR_SAP_SOCKET};
+static const ipxr_address ALL_ON_CABLE = {0x10, {0xFF, 0xFF, 0xFF, 0xFF, 0xFF, 0xFF}, IPXR_SAP_SOCKET};
 
-/* A client asks for the nearest file server. */
-static const uint8_t QUERY[34] = {
-    0xFF, 0xFF, 0, 34, 0, 4, 0, 0, 0, 0x10, 0xFF, 0xFF, 0xFF, 0xFF, 0xFF, 0xFF, 0x04, 0x52,
-    0, 0, 0, 0x10, 0, 0, 0, 0, 0, 0xCC, 0x40, 0x03, 0, 3, 0, 4,
-};
+/* The server advertises that it is there, one router away. */
+static int32_t offer(ipxr *router)
+{
+    static const ipxr_service_entry FILES = {"FILES", 0xE0, {0, 0, 0, 0, 0, 2}, 0x0451, FILE_SERVER, 1};
+    uint8_t bytes[LONGEST];
+    int32_t length = ipxr_write_sap(&SERVICE, &ALL_INSIDE, 0, &FILES, 1, bytes, sizeof bytes);
+    return ipxr_packet(router, INSIDE, bytes, (size_t)length);
+}
 
-/* A client writes to the server: a packet of 30 bytes, to its node and socket. */
-static const uint8_t LETTER[30] = {
-    0xFF, 0xFF, 0, 30, 0, 17, 0, 0, 0, 0xE0, 0, 0, 0, 0, 0, 2, 0x04, 0x51,
-    0, 0, 0, 0x10, 0, 0, 0, 0, 0, 0xCC, 0x40, 0x03,
-};
+/* The client asks for the nearest file server. */
+static int32_t ask(ipxr *router)
+{
+    uint8_t bytes[LONGEST];
+    int32_t length = ipxr_write_query(&CC, &ALL_ON_CABLE, 1, FILE_SERVER, bytes, sizeof bytes);
+    return ipxr_packet(router, CABLE, bytes, (size_t)length);
+}
+
+/* The client writes to the server. */
+static int32_t say(ipxr *router, const char *text)
+{
+    uint8_t bytes[LONGEST];
+    int32_t length = ipxr_write_packet(&CC, &SERVICE, NCP, 0, (const uint8_t *)text, strlen(text), bytes, sizeof bytes);
+    return ipxr_packet(router, CABLE, bytes, (size_t)length);
+}
 
 static void print_hex(const uint8_t *bytes, size_t length)
 {
@@ -57,7 +67,7 @@ static void show(ipxr *router, const char *event, int32_t answer)
             printf(" ");
             print_hex(bytes, sent.length);
             printf("\n");
-        } else if (memcmp(sent.node, SERVER, sizeof sent.node) == 0) {
+        } else if (memcmp(sent.node, SERVICE.node, sizeof sent.node) == 0) {
             printf("the server reads a packet of %zu bytes\n", sent.length);
         }
     }
@@ -76,13 +86,13 @@ int main(void)
     show(&router, "start", ipxr_start(&router));
     for (int second = 0; second < 3 * PERIOD; second++) {
         if (second % PERIOD == 0)
-            show(&router, "the server offers its files", ipxr_packet(&router, INSIDE, OFFER, sizeof OFFER));
+            show(&router, "the server offers its files", offer(&router));
         ipxr_second(&router);
         ipxr_clear(&router);
     }
     printf("after %d seconds %zu service\n", 3 * PERIOD, ipxr_services(&router));
-    show(&router, "CC asks for the nearest file server", ipxr_packet(&router, CABLE, QUERY, sizeof QUERY));
-    show(&router, "CC writes to the server", ipxr_packet(&router, CABLE, LETTER, sizeof LETTER));
+    show(&router, "CC asks for the nearest file server", ask(&router));
+    show(&router, "CC writes to the server", say(&router, "HELLO"));
     ipxr_free(&router);
     return 0;
 }

@@ -112,6 +112,24 @@ static void read(void)
     ipxr_clear(&router);
 }
 
+/* As many routes and services as a packet may have, a query, and the longest packet. */
+static void write_all(void)
+{
+    static const ipxr_address here = {1, {0, 0, 0, 0, 0, 0xBB}, IPXR_SAP_SOCKET};
+    static const ipxr_route_entry routes[IPXR_PACKET_ROUTES];
+    static const uint8_t data[LONGEST - HEADER];
+    static ipxr_service_entry services[IPXR_PACKET_SERVICES];
+    for (size_t k = 0; k < IPXR_PACKET_SERVICES; k++)
+        services[k].name[0] = 'S';
+    answer = ipxr_write_rip(&here, &here, IPXR_RIP_RESPONSE, routes, IPXR_PACKET_ROUTES, packet, sizeof packet);
+    if (answer >= 0)
+        answer = ipxr_write_sap(&here, &here, 0, services, IPXR_PACKET_SERVICES, packet, sizeof packet);
+    if (answer >= 0)
+        answer = ipxr_write_query(&here, &here, 0, 4, packet, sizeof packet);
+    if (answer >= 0)
+        answer = ipxr_write_packet(&here, &here, 0, 0, data, sizeof data, packet, sizeof packet);
+}
+
 /* ---- Measuring ---- */
 
 static void *on_thread(void *call)
@@ -218,6 +236,7 @@ static void hand_on(void)
     put_data(20);
     measure("a packet goes to all networks", take, MOST);
     measure("all is read", read, MOST);
+    measure("packets are written", write_all, MOST);
 }
 
 static void pass_seconds(void)
