@@ -27,8 +27,8 @@ PAIR = "{ i64, i64 }"
 # Each line of a function that C has and the module calls, or the other way round.
 CALLED = re.compile(r"(?m)^(?:declare|define) (?!internal |private |.*@llvm\.).*$")
 # Values that every system hands over alike, where nothing is said of bits above them; and two words, where C gives them back.
-WORD = r"(?:noundef )?(?:i8|i32|i64|ptr)"
-ARGUMENTS = r"\((?:(?:(?:i8|i32|i64|ptr)(?: noundef)?(?: %\w+)?|\.\.\.)(?:, |(?=\))))*\)"
+WORD = r"(?:noundef )?(?:i8|i16|i32|i64|ptr)"
+ARGUMENTS = r"\((?:(?:(?:i8|i16|i32|i64|ptr)(?: noundef)?(?: %\w+)?|\.\.\.)(?:, |(?=\))))*\)"
 ALIKE = re.compile(rf"(?:declare (?:void|{WORD}|{PAIR})|define (?:void|{WORD})) @\w+{ARGUMENTS}(?: .*)?")
 ONLY_X86 = re.compile(r"(?m)^module asm.*$|^ .*\bcall\b.*\basm\b.*$|@llvm\.x86\.\S+")
 

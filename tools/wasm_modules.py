@@ -14,8 +14,9 @@ HEADER = f"{TOP}/include/ipxr.h"
 TARGET = targets.TARGETS["wasm64"]
 FLAGS = [f"--target={TARGET.triple}", *TARGET.words, "-O3", "-ffunction-sections", "-fdata-sections"]
 OF_HOST = ["-std=c99", "-Wall", "-Wextra", "-ffreestanding", "-fno-builtin"]
-STACK = 8 << 20
-LINKER = ["-flavor", "wasm", "-mwasm64", "--no-entry", "--stack-first", "-z", f"stack-size={STACK}", "--gc-sections", "--compress-relocations"]
+# The library's calls take no more than IPXR_STACK, which is 384 KB with tables as delivered.
+STACKS = {"ipxr": 8 << 20, "ipx_c": 1 << 20}
+LINKER = ["-flavor", "wasm", "-mwasm64", "--no-entry", "--stack-first", "--gc-sections", "--compress-relocations"]
 # What a page asks for beside the header's calls: room in the memory for what they take and give.
 ROOM = ("rattle_alloc", "rattle_dealloc")
 
@@ -54,7 +55,7 @@ def module(name, keeps_names=False):
     os.makedirs(FOLDER, exist_ok=True)
     made, strips = f"{FOLDER}/linked.wasm", "--strip-debug" if keeps_names else "--strip-all"
     exports = [f"--export={it}" for it in exported(name)]
-    tool("ld.lld", *LINKER, strips, *exports, f"--allow-undefined-file={HOST}/imports", compiled(name), *host(), "-o", made)
+    tool("ld.lld", *LINKER, "-z", f"stack-size={STACKS[name]}", strips, *exports, f"--allow-undefined-file={HOST}/imports", compiled(name), *host(), "-o", made)
     with open(made, "rb") as it:
         return it.read()
 

@@ -3,7 +3,7 @@ import assert from "node:assert/strict";
 import { readFileSync } from "node:fs";
 import { check } from "./checking.mjs";
 import { fresh, watched } from "./library.mjs";
-import { address, hex, packet, routeRequest, routes, serviceQuery, services } from "./packets.mjs";
+import { address, EVERYONE, hex, packet, routeRequest, routes, serviceQuery, services } from "./packets.mjs";
 
 const HEADER = readFileSync("include/ipxr.h", "utf8");
 const ANSWERS = readFileSync("examples/embed/c/header.out", "utf8").trim().split("\n").map((line) => line.match(/^IPXR_(\w+): (-?\d+) (.*)$/));
@@ -33,7 +33,7 @@ await check("the numbers of answers, and their words, are the header's", () => {
         ANSWERS.map(([, name, value, text]) => `${name} ${value} ${text}`));
     for (const value of Object.values(Outcome)) assert.equal(it.isDrop(value), false);
     for (const value of Object.values(Drop)) assert.equal(it.isDrop(value), true);
-    for (const value of [13, 99, 101, 1900, -7, -18, 2 ** 31 - 1, -(2 ** 31)]) assert.equal(words(value), "");
+    for (const value of [13, 99, 101, 1900, -7, -18, -20, -26, 2 ** 31 - 1, -(2 ** 31)]) assert.equal(words(value), "");
 });
 
 await check("the other numbers are the header's", () => {
@@ -143,6 +143,57 @@ await check("frames of each kind are written and read", () => {
         assert.equal(it.writeFrame(Frame.ETHERNET2, to, from, new Uint8Array(length))?.length, whole);
     assert.equal(it.readFrame(new Uint8Array(60)), null);
     assert.equal(it.readFrame(new Uint8Array()), null);
+});
+
+await check("the numbers of packets that are written are the header's", () => {
+    const { RIP_SOCKET, SAP_SOCKET, PACKET_ROUTES, PACKET_SERVICES } = it;
+    const numbers = defined(/^#define IPXR_(RIP_\w+|SAP_SOCKET|PACKET_\w+) (\w+)/gm);
+    assert.deepEqual({ RIP_SOCKET, SAP_SOCKET, RIP_REQUEST: it.Rip.REQUEST, RIP_RESPONSE: it.Rip.RESPONSE, PACKET_ROUTES, PACKET_SERVICES }, numbers);
+});
+
+await check("packets are written as docs/PACKETS.md has them", () => {
+    const end = (network, last, socket) => ({ network, node: [0, 0, 0, 0, 0, last], socket });
+    const all = (network, socket) => ({ network, node: it.BROADCAST, socket });
+    const [rip, sap] = [it.RIP_SOCKET, it.SAP_SOCKET];
+    const ways = [[0x30, 1, 2], [0x31, 16, 3]].map(([network, hops, ticks]) => ({ network, hops, ticks }));
+    assert.equal(hex(it.writeRip(end(0x20, 0xbb, rip), all(0x20, rip), it.Rip.RESPONSE, ways)), hex(routes(0x20, "0000000000BB", [[0x30, 1, 2], [0x31, 16, 3]])));
+    const asked = { network: 0xffffffff, hops: 0xffff, ticks: 0xffff };
+    assert.equal(hex(it.writeRip(end(0x10, 0xaa, rip), all(0x10, rip), it.Rip.REQUEST, [asked])), hex(routeRequest(0x10, "0000000000AA")));
+    assert.equal(hex(it.writeQuery(end(0x10, 0xaa, sap), all(0x10, sap), false, 0xffff)), hex(serviceQuery(0x10, "0000000000AA")));
+    const nearest = packet(4, address(0x10, EVERYONE, sap), address(0x10, "0000000000AA", sap), "00030004");
+    assert.equal(hex(it.writeQuery(end(0x10, 0xaa, sap), all(0x10, sap), true, 4)), hex(nearest));
+    const offer = { name: "FILES", ...end(0x30, 1, 0x451), type: 4, hops: 1 };
+    assert.equal(hex(it.writeSap(end(0x20, 0xbb, sap), all(0x20, sap), false, [offer])),
+        hex(services(0x20, "0000000000BB", [[4, "FILES", address(0x30, "000000000001", 0x451), 1]])));
+    const wanted = packet(17, address(0x20, "0000000000BB", 0x451), address(0x10, "0000000000AA", 0x4003), "010203");
+    assert.equal(hex(it.writePacket(end(0x10, 0xaa, 0x4003), end(0x20, 0xbb, 0x451), 17, 0, Uint8Array.of(1, 2, 3))), hex(wanted));
+    assert.equal(it.writePacket(end(0, 0, 0), end(0, 0, 0), 20, 2, new Uint8Array(65505)).length, 65535);
+});
+
+await check("a service that a router learned is written as it came", () => {
+    const router = new Router(PORTS);
+    router.start();
+    const given = services(0x20, "0000000000BB", [[4, "A B\xff", address(0x30, "000000000001", 0x451), 1]]);
+    router.packet(1, given);
+    const [from, to] = [[0, 0, 0, 0, 0, 0xbb], it.BROADCAST].map((node) => ({ network: 0x20, node, socket: it.SAP_SOCKET }));
+    assert.equal(hex(it.writeSap(from, to, false, router.services())), hex(given));
+    router.free();
+});
+
+await check("what isn't written is a fault, with the header's number and words", () => {
+    const here = { network: 0, node: [0, 0, 0, 0, 0, 1], socket: 0 };
+    const [way, offer] = [{ network: 1, hops: 1, ticks: 1 }, { ...here, name: "A", type: 4, hops: 1 }];
+    const many = (count, one) => Array(count).fill(one);
+    assert.throws(() => it.writeRip(here, here, 3, []), fault(Fault.BAD_OPERATION));
+    assert.throws(() => it.writeRip(here, here, 1, []), fault(Fault.NO_ENTRIES));
+    for (const count of [51, 8191, 8192, 10000]) assert.throws(() => it.writeRip(here, here, 2, many(count, way)), fault(Fault.MANY_ENTRIES));
+    assert.throws(() => it.writeSap(here, here, true, []), fault(Fault.NO_ENTRIES));
+    for (const count of [8, 1024]) assert.throws(() => it.writeSap(here, here, false, many(count, offer)), fault(Fault.MANY_ENTRIES));
+    for (const length of [0, 48, 49, 1000])
+        assert.throws(() => it.writeSap(here, here, false, [offer, { ...offer, name: "A".repeat(length) }]), fault(Fault.BAD_NAME));
+    for (const length of [65506, 65536, 200000]) assert.throws(() => it.writePacket(here, here, 0, 0, new Uint8Array(length)), fault(Fault.LONG_PACKET));
+    assert.equal(it.writeRip(here, here, 2, many(50, way)).length, 432);
+    assert.equal(it.writeSap(here, here, false, many(7, { ...offer, name: "A".repeat(47) })).length, 480);
 });
 
 await check("every call of the header is made, with several values of each argument", () => {

@@ -2,7 +2,7 @@
 import { imported } from "./checking.mjs";
 import { address, HEADER, hex, number, numberAt, packet, routes, services } from "./packets.mjs";
 
-const { Router, Outcome, words } = await imported("ipxr.mjs");
+const { Router, Outcome, Rip, words, writePacket, writeQuery, writeRip, writeSap } = await imported("ipxr.mjs");
 await Router.load();
 
 const PORTS = [
@@ -75,10 +75,34 @@ function showArguments() {
     tell("port 1 comes up", router.portUp(1));
 }
 
+const bytesFrom = (first, count) => Array.from({ length: count }, (_, k) => first + k);
+const FROM = { network: 0xb1b2b3b4, node: bytesFrom(0xb5, 6), socket: 0xbbbc };
+const TO = { network: 0xc1c2c3c4, node: bytesFrom(0xc5, 6), socket: 0xcbcc };
+const WAYS = [{ network: 0xd1d2d3d4, hops: 0xd5d6, ticks: 0xd7d8 }, { network: 0xe1e2e3e4, hops: 0xe5e6, ticks: 0xe7e8 }];
+const OFFERS = [
+    { name: "FILES", network: 0x01020304, node: bytesFrom(5, 6), socket: 0x0b0c, type: 0x0d0e, hops: 0x0f10 },
+    { name: "PRINT", network: 0x11121314, node: bytesFrom(21, 6), socket: 0x1b1c, type: 0x1d1e, hops: 0x1f20 },
+];
+
+// Packets that are written.
+function showWritten() {
+    const written = {
+        "a request": writeRip(FROM, TO, Rip.REQUEST, WAYS.slice(0, 1)),
+        "a response": writeRip(FROM, TO, Rip.RESPONSE, WAYS),
+        "a query": writeQuery(FROM, TO, false, 0xa1a2),
+        "for the nearest": writeQuery(FROM, TO, true, 0xa1a2),
+        "a service": writeSap(FROM, TO, true, OFFERS.slice(0, 1)),
+        "two services": writeSap(FROM, TO, false, OFFERS),
+        data: writePacket(FROM, TO, 0xa3, 0xa4, Uint8Array.of(0xf1, 0xf2, 0xf3)),
+    };
+    for (const [what, bytes] of Object.entries(written)) console.log(`${what}: ${hex(bytes)}`);
+}
+
 tell("start", router.start()).forEach(show);
 learn();
 showRecords();
 showLongest(0);
 showLongest(1);
 showArguments();
+showWritten();
 router.free();

@@ -50,6 +50,32 @@ await check("values of wrong types are TypeErrors, and change nothing", () => {
     router.free();
 });
 
+await check("packets of wrong types are TypeErrors", () => {
+    const here = { network: 1, node: NODE, socket: 2 };
+    const [way, offer] = [{ network: 1, hops: 1, ticks: 1 }, { ...here, name: "A", type: 4, hops: 1 }];
+    const noObject = NOTHING.filter((value) => typeof value !== "object" || value === null);
+    for (const value of noObject) {
+        refuses([value], (from) => it.writePacket(from, here, 0, 0, new Uint8Array()));
+        refuses([value], (to) => it.writePacket(here, to, 0, 0, new Uint8Array()));
+        refuses([value], (route) => it.writeRip(here, here, 1, [route]));
+        refuses([value], (service) => it.writeSap(here, here, false, [service]));
+    }
+    refuses(noNumber(4), (network) => it.writePacket({ ...here, network }, here, 0, 0, new Uint8Array()));
+    refuses(NO_NODE, (node) => it.writePacket(here, { ...here, node }, 0, 0, new Uint8Array()));
+    refuses(noNumber(2), (socket) => it.writePacket(here, { ...here, socket }, 0, 0, new Uint8Array()));
+    refuses(noNumber(1), (type) => it.writePacket(here, here, type, 0, new Uint8Array()));
+    refuses(noNumber(1), (control) => it.writePacket(here, here, 0, control, new Uint8Array()));
+    refuses(NO_BYTES, (data) => it.writePacket(here, here, 0, 0, data));
+    refuses(noNumber(2), (operation) => it.writeRip(here, here, operation, [way]));
+    for (const name of ["hops", "ticks"]) refuses(noNumber(2), (value) => it.writeRip(here, here, 1, [{ ...way, [name]: value }]));
+    refuses(noNumber(2), (type) => it.writeQuery(here, here, true, type));
+    refuses([...NOTHING.filter((value) => value !== true), 0, 1], (nearest) => it.writeQuery(here, here, nearest, 4));
+    refuses([...NOTHING.filter((value) => value !== true), 0, 1], (nearest) => it.writeSap(here, here, nearest, [offer]));
+    refuses([undefined, null, 1, ["A"], "A\0", "\u0100"], (name) => it.writeSap(here, here, false, [{ ...offer, name }]));
+    refuses(NOTHING.filter((value) => !Array.isArray(value)), (value) => it.writeSap(here, here, false, value));
+    assert.equal(it.writeSap(here, here, false, [offer]).length, 96);
+});
+
 await check("ports of wrong types are TypeErrors", () => {
     refuses(NOTHING.filter((value) => !Array.isArray(value)), (value) => new Router(value));
     refuses([[1], [null], [undefined], [PORT, "port"], Array(2), [[]]], (value) => new Router(value));
@@ -138,7 +164,8 @@ await check("what isn't the library isn't loaded", async () => {
 await check("it is loaded once, and nothing goes before", async () => {
     const made = await imported("ipxr.mjs", "once");
     for (const call of [() => new made.Router([PORT]), () => made.words(0), () => made.version(), () => made.readFrame(new Uint8Array(60)),
-        () => made.writeFrame(1, NODE, NODE, new Uint8Array(30))]) assert.throws(call, /isn't loaded/);
+        () => made.writeFrame(1, NODE, NODE, new Uint8Array(30)), () => made.writeRip(), () => made.writeQuery(), () => made.writeSap(),
+        () => made.writePacket()]) assert.throws(call, /isn't loaded/);
     await assert.rejects(made.Router.load(new Uint8Array()));
     await Promise.all([made.Router.load(bytes), made.Router.load(bytes)]);
     const router = new made.Router([PORT]);

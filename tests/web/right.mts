@@ -1,8 +1,9 @@
 // Uses all that ipxr.d.mts has: tsc takes it.
 import {
-    BROADCAST, Drop, Fault, Frame, IpxrError, LONGEST_FRAME, NO_LIMIT, Outcome, Router, SHORTEST_FRAME, isDrop, readFrame, version, words, writeFrame,
+    BROADCAST, Drop, Fault, Frame, IpxrError, LONGEST_FRAME, NO_LIMIT, Outcome, PACKET_ROUTES, PACKET_SERVICES, RIP_SOCKET, Rip, Router, SAP_SOCKET,
+    SHORTEST_FRAME, isDrop, readFrame, version, words, writeFrame, writePacket, writeQuery, writeRip, writeSap,
 } from "../../examples/embed/web/ipxr.mjs";
-import type { Happened, NodeBytes, Packet, Port, Route, Service, Source } from "../../examples/embed/web/ipxr.mjs";
+import type { Address, Happened, NodeBytes, Packet, Port, Route, RouteEntry, Service, ServiceEntry, Source } from "../../examples/embed/web/ipxr.mjs";
 
 const node: NodeBytes = Uint8Array.of(0, 0, 0, 0, 0, 1);
 const ports: readonly Port[] = [
@@ -46,11 +47,20 @@ function heard(frame: Uint8Array): number {
     return found === null ? 0 : found.kind + found.packet.length;
 }
 
+function said(router: Router): Uint8Array[] {
+    const [from, to]: Address[] = [{ network: 0x10, node, socket: RIP_SOCKET }, { network: 0x10, node: BROADCAST, socket: SAP_SOCKET }];
+    const routes: RouteEntry[] = [...router.routes(), { network: 0x30, hops: 1, ticks: 2 }].slice(0, PACKET_ROUTES);
+    const services: ServiceEntry[] = [...router.services(), { name: "FILES", ...from, type: 4, hops: 1 }].slice(0, PACKET_SERVICES);
+    const operation: Rip = Rip.RESPONSE;
+    const packets = [writeRip(from, to, operation, routes), writeQuery(from, to, true, 4), writeSap(from, to, false, services)];
+    return [...packets, writePacket(from, to, 20, 0, new Uint8Array(32))];
+}
+
 export async function main(module: WebAssembly.Module): Promise<void> {
     await load(module);
     const router = new Router(ports);
     try {
-        console.log(play(router), known(router), heard(new Uint8Array(60)), version() >> 16, BROADCAST[0]);
+        console.log(play(router), known(router), heard(new Uint8Array(60)), said(router).length, version() >> 16, BROADCAST[0]);
     } catch (why) {
         if (why instanceof IpxrError && why.number === Fault.OUT_OF_MEMORY) console.log(why.message);
     } finally {

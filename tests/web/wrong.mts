@@ -1,5 +1,5 @@
 // Uses what ipxr.d.mts has as it isn't meant: tsc refuses each line that says so, and no other.
-import { BROADCAST, Fault, Frame, Outcome, Router, readFrame, words, writeFrame } from "../../examples/embed/web/ipxr.mjs";
+import { BROADCAST, Fault, Frame, Outcome, Router, readFrame, words, writeFrame, writeQuery, writeRip, writeSap } from "../../examples/embed/web/ipxr.mjs";
 
 const node = [0, 0, 0, 0, 0, 1];
 const router = new Router([{ network: 0x10, node, cost: 1, longest: 576 }]);
@@ -20,6 +20,10 @@ const far: number = router.routes()[0].name; // wrong
 const packet: Uint8Array = readFrame(new Uint8Array(60)).packet; // wrong
 writeFrame(5, node, node, new Uint8Array(30)); // wrong
 words("forwarded"); // wrong
+writeRip({ network: 0x10, node, socket: 1 }, { network: 0x10, node }, 1, []); // wrong
+writeRip({ network: 0x10, node, socket: 1 }, { network: 0x10, node, socket: 1 }, 3, []); // wrong
+writeQuery({ network: 0x10, node, socket: 1 }, { network: 0x10, node, socket: 1 }, 1, 4); // wrong
+writeSap({ network: 0x10, node, socket: 1 }, { network: 0x10, node, socket: 1 }, true, [{ name: "A" }]); // wrong
 Outcome.FORWARDED = 7; // wrong
 BROADCAST[0] = 0; // wrong
 const fault: Frame = Fault.NO_PORT; // wrong

@@ -63,6 +63,11 @@ export const Fault: {
     readonly NO_PORTS: -15;
     readonly MANY_PORTS: -16;
     readonly SAME_NETWORK: -17;
+    readonly BAD_OPERATION: -21;
+    readonly NO_ENTRIES: -22;
+    readonly MANY_ENTRIES: -23;
+    readonly BAD_NAME: -24;
+    readonly LONG_PACKET: -25;
 };
 export type Fault = (typeof Fault)[keyof typeof Fault];
 
@@ -74,6 +79,19 @@ export const Frame: {
     readonly SNAP: 4;
 };
 export type Frame = (typeof Frame)[keyof typeof Frame];
+
+/** What a packet of routing information does. */
+export const Rip: {
+    readonly REQUEST: 1;
+    readonly RESPONSE: 2;
+};
+export type Rip = (typeof Rip)[keyof typeof Rip];
+
+export const RIP_SOCKET: 0x0453;
+export const SAP_SOCKET: 0x0452;
+/** How many routes, and how many services, one packet has at most. */
+export const PACKET_ROUTES: 50;
+export const PACKET_SERVICES: 7;
 
 export const SHORTEST_FRAME: 60;
 export const LONGEST_FRAME: 1514;
@@ -152,6 +170,35 @@ export interface Service {
     age: number;
 }
 
+/** An address of a packet that is written: a socket on a node of a network. */
+export interface Address {
+    /** 0 is the network at hand. */
+    readonly network: number;
+    /** The broadcast too. */
+    readonly node: NodeBytes;
+    readonly socket: number;
+}
+
+/** A route of a packet that is written. */
+export interface RouteEntry {
+    /** Where it leads; in a request FFFFFFFFh asks for all. */
+    readonly network: number;
+    /** Routers on the way: 16 where it is unreachable; in a request FFFFh. */
+    readonly hops: number;
+    /** Ticks for the way; in a request FFFFh. */
+    readonly ticks: number;
+}
+
+/** A service of a packet that is written: one that was learned will do. */
+export interface ServiceEntry extends Address {
+    /** Its name, 1 to 47 bytes: the character of each byte's number. */
+    readonly name: string;
+    /** Its type, such as 4 for a file server. */
+    readonly type: number;
+    /** Routers on the way: 16 where it is unreachable. */
+    readonly hops: number;
+}
+
 /** A fault: its number, and the header's words as message. */
 export class IpxrError extends Error {
     constructor(number: Fault);
@@ -204,3 +251,18 @@ export function readFrame(frame: Uint8Array): { kind: Frame; packet: Uint8Array 
 
 /** The frame in which a packet is sent to a node from a node; null where a frame of that kind can't carry it. */
 export function writeFrame(kind: Frame, to: NodeBytes, from: NodeBytes, packet: Uint8Array): Uint8Array | null;
+
+/** A request or a response of routing information, of 1 to PACKET_ROUTES routes. */
+export function writeRip(from: Address, to: Address, operation: Rip, routes: readonly RouteEntry[]): Uint8Array;
+
+/** A query for the services of a type, FFFFh for every type: for all of them, or for the nearest one. */
+export function writeQuery(from: Address, to: Address, nearest: boolean, type: number): Uint8Array;
+
+/** A response of 1 to PACKET_SERVICES services, general or to a query for the nearest one. */
+export function writeSap(from: Address, to: Address, nearest: boolean, services: readonly ServiceEntry[]): Uint8Array;
+
+/**
+ * A packet of any type and data. `control` is how many routers it came through. Of type 20, NetBIOS, the data begin with 32 bytes for the
+ * networks crossed, of which the first `control` tell one each.
+ */
+export function writePacket(from: Address, to: Address, type: number, control: number, data: Uint8Array): Uint8Array;

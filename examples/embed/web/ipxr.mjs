@@ -74,10 +74,26 @@ export const Fault = Object.freeze({
     NO_PORTS: -15,
     MANY_PORTS: -16,
     SAME_NETWORK: -17,
+    BAD_OPERATION: -21,
+    NO_ENTRIES: -22,
+    MANY_ENTRIES: -23,
+    BAD_NAME: -24,
+    LONG_PACKET: -25,
 });
 
 /** How a frame of Ethernet carries a packet. */
 export const Frame = Object.freeze({ ETHERNET2: 1, RAW: 2, LLC: 3, SNAP: 4 });
+
+/** What a packet of routing information does. */
+export const Rip = Object.freeze({ REQUEST: 1, RESPONSE: 2 });
+
+/** The sockets of routing information and of service advertising. */
+export const RIP_SOCKET = 0x0453;
+export const SAP_SOCKET = 0x0452;
+
+/** How many routes, and how many services, one packet has at most. */
+export const PACKET_ROUTES = 50;
+export const PACKET_SERVICES = 7;
 
 /** The shortest and the longest frame that is written, in bytes. */
 export const SHORTEST_FRAME = 60;
@@ -89,8 +105,8 @@ export const BROADCAST = Object.freeze([0xff, 0xff, 0xff, 0xff, 0xff, 0xff]);
 /** A share of the tables that limits nothing. */
 export const NO_LIMIT = 65535;
 
-// The version of the interface that is needed here, 1.1: its major number times 65536, plus its minor number. A later minor one only adds.
-const NEEDED = 65537;
+// The version of the interface that is needed here, 1.2: its major number times 65536, plus its minor number. A later minor one only adds.
+const NEEDED = 65538;
 const NEXT_MAJOR = 131072;
 
 const NODE = 6;
@@ -104,6 +120,11 @@ const PORT = { network: 0, node: 4, cost: 10, longest: 12, routes: 14, services:
 const SENT = { length: 0, port: 8, node: 9 };
 const ROUTE = { network: 0, hops: 4, ticks: 6, node: 8, port: 14, age: 15 };
 const SERVICE = { name: 0, network: 48, node: 52, socket: 58, type: 60, hops: 62, neighbour: 64, port: 70, age: 71, size: 72 };
+const ADDRESS = { network: 0, node: 4, socket: 10, size: 12 };
+const ROUTE_ENTRY = { network: 0, hops: 4, ticks: 6, size: 8 };
+// (its fields are the first of a service's)
+const SERVICE_ENTRY = { ...SERVICE, size: 64 };
+const NAME = SERVICE.network - SERVICE.name;
 
 // Where it is said what block was allocated: whether there is one, and its address. The stack ends here, and no call reaches down so far.
 const ALLOCATED = { at: 16, address: 24 };
@@ -133,6 +154,9 @@ class Library {
         this.nodes = this.allocated(2 * NODE);
         this.to = BigInt(this.nodes);
         this.from = BigInt(this.nodes + NODE);
+        this.ends = this.allocated(2 * ADDRESS.size);
+        this.source = BigInt(this.ends);
+        this.destination = BigInt(this.ends + ADDRESS.size);
         this.given = BigInt(this.input);
         this.taken = BigInt(this.output);
         this.told = BigInt(this.record);
@@ -229,6 +253,12 @@ function whole(value, most, what) {
     return value;
 }
 
+// 1 or 0.
+function flagOf(nearest) {
+    if (typeof nearest !== "boolean") throw new TypeError("whether it is for the nearest isn't true or false");
+    return Number(nearest);
+}
+
 function bytesOf(value, what) {
     if (!isBytes(value)) throw new TypeError(`${what} isn't a Uint8Array`);
     return value;
@@ -240,22 +270,72 @@ function nodeOf(value, what) {
     return Array.from(value, (it) => whole(it, 0xff, `a byte of ${what}`));
 }
 
-// The ports as they lie in memory. (They are read before anything is called, since a getter may call.)
-function packed(ports) {
-    if (!Array.isArray(ports)) throw new TypeError("the ports aren't an array");
-    const bytes = new Uint8Array(PORT.size * ports.length);
-    const view = new DataView(bytes.buffer);
-    for (const [k, port] of ports.entries()) {
-        if (typeof port !== "object" || port === null) throw new TypeError(`port ${k} isn't an object`);
-        const at = PORT.size * k;
-        view.setUint32(at + PORT.network, whole(port.network, 0xffffffff, `the network of port ${k}`), true);
-        bytes.set(nodeOf(port.node, `the node of port ${k}`), at + PORT.node);
-        view.setUint16(at + PORT.cost, whole(port.cost, 0xffff, `the cost of port ${k}`), true);
-        view.setUint16(at + PORT.longest, whole(port.longest, 0xffff, `the longest packet of port ${k}`), true);
-        view.setUint16(at + PORT.routes, whole(port.routes ?? NO_LIMIT, 0xffff, `the routes of port ${k}`), true);
-        view.setUint16(at + PORT.services, whole(port.services ?? NO_LIMIT, 0xffff, `the services of port ${k}`), true);
-    }
+// Items as they lie in memory, each of a size, one behind the other. (They are read before anything is called, since a getter may call.)
+function packed(items, what, size, put) {
+    if (!Array.isArray(items)) throw new TypeError(`the ${what}s aren't an array`);
+    const bytes = new Uint8Array(size * items.length);
+    for (const [k, item] of items.entries()) put(new Place(bytes, size * k, `of ${what} ${k}`), objectOf(item, `${what} ${k}`));
     return bytes;
+}
+
+function objectOf(value, what) {
+    if (typeof value !== "object" || value === null) throw new TypeError(`${what} isn't an object`);
+    return value;
+}
+
+// Where a struct's fields are put; each is named in a fault by what it is of.
+class Place {
+    constructor(bytes, at, of) {
+        Object.assign(this, { bytes, at, of, view: new DataView(bytes.buffer) });
+    }
+
+    put16(at, value, what) {
+        this.view.setUint16(this.at + at, whole(value, 0xffff, `the ${what} ${this.of}`), true);
+    }
+
+    put32(at, value, what) {
+        this.view.setUint32(this.at + at, whole(value, 0xffffffff, `the ${what} ${this.of}`), true);
+    }
+
+    putNode(at, value) {
+        this.bytes.set(nodeOf(value, `the node ${this.of}`), this.at + at);
+    }
+
+    // A text with a character for each byte. (One that is too long fills the field, so that no 0 is behind it: the library refuses it.)
+    putName(at, value) {
+        const isText = typeof value === "string" && /^[\x01-\xff]*$/.test(value);
+        if (!isText) throw new TypeError(`the name ${this.of} isn't a text of bytes other than 0`);
+        this.bytes.set(Array.from(value.slice(0, NAME), (it) => it.charCodeAt(0)), this.at + at);
+    }
+}
+
+function putPort(place, port) {
+    place.put32(PORT.network, port.network, "network");
+    place.putNode(PORT.node, port.node);
+    place.put16(PORT.cost, port.cost, "cost");
+    place.put16(PORT.longest, port.longest, "longest packet");
+    place.put16(PORT.routes, port.routes ?? NO_LIMIT, "routes");
+    place.put16(PORT.services, port.services ?? NO_LIMIT, "services");
+}
+
+// Of an address, and of a service, which is offered at one.
+function putAddress(place, layout, { network, node, socket }) {
+    place.put32(layout.network, network, "network");
+    place.putNode(layout.node, node);
+    place.put16(layout.socket, socket, "socket");
+}
+
+function putRoute(place, route) {
+    place.put32(ROUTE_ENTRY.network, route.network, "network");
+    place.put16(ROUTE_ENTRY.hops, route.hops, "hops");
+    place.put16(ROUTE_ENTRY.ticks, route.ticks, "ticks");
+}
+
+function putService(place, service) {
+    place.putName(SERVICE_ENTRY.name, service.name);
+    putAddress(place, SERVICE_ENTRY, service);
+    place.put16(SERVICE_ENTRY.type, service.type, "type");
+    place.put16(SERVICE_ENTRY.hops, service.hops, "hops");
 }
 
 // An answer that is no fault.
@@ -312,7 +392,7 @@ export class Router {
 
     constructor(ports) {
         loaded();
-        const handle = made(packed(ports));
+        const handle = made(packed(ports, "port", PORT.size, putPort));
         this.#handle = BigInt(handle);
         forgotten.register(this, handle, this);
     }
@@ -472,4 +552,50 @@ export function writeFrame(kind, to, from, packet) {
     library.bytes.set(ends, nodes);
     const written = Number(calls.ipxr_frame_write(kind, library.to, library.from, given, length, taken, library.room));
     return written === 0 ? null : library.copied(library.output, written);
+}
+
+// The packet that a call writes, from an address to an address, where it is given bytes.
+function written(from, to, given, call) {
+    const ends = new Uint8Array(2 * ADDRESS.size);
+    putAddress(new Place(ends, 0, "of the source"), ADDRESS, objectOf(from, "the source"));
+    putAddress(new Place(ends, ADDRESS.size, "of the destination"), ADDRESS, objectOf(to, "the destination"));
+    const length = library.give(given);
+    library.bytes.set(ends, library.ends);
+    return library.copied(library.output, judged(call(library, length)));
+}
+
+/** A request or a response of routing information, of 1 to PACKET_ROUTES routes. */
+export function writeRip(from, to, operation, routes) {
+    const { calls } = loaded();
+    whole(operation, 0xffff, "the operation");
+    const entries = packed(routes, "route", ROUTE_ENTRY.size, putRoute);
+    return written(from, to, entries, ({ source, destination, given, taken, room }, length) =>
+        calls.ipxr_write_rip(source, destination, operation, given, length / BigInt(ROUTE_ENTRY.size), taken, room));
+}
+
+/** A query for the services of a type, FFFFh for every type: for all of them, or for the nearest one. */
+export function writeQuery(from, to, nearest, type) {
+    const { calls } = loaded();
+    const isNearest = flagOf(nearest);
+    whole(type, 0xffff, "the type");
+    return written(from, to, new Uint8Array(), ({ source, destination, taken, room }) =>
+        calls.ipxr_write_query(source, destination, isNearest, type, taken, room));
+}
+
+/** A response of 1 to PACKET_SERVICES services, general or to a query for the nearest one. */
+export function writeSap(from, to, nearest, services) {
+    const { calls } = loaded();
+    const isNearest = flagOf(nearest);
+    const entries = packed(services, "service", SERVICE_ENTRY.size, putService);
+    return written(from, to, entries, ({ source, destination, given, taken, room }, length) =>
+        calls.ipxr_write_sap(source, destination, isNearest, given, length / BigInt(SERVICE_ENTRY.size), taken, room));
+}
+
+/** A packet of any type and data. Of type 20 the data begin with 32 bytes for the networks crossed, of which `control` are told. */
+export function writePacket(from, to, type, control, data) {
+    const { calls } = loaded();
+    whole(type, 0xff, "the type");
+    whole(control, 0xff, "the transport control");
+    return written(from, to, bytesOf(data, "the data"), ({ source, destination, given, taken, room }, length) =>
+        calls.ipxr_write_packet(source, destination, type, control, given, length, taken, room));
 }
