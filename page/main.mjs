@@ -8,6 +8,7 @@ import { InternetPane } from "./pane_internet.mjs";
 import { isOfInternet } from "./script.mjs";
 import { PacketPane } from "./pane_packet.mjs";
 import { Program, Stopped } from "./program.mjs";
+import { Router as Library } from "./ipxr.mjs";
 import { ROUTER_ACTS } from "./router_acts.mjs";
 import { RouterPane } from "./pane_router.mjs";
 
@@ -166,7 +167,11 @@ class Page {
 }
 
 window.addEventListener("unhandledrejection", (event) => event.reason instanceof Stopped && event.preventDefault());
-window.page = new Page();
+// The library writes packets; it is there before anybody can ask for one.
+Library.load(fromBase64(textOf("library").trim())).then(
+    () => (window.page = new Page()),
+    (why) => tell(`the library isn't loaded: ${why.message}`, true),
+);
 find("#copy").addEventListener("click", async () => {
     const text = location.href;
     try {

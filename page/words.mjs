@@ -1,11 +1,12 @@
-// Words to the bytes of a packet, and back. The page puts the bytes together by the layouts of docs/PACKETS.md; whether they are what was
-// meant, the proved reader of the program says, which reads them back (pane_packet.mjs).
-import { EVERYONE, isHex, padded } from "./bytes.mjs";
+// Words to the bytes of a packet, and back. The bytes are written by the library's proved writers; here the fields are read that were typed.
+// What was written, the program's proved reader says, which reads it back (pane_packet.mjs).
+import { bytesOf, EVERYONE, hexOf, isHex, padded } from "./bytes.mjs";
+import { IpxrError, Rip, words as faultWords, writePacket, writeQuery, writeRip, writeSap } from "./ipxr.mjs";
 
 const HEADER = 30;
 const [RIP, SAP, NETBIOS, OTHER] = ["0453", "0452", "0455", "4003"];
-const [NAME_ROOM, CROSSED_ROOM, MOST_LENGTH] = [48, 8, 65535];
-const NO_DISTANCE = "FFFF";
+const [CROSSED_ROOM, PROPAGATED] = [8, 20];
+const NO_DISTANCE = 0xffff;
 
 // A field that can't be written: its name, and why.
 export class Wrong extends Error {
@@ -22,10 +23,13 @@ export function digits(field, typed, bytes) {
     return padded(it, 2 * bytes);
 }
 
+const number = (field, typed, bytes) => parseInt(digits(field, typed, bytes), 16);
+const node = (field, typed) => bytesOf(digits(field, typed, 6));
+
 function decimal(field, typed, bytes) {
     const most = 256 ** bytes - 1;
     if (!/^\s*\d+\s*$/.test(typed) || +typed > most) throw new Wrong(field, `a number, at most ${most}`);
-    return padded((+typed).toString(16), 2 * bytes);
+    return +typed;
 }
 
 const lines = (text) => text.split("\n").map((it) => it.trim()).filter((it) => it);
@@ -38,65 +42,68 @@ export function bytesTyped(field, text) {
     return it.toUpperCase();
 }
 
-// ---- Data of each kind ----
+// ---- What each kind has besides its ends ----
 
-function nets(text) {
-    const found = words(text);
-    if (!found.length) throw new Wrong("networks", "one network at least");
-    return found.map((it) => digits("networks", it, 4) + NO_DISTANCE + NO_DISTANCE).join("");
+const nets = (text) => words(text).map((it) => ({ network: number("networks", it, 4), hops: NO_DISTANCE, ticks: NO_DISTANCE }));
+
+const routes = (text) => lines(text).map((line) => {
+    const [network, hops, ticks, ...more] = words(line);
+    if (ticks === undefined || more.length) throw new Wrong("routes", `not network hops ticks: ${line}`);
+    return { network: number("routes", network, 4), hops: decimal("routes", hops, 2), ticks: decimal("routes", ticks, 2) };
+});
+
+// The characters of a name's bytes. It stands as in a script: a backslash and two digits are any byte.
+function nameTyped(field, typed) {
+    const name = typed.replace(/\\([0-9A-Fa-f]{2})/g, (_, it) => String.fromCharCode(parseInt(it, 16)));
+    if (/[^\x01-\xff]/.test(name)) throw new Wrong(field, `a name has bytes from 1 to 255: ${typed}`);
+    return name;
 }
 
-function routes(text) {
-    const found = lines(text);
-    if (!found.length) throw new Wrong("routes", "one line at least: network hops ticks");
-    return found.map((line) => {
-        const [network, hops, ticks, ...more] = words(line);
-        if (ticks === undefined || more.length) throw new Wrong("routes", `not network hops ticks: ${line}`);
-        return digits("routes", network, 4) + decimal("routes", hops, 2) + decimal("routes", ticks, 2);
-    }).join("");
-}
+const services = (text) => lines(text).map((line) => {
+    const [type, name, network, at, socket, hops, ...more] = words(line);
+    if (hops === undefined || more.length) throw new Wrong("services", `not type name network node socket hops: ${line}`);
+    return {
+        type: number("services", type, 2), name: nameTyped("services", name), network: number("services", network, 4), node: node("services", at),
+        socket: number("services", socket, 2), hops: decimal("services", hops, 2),
+    };
+});
 
-// A name as it stands in a script: a backslash and two digits are any byte.
-function nameDigits(field, name) {
-    const bytes = (name.match(/\\[0-9A-Fa-f]{2}|./gs) ?? []).map((it) => (it.length === 3 ? parseInt(it.slice(1), 16) : it.charCodeAt(0)));
-    if (!bytes.length || bytes.length >= NAME_ROOM || bytes.some((it) => it > 255)) throw new Wrong(field, `a name has 1 to ${NAME_ROOM - 1} bytes`);
-    return bytes.map((it) => padded(it.toString(16), 2)).join("").padEnd(2 * NAME_ROOM, "0");
-}
-
-function services(text) {
-    const found = lines(text);
-    if (!found.length) throw new Wrong("services", "one line at least: type name network node socket hops");
-    return found.map((line) => {
-        const [type, name, network, node, socket, hops, ...more] = words(line);
-        if (hops === undefined || more.length) throw new Wrong("services", `not type name network node socket hops: ${line}`);
-        return digits("services", type, 2) + nameDigits("services", name) + digits("services", network, 4) + digits("services", node, 6)
-            + digits("services", socket, 2) + decimal("services", hops, 2);
-    }).join("");
-}
-
+// The networks crossed in the room that they have before the data.
 function crossed(text) {
     const found = words(text);
     if (found.length >= CROSSED_ROOM) throw new Wrong("crossed", `${CROSSED_ROOM - 1} networks at most`);
     return found.map((it) => digits("crossed", it, 4)).join("").padEnd(8 * CROSSED_ROOM, "0");
 }
 
-// Each kind of packet: its label, type and socket, which fields it has, and its data.
+const data = (it) => bytesTyped("data", it.data);
+const isNearest = (it) => it.nearest === "nearest";
+
+// Each kind of packet: its label, its socket, its fields, the last of which may be too long, and how it is written.
 export const KINDS = {
-    "rip-request": { label: "RIP request", type: 1, socket: RIP, fields: ["networks"], data: (it) => `0001${nets(it.networks)}` },
-    "rip-response": { label: "RIP response", type: 1, socket: RIP, fields: ["routes"], data: (it) => `0002${routes(it.routes)}` },
+    "rip-request": {
+        label: "RIP request", socket: RIP, fields: ["networks"],
+        write: (ends, it) => writeRip(...ends, Rip.REQUEST, nets(it.networks)),
+    },
+    "rip-response": {
+        label: "RIP response", socket: RIP, fields: ["routes"],
+        write: (ends, it) => writeRip(...ends, Rip.RESPONSE, routes(it.routes)),
+    },
     "sap-query": {
-        label: "SAP query", type: 4, socket: SAP, fields: ["nearest", "service"],
-        data: (it) => (it.nearest === "nearest" ? "0003" : "0001") + digits("service", it.service, 2),
+        label: "SAP query", socket: SAP, fields: ["nearest", "service"],
+        write: (ends, it) => writeQuery(...ends, isNearest(it), number("service", it.service, 2)),
     },
     "sap-response": {
-        label: "SAP response", type: 4, socket: SAP, fields: ["nearest", "services"],
-        data: (it) => (it.nearest === "nearest" ? "0004" : "0002") + services(it.services),
+        label: "SAP response", socket: SAP, fields: ["nearest", "services"],
+        write: (ends, it) => writeSap(...ends, isNearest(it), services(it.services)),
     },
     netbios: {
-        label: "NetBIOS (type 20)", type: 20, socket: NETBIOS, fields: ["crossed", "data"],
-        data: (it) => crossed(it.crossed) + bytesTyped("data", it.data),
+        label: "NetBIOS (type 20)", socket: NETBIOS, fields: ["crossed", "data"],
+        write: (ends, it) => writePacket(...ends, PROPAGATED, words(it.crossed).length, bytesOf(crossed(it.crossed) + data(it))),
     },
-    data: { label: "Data", type: 0, socket: OTHER, fields: ["type", "control", "data"], data: (it) => bytesTyped("data", it.data) },
+    data: {
+        label: "Data", socket: OTHER, fields: ["type", "control", "data"],
+        write: (ends, it) => writePacket(...ends, decimal("type", it.type, 1), decimal("control", it.control, 1), bytesOf(data(it))),
+    },
 };
 
 // What stands in each field before anything is typed.
@@ -105,18 +112,21 @@ export const DEFAULTS = {
     nearest: "general", service: "4", services: "4 SERVER 20 1 451 1", crossed: "", data: "", type: "0", control: "0",
 };
 
+const endOf = (it, end) => ({
+    network: number(`${end}Network`, it[`${end}Network`], 4), node: node(`${end}Node`, it[`${end}Node`]),
+    socket: number(`${end}Socket`, it[`${end}Socket`], 2),
+});
+
 // The digits of a packet, or what is wrong with a field.
 export function packetOf(kind, values) {
     const it = { ...DEFAULTS, ...values };
-    const { type, data } = KINDS[kind];
-    const content = data(it);
-    const length = HEADER + content.length / 2;
-    if (length > MOST_LENGTH) throw new Wrong("data", "too long for a packet");
-    const control = kind === "netbios" ? words(it.crossed).length : kind === "data" ? it.control : 0;
-    const address = (name) => digits(`${name}Network`, it[`${name}Network`], 4) + digits(`${name}Node`, it[`${name}Node`], 6)
-        + digits(`${name}Socket`, it[`${name}Socket`], 2);
-    return `FFFF${padded(length.toString(16), 4)}${decimal("control", String(control), 1)}`
-        + `${decimal("type", kind === "data" ? it.type : String(type), 1)}${address("to")}${address("from")}${content}`;
+    const { fields, write } = KINDS[kind];
+    try {
+        return hexOf(write([endOf(it, "from"), endOf(it, "to")], it));
+    } catch (why) {
+        if (!(why instanceof IpxrError)) throw why;
+        throw new Wrong(fields[fields.length - 1], faultWords(why.number));
+    }
 }
 
 // ---- Back ----

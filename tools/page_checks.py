@@ -484,6 +484,10 @@ def packet(b, _):
     b.waits(f"{read} === 'RIP response BEEF (2)'")
     same(b.run("return document.querySelector('#pane-packet .hexline').value"),
          "FFFF0028000100000010FFFFFFFFFFFF0453000000100000000000AA400300020000BEEF00020003", "bytes")
+    for routes, why in (("20 1 2\n" * 51, "too many entries"), ("", "no entries")):
+        b.run("const it = document.querySelector('#pane-packet [name=routes]'); it.value = given[0]; it.dispatchEvent(new Event('input', "
+              "{ bubbles: true }))", routes)
+        same(text(b, "#pane-packet form .fault"), why, "what the library says")
     kinds = {"rip-request": "RIP request all", "sap-query": "SAP query type 4", "sap-response": "SAP response SERVER", "netbios": "crossed nothing",
              "data": "data, 30 bytes"}
     for kind, wanted in kinds.items():
@@ -549,7 +553,7 @@ def harmless(b, _):
         b.waits("!page.programs.some((it) => it.isBusy)")
         found = b.run("const bold = document.querySelectorAll('main b').length;"
                       "return [window.harmed ?? 'no', document.images.length, document.scripts.length, bold].join()")
-        same(found, "no,0,4,0", f"after {link[:30]}")
+        same(found, "no,0,5,0", f"after {link[:30]}")
 
 
 def long(b, folder):

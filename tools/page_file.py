@@ -7,7 +7,11 @@ import os
 import re
 
 TOP = os.path.dirname(os.path.dirname(os.path.realpath(__file__)))
-SOURCES, MODULE, MADE = f"{TOP}/page", f"{TOP}/build/wasm/ipxr.wasm", f"{TOP}/build/ipxr.html"
+SOURCES, MADE = f"{TOP}/page", f"{TOP}/build/ipxr.html"
+# The program and the library.
+MODULE, LIBRARY = f"{TOP}/build/wasm/ipxr.wasm", f"{TOP}/build/wasm/ipx_c.wasm"
+# The module over the library is the one that its users have. Behind its own address it looks for the library, which lies in this page.
+SHARED = {"ipxr.mjs": f"{TOP}/examples/embed/web/ipxr.mjs"}
 MOST = 1_200_000
 IMPORT = re.compile(r'^import \{([^}]*)\} from "\./(\w+\.mjs)";\n', re.MULTILINE)
 TOP_NAME = re.compile(r"^(?:export )?(?:async )?(?:function\*?|class|const|let) (\w+)", re.MULTILINE)
@@ -20,8 +24,13 @@ class Wrong(Exception):
 
 
 def read(name):
-    with open(f"{SOURCES}/{name}", encoding="utf-8") as it:
+    with open(SHARED.get(name, f"{SOURCES}/{name}"), encoding="utf-8") as it:
         return it.read()
+
+
+def letters(file):
+    with open(file, "rb") as it:
+        return base64.b64encode(it.read()).decode()
 
 
 def order(name, found=None):
@@ -47,7 +56,7 @@ def one_module(name):
     text = read(name)
     exported = [it for one in EXPORT.split(text)[1:] for it in names_of(one)[:1]]
     taken = "".join(f"const {{{what.replace(' as ', ': ')}}} = {scope_of(other)};\n" for what, other in IMPORT.findall(text))
-    body = EXPORT.sub("", IMPORT.sub("", text))
+    body = EXPORT.sub("", IMPORT.sub("", text)).replace("import.meta.url", "location.href")
     if re.search(r"^(?:import|export)\b", body, re.MULTILINE):
         raise Wrong(f"page/{name}: an import or export that isn't known here")
     return f"const {scope_of(name)} = (() => {{\n{taken}{body}return {{ {', '.join(exported)} }};\n}})();\n"
@@ -90,11 +99,10 @@ def policy(run, style):
 
 def page():
     """The text of the file."""
-    with open(MODULE, "rb") as it:
-        module = base64.b64encode(it.read()).decode()
     run, style = script("main.mjs"), read("style.css")
     pieces = {
-        "POLICY": policy(run, style), "STYLE": style, "SCRIPT": run, "WORKER": script("worker.mjs"), "MODULE": module, "EXAMPLES": examples(),
+        "POLICY": policy(run, style), "STYLE": style, "SCRIPT": run, "WORKER": script("worker.mjs"), "MODULE": letters(MODULE),
+        "LIBRARY": letters(LIBRARY), "EXAMPLES": examples(),
     }
     text = re.sub(r"@([A-Z]+)@", lambda it: pieces[it[1]], read("index.html"))
     if len(text.encode()) > MOST:
