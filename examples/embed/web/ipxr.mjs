@@ -292,7 +292,6 @@ class Place {
     put16(at, value, what) {
         this.view.setUint16(this.at + at, whole(value, 0xffff, `the ${what} ${this.of}`), true);
     }
-
     put32(at, value, what) {
         this.view.setUint32(this.at + at, whole(value, 0xffffffff, `the ${what} ${this.of}`), true);
     }
@@ -303,8 +302,7 @@ class Place {
 
     // A text with a character for each byte. (One that is too long fills the field, so that no 0 is behind it: the library refuses it.)
     putName(at, value) {
-        const isText = typeof value === "string" && /^[\x01-\xff]*$/.test(value);
-        if (!isText) throw new TypeError(`the name ${this.of} isn't a text of bytes other than 0`);
+        if (typeof value !== "string" || /[^\x01-\xff]/.test(value)) throw new TypeError(`the name ${this.of} isn't a text of bytes but 0`);
         this.bytes.set(Array.from(value.slice(0, NAME), (it) => it.charCodeAt(0)), this.at + at);
     }
 }
