@@ -1,0 +1,9 @@
+use Rattle.std.proofs.Common.{◌≡◌, ◌≤◌, length, map, filter, take, not}
+use Rattle.ipx_tunnel.specs.inside.Kept.{places_of, stays}
+use Rattle.ipx_tunnel.proofs.giving.leaving.Given as goal
+
+abbrev pub invariant-loop-client : goal.invariant-loop-client
+invariant-loop-client g l = record {
+  kept : l.left.items ≡ places_of (filter (λ c. not (stays c)) (take l.client-index l.clients));
+  few : length l.left.items ≤ l.client-index;
+}

@@ -1,0 +1,46 @@
+//! What becomes of the clients.
+ghost use Rattle.std.specs.Prelude.{◌≡◌, ◌++◌, map, length};
+ghost use Rattle.ipx_tunnel.specs.inside.Kept.{refreshed, later};
+
+use crate::client::Client;
+use crate::sender::Sender;
+
+/// A client is heard, if it is one.
+pub(crate) fn refresh(clients: &mut [Client], from: Sender, lasts: u8)
+    ensures { clients.new ≡ map (refreshed from lasts) clients.old }
+{
+    for client in clients.iter_mut() {
+        *client = refreshed(*client, from, lasts);
+    }
+}
+
+fn refreshed(client: Client, from: Sender, lasts: u8) -> Client
+    ensures { result ≡ refreshed from lasts client }
+{
+    if client.place != from.place {
+        return client;
+    }
+    Client {
+        place: client.place,
+        cookie: from.cookies.current,
+        seconds_left: lasts,
+    }
+}
+
+/// A second passes for each client.
+pub(crate) fn pass(clients: &mut [Client])
+    ensures { clients.new ≡ map later clients.old }
+{
+    for client in clients.iter_mut() {
+        *client = a_second_later(*client);
+    }
+}
+
+fn a_second_later(client: Client) -> Client
+    ensures { result ≡ later client }
+{
+    Client {
+        seconds_left: client.seconds_left.saturating_sub(1),
+        ..client
+    }
+}

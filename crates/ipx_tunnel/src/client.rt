@@ -1,0 +1,14 @@
+//! A client.
+
+use ipx_wire::Node;
+
+/// A client of a tunnel.
+#[derive(Clone, Copy, Debug, Default, PartialEq, Eq)]
+pub struct Client {
+    /// Where it is, which is its node too.
+    pub place: Node,
+    /// The source node of its pings.
+    pub cookie: Node,
+    /// How many seconds longer it stays, unless it is heard.
+    pub seconds_left: u8,
+}

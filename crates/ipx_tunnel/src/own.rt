@@ -1,0 +1,37 @@
+//! Datagrams of the tunnel's own.
+
+use ipx_wire::{Address, Header, Node};
+
+/// A datagram of the tunnel's own, to one place: an answer or a ping. It is a packet without data.
+#[derive(Clone, Copy, Debug, Default, PartialEq, Eq)]
+pub struct Own {
+    /// Where it goes.
+    pub place: Node,
+    /// The destination that its packet names.
+    pub destination: Address,
+    /// The source that its packet names.
+    pub source: Address,
+}
+
+impl Own {
+    ghost use Rattle.std.specs.Prelude.{◌≡◌};
+    ghost use Rattle.ipx_wire.specs.Header.{header_bytes};
+    ghost use Rattle.ipx_tunnel.specs.Own.{header_of};
+
+    /// Its thirty bytes.
+    pub fn bytes(&self) -> [u8; Header::SIZE]
+        ensures { result ≡ header_bytes (header_of self.now) }
+    {
+        let header = Header {
+            checksum: Header::NO_CHECKSUM,
+            length: Header::SIZE as u16,
+            control: 0,
+            kind: 0,
+            destination: self.destination,
+            source: self.source,
+        };
+        let mut bytes = [0; Header::SIZE];
+        header.write(&mut bytes);
+        bytes
+    }
+}

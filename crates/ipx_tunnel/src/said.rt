@@ -1,0 +1,16 @@
+//! What a datagram says.
+
+use ipx_wire::Header;
+
+/// What a datagram says of who sent it.
+#[derive(Clone, Copy)]
+pub(crate) enum Said {
+    /// Nothing that counts: it is no packet, or names another source.
+    Nothing,
+    /// That he wants to be a client.
+    Registers,
+    /// That he heard his ping.
+    Answers,
+    /// Something to others, by a packet with that header.
+    Speaks(Header),
+}

@@ -1,0 +1,16 @@
+//! The setting of a tunnel.
+
+use ipx_wire::{Network, Node};
+
+/// What a tunnel is told when it is made.
+#[derive(Clone, Copy, Debug, PartialEq, Eq)]
+pub struct Setting {
+    /// The number of its network.
+    pub network: Network,
+    /// The node of the server itself, and of the router behind it.
+    pub node: Node,
+    /// The most clients.
+    pub capacity: u16,
+    /// The most clients of one IPv4 address.
+    pub share: u16,
+}

@@ -1,0 +1,135 @@
+//! The tunnel.
+ghost use Rattle.std.specs.Prelude.{◌≡◌, ℕ, ◌≤◌, List, ◌∷◌, [], not, map};
+ghost use Rattle.std.specs.List.{filter};
+ghost use Rattle.ipx_tunnel.specs.Events.{Datagram, Second, Send, History};
+ghost use Rattle.ipx_tunnel.specs.Clients.{is_there, clients};
+ghost use Rattle.ipx_tunnel.specs.Own.{own};
+ghost use Rattle.ipx_tunnel.specs.Receivers.{receivers, is_heard, carried};
+ghost use Rattle.ipx_tunnel.specs.Stands.{State, Stands};
+ghost use Rattle.ipx_tunnel.specs.inside.Kept.{admitted, later, places_of, stays};
+
+use crate::changing::{pass, refresh};
+use crate::client::Client;
+use crate::dispatch::Dispatch;
+use crate::giving::{dispatch, leaving, pings, receivers};
+use crate::passed::Passed;
+use crate::places::is_open;
+use crate::reading::{lasts, said};
+use crate::sender::Sender;
+use crate::setting::Setting;
+use arrayvec::ArrayVec;
+use ipx_wire::Node;
+use std::marker::Model;
+
+/// A tunnel with at most `C` clients.
+#[derive(Drop)]
+pub struct Tunnel<const C: usize> {
+    setting: Setting,
+    clients: ArrayVec<Client, C>,
+}
+
+impl<const C: usize> Model for Tunnel<C> {
+    ghost use Rattle.std.specs.Prelude.{◌≤◌};
+    ghost use Rattle.ipx_tunnel.specs.Stands.{State};
+
+    ghost Value = { State };
+
+    ghost view = { λ t. record { setting = t.setting; clients = t.clients.items } };
+
+    ghost invariant = { λ t. (2 ≤ C) × (t.setting.capacity ≤ C) };
+}
+
+impl<const C: usize> Tunnel<C> {
+    /// A tunnel without clients.
+    pub fn new(setting: Setting) -> Tunnel<C>
+        requires two { 2 ≤ C }
+        requires capacity { setting.capacity ≤ C }
+        ensures setting { result.setting ≡ setting }
+        ensures stands { Stands result [] }
+    {
+        Tunnel {
+            setting,
+            clients: ArrayVec::new(),
+        }
+    }
+
+    /// Its setting.
+    pub fn setting(&self) -> Setting
+        ensures { result ≡ self.now.setting }
+    {
+        self.setting
+    }
+
+    /// Its clients, in the order in which they came.
+    pub fn clients(&self) -> &[Client]
+        ensures { result.now ≡ self.now.clients }
+    {
+        &self.clients
+    }
+
+    /// Takes a datagram.
+    pub fn hear<'a>(&mut self, from: Sender, bytes: &'a [u8]) -> Dispatch<'a, C>
+        ensures setting { self.new.setting ≡ self.old.setting }
+        ensures stands { (h : History) → Stands self.old h → Stands self.new (Datagram from bytes.entry.now ∷ h) }
+        ensures own { (h : History) → Stands self.old h → result.own.items ≡ own self.old.setting (Datagram from bytes.entry.now ∷ h) }
+        ensures packet { result.packet.now ≡ carried (Datagram from bytes.entry.now) }
+        ensures to { (h : History) → Stands self.old h → result.to.items ≡ receivers self.old.setting (Datagram from bytes.entry.now ∷ h) }
+        ensures heard { (h : History) → Stands self.old h → result.is_heard ≡ is_heard self.old.setting (Datagram from bytes.entry.now ∷ h) }
+    {
+        let said = said(self.setting.network, from, bytes);
+        self.admit(from, lasts(from.is_trusted, said));
+        dispatch(self.setting, &self.clients, from, said, bytes)
+    }
+
+    /// Somebody said something that counts so many seconds, or nothing: he stays, or comes in where there is room.
+    fn admit(&mut self, from: Sender, lasts: u8)
+        ensures setting { self.new.setting ≡ self.old.setting }
+        ensures clients { self.new.clients ≡ admitted self.old.setting from lasts self.old.clients }
+    {
+        if lasts == 0 {
+            return;
+        }
+        let is_new = is_open(self.setting, from.place, &self.clients);
+        refresh(&mut self.clients, from, lasts);
+        if is_new {
+            self.clients.push(Client {
+                place: from.place,
+                cookie: from.cookies.current,
+                seconds_left: lasts,
+            });
+        }
+    }
+
+    /// A second passes.
+    pub fn second(&mut self) -> Passed<C>
+        ensures setting { self.new.setting ≡ self.old.setting }
+        ensures stands { (h : History) → Stands self.old h → Stands self.new (Second ∷ h) }
+        ensures pings { (h : History) → Stands self.old h → result.pings.items ≡ own self.old.setting (Second ∷ h) }
+        ensures left { (h : History) → Stands self.old h
+            → result.left.items ≡ filter (λ place. not (is_there self.old.setting place (Second ∷ h))) (clients self.old.setting h) }
+    {
+        let left = self.pass();
+        let pings = pings(self.setting.network, &self.clients);
+        Passed { pings, left }
+    }
+
+    /// Each client has a second less, and those that have none left leave.
+    fn pass(&mut self) -> ArrayVec<Node, C>
+        ensures setting { self.new.setting ≡ self.old.setting }
+        ensures clients { self.new.clients ≡ filter stays (map later self.old.clients) }
+        ensures left { result.items ≡ places_of (filter (λ c. not (stays c)) (map later self.old.clients)) }
+    {
+        pass(&mut self.clients);
+        let left = leaving(&self.clients);
+        self.clients.retain(|client| client.seconds_left > 0);
+        left
+    }
+
+    /// The places that get a packet which the router sends to a node, or to all.
+    pub fn send(&self, to: Node) -> ArrayVec<Node, C>
+        ensures stands { (bytes : List ℕ) (h : History) → Stands self.now h → Stands self.now (Send to bytes ∷ h) }
+        ensures to { (bytes : List ℕ) (h : History) → Stands self.now h → result.items ≡ receivers self.now.setting (Send to bytes ∷ h) }
+    {
+        receivers(to, self.setting.node, &self.clients)
+    }
+}
