@@ -40,10 +40,10 @@ refreshed_or true lasts left place now kept some = rw some refl
 refreshed_or false lasts left place now kept some = refl
 
 -- who is there stays there through what is said
-there_more : (lasts left : ℕ) → nat_lt 0 left ≡ true → nat_lt 0 (if nat_lt 0 lasts then lasts else left) ≡ true
+pub there_more : (lasts left : ℕ) → nat_lt 0 left ≡ true → nat_lt 0 (if nat_lt 0 lasts then lasts else left) ≡ true
 there_more lasts left there = elim (cases_Bool (nat_lt 0 lasts)) [ inl e ↦ rw (e, e) refl | inr e ↦ rw e there ]
 
-there_now : (lasts left : ℕ) → nat_lt 0 lasts ≡ true → nat_lt 0 (if nat_lt 0 lasts then lasts else left) ≡ true
+pub there_now : (lasts left : ℕ) → nat_lt 0 lasts ≡ true → nat_lt 0 (if nat_lt 0 lasts then lasts else left) ≡ true
 there_now lasts left some = rw (some, some) refl
 
 fresh_by : (is_sender : Bool) (lasts left : ℕ) (place now kept : Node) → is_sender ≡ true → nat_lt 0 lasts ≡ true

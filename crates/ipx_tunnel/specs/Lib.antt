@@ -11,5 +11,7 @@ pub mod Own
 pub mod Receivers
 -- a tunnel
 pub mod Stands
+-- what follows
+pub mod Laws
 -- nothing that a public contract says
 pub mod inside

@@ -14,6 +14,7 @@ mod changing;
 mod client;
 mod dispatch;
 mod giving;
+pub mod laws;
 mod own;
 mod passed;
 mod places;

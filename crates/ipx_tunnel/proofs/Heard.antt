@@ -1,0 +1,192 @@
+-- Since when a place is there.
+use Rattle.std.proofs.Common.{◌≡◌, ◌≢◌, ◌∙◌, refl, sym, ap, ap₂, subst, arith, ℕ, ◌+◌, ◌-◌, ◌<◌, ◌≤◌, ◌⊎◌, Bool, true, false, nat_lt, if◌then◌else◌, inl, inr, List, [], ◌∷◌, ◌++◌, filter}
+use Rattle.std.proofs.lemmas.Bool.{cases_Bool, false≢true, ltb-true, lt-ltb}
+use Rattle.ipx_wire.specs.declared.node.Node.{Node}
+use Rattle.ipx_tunnel.specs.declared.said.Said.{Said}
+use Rattle.ipx_tunnel.specs.declared.said.Said.TheVariants.{Nothing, Registers, Answers, Speaks}
+use Rattle.ipx_tunnel.specs.declared.sender.Sender.{Sender}
+use Rattle.ipx_tunnel.specs.declared.setting.Setting.{Setting}
+use Rattle.ipx_tunnel.specs.Numbers.{answer_lasts, trust_lasts}
+use Rattle.ipx_tunnel.specs.Places.{same_node}
+use Rattle.ipx_tunnel.specs.Events.{Event, Datagram, Second, Send, History}
+use Rattle.ipx_tunnel.specs.Says.{said}
+use Rattle.ipx_tunnel.specs.Clients.{lasts_by, lasts, seconds_left, is_there}
+use Rattle.ipx_tunnel.specs.Laws.{seconds, Answered, Trusted, IsThereThrough, AnswersThrough, concerns}
+use Rattle.ipx_tunnel.proofs.Nodes.{same_is, same_itself}
+use Rattle.ipx_tunnel.proofs.Standing.{lasts_own}
+
+-- ---- how long it counts what is said
+
+-- what counts is an answer, or said by somebody trusted
+says_who : (is_trusted : Bool) (s : Said) (left passed : ℕ) → 0 < left → left + passed ≡ lasts_by is_trusted s
+    → ((s ≡ Answers) × (passed < answer_lasts)) ⊎ ((is_trusted ≡ true) × (s ≢ Nothing) × (passed < trust_lasts))
+says_who true Nothing left passed some is = absurd (omega arith)
+says_who true Registers left passed some is = inr (refl, (λ e. cc), omega arith)
+says_who true Answers left passed some is = inr (refl, (λ e. cc), omega arith)
+says_who true (Speaks header) left passed some is = inr (refl, (λ e. cc), omega arith)
+says_who false Nothing left passed some is = absurd (omega arith)
+says_who false Registers left passed some is = absurd (omega arith)
+says_who false Answers left passed some is = inl (refl, omega arith)
+says_who false (Speaks header) left passed some is = absurd (omega arith)
+
+-- whatever counts does so for 30 seconds at least
+least : (is_trusted : Bool) (s : Said) → nat_lt 0 (lasts_by is_trusted s) ≡ true → answer_lasts ≤ lasts_by is_trusted s
+least true Nothing some = absurd (false≢true some)
+least true Registers some = omega arith
+least true Answers some = omega arith
+least true (Speaks header) some = omega arith
+least false Nothing some = absurd (false≢true some)
+least false Registers some = absurd (false≢true some)
+least false Answers some = omega arith
+least false (Speaks header) some = absurd (false≢true some)
+
+least_of : (is_sender is_trusted : Bool) (s : Said) → nat_lt 0 (if is_sender then lasts_by is_trusted s else 0) ≡ true
+    → answer_lasts ≤ (if is_sender then lasts_by is_trusted s else 0)
+least_of true is_trusted s some = least is_trusted s some
+least_of false is_trusted s some = absurd (false≢true some)
+
+least_answer : (is_trusted : Bool) (s : Said) → s ≡ Answers → answer_lasts ≤ lasts_by is_trusted s
+least_answer true s is = rw is (omega arith)
+least_answer false s is = rw is (omega arith)
+
+-- what counts for a place came from there
+counts_sender : (is_sender : Bool) (lasts : ℕ) → nat_lt 0 (if is_sender then lasts else 0) ≡ true → (is_sender ≡ true) × ((if is_sender then lasts else 0) ≡ lasts)
+counts_sender true lasts some = (refl, refl)
+counts_sender false lasts some = absurd (false≢true some)
+
+later_by : (n lasts left passed : ℕ) → n ≤ answer_lasts → (nat_lt 0 lasts ≡ true → answer_lasts ≤ lasts) → n ≤ left + passed
+    → n ≤ (if nat_lt 0 lasts then lasts else left) + passed
+later_by n lasts left passed few long enough =
+    elim (cases_Bool (nat_lt 0 lasts)) [ inl e ↦ rw e (omega (arith, long e, few)) | inr e ↦ rw e enough ]
+
+answered_by : (is_sender : Bool) (lasts left : ℕ) → is_sender ≡ true → answer_lasts ≤ lasts
+    → answer_lasts ≤ (if nat_lt 0 (if is_sender then lasts else 0) then (if is_sender then lasts else 0) else left)
+answered_by true lasts left is long = rw (lt-ltb 0 lasts (omega (arith, long))) long
+answered_by false lasts left is long = absurd (false≢true is)
+
+module _ (setting : Setting) (place : Node) where
+  -- ---- the event that counts
+
+  -- the latest event that counts for the place
+  record Counted (history : History) : Type 0 where
+    later : History
+    from : Sender
+    bytes : List ℕ
+    earlier : History
+    event : history ≡ later ++ Datagram from bytes ∷ earlier
+    sender : same_node place from.place ≡ true
+    left : seconds_left setting place history + seconds later ≡ lasts_by from.is_trusted (said setting.network from bytes)
+
+  counted : (history : History) → 0 < seconds_left setting place history → Counted history
+  counted [] some = absurd (omega arith)
+  counted (Datagram from bytes ∷ earlier) some =
+      let l = lasts setting place (Datagram from bytes) in
+      let after = λ (b : Bool). if b then l else seconds_left setting place earlier in
+      elim (cases_Bool (nat_lt 0 l)) [
+        | inl counts ↦
+            let who = counts_sender (same_node place from.place) (lasts_by from.is_trusted (said setting.network from bytes)) counts in
+            let left : seconds_left setting place (Datagram from bytes ∷ earlier) ≡ lasts_by from.is_trusted (said setting.network from bytes) = ap after counts ∙ who.1 in
+            record { later = []; from = from; bytes = bytes; earlier = earlier; event = refl; sender = who.0; left = omega (arith, left) }
+        | inr none ↦
+            let same : seconds_left setting place (Datagram from bytes ∷ earlier) ≡ seconds_left setting place earlier = ap after none in
+            let before = counted earlier (omega (arith, same, some)) in
+            record {
+              later = Datagram from bytes ∷ before.later;
+              from = before.from;
+              bytes = before.bytes;
+              earlier = before.earlier;
+              event = ap (λ (h : History). Datagram from bytes ∷ h) before.event;
+              sender = before.sender;
+              left = omega (arith, same, before.left);
+            }
+      ]
+  counted (Second ∷ earlier) some =
+      let before = counted earlier (omega arith) in
+      record {
+        later = Second ∷ before.later;
+        from = before.from;
+        bytes = before.bytes;
+        earlier = before.earlier;
+        event = ap (λ (h : History). Second ∷ h) before.event;
+        sender = before.sender;
+        left = omega (arith, before.left, some);
+      }
+  counted (Send to bytes ∷ earlier) some =
+      let before = counted earlier some in
+      record {
+        later = Send to bytes ∷ before.later;
+        from = before.from;
+        bytes = before.bytes;
+        earlier = before.earlier;
+        event = ap (λ (h : History). Send to bytes ∷ h) before.event;
+        sender = before.sender;
+        left = before.left;
+      }
+
+  pub proved : (history : History) → is_there setting place history ≡ true → Answered setting place history ⊎ Trusted setting place history
+  proved history there =
+      let some : 0 < seconds_left setting place history = ltb-true 0 (seconds_left setting place history) there in
+      let e = counted history some in
+      elim (says_who e.from.is_trusted (said setting.network e.from e.bytes) (seconds_left setting place history) (seconds e.later) some e.left) [
+        | inl answers ↦ inl (record {
+          later = e.later;
+          from = e.from;
+          bytes = e.bytes;
+          earlier = e.earlier;
+          event = e.event;
+          sender = sym (same_is place e.from.place e.sender);
+          said = answers.0;
+          recent = answers.1;
+        })
+        | inr speaks ↦ inr (record {
+          later = e.later;
+          from = e.from;
+          bytes = e.bytes;
+          earlier = e.earlier;
+          event = e.event;
+          sender = sym (same_is place e.from.place e.sender);
+          trusted = speaks.0;
+          said = speaks.1;
+          recent = speaks.2;
+        })
+      ]
+
+  -- ---- who answered is there
+
+  -- seconds alone take from what is left, down to what it was 30 seconds ago
+  left_later : (n : ℕ) → n ≤ answer_lasts → (later history : History) → n ≤ seconds_left setting place history
+      → n ≤ seconds_left setting place (later ++ history) + seconds later
+  left_later n few [] history enough = omega arith
+  left_later n few (Datagram from bytes ∷ later) history enough =
+      later_by n (lasts setting place (Datagram from bytes)) (seconds_left setting place (later ++ history)) (seconds later) few
+      (least_of (same_node place from.place) from.is_trusted (said setting.network from bytes)) (left_later n few later history enough)
+  left_later n few (Second ∷ later) history enough = omega (arith, left_later n few later history enough)
+  left_later n few (Send to bytes ∷ later) history enough = left_later n few later history enough
+
+  pub answered_there : (history : History) → Answered setting place history → is_there setting place history ≡ true
+  answered_there history a =
+      let from = a.from in
+      let then_left : answer_lasts ≤ seconds_left setting place (Datagram from a.bytes ∷ a.earlier) =
+      answered_by (same_node place from.place) (lasts_by from.is_trusted (said setting.network from a.bytes)) (seconds_left setting place a.earlier)
+      (ap (same_node place) a.sender ∙ same_itself place) (least_answer from.is_trusted (said setting.network from a.bytes) a.said) in
+      let left = left_later answer_lasts (omega arith) a.later (Datagram from a.bytes ∷ a.earlier) then_left in
+      let some : 0 < seconds_left setting place (a.later ++ Datagram from a.bytes ∷ a.earlier) = omega (arith, left, a.recent) in
+      ap (λ (h : History). is_there setting place h) a.event ∙ lt-ltb 0 (seconds_left setting place (a.later ++ Datagram from a.bytes ∷ a.earlier)) some
+
+  pub answers_there : (events : List Event) (history : History) → AnswersThrough setting place events history → IsThereThrough setting place events history
+  answers_there [] history all = tt
+  answers_there (event ∷ events) history all = (answered_there (event ∷ events ++ history) all.0, answers_there events history all.1)
+
+  -- ---- what concerns the place
+
+  pub own_alone : (history : History) → seconds_left setting place history ≡ seconds_left setting place (filter (concerns place) history)
+  own_alone [] = refl
+  own_alone (Datagram from bytes ∷ earlier) =
+      let rest = own_alone earlier in
+      let l = lasts_by from.is_trusted (said setting.network from bytes) in
+      elim (cases_Bool (same_node place from.place)) [
+        | inl same ↦ rw (same, same) (ap (λ (n : ℕ). if nat_lt 0 l then l else n) rest)
+        | inr other ↦ rw other rest
+      ]
+  own_alone (Second ∷ earlier) = ap (λ (n : ℕ). n - 1) (own_alone earlier)
+  own_alone (Send to bytes ∷ earlier) = own_alone earlier

@@ -1,0 +1,13 @@
+use Rattle.ipx_tunnel.proofs.Clients.{stays_through}
+use Rattle.ipx_tunnel.proofs.Heard.{answers_there, own_alone}
+use Rattle.ipx_tunnel.proofs.laws.no_eviction.Goals as goal
+
+pub returns-clause-answers : goal.returns-clause-answers
+returns-clause-answers c = λ setting history place events client all.
+    stays_through setting place events history client (answers_there setting place events history all)
+
+pub returns-clause-stays : goal.returns-clause-stays
+returns-clause-stays c = λ setting history place events client all. stays_through setting place events history client all
+
+pub returns-clause-own : goal.returns-clause-own
+returns-clause-own c = λ setting history place. own_alone setting place history

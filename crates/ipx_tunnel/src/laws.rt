@@ -1,0 +1,89 @@
+//! What holds by the definitions alone, of every history.
+ghost use Rattle.std.specs.Prelude.{◌≡◌, ◌≢◌, ℕ, ◌+◌, ◌*◌, ◌<◌, ◌≤◌, ◌⊎◌, ◌&&◌, not, max, if◌then◌else◌, true, false, List, [], ◌∷◌, ◌++◌, length};
+ghost use Rattle.std.specs.List.{filter};
+ghost use Rattle.ipx_wire.specs.declared.header.Header.{Header};
+ghost use Rattle.ipx_wire.specs.declared.node.Node.{Node};
+ghost use Rattle.ipx_tunnel.specs.declared.said.Said.TheVariants.{Nothing, Answers, Speaks};
+ghost use Rattle.ipx_tunnel.specs.declared.sender.Sender.{Sender};
+ghost use Rattle.ipx_tunnel.specs.declared.setting.Setting.{Setting};
+ghost use Rattle.ipx_tunnel.specs.Places.{same_node, broadcast, is_among, is_here, of_address};
+ghost use Rattle.ipx_tunnel.specs.Events.{Event, Datagram, Second, Send, History};
+ghost use Rattle.ipx_tunnel.specs.Says.{said};
+ghost use Rattle.ipx_tunnel.specs.Clients.{seconds_left, is_there, clients};
+ghost use Rattle.ipx_tunnel.specs.Own.{own};
+ghost use Rattle.ipx_tunnel.specs.Receivers.{receivers, is_heard, carried};
+ghost use Rattle.ipx_tunnel.specs.Laws.{copies, Answered, Trusted, is_client, IsThereThrough, AnswersThrough, concerns, IsHonest, own_to, came_from, sent_to_stranger, came_in_all};
+
+/// Each client answered its cookie less than 30 seconds ago, or is trusted and said something less than 180 seconds ago.
+pub fn proof()
+    ensures { (setting : Setting) (history : History) (place : Node) → is_client setting place history ≡ true
+        → Answered setting place history ⊎ Trusted setting place history }
+{}
+
+/// What the router or a client gets came from a client's place, and names this place as its source, on this network.
+pub fn honest()
+    ensures router { (setting : Setting) (history : History) (from : Sender) (bytes : List ℕ) → is_heard setting (Datagram from bytes ∷ history) ≡ true
+        → IsHonest setting (Datagram from bytes ∷ history) from bytes }
+    ensures clients { (setting : Setting) (history : History) (from : Sender) (bytes : List ℕ) (place : Node) → is_among place (receivers setting (Datagram from bytes ∷ history)) ≡ true
+        → IsHonest setting (Datagram from bytes ∷ history) from bytes }
+{}
+
+/// A packet comes to whom a cable would bring it, once: one for a node to the client of that node, one for all to each client but its sender.
+/// What the router sends is the same.
+pub fn cable()
+    ensures node { (setting : Setting) (history : History) (from : Sender) (bytes : List ℕ) (header : Header) (place : Node) → let after = Datagram from bytes ∷ history in
+        said setting.network from bytes ≡ Speaks header → is_client setting from.place after ≡ true → is_here setting.network header.destination.network ≡ true
+        → same_node header.destination.node broadcast ≡ false
+        → copies place (receivers setting after) ≡ (if is_client setting place after && same_node place header.destination.node then 1 else 0) }
+    ensures all { (setting : Setting) (history : History) (from : Sender) (bytes : List ℕ) (header : Header) (place : Node) → let after = Datagram from bytes ∷ history in
+        said setting.network from bytes ≡ Speaks header → is_client setting from.place after ≡ true → is_here setting.network header.destination.network ≡ true
+        → same_node header.destination.node broadcast ≡ true
+        → copies place (receivers setting after) ≡ (if is_client setting place after && not (same_node place from.place) then 1 else 0) }
+    ensures far { (setting : Setting) (history : History) (from : Sender) (bytes : List ℕ) (header : Header) → let after = Datagram from bytes ∷ history in
+        said setting.network from bytes ≡ Speaks header → is_here setting.network header.destination.network ≡ false → receivers setting after ≡ [] }
+    ensures router_node { (setting : Setting) (history : History) (to : Node) (bytes : List ℕ) (place : Node) → same_node to broadcast ≡ false
+        → copies place (receivers setting (Send to bytes ∷ history)) ≡ (if is_client setting place history && same_node place to then 1 else 0) }
+    ensures router_all { (setting : Setting) (history : History) (to : Node) (bytes : List ℕ) (place : Node) → same_node to broadcast ≡ true
+        → copies place (receivers setting (Send to bytes ∷ history)) ≡ (if is_client setting place history && not (same_node place setting.node) then 1 else 0) }
+{}
+
+/// Nobody puts out a client: as long as it answered its cookie less than 30 seconds ago, it stays, whatever else comes from wherever.
+/// Whether a place is there depends on seconds and its own datagrams alone.
+pub fn no_eviction()
+    ensures answers { (setting : Setting) (history : History) (place : Node) (events : List Event) → is_client setting place history ≡ true
+        → AnswersThrough setting place events history → is_client setting place (events ++ history) ≡ true }
+    ensures stays { (setting : Setting) (history : History) (place : Node) (events : List Event) → is_client setting place history ≡ true
+        → IsThereThrough setting place events history → is_client setting place (events ++ history) ≡ true }
+    ensures own { (setting : Setting) (history : History) (place : Node) →
+        seconds_left setting place history ≡ seconds_left setting place (filter (concerns place) history) }
+{}
+
+/// Who answers its cookie, or is trusted and says something, comes in where there is a free place and its address has fewer clients than its share.
+/// There are never more clients than the capacity, never more of an address than the share, and none twice.
+pub fn room()
+    ensures answers { (setting : Setting) (history : History) (from : Sender) (bytes : List ℕ) → said setting.network from bytes ≡ Answers
+        → length (clients setting history) < setting.capacity → of_address from.place (clients setting history) < setting.share
+        → is_client setting from.place (Datagram from bytes ∷ history) ≡ true }
+    ensures trusted { (setting : Setting) (history : History) (from : Sender) (bytes : List ℕ) → from.is_trusted ≡ true → said setting.network from bytes ≢ Nothing
+        → length (clients setting history) < setting.capacity → of_address from.place (clients setting history) < setting.share
+        → is_client setting from.place (Datagram from bytes ∷ history) ≡ true }
+    ensures capacity { (setting : Setting) (history : History) → length (clients setting history) ≤ setting.capacity }
+    ensures share { (setting : Setting) (history : History) (place : Node) → of_address place (clients setting history) ≤ setting.share }
+    ensures once { (setting : Setting) (history : History) (place : Node) → copies place (clients setting history) ≤ 1 }
+{}
+
+/// To a place where no client is, no packet is carried, and no more than two datagrams of the tunnel's own go for each that came from there:
+/// in one event, and in a whole history.
+pub fn no_reflection()
+    ensures carried { (setting : Setting) (history : History) (place : Node) → is_client setting place history ≡ false
+        → copies place (receivers setting history) ≡ 0 }
+    ensures event { (setting : Setting) (event : Event) (history : History) (place : Node) → is_client setting place (event ∷ history) ≡ false
+        → own_to place (own setting (event ∷ history)) ≤ 2 * came_from place event }
+    ensures in_all { (setting : Setting) (history : History) (place : Node) → sent_to_stranger setting place history ≤ 2 * came_in_all place history }
+{}
+
+/// An event sends at most as many datagrams as there are clients, or two; and a packet that is carried is no longer than the datagram that came.
+pub fn bounded()
+    ensures count { (setting : Setting) (history : History) → length (own setting history) + length (receivers setting history) ≤ max 2 (length (clients setting history)) }
+    ensures carried { (from : Sender) (bytes : List ℕ) → length (carried (Datagram from bytes)) ≤ length bytes }
+{}
