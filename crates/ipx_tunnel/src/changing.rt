@@ -1,9 +1,12 @@
 //! What becomes of the clients.
-ghost use Rattle.std.specs.Prelude.{◌≡◌, ◌++◌, map, length};
-ghost use Rattle.ipx_tunnel.specs.inside.Kept.{refreshed, later};
+ghost use Rattle.std.specs.Prelude.{◌≡◌, ◌≤◌, not, map, length};
+ghost use Rattle.std.specs.List.{filter};
+ghost use Rattle.ipx_tunnel.specs.inside.Kept.{places_of, refreshed, later, stays};
 
 use crate::client::Client;
 use crate::sender::Sender;
+use arrayvec::ArrayVec;
+use ipx_wire::Node;
 
 /// A client is heard, if it is one.
 pub(crate) fn refresh(clients: &mut [Client], from: Sender, lasts: u8)
@@ -43,4 +46,18 @@ fn a_second_later(client: Client) -> Client
         seconds_left: client.seconds_left.saturating_sub(1),
         ..client
     }
+}
+
+/// The places of the clients that have no seconds left.
+pub(crate) fn leaving<const C: usize>(clients: &[Client]) -> ArrayVec<Node, C>
+    requires { length clients.now ≤ C }
+    ensures { result.items ≡ places_of (filter (λ c. not (stays c)) clients.now) }
+{
+    let mut left = ArrayVec::new();
+    for client in clients {
+        if client.seconds_left == 0 {
+            left.push(client.place);
+        }
+    }
+    left
 }

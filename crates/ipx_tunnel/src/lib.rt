@@ -10,10 +10,11 @@
 //! It stands on `ipx_wire`, for packets. A gateway stands on it, with a router behind: that isn't needed here.
 #![tactic(auto)]
 
+mod answering;
+mod carrying;
 mod changing;
 mod client;
 mod dispatch;
-mod giving;
 pub mod laws;
 mod own;
 mod passed;
@@ -28,6 +29,7 @@ pub use crate::client::Client;
 pub use crate::dispatch::Dispatch;
 pub use crate::own::Own;
 pub use crate::passed::Passed;
+pub use crate::said::Said;
 pub use crate::sender::{Cookies, Sender};
 pub use crate::setting::Setting;
 pub use crate::tunnel::Tunnel;

@@ -14,13 +14,14 @@ pub struct Own {
 }
 
 impl Own {
-    ghost use Rattle.std.specs.Prelude.{◌≡◌};
+    ghost use Rattle.std.specs.Prelude.{◌≡◌, length};
     ghost use Rattle.ipx_wire.specs.Header.{header_bytes};
     ghost use Rattle.ipx_tunnel.specs.Own.{header_of};
 
     /// Its thirty bytes.
     pub fn bytes(&self) -> [u8; Header::SIZE]
-        ensures { result ≡ header_bytes (header_of self.now) }
+        ensures bytes { result ≡ header_bytes (header_of self.now) }
+        ensures size { length (header_bytes (header_of self.now)) ≡ 30 }
     {
         let header = Header {
             checksum: Header::NO_CHECKSUM,

@@ -5,7 +5,7 @@ use arrayvec::ArrayVec;
 use ipx_wire::Node;
 
 /// What a second brings.
-#[derive(Drop)]
+#[derive(Debug, Drop)]
 pub struct Passed<const C: usize> {
     /// The pings that are sent.
     pub pings: ArrayVec<Own, C>,

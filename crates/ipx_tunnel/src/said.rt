@@ -3,8 +3,8 @@
 use ipx_wire::Header;
 
 /// What a datagram says of who sent it.
-#[derive(Clone, Copy)]
-pub(crate) enum Said {
+#[derive(Clone, Copy, Debug, PartialEq, Eq)]
+pub enum Said {
     /// Nothing that counts: it is no packet, or names another source.
     Nothing,
     /// That he wants to be a client.

@@ -1,17 +1,19 @@
 //! The tunnel.
-ghost use Rattle.std.specs.Prelude.{◌≡◌, ℕ, ◌≤◌, List, ◌∷◌, [], not, map};
+ghost use Rattle.std.specs.Prelude.{◌≡◌, ℕ, ◌≤◌, List, ◌∷◌, [], not, length, map};
 ghost use Rattle.std.specs.List.{filter};
 ghost use Rattle.ipx_tunnel.specs.Events.{Datagram, Second, Send, History};
+ghost use Rattle.ipx_tunnel.specs.Says.{said};
 ghost use Rattle.ipx_tunnel.specs.Clients.{is_there, clients};
 ghost use Rattle.ipx_tunnel.specs.Own.{own};
 ghost use Rattle.ipx_tunnel.specs.Receivers.{receivers, is_heard, carried};
 ghost use Rattle.ipx_tunnel.specs.Stands.{State, Stands};
 ghost use Rattle.ipx_tunnel.specs.inside.Kept.{admitted, later, places_of, stays};
 
-use crate::changing::{pass, refresh};
+use crate::answering::pings;
+use crate::carrying::receivers;
+use crate::changing::{leaving, pass, refresh};
 use crate::client::Client;
 use crate::dispatch::Dispatch;
-use crate::giving::{dispatch, leaving, pings, receivers};
 use crate::passed::Passed;
 use crate::places::is_open;
 use crate::reading::{lasts, said};
@@ -22,7 +24,7 @@ use ipx_wire::Node;
 use std::marker::Model;
 
 /// A tunnel with at most `C` clients.
-#[derive(Drop)]
+#[derive(Debug, Drop)]
 pub struct Tunnel<const C: usize> {
     setting: Setting,
     clients: ArrayVec<Client, C>,
@@ -62,7 +64,8 @@ impl<const C: usize> Tunnel<C> {
 
     /// Its clients, in the order in which they came.
     pub fn clients(&self) -> &[Client]
-        ensures { result.now ≡ self.now.clients }
+        ensures value { result.now ≡ self.now.clients }
+        ensures fits { length result.now ≤ C }
     {
         &self.clients
     }
@@ -71,6 +74,7 @@ impl<const C: usize> Tunnel<C> {
     pub fn hear<'a>(&mut self, from: Sender, bytes: &'a [u8]) -> Dispatch<'a, C>
         ensures setting { self.new.setting ≡ self.old.setting }
         ensures stands { (h : History) → Stands self.old h → Stands self.new (Datagram from bytes.entry.now ∷ h) }
+        ensures said { result.said ≡ said self.old.setting.network from bytes.entry.now }
         ensures own { (h : History) → Stands self.old h → result.own.items ≡ own self.old.setting (Datagram from bytes.entry.now ∷ h) }
         ensures packet { result.packet.now ≡ carried (Datagram from bytes.entry.now) }
         ensures to { (h : History) → Stands self.old h → result.to.items ≡ receivers self.old.setting (Datagram from bytes.entry.now ∷ h) }
@@ -78,7 +82,7 @@ impl<const C: usize> Tunnel<C> {
     {
         let said = said(self.setting.network, from, bytes);
         self.admit(from, lasts(from.is_trusted, said));
-        dispatch(self.setting, &self.clients, from, said, bytes)
+        Dispatch::of(self.setting, &self.clients, from, said, bytes)
     }
 
     /// Somebody said something that counts so many seconds, or nothing: he stays, or comes in where there is room.
