@@ -1,7 +1,9 @@
 pub mod Clients
+pub mod Extended
 pub mod Heard
 pub mod Lists
 pub mod Members
 pub mod Nodes
 pub mod Sending
 pub mod Standing
+pub mod examples

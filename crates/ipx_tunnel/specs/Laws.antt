@@ -1,7 +1,9 @@
 -- The words of the laws: what holds of every history by the definitions alone.
 use Rattle.std.specs.Prelude.{◌≡◌, ◌≢◌, ℕ, ◌+◌, ◌<◌, Bool, true, false, ◌||◌, if◌then◌else◌, List, [], ◌∷◌, ◌++◌, length, Ok}
 use Rattle.std.specs.List.{filter}
+use Rattle.ipx_wire.specs.Numbers.{local_network, all_routes}
 use Rattle.ipx_wire.specs.Packet.{Parts, packet_of}
+use Rattle.ipx_wire.specs.declared.network.Network.{Network}
 use Rattle.ipx_wire.specs.declared.node.Node.{Node}
 use Rattle.ipx_tunnel.specs.declared.said.Said.TheVariants.{Nothing, Answers}
 use Rattle.ipx_tunnel.specs.declared.own.Own.{Own}
@@ -107,3 +109,10 @@ module _ (setting : Setting) where
 abbrev pub came_in_all : Node → History → ℕ
 came_in_all place [] = 0
 came_in_all place (event ∷ earlier) = came_from place event + came_in_all place earlier
+
+-- ---- copies for another network
+
+-- the number is one that a network may have: neither the one that stands for the network at hand nor the one that stands for all
+pub record IsOrdinary (network : Network) : Type 0 where
+  pub some : local_network < network.0
+  pub ordinary : network.0 < all_routes

@@ -9,6 +9,8 @@ pub mod Clients
 -- who gets what
 pub mod Own
 pub mod Receivers
+-- copies for other networks
+pub mod Extend
 -- a tunnel
 pub mod Stands
 -- what follows

@@ -35,7 +35,13 @@ pub struct Dispatch<'a, const C: usize> {
 
 impl<'a, const C: usize> Dispatch<'a, C> {
     /// What is sent for what a place said, once it is a client or isn't.
-    pub(crate) fn of(setting: Setting, clients: &[Client], from: Sender, said: Said, bytes: &'a [u8]) -> Dispatch<'a, C>
+    pub(crate) fn of(
+        setting: Setting,
+        clients: &[Client],
+        from: Sender,
+        said: Said,
+        bytes: &'a [u8],
+    ) -> Dispatch<'a, C>
         requires two { 2 ≤ C }
         requires fits { length clients.now ≤ C }
         ensures said { result.said ≡ said }

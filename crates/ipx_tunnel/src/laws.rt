@@ -2,7 +2,9 @@
 ghost use Rattle.std.specs.Prelude.{◌≡◌, ◌≢◌, ℕ, ◌+◌, ◌*◌, ◌<◌, ◌≤◌, ◌⊎◌, ◌&&◌, not, max, if◌then◌else◌, true, false, List, [], ◌∷◌, ◌++◌, length};
 ghost use Rattle.std.specs.List.{filter};
 ghost use Rattle.ipx_wire.specs.declared.header.Header.{Header};
+ghost use Rattle.ipx_wire.specs.declared.network.Network.{Network};
 ghost use Rattle.ipx_wire.specs.declared.node.Node.{Node};
+ghost use Rattle.ipx_wire.specs.declared.socket.Socket.{Socket};
 ghost use Rattle.ipx_tunnel.specs.declared.said.Said.TheVariants.{Nothing, Answers, Speaks};
 ghost use Rattle.ipx_tunnel.specs.declared.sender.Sender.{Sender};
 ghost use Rattle.ipx_tunnel.specs.declared.setting.Setting.{Setting};
@@ -12,7 +14,8 @@ ghost use Rattle.ipx_tunnel.specs.Says.{said};
 ghost use Rattle.ipx_tunnel.specs.Clients.{seconds_left, is_there, clients};
 ghost use Rattle.ipx_tunnel.specs.Own.{own};
 ghost use Rattle.ipx_tunnel.specs.Receivers.{receivers, is_heard, carried};
-ghost use Rattle.ipx_tunnel.specs.Laws.{copies, Answered, Trusted, is_client, IsThereThrough, AnswersThrough, concerns, IsHonest, own_to, came_from, sent_to_stranger, came_in_all};
+ghost use Rattle.ipx_tunnel.specs.Extend.{is_extended, extended};
+ghost use Rattle.ipx_tunnel.specs.Laws.{copies, Answered, Trusted, is_client, IsThereThrough, AnswersThrough, concerns, IsHonest, IsOrdinary, own_to, came_from, sent_to_stranger, came_in_all};
 
 /// Each client answered its cookie less than 30 seconds ago, or is trusted and said something less than 180 seconds ago.
 pub fn proof()
@@ -86,4 +89,11 @@ pub fn no_reflection()
 pub fn bounded()
     ensures count { (setting : Setting) (history : History) → length (own setting history) + length (receivers setting history) ≤ max 2 (length (clients setting history)) }
     ensures carried { (from : Sender) (bytes : List ℕ) → length (carried (Datagram from bytes)) ≤ length bytes }
+{}
+
+/// A copy that was made for another network is never copied again: not by this gateway and not by another one, whatever its networks are and
+/// whichever sockets they name.
+pub fn once()
+    ensures { (from to other : Network) (sockets named : List Socket) (bytes : List ℕ) → is_extended from sockets bytes ≡ true
+        → IsOrdinary to → from.0 ≢ to.0 → is_extended other named (extended to bytes) ≡ false }
 {}

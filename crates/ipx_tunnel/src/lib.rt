@@ -15,6 +15,7 @@ mod carrying;
 mod changing;
 mod client;
 mod dispatch;
+mod extending;
 pub mod laws;
 mod own;
 mod passed;
@@ -27,6 +28,7 @@ mod tunnel;
 
 pub use crate::client::Client;
 pub use crate::dispatch::Dispatch;
+pub use crate::extending::{extend, is_extended, is_named};
 pub use crate::own::Own;
 pub use crate::passed::Passed;
 pub use crate::said::Said;

@@ -1,0 +1,5 @@
+-- Worked examples: each is checked by computing it.
+pub mod Coming
+pub mod Players
+pub mod Speaking
+pub mod Waiting
