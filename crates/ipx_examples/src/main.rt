@@ -14,6 +14,7 @@ mod routers;
 mod routes;
 mod runs;
 mod services;
+mod tunnels;
 
 use crate::ends::copied;
 use crate::internets::Small;
@@ -22,6 +23,7 @@ use anyhow::Result;
 use ipx_internet::Internet;
 use ipx_router::{Event, Outbox, Outcome, Port, PortFault, Router, Why};
 use ipx_table::Table;
+use ipx_tunnel::{Cookies, Sender};
 use ipx_wire::{Address, Network, Node, Packet, ServiceName, Socket};
 
 /// Node BB, a router on network 20, advertises network 30.
@@ -51,6 +53,18 @@ const FAR: [u8; 30] = [
     0, 0, 0xAA, 0x40, 3,
 ];
 
+/// A registration in DOSBox' tunnel.
+const REGISTRATION: [u8; 30] = [
+    0xFF, 0xFF, 0, 0x1E, 0, 0, 0, 0, 0, 0, 0, 0, 0, 0, 0, 0, 0, 2, 0, 0, 0, 0, 0, 0, 0, 0, 0, 0, 0,
+    2,
+];
+
+/// The answer of port 2130 at 10.0.0.1 to a ping whose source is node 021122334455.
+const ANSWER: [u8; 30] = [
+    0xFF, 0xFF, 0, 0x1E, 0, 0, 0, 0, 0, 0x10, 2, 0x11, 0x22, 0x33, 0x44, 0x55, 0, 2, 0, 0, 0, 0x10,
+    0x0A, 0, 0, 1, 8, 0x52, 0, 2,
+];
+
 /// The header of a capture file, and a record of sixty bytes, of which two are kept.
 const CAPTURE: [u8; 42] = [
     0xD4, 0xC3, 0xB2, 0xA1, 2, 0, 4, 0, 0, 0, 0, 0, 0, 0, 0, 0, 0xFF, 0xFF, 0, 0, 1, 0, 0, 0, 0, 0,
@@ -67,6 +81,7 @@ fn main(rt: HostRuntime) -> Result<()> {
     keep(&rt)?;
     route(&rt)?;
     join(&rt)?;
+    serve(&rt)?;
     runs::chosen(&rt)?;
     runs::ended(&rt)
 }
@@ -217,4 +232,18 @@ fn ports(network: u32, node: u8) -> Result<[Port; 2]> {
 /// A port of a network with this number, whose node ends so.
 fn port(network: u32, node: u8) -> Result<Port, PortFault> {
     Port::new(Network(network), Node([0, 0, 0, 0, 0, node]), 1, 576)
+}
+
+/// The example of a tunnel.
+fn serve(rt: &HostRuntime) -> Result<()> {
+    let cookies = Cookies {
+        current: Node([2, 0x11, 0x22, 0x33, 0x44, 0x55]),
+        previous: Node([2, 0x66, 0x77, 0x88, 0x99, 0xAA]),
+    };
+    let from = Sender {
+        place: Node([10, 0, 0, 1, 8, 0x52]),
+        cookies,
+        is_trusted: false,
+    };
+    tunnels::tunnel(rt, from, &REGISTRATION, &ANSWER)
 }

@@ -4,6 +4,7 @@ use anyhow::Result;
 use ipx_tunnel::{Sender, Setting, Tunnel};
 use ipx_wire::{Network, Node};
 
+/// A player registers, and answers the ping.
 pub fn tunnel(rt: &HostRuntime, from: Sender, registration: &[u8], answer: &[u8]) -> Result<()> {
     let setting = Setting {
         network: Network(0x10),
@@ -18,7 +19,10 @@ pub fn tunnel(rt: &HostRuntime, from: Sender, registration: &[u8], answer: &[u8]
     }
     tunnel.hear(from, answer);
     for client in tunnel.clients() {
-        println!(rt; "{} stays for {} seconds", client.place, client.seconds_left)?;
+        println!(rt;
+            "{} stays for {} seconds",
+            client.place, client.seconds_left
+        )?;
     }
     // prints 30 bytes to 0A0000010852
     // prints 30 bytes to 0A0000010852

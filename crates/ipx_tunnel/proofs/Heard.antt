@@ -1,5 +1,6 @@
 -- Since when a place is there.
-use Rattle.std.proofs.Common.{◌≡◌, ◌≢◌, ◌∙◌, refl, sym, ap, ap₂, subst, arith, ℕ, ◌+◌, ◌-◌, ◌<◌, ◌≤◌, ◌⊎◌, Bool, true, false, nat_lt, if◌then◌else◌, inl, inr, List, [], ◌∷◌, ◌++◌, filter}
+use Rattle.std.proofs.Common.{◌≡◌, ◌≢◌, ◌∙◌, refl, sym, ap, ap₂, subst, arith, ℕ, ◌+◌, ◌-◌, ◌<◌, ◌≤◌, ◌⊎◌, Bool, true, false, not, ◌||◌, nat_lt, if◌then◌else◌, inl, inr, List, [], ◌∷◌, ◌++◌, filter}
+use Rattle.std.specs.List.{AllByRecursion}
 use Rattle.std.proofs.lemmas.Bool.{cases_Bool, false≢true, ltb-true, lt-ltb}
 use Rattle.ipx_wire.specs.declared.node.Node.{Node}
 use Rattle.ipx_tunnel.specs.declared.said.Said.{Said}
@@ -11,7 +12,8 @@ use Rattle.ipx_tunnel.specs.Places.{same_node}
 use Rattle.ipx_tunnel.specs.Events.{Event, Datagram, Second, Send, History}
 use Rattle.ipx_tunnel.specs.Says.{said}
 use Rattle.ipx_tunnel.specs.Clients.{lasts_by, lasts, seconds_left, is_there}
-use Rattle.ipx_tunnel.specs.Laws.{seconds, Answered, Trusted, IsThereThrough, AnswersThrough, concerns}
+use Rattle.ipx_tunnel.specs.Laws.{seconds, Answered, Trusted, IsThereThrough, AnswersThrough, SpeaksThrough, comes_trusted, IsAlwaysTrusted, concerns}
+use Rattle.ipx_tunnel.proofs.Lists.{each-before}
 use Rattle.ipx_tunnel.proofs.Nodes.{same_is, same_itself}
 use Rattle.ipx_tunnel.proofs.Standing.{lasts_own}
 
@@ -54,15 +56,34 @@ counts_sender : (is_sender : Bool) (lasts : ℕ) → nat_lt 0 (if is_sender then
 counts_sender true lasts some = (refl, refl)
 counts_sender false lasts some = absurd (false≢true some)
 
-later_by : (n lasts left passed : ℕ) → n ≤ answer_lasts → (nat_lt 0 lasts ≡ true → answer_lasts ≤ lasts) → n ≤ left + passed
+-- whatever somebody trusted says does so for 180
+trusted_says : (s : Said) → s ≢ Nothing → trust_lasts ≤ lasts_by true s
+trusted_says Nothing some = absurd (some refl)
+trusted_says Registers some = omega arith
+trusted_says Answers some = omega arith
+trusted_says (Speaks header) some = omega arith
+
+counts_something : (s : Said) → nat_lt 0 (lasts_by true s) ≡ true → s ≢ Nothing
+counts_something Nothing some = absurd (false≢true some)
+counts_something Registers some = λ e. cc
+counts_something Answers some = λ e. cc
+counts_something (Speaks header) some = λ e. cc
+
+trusted_of : (is_sender is_trusted : Bool) (s : Said) → (not is_sender || is_trusted) ≡ true → nat_lt 0 (if is_sender then lasts_by is_trusted s else 0) ≡ true
+    → trust_lasts ≤ (if is_sender then lasts_by is_trusted s else 0)
+trusted_of true true s trusted some = trusted_says s (counts_something s some)
+trusted_of true false s trusted some = absurd (false≢true trusted)
+trusted_of false is_trusted s trusted some = absurd (false≢true some)
+
+later_by : (n least lasts left passed : ℕ) → n ≤ least → (nat_lt 0 lasts ≡ true → least ≤ lasts) → n ≤ left + passed
     → n ≤ (if nat_lt 0 lasts then lasts else left) + passed
-later_by n lasts left passed few long enough =
+later_by n least lasts left passed few long enough =
     elim (cases_Bool (nat_lt 0 lasts)) [ inl e ↦ rw e (omega (arith, long e, few)) | inr e ↦ rw e enough ]
 
-answered_by : (is_sender : Bool) (lasts left : ℕ) → is_sender ≡ true → answer_lasts ≤ lasts
-    → answer_lasts ≤ (if nat_lt 0 (if is_sender then lasts else 0) then (if is_sender then lasts else 0) else left)
-answered_by true lasts left is long = rw (lt-ltb 0 lasts (omega (arith, long))) long
-answered_by false lasts left is long = absurd (false≢true is)
+lasts_now : (least : ℕ) (is_sender : Bool) (lasts left : ℕ) → 0 < least → is_sender ≡ true → least ≤ lasts
+    → least ≤ (if nat_lt 0 (if is_sender then lasts else 0) then (if is_sender then lasts else 0) else left)
+lasts_now least true lasts left some is long = rw (lt-ltb 0 lasts (omega (arith, some, long))) long
+lasts_now least false lasts left some is long = absurd (false≢true is)
 
 module _ (setting : Setting) (place : Node) where
   -- ---- the event that counts
@@ -153,25 +174,66 @@ module _ (setting : Setting) (place : Node) where
 
   -- ---- who answered is there
 
-  -- seconds alone take from what is left, down to what it was 30 seconds ago
-  left_later : (n : ℕ) → n ≤ answer_lasts → (later history : History) → n ≤ seconds_left setting place history
+  -- each of the events that count does so for so many seconds at least
+  Lasting : ℕ → History → Type 0
+  Lasting least later = AllByRecursion (λ event. nat_lt 0 (lasts setting place event) ≡ true → least ≤ lasts setting place event) later
+
+  each_answer : (later : History) → Lasting answer_lasts later
+  unfolding Lasting
+  each_answer [] = tt
+  each_answer (Datagram from bytes ∷ later) =
+      (least_of (same_node place from.place) from.is_trusted (said setting.network from bytes), each_answer later)
+  each_answer (Second ∷ later) = ((λ e. absurd (false≢true e)), each_answer later)
+  each_answer (Send to bytes ∷ later) = ((λ e. absurd (false≢true e)), each_answer later)
+
+  each_trusted : (later : History) → IsAlwaysTrusted place later → Lasting trust_lasts later
+  unfolding Lasting
+  each_trusted [] all = tt
+  each_trusted (Datagram from bytes ∷ later) all =
+      (trusted_of (same_node place from.place) from.is_trusted (said setting.network from bytes) all.0, each_trusted later all.1)
+  each_trusted (Second ∷ later) all = ((λ e. absurd (false≢true e)), each_trusted later all.1)
+  each_trusted (Send to bytes ∷ later) all = ((λ e. absurd (false≢true e)), each_trusted later all.1)
+
+  -- seconds alone take from what is left
+  left_later : (n least : ℕ) → n ≤ least → (later history : History) → Lasting least later → n ≤ seconds_left setting place history
       → n ≤ seconds_left setting place (later ++ history) + seconds later
-  left_later n few [] history enough = omega arith
-  left_later n few (Datagram from bytes ∷ later) history enough =
-      later_by n (lasts setting place (Datagram from bytes)) (seconds_left setting place (later ++ history)) (seconds later) few
-      (least_of (same_node place from.place) from.is_trusted (said setting.network from bytes)) (left_later n few later history enough)
-  left_later n few (Second ∷ later) history enough = omega (arith, left_later n few later history enough)
-  left_later n few (Send to bytes ∷ later) history enough = left_later n few later history enough
+  unfolding Lasting
+  left_later n least few [] history all enough = omega arith
+  left_later n least few (Datagram from bytes ∷ later) history all enough =
+      later_by n least (lasts setting place (Datagram from bytes)) (seconds_left setting place (later ++ history)) (seconds later) few
+      all.0 (left_later n least few later history all.1 enough)
+  left_later n least few (Second ∷ later) history all enough = omega (arith, left_later n least few later history all.1 enough)
+  left_later n least few (Send to bytes ∷ later) history all enough = left_later n least few later history all.1 enough
+
+  -- an event counted, and it lasts still
+  still_there : (least : ℕ) (history later : History) (from : Sender) (bytes : List ℕ) (earlier : History) → history ≡ later ++ Datagram from bytes ∷ earlier
+      → from.place ≡ place → 0 < least → least ≤ lasts_by from.is_trusted (said setting.network from bytes) → Lasting least later → seconds later < least
+      → is_there setting place history ≡ true
+  still_there least history later from bytes earlier is sender some long all recent =
+      let then_left : least ≤ seconds_left setting place (Datagram from bytes ∷ earlier) =
+      lasts_now least (same_node place from.place) (lasts_by from.is_trusted (said setting.network from bytes)) (seconds_left setting place earlier)
+      some (ap (same_node place) sender ∙ same_itself place) long in
+      let left = left_later least least (omega arith) later (Datagram from bytes ∷ earlier) all then_left in
+      let enough : 0 < seconds_left setting place (later ++ Datagram from bytes ∷ earlier) = omega (arith, left, recent) in
+      ap (λ (h : History). is_there setting place h) is ∙ lt-ltb 0 (seconds_left setting place (later ++ Datagram from bytes ∷ earlier)) enough
 
   pub answered_there : (history : History) → Answered setting place history → is_there setting place history ≡ true
   answered_there history a =
-      let from = a.from in
-      let then_left : answer_lasts ≤ seconds_left setting place (Datagram from a.bytes ∷ a.earlier) =
-      answered_by (same_node place from.place) (lasts_by from.is_trusted (said setting.network from a.bytes)) (seconds_left setting place a.earlier)
-      (ap (same_node place) a.sender ∙ same_itself place) (least_answer from.is_trusted (said setting.network from a.bytes) a.said) in
-      let left = left_later answer_lasts (omega arith) a.later (Datagram from a.bytes ∷ a.earlier) then_left in
-      let some : 0 < seconds_left setting place (a.later ++ Datagram from a.bytes ∷ a.earlier) = omega (arith, left, a.recent) in
-      ap (λ (h : History). is_there setting place h) a.event ∙ lt-ltb 0 (seconds_left setting place (a.later ++ Datagram from a.bytes ∷ a.earlier)) some
+      still_there answer_lasts history a.later a.from a.bytes a.earlier a.event a.sender (omega arith)
+      (least_answer a.from.is_trusted (said setting.network a.from a.bytes) a.said) (each_answer a.later) a.recent
+
+  pub trusted_there : (history : History) → IsAlwaysTrusted place history → Trusted setting place history → is_there setting place history ≡ true
+  trusted_there history all a =
+      let long : trust_lasts ≤ lasts_by a.from.is_trusted (said setting.network a.from a.bytes) =
+      subst (λ (b : Bool). trust_lasts ≤ lasts_by b (said setting.network a.from a.bytes)) (sym a.trusted) (trusted_says (said setting.network a.from a.bytes) a.said) in
+      still_there trust_lasts history a.later a.from a.bytes a.earlier a.event a.sender (omega arith) long
+      (each_trusted a.later (each-before (λ event. comes_trusted place event ≡ true) a.later (Datagram a.from a.bytes ∷ a.earlier)
+      (subst (IsAlwaysTrusted place) a.event all))) a.recent
+
+  pub speaks_there : (events : List Event) (history : History) → IsAlwaysTrusted place (events ++ history) → SpeaksThrough setting place events history
+      → IsThereThrough setting place events history
+  speaks_there [] history all each = tt
+  speaks_there (event ∷ events) history all each = (trusted_there (event ∷ events ++ history) all each.0, speaks_there events history all.1 each.1)
 
   pub answers_there : (events : List Event) (history : History) → AnswersThrough setting place events history → IsThereThrough setting place events history
   answers_there [] history all = tt

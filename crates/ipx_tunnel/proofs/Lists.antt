@@ -73,6 +73,10 @@ pub each-append : {X : Type 0} (P : X → Type 0) (xs ys : List X) → AllByRecu
 each-append P [] ys one two = two
 each-append P (x ∷ xs) ys one two = (one.0, each-append P xs ys one.1 two)
 
+pub each-before : {X : Type 0} (P : X → Type 0) (xs ys : List X) → AllByRecursion P (xs ++ ys) → AllByRecursion P xs
+each-before P [] ys all = tt
+each-before P (x ∷ xs) ys all = (all.0, each-before P xs ys all.1)
+
 pub each-filter : {X : Type 0} (p : X → Bool) (xs : List X) → AllByRecursion (λ x. p x ≡ true) (filter p xs)
 each-filter p [] = tt
 each-filter p (x ∷ xs) =

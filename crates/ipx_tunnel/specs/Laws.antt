@@ -1,6 +1,6 @@
 -- The words of the laws: what holds of every history by the definitions alone.
-use Rattle.std.specs.Prelude.{◌≡◌, ◌≢◌, ℕ, ◌+◌, ◌<◌, Bool, true, false, ◌||◌, if◌then◌else◌, List, [], ◌∷◌, ◌++◌, length, Ok}
-use Rattle.std.specs.List.{filter}
+use Rattle.std.specs.Prelude.{◌≡◌, ◌≢◌, ℕ, ◌+◌, ◌<◌, Bool, true, false, ◌||◌, not, if◌then◌else◌, List, [], ◌∷◌, ◌++◌, length, Ok}
+use Rattle.std.specs.List.{filter, AllByRecursion}
 use Rattle.ipx_wire.specs.Numbers.{local_network, all_routes}
 use Rattle.ipx_wire.specs.Packet.{Parts, packet_of}
 use Rattle.ipx_wire.specs.declared.network.Network.{Network}
@@ -68,6 +68,20 @@ module _ (setting : Setting) where
   abbrev pub AnswersThrough : Node → List Event → History → Type 0
   AnswersThrough place [] history = Unit
   AnswersThrough place (event ∷ events) history = Answered setting place (event ∷ events ++ history) × AnswersThrough place events history
+
+  -- the same, in each case since it was trusted and said something
+  abbrev pub SpeaksThrough : Node → List Event → History → Type 0
+  SpeaksThrough place [] history = Unit
+  SpeaksThrough place (event ∷ events) history = Trusted setting place (event ∷ events ++ history) × SpeaksThrough place events history
+
+-- no datagram of the place comes but trusted
+abbrev pub comes_trusted : Node → Event → Bool
+comes_trusted place (Datagram from bytes) = not (same_node place from.place) || from.is_trusted
+comes_trusted place Second = true
+comes_trusted place (Send to bytes) = true
+
+abbrev pub IsAlwaysTrusted : Node → History → Type 0
+IsAlwaysTrusted place history = AllByRecursion (λ event. comes_trusted place event ≡ true) history
 
 -- the event is a second, or a datagram of the place
 abbrev pub concerns : Node → Event → Bool

@@ -3,6 +3,8 @@
 use ipx_wire::Node;
 
 /// A client of a tunnel.
+///
+/// See the example of [`Tunnel`](crate::Tunnel).
 #[derive(Clone, Copy, Debug, Default, PartialEq, Eq)]
 pub struct Client {
     /// Where it is, which is its node too.

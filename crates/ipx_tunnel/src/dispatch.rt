@@ -19,6 +19,8 @@ use arrayvec::ArrayVec;
 use ipx_wire::Node;
 
 /// What is sent after a datagram: first the tunnel's own datagrams, then the packet that came.
+///
+/// See the example of [`Tunnel`](crate::Tunnel).
 #[derive(Debug, Drop)]
 pub struct Dispatch<'a, const C: usize> {
     /// What the datagram said.

@@ -15,7 +15,7 @@ ghost use Rattle.ipx_tunnel.specs.Clients.{seconds_left, is_there, clients};
 ghost use Rattle.ipx_tunnel.specs.Own.{own};
 ghost use Rattle.ipx_tunnel.specs.Receivers.{receivers, is_heard, carried};
 ghost use Rattle.ipx_tunnel.specs.Extend.{is_extended, extended};
-ghost use Rattle.ipx_tunnel.specs.Laws.{copies, Answered, Trusted, is_client, IsThereThrough, AnswersThrough, concerns, IsHonest, IsOrdinary, own_to, came_from, sent_to_stranger, came_in_all};
+ghost use Rattle.ipx_tunnel.specs.Laws.{copies, Answered, Trusted, is_client, IsThereThrough, AnswersThrough, SpeaksThrough, IsAlwaysTrusted, concerns, IsHonest, IsOrdinary, own_to, came_from, sent_to_stranger, came_in_all};
 
 /// Each client answered its cookie less than 30 seconds ago, or is trusted and said something less than 180 seconds ago.
 pub fn proof()
@@ -51,10 +51,13 @@ pub fn cable()
 {}
 
 /// Nobody puts out a client: as long as it answered its cookie less than 30 seconds ago, it stays, whatever else comes from wherever.
+/// So does a place that is always trusted, as long as it said something less than 180 seconds ago.
 /// Whether a place is there depends on seconds and its own datagrams alone.
 pub fn no_eviction()
     ensures answers { (setting : Setting) (history : History) (place : Node) (events : List Event) → is_client setting place history ≡ true
         → AnswersThrough setting place events history → is_client setting place (events ++ history) ≡ true }
+    ensures trusted { (setting : Setting) (history : History) (place : Node) (events : List Event) → is_client setting place history ≡ true
+        → IsAlwaysTrusted place (events ++ history) → SpeaksThrough setting place events history → is_client setting place (events ++ history) ≡ true }
     ensures stays { (setting : Setting) (history : History) (place : Node) (events : List Event) → is_client setting place history ≡ true
         → IsThereThrough setting place events history → is_client setting place (events ++ history) ≡ true }
     ensures own { (setting : Setting) (history : History) (place : Node) →

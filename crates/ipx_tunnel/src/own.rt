@@ -3,6 +3,8 @@
 use ipx_wire::{Address, Header, Node};
 
 /// A datagram of the tunnel's own, to one place: an answer or a ping. It is a packet without data.
+///
+/// See the example of [`Tunnel`](crate::Tunnel).
 #[derive(Clone, Copy, Debug, Default, PartialEq, Eq)]
 pub struct Own {
     /// Where it goes.

@@ -5,6 +5,8 @@ use arrayvec::ArrayVec;
 use ipx_wire::Node;
 
 /// What a second brings.
+///
+/// See the example of [`Tunnel`](crate::Tunnel).
 #[derive(Debug, Drop)]
 pub struct Passed<const C: usize> {
     /// The pings that are sent.

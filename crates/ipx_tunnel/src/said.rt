@@ -3,6 +3,8 @@
 use ipx_wire::Header;
 
 /// What a datagram says of who sent it.
+///
+/// See the example of [`Tunnel`](crate::Tunnel).
 #[derive(Clone, Copy, Debug, PartialEq, Eq)]
 pub enum Said {
     /// Nothing that counts: it is no packet, or names another source.

@@ -3,6 +3,8 @@
 use ipx_wire::Node;
 
 /// The cookies of a place: nodes that nobody can guess who doesn't hear there, such as a keyed hash of the place and the minute.
+///
+/// See the example of [`Tunnel`](crate::Tunnel).
 #[derive(Clone, Copy, Debug, PartialEq, Eq)]
 pub struct Cookies {
     /// The one by which it is pinged from now on.
@@ -12,6 +14,8 @@ pub struct Cookies {
 }
 
 /// Where a datagram came from, and what the server knows of this place.
+///
+/// See the example of [`Tunnel`](crate::Tunnel).
 #[derive(Clone, Copy, Debug, PartialEq, Eq)]
 pub struct Sender {
     /// The place: the four bytes of the IPv4 address, and the two of the port.

@@ -3,6 +3,8 @@
 use ipx_wire::{Network, Node};
 
 /// What a tunnel is told when it is made.
+///
+/// See the example of [`Tunnel`](crate::Tunnel).
 #[derive(Clone, Copy, Debug, PartialEq, Eq)]
 pub struct Setting {
     /// The number of its network.

@@ -24,6 +24,27 @@ use ipx_wire::Node;
 use std::marker::Model;
 
 /// A tunnel with at most `C` clients.
+///
+/// ```
+/// let setting = Setting {
+///     network: Network(0x10),
+///     node: Node([0, 0, 0, 0, 0, 1]),
+///     capacity: 64,
+///     share: 16,
+/// };
+/// let mut tunnel = Tunnel::<64>::new(setting);
+/// let dispatch = tunnel.hear(from, registration);
+/// for own in dispatch.own.iter() {
+///     println!(rt; "{} bytes to {}", own.bytes().len(), own.place)?;
+/// }
+/// tunnel.hear(from, answer);
+/// for client in tunnel.clients() {
+///     println!(rt; "{} stays for {} seconds", client.place, client.seconds_left)?;
+/// }
+/// // prints 30 bytes to 0A0000010852
+/// // prints 30 bytes to 0A0000010852
+/// // prints 0A0000010852 stays for 30 seconds
+/// ```
 #[derive(Debug, Drop)]
 pub struct Tunnel<const C: usize> {
     setting: Setting,
