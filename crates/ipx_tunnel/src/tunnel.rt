@@ -39,7 +39,8 @@ use std::marker::Model;
 /// }
 /// tunnel.hear(from, answer);
 /// for client in tunnel.clients() {
-///     println!(rt; "{} stays for {} seconds", client.place, client.seconds_left)?;
+///     let seconds = client.seconds_left;
+///     println!(rt; "{} stays for {seconds} seconds", client.place)?;
 /// }
 /// // prints 30 bytes to 0A0000010852
 /// // prints 30 bytes to 0A0000010852
