@@ -1,5 +1,5 @@
 -- Since when a place is there.
-use Rattle.std.proofs.Common.{◌≡◌, ◌≢◌, ◌∙◌, refl, sym, ap, ap₂, subst, arith, ℕ, ◌+◌, ◌-◌, ◌<◌, ◌≤◌, ◌⊎◌, Bool, true, false, not, ◌||◌, nat_lt, if◌then◌else◌, inl, inr, List, [], ◌∷◌, ◌++◌, filter}
+use Rattle.std.proofs.Common.{◌≡◌, ◌≢◌, ◌∙◌, refl, sym, ap, subst, arith, ℕ, ◌+◌, ◌-◌, ◌<◌, ◌≤◌, ◌⊎◌, Bool, true, false, not, ◌||◌, nat_lt, if◌then◌else◌, inl, inr, List, [], ◌∷◌, ◌++◌, filter}
 use Rattle.std.specs.List.{AllByRecursion}
 use Rattle.std.proofs.lemmas.Bool.{cases_Bool, false≢true, ltb-true, lt-ltb}
 use Rattle.ipx_wire.specs.declared.node.Node.{Node}
@@ -15,7 +15,6 @@ use Rattle.ipx_tunnel.specs.Clients.{lasts_by, lasts, seconds_left, is_there}
 use Rattle.ipx_tunnel.specs.Laws.{seconds, Answered, Trusted, IsThereThrough, AnswersThrough, SpeaksThrough, comes_trusted, IsAlwaysTrusted, concerns}
 use Rattle.ipx_tunnel.proofs.Lists.{each-before}
 use Rattle.ipx_tunnel.proofs.Nodes.{same_is, same_itself}
-use Rattle.ipx_tunnel.proofs.Standing.{lasts_own}
 
 -- ---- how long it counts what is said
 

@@ -5,5 +5,6 @@ pub mod Lists
 pub mod Members
 pub mod Nodes
 pub mod Sending
+pub mod Silence
 pub mod Standing
 pub mod examples

@@ -1,9 +1,9 @@
 -- Lists that are mapped and filtered.
-use Rattle.std.proofs.Common.{◌≡◌, ◌∙◌, refl, sym, ap, ap₂, rules, arith, ℕ, ◌+◌, ◌<◌, ◌≤◌, Bool, true, false, ◌||◌, cond, inl, inr, List, [], ◌∷◌, ◌++◌, length, map, filter, take, drop, get_or, set, length-set}
+use Rattle.std.proofs.Common.{◌≡◌, ◌∙◌, refl, sym, ap, ap₂, arith, ℕ, ◌+◌, ◌<◌, ◌≤◌, Bool, true, false, ◌||◌, cond, inl, inr, List, [], ◌∷◌, ◌++◌, length, map, filter, take, drop, get_or, set, length-set}
 use Rattle.std.specs.List.{list_any, AllByRecursion, refill}
 use Rattle.std.proofs.lemmas.Bool.{cases_Bool}
-use Rattle.std.proofs.lemmas.List.{map_more, map-append, length-map, take_at, take_more_set, drop-set-lt, drop_more, get_or-drop, get_or_read, take_all, drop-drop}
-use Rattle.std.proofs.lemmas.List.Elements.{filter_more, filter-append}
+use Rattle.std.proofs.lemmas.List.{map_more, map-append, length-map, take_at, take_more_set, drop-set-lt, drop_more, take_all}
+use Rattle.std.proofs.lemmas.List.Elements.{filter_more}
 
 pub any-map : {X Y : Type 0} (p : Y → Bool) (f : X → Y) (xs : List X) → list_any p (map f xs) ≡ list_any (λ x. p (f x)) xs
 any-map p f [] = refl

@@ -1,6 +1,6 @@
 -- Places in a list of places.
-use Rattle.std.proofs.Common.{◌≡◌, ◌∙◌, refl, sym, ap, ap₂, subst, arith, ℕ, suc, ◌+◌, ◌<◌, ◌≤◌, Bool, true, false, ◌&&◌, ◌||◌, not, cond, if◌then◌else◌, inl, inr, List, [], ◌∷◌, ◌++◌, length, filter, take, length-append}
-use Rattle.std.specs.List.{AllByRecursion, list_any}
+use Rattle.std.proofs.Common.{◌≡◌, ◌∙◌, refl, sym, ap, arith, ℕ, suc, ◌+◌, ◌≤◌, Bool, true, false, ◌&&◌, ◌||◌, not, if◌then◌else◌, inl, inr, List, [], ◌∷◌, ◌++◌, length, filter, take, length-append}
+use Rattle.std.specs.List.{AllByRecursion}
 use Rattle.std.proofs.lemmas.Bool.{cases_Bool, false≢true}
 use Rattle.std.proofs.lemmas.Cmp.{nat_list_eq_equiv}
 use Rattle.std.proofs.lemmas.List.Elements.{filter-append, filter_agree}
@@ -9,7 +9,7 @@ use Rattle.ipx_wire.specs.declared.node.Node.{Node}
 use Rattle.ipx_tunnel.specs.Numbers.{address_size}
 use Rattle.ipx_tunnel.specs.Places.{same_node, same_address, is_among, of_address}
 use Rattle.ipx_tunnel.specs.Laws.{copies}
-use Rattle.ipx_tunnel.proofs.Nodes.{same_is, same_itself}
+use Rattle.ipx_tunnel.proofs.Nodes.{same_is}
 
 -- ---- counting what passes a test
 

@@ -1,5 +1,5 @@
 -- Nodes that are the same.
-use Rattle.std.proofs.Common.{◌≡◌, sym, ap, true, nat_eq, List, ℕ}
+use Rattle.std.proofs.Common.{◌≡◌, sym, ap, true, List, ℕ}
 use Rattle.std.specs.Cmp.Lexicographic.{same_text}
 use Rattle.std.proofs.lemmas.Cmp.{nat_list_eq_equiv}
 use Rattle.ipx_wire.specs.declared.node.Node.{Node}

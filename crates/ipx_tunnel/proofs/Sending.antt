@@ -1,10 +1,8 @@
 -- How much is sent, and to whom.
-use Rattle.std.proofs.Common.{◌≡◌, ◌∙◌, refl, sym, ap, ap₂, subst, arith, ℕ, ◌+◌, ◌*◌, ◌<◌, ◌≤◌, ◌==◌, Bool, true, false, ◌&&◌, ◌||◌, not, nat_lt, max, if◌then◌else◌, inl, inr, List, [], ◌∷◌, ◌++◌, length, map, filter}
+use Rattle.std.proofs.Common.{◌≡◌, ◌∙◌, refl, ap, subst, arith, ℕ, ◌+◌, ◌*◌, ◌≤◌, ◌==◌, Bool, true, false, ◌&&◌, ◌||◌, not, nat_lt, max, if◌then◌else◌, inl, inr, List, [], ◌∷◌, length, filter}
 use Rattle.std.proofs.lemmas.Bool.{cases_Bool, false≢true}
 use Rattle.std.proofs.lemmas.Cmp.{nat_list_eq_equiv}
 use Rattle.std.proofs.lemmas.List.{length-map}
-use Rattle.std.proofs.Math.Nat.{le-max_left, le-max_right}
-use Rattle.ipx_wire.specs.Packet.{Parts, packet_of}
 use Rattle.ipx_wire.specs.declared.header.Header.{Header}
 use Rattle.ipx_wire.specs.declared.node.Node.{Node}
 use Rattle.ipx_tunnel.specs.declared.own.Own.{Own}
@@ -15,7 +13,7 @@ use Rattle.ipx_tunnel.specs.declared.setting.Setting.{Setting}
 use Rattle.ipx_tunnel.specs.Numbers.{tunnel_socket}
 use Rattle.ipx_tunnel.specs.Places.{same_node, broadcast, is_among, is_here, of_address}
 use Rattle.ipx_tunnel.specs.Events.{Event, Datagram, Second, Send, History}
-use Rattle.ipx_tunnel.specs.Says.{said, is_to}
+use Rattle.ipx_tunnel.specs.Says.{said}
 use Rattle.ipx_tunnel.specs.Clients.{is_open, cookie, clients}
 use Rattle.ipx_tunnel.specs.Own.{answer_to, ping_to, own_for, own, is_ping, is_silent}
 use Rattle.ipx_tunnel.specs.Receivers.{is_for, to_for, receivers, is_heard_of, is_for_router}

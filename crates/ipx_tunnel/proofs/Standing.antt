@@ -1,16 +1,14 @@
 -- What a tunnel keeps stands for one event more.
-use Rattle.std.proofs.Common.{◌≡◌, ◌∙◌, refl, sym, ap, ap₂, subst, ℕ, ◌-◌, ◌==◌, ◌%◌, Bool, true, false, ◌&&◌, not, nat_lt, cond, if◌then◌else◌, inl, inr, List, [], ◌∷◌, ◌++◌, map, filter}
+use Rattle.std.proofs.Common.{◌≡◌, ◌∙◌, refl, sym, ap, ap₂, subst, ℕ, Bool, true, false, ◌&&◌, not, nat_lt, if◌then◌else◌, inl, inr, List, [], ◌∷◌, ◌++◌, map, filter}
 use Rattle.std.specs.List.{AllByRecursion}
 use Rattle.std.proofs.lemmas.Bool.{cases_Bool, false≢true}
 use Rattle.std.proofs.lemmas.List.{append-nil, map-append}
 use Rattle.ipx_wire.specs.declared.node.Node.{Node}
 use Rattle.ipx_tunnel.specs.declared.client.Client.{Client}
-use Rattle.ipx_tunnel.specs.declared.own.Own.{Own}
 use Rattle.ipx_tunnel.specs.declared.sender.Sender.{Sender}
 use Rattle.ipx_tunnel.specs.declared.setting.Setting.{Setting}
-use Rattle.ipx_tunnel.specs.Numbers.{ping_every}
 use Rattle.ipx_tunnel.specs.Places.{same_node}
-use Rattle.ipx_tunnel.specs.Events.{Event, Datagram, Second, Send, History}
+use Rattle.ipx_tunnel.specs.Events.{Datagram, Second, Send, History}
 use Rattle.ipx_tunnel.specs.Says.{said}
 use Rattle.ipx_tunnel.specs.Clients.{lasts_by, lasts, seconds_left, is_there, cookie, is_open, newcomers, clients}
 use Rattle.ipx_tunnel.specs.Own.{ping_to, own}

@@ -1,4 +1,4 @@
--- Who is a client: who proved that he hears, or is trusted, and for whom there was a place.
+-- Who is a client: a place that proved that it hears, or is trusted, and for which there was room.
 use Rattle.std.specs.Prelude.{ℕ, ◌-◌, Bool, ◌&&◌, not, nat_lt, if◌then◌else◌, List, [], ◌∷◌, ◌++◌, length}
 use Rattle.std.specs.List.{filter}
 use Rattle.ipx_wire.specs.declared.node.Node.{Node}
@@ -10,7 +10,7 @@ use Rattle.ipx_tunnel.specs.Places.{same_node, nobody, is_among, of_address}
 use Rattle.ipx_tunnel.specs.Events.{Event, Datagram, Second, Send, History}
 use Rattle.ipx_tunnel.specs.Says.{said}
 
--- for how many seconds it counts what was said: the answer to a cookie, and whatever somebody trusted says
+-- for how many seconds it counts what was said: an answer to the cookie, and from a trusted place whatever it says
 abbrev pub lasts_by : Bool → Said → ℕ
 lasts_by is_trusted Nothing = 0
 lasts_by is_trusted Registers = if is_trusted then trust_lasts else 0

@@ -13,7 +13,7 @@ use Rattle.ipx_tunnel.specs.Numbers.{answer_lasts, trust_lasts}
 use Rattle.ipx_tunnel.specs.Places.{same_node, is_among, is_from_here}
 use Rattle.ipx_tunnel.specs.Events.{Event, Datagram, Second, Send, History}
 use Rattle.ipx_tunnel.specs.Says.{said}
-use Rattle.ipx_tunnel.specs.Clients.{is_there, clients}
+use Rattle.ipx_tunnel.specs.Clients.{lasts, is_there, clients}
 use Rattle.ipx_tunnel.specs.Own.{own}
 use Rattle.ipx_tunnel.specs.Receivers.{receivers}
 
@@ -55,26 +55,36 @@ pub record Trusted (setting : Setting) (place : Node) (history : History) : Type
   pub said : said setting.network from bytes ≢ Nothing
   pub recent : seconds later < trust_lasts
 
+-- the latest event that counts for the place: since then nothing came that does
+pub record LastHeard (setting : Setting) (place : Node) (history : History) : Type 0 where
+  pub later : History
+  pub from : Sender
+  pub bytes : List ℕ
+  pub earlier : History
+  pub event : history ≡ later ++ Datagram from bytes ∷ earlier
+  pub counts : 0 < lasts setting place (Datagram from bytes)
+  pub silence : AllByRecursion (λ e. lasts setting place e ≡ 0) later
+
 module _ (setting : Setting) where
   abbrev pub is_client : Node → History → Bool
   is_client place history = is_among place (clients setting history)
 
-  -- the place is there at the end of a history, and at each end of more events
+  -- after each of these events the place is there
   abbrev pub IsThereThrough : Node → List Event → History → Type 0
   IsThereThrough place [] history = Unit
   IsThereThrough place (event ∷ events) history = (is_there setting place (event ∷ events ++ history) ≡ true) × IsThereThrough place events history
 
-  -- the same, in each case since it answered
+  -- after each of them it has answered its cookie less than 30 seconds ago
   abbrev pub AnswersThrough : Node → List Event → History → Type 0
   AnswersThrough place [] history = Unit
   AnswersThrough place (event ∷ events) history = Answered setting place (event ∷ events ++ history) × AnswersThrough place events history
 
-  -- the same, in each case since it was trusted and said something
+  -- after each of them it was trusted and said something less than 180 seconds ago
   abbrev pub SpeaksThrough : Node → List Event → History → Type 0
   SpeaksThrough place [] history = Unit
   SpeaksThrough place (event ∷ events) history = Trusted setting place (event ∷ events ++ history) × SpeaksThrough place events history
 
--- no datagram of the place comes but trusted
+-- the event is no datagram of the place, or the place is trusted in it
 abbrev pub comes_trusted : Node → Event → Bool
 comes_trusted place (Datagram from bytes) = not (same_node place from.place) || from.is_trusted
 comes_trusted place Second = true

@@ -5,14 +5,14 @@ use Rattle.std.specs.Prelude.{ℕ}
 abbrev pub tunnel_socket : ℕ
 tunnel_socket = 2
 
--- for how many seconds who answered its cookie counts as there, and for how many who is trusted and said something
+-- for how many seconds a place counts as there after it answered its cookie; and after it said something, if it is trusted
 abbrev pub answer_lasts : ℕ
 answer_lasts = 30
 
 abbrev pub trust_lasts : ℕ
 trust_lasts = 180
 
--- a client is pinged after each so many seconds of silence
+-- a client is pinged after every so many seconds of silence; the two numbers above are multiples of this one
 abbrev pub ping_every : ℕ
 ping_every = 5
 

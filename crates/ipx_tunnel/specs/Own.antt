@@ -1,5 +1,5 @@
 -- The datagrams of the tunnel's own: answers and pings.
-use Rattle.std.specs.Prelude.{ℕ, Bool, ◌==◌, ◌&&◌, ◌||◌, ◌%◌, if◌then◌else◌, List, [], ◌∷◌, map}
+use Rattle.std.specs.Prelude.{Bool, ◌==◌, ◌&&◌, ◌||◌, ◌%◌, if◌then◌else◌, List, [], ◌∷◌, map}
 use Rattle.std.specs.List.{filter}
 use Rattle.ipx_wire.specs.Numbers.{no_checksum, header_size}
 use Rattle.ipx_wire.specs.declared.address.Address.{Address}
@@ -13,7 +13,7 @@ use Rattle.ipx_tunnel.specs.declared.sender.Sender.{Sender}
 use Rattle.ipx_tunnel.specs.declared.setting.Setting.{Setting}
 use Rattle.ipx_tunnel.specs.Numbers.{tunnel_socket, ping_every}
 use Rattle.ipx_tunnel.specs.Places.{broadcast, is_among, is_here}
-use Rattle.ipx_tunnel.specs.Events.{Event, Datagram, Second, Send, History}
+use Rattle.ipx_tunnel.specs.Events.{Datagram, Second, Send, History}
 use Rattle.ipx_tunnel.specs.Says.{said, is_to}
 use Rattle.ipx_tunnel.specs.Clients.{seconds_left, cookie, is_open, clients}
 
@@ -48,7 +48,8 @@ ping_to network place cookie = record { place = place; destination = at_node net
 abbrev pub is_ping : Network → Header → Bool
 is_ping network header = is_here network header.destination.network && is_to header broadcast
 
--- who registers gets an answer and a ping, and who speaks and is no client a ping, where there is room. A client's ping is answered
+-- where there is room, a registration is answered and its sender pinged, and a stranger who speaks is pinged. A client's ping is
+-- answered
 abbrev pub own_for : Setting → List Node → Sender → Said → List Own
 own_for setting clients from Nothing = []
 own_for setting clients from Registers =
@@ -60,7 +61,7 @@ own_for setting clients from (Speaks header) =
     else if is_open setting from.place clients then ping_to setting.network from.place from.cookies.current ∷ [] else []
 
 module _ (setting : Setting) where
-  -- the place was silent for so many seconds that it is pinged
+  -- the place was silent for a multiple of five seconds
   abbrev pub is_silent : History → Node → Bool
   is_silent history place = seconds_left setting place history % ping_every == 0
 

@@ -19,8 +19,8 @@ is_to header node = (header.destination.socket.0 == tunnel_socket) && same_node 
 abbrev pub names : Network → Node → Header → Bool
 names network place header = same_node header.source.node place && is_from_here network header.source.network
 
--- a packet for nobody registers. Any other says something only if it names its place. A ping's source node is a cookie, and who
--- heard the ping answers to it
+-- a packet for nobody registers. Any other says something only if it names the place it came from. A ping's source node is a cookie,
+-- so a packet to the cookie answers the ping
 abbrev pub said_by : Network → Sender → Header → Said
 said_by network from header =
     if is_to header nobody then Registers

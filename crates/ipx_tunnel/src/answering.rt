@@ -16,7 +16,7 @@ use crate::setting::Setting;
 use arrayvec::ArrayVec;
 use ipx_wire::{Address, Header, Network, Node};
 
-/// A client is pinged after each so many seconds of silence.
+/// A client is pinged after every so many seconds of silence.
 const PING_EVERY: u8 = 5;
 
 /// The tunnel's own datagrams for what a place said.

@@ -7,7 +7,7 @@ use ipx_wire::Node;
 /// See the example of [`Tunnel`](crate::Tunnel).
 #[derive(Clone, Copy, Debug, Default, PartialEq, Eq)]
 pub struct Client {
-    /// Where it is, which is its node too.
+    /// Where it is; its node has the same bytes.
     pub place: Node,
     /// The source node of its pings.
     pub cookie: Node,

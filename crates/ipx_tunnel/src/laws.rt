@@ -1,5 +1,5 @@
 //! What holds by the definitions alone, of every history.
-ghost use Rattle.std.specs.Prelude.{◌≡◌, ◌≢◌, ℕ, ◌+◌, ◌*◌, ◌<◌, ◌≤◌, ◌⊎◌, ◌&&◌, not, max, if◌then◌else◌, true, false, List, [], ◌∷◌, ◌++◌, length};
+ghost use Rattle.std.specs.Prelude.{◌≡◌, ◌≢◌, ℕ, ◌+◌, ◌*◌, ◌<◌, ◌≤◌, ◌⊎◌, ◌%◌, ◌==◌, ◌&&◌, not, max, if◌then◌else◌, true, false, List, [], ◌∷◌, ◌++◌, length};
 ghost use Rattle.std.specs.List.{filter};
 ghost use Rattle.ipx_wire.specs.declared.header.Header.{Header};
 ghost use Rattle.ipx_wire.specs.declared.network.Network.{Network};
@@ -8,14 +8,15 @@ ghost use Rattle.ipx_wire.specs.declared.socket.Socket.{Socket};
 ghost use Rattle.ipx_tunnel.specs.declared.said.Said.TheVariants.{Nothing, Answers, Speaks};
 ghost use Rattle.ipx_tunnel.specs.declared.sender.Sender.{Sender};
 ghost use Rattle.ipx_tunnel.specs.declared.setting.Setting.{Setting};
+ghost use Rattle.ipx_tunnel.specs.Numbers.{ping_every};
 ghost use Rattle.ipx_tunnel.specs.Places.{same_node, broadcast, is_among, is_here, of_address};
 ghost use Rattle.ipx_tunnel.specs.Events.{Event, Datagram, Second, Send, History};
 ghost use Rattle.ipx_tunnel.specs.Says.{said};
-ghost use Rattle.ipx_tunnel.specs.Clients.{seconds_left, is_there, clients};
+ghost use Rattle.ipx_tunnel.specs.Clients.{seconds_left, is_there, cookie, clients};
 ghost use Rattle.ipx_tunnel.specs.Own.{own};
 ghost use Rattle.ipx_tunnel.specs.Receivers.{receivers, is_heard, carried};
 ghost use Rattle.ipx_tunnel.specs.Extend.{is_extended, extended};
-ghost use Rattle.ipx_tunnel.specs.Laws.{copies, Answered, Trusted, is_client, IsThereThrough, AnswersThrough, SpeaksThrough, IsAlwaysTrusted, concerns, IsHonest, IsOrdinary, own_to, came_from, sent_to_stranger, came_in_all};
+ghost use Rattle.ipx_tunnel.specs.Laws.{copies, Answered, Trusted, is_client, IsThereThrough, AnswersThrough, SpeaksThrough, IsAlwaysTrusted, concerns, IsHonest, IsOrdinary, LastHeard, seconds, own_to, came_from, sent_to_stranger, came_in_all};
 
 /// Each client answered its cookie less than 30 seconds ago, or is trusted and said something less than 180 seconds ago.
 pub fn proof()
@@ -76,6 +77,13 @@ pub fn room()
     ensures capacity { (setting : Setting) (history : History) → length (clients setting history) ≤ setting.capacity }
     ensures share { (setting : Setting) (history : History) (place : Node) → of_address place (clients setting history) ≤ setting.share }
     ensures once { (setting : Setting) (history : History) (place : Node) → copies place (clients setting history) ≤ 1 }
+{}
+
+/// A client is pinged after every five seconds of silence, once, by the cookie that it had when it was last heard.
+pub fn pings()
+    ensures every_five { (setting : Setting) (history : History) (place : Node) (last : LastHeard setting place (Second ∷ history)) → is_client setting place (Second ∷ history) ≡ true
+        → own_to place (own setting (Second ∷ history)) ≡ (if seconds last.later % ping_every == 0 then 1 else 0) }
+    ensures cookie { (setting : Setting) (history : History) (place : Node) (last : LastHeard setting place history) → cookie setting place history ≡ last.from.cookies.current }
 {}
 
 /// To a place where no client is, no packet is carried, and no more than two datagrams of the tunnel's own go for each that came from there:

@@ -1,13 +1,13 @@
 //! DOSBox' IPX tunnel as its server serves it: who is a client, and who gets what.
 //!
-//! - Who wants to be a client proves that he hears at his address: he answers a ping whose source node is a cookie. Addresses that are
-//!   trusted need not. Nobody is ever put out for another, and there are shares for addresses.
+//! - A newcomer proves that it receives at its address: it answers a ping whose source node is a cookie. A trusted address need not.
+//!   Nobody is ever put out for another, and each address has a share of the places.
 //! - Each call's contract is exact for every history of datagrams, seconds and packets of the router, by the definitions in `specs/`.
-//!   What follows is said by the laws: what a client says bears its own address, it comes to whom a cable would bring it, who answers
-//!   stays, and to strangers the tunnel sends little.
-//! - It opens no socket, reads no clock and takes no memory: datagrams and cookies are handed in, and what must be sent is handed out.
+//! - The laws say what follows: packets bear the address of the client that sent them and go where a cable would bring them, a client
+//!   that answers stays, and strangers get little back.
+//! - It has no socket and no clock and takes no memory: it is handed datagrams and cookies, and returns what must be sent.
 //!
-//! It stands on `ipx_wire`, for packets. A gateway stands on it, with a router behind: that isn't needed here.
+//! It stands on `ipx_wire`, for packets. A gateway, with a router behind it, can stand on this crate.
 #![tactic(auto)]
 
 mod answering;

@@ -2,16 +2,16 @@
 
 use ipx_wire::Header;
 
-/// What a datagram says of who sent it.
+/// What a datagram says of its sender.
 ///
 /// See the example of [`Tunnel`](crate::Tunnel).
 #[derive(Clone, Copy, Debug, PartialEq, Eq)]
 pub enum Said {
     /// Nothing that counts: it is no packet, or names another source.
     Nothing,
-    /// That he wants to be a client.
+    /// That it wants to be a client.
     Registers,
-    /// That he heard his ping.
+    /// That it heard its ping.
     Answers,
     /// Something to others, by a packet with that header.
     Speaks(Header),

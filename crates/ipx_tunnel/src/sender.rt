@@ -2,7 +2,7 @@
 
 use ipx_wire::Node;
 
-/// The cookies of a place: nodes that nobody can guess who doesn't hear there, such as a keyed hash of the place and the minute.
+/// The cookies of a place: nodes that only somebody who receives there can know, such as a keyed hash of the place and the minute.
 ///
 /// See the example of [`Tunnel`](crate::Tunnel).
 #[derive(Clone, Copy, Debug, PartialEq, Eq)]

@@ -1,14 +1,12 @@
 -- Who comes in: who answers his ping, and for whom there is room.
-use Rattle.std.proofs.Common.{◌≡◌, true, false, List, [], ◌∷◌, refl}
+use Rattle.std.proofs.Common.{◌≡◌, false, [], ◌∷◌, refl}
 use Rattle.ipx_wire.specs.Address.{address_at, address_bytes}
 use Rattle.ipx_wire.specs.Header.{header_at, header_bytes}
 use Rattle.ipx_wire.specs.Packet.{packet_of}
-use Rattle.ipx_tunnel.specs.Places.{broadcast, nobody}
-use Rattle.ipx_tunnel.specs.Events.{Datagram, Second, Send}
-use Rattle.ipx_tunnel.specs.Clients.{clients, cookie}
+use Rattle.ipx_tunnel.specs.Events.{Datagram}
+use Rattle.ipx_tunnel.specs.Clients.{clients}
 use Rattle.ipx_tunnel.specs.Own.{own, answer_to, ping_to}
-use Rattle.ipx_tunnel.specs.Receivers.{receivers, is_heard}
-use Rattle.ipx_tunnel.proofs.examples.Players.{setting, tunnel_node, at, cookie_of, from_in, from, trusted, address, packet, registers, answers_to, answers, says_to, says, later, three}
+use Rattle.ipx_tunnel.proofs.examples.Players.{setting, at, cookie_of, from_in, from, trusted, address, packet, registers, answers_to, answers, says, three}
 
 -- who registers is answered and pinged, but is no client yet
 pub registers_first : own setting (registers (from 1 1) ∷ []) ≡ answer_to setting (at 1 1) ∷ ping_to setting.network (at 1 1) (cookie_of 1 1 2) ∷ []

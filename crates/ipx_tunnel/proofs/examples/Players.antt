@@ -1,5 +1,5 @@
 -- The players of the worked examples: a tunnel on network 10h for three clients, two of them of one address.
-use Rattle.std.proofs.Common.{ℕ, zero, suc, Bool, true, false, List, [], ◌∷◌, ◌++◌}
+use Rattle.std.proofs.Common.{ℕ, zero, suc, Bool, true, false, List, [], ◌∷◌}
 use Rattle.ipx_wire.specs.Header.{header_bytes}
 use Rattle.ipx_wire.specs.declared.address.Address.{Address}
 use Rattle.ipx_wire.specs.declared.header.Header.{Header}

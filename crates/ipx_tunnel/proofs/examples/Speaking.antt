@@ -1,14 +1,13 @@
 -- What is said comes to whom a cable would bring it.
-use Rattle.std.proofs.Common.{◌≡◌, true, false, List, [], ◌∷◌, refl}
+use Rattle.std.proofs.Common.{◌≡◌, true, false, [], ◌∷◌, refl}
 use Rattle.ipx_wire.specs.Address.{address_at, address_bytes}
 use Rattle.ipx_wire.specs.Header.{header_at, header_bytes}
 use Rattle.ipx_wire.specs.Packet.{packet_of}
-use Rattle.ipx_tunnel.specs.Places.{broadcast, nobody}
-use Rattle.ipx_tunnel.specs.Events.{Datagram, Second, Send}
-use Rattle.ipx_tunnel.specs.Clients.{clients, cookie}
+use Rattle.ipx_tunnel.specs.Places.{broadcast}
+use Rattle.ipx_tunnel.specs.Events.{Datagram, Send}
 use Rattle.ipx_tunnel.specs.Own.{own, answer_to, ping_to}
 use Rattle.ipx_tunnel.specs.Receivers.{receivers, is_heard}
-use Rattle.ipx_tunnel.proofs.examples.Players.{setting, tunnel_node, at, cookie_of, from_in, from, trusted, address, packet, registers, answers_to, answers, says_to, says, later, three}
+use Rattle.ipx_tunnel.proofs.examples.Players.{setting, tunnel_node, at, cookie_of, from, address, packet, answers, says_to, says, three}
 
 -- a broadcast comes to all but its sender
 pub to_all : receivers setting (says (from 1 2) ∷ three) ≡ at 1 1 ∷ at 2 1 ∷ []

@@ -1,14 +1,11 @@
 -- How long a client stays, and when it is pinged.
-use Rattle.std.proofs.Common.{◌≡◌, true, false, List, [], ◌∷◌, refl}
+use Rattle.std.proofs.Common.{◌≡◌, [], ◌∷◌, refl}
 use Rattle.ipx_wire.specs.Address.{address_at, address_bytes}
 use Rattle.ipx_wire.specs.Header.{header_at, header_bytes}
 use Rattle.ipx_wire.specs.Packet.{packet_of}
-use Rattle.ipx_tunnel.specs.Places.{broadcast, nobody}
-use Rattle.ipx_tunnel.specs.Events.{Datagram, Second, Send}
-use Rattle.ipx_tunnel.specs.Clients.{clients, cookie}
-use Rattle.ipx_tunnel.specs.Own.{own, answer_to, ping_to}
-use Rattle.ipx_tunnel.specs.Receivers.{receivers, is_heard}
-use Rattle.ipx_tunnel.proofs.examples.Players.{setting, tunnel_node, at, cookie_of, from_in, from, trusted, address, packet, registers, answers_to, answers, says_to, says, later, three}
+use Rattle.ipx_tunnel.specs.Clients.{clients}
+use Rattle.ipx_tunnel.specs.Own.{own, ping_to}
+use Rattle.ipx_tunnel.proofs.examples.Players.{setting, at, cookie_of, from, trusted, answers, says, later}
 
 -- after 4 seconds of silence nothing is sent
 pub silent_4 : own setting (later 4 (answers (from 1 1) ∷ [])) ≡ []

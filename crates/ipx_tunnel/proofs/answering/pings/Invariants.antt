@@ -1,4 +1,4 @@
-use Rattle.std.proofs.Common.{◌≡◌, ◌≤◌, length, map, filter, take, not}
+use Rattle.std.proofs.Common.{◌≡◌, ◌≤◌, length, map, filter, take}
 use Rattle.ipx_tunnel.specs.Own.{ping_to}
 use Rattle.ipx_tunnel.specs.inside.Kept.{pings_now}
 use Rattle.ipx_tunnel.proofs.answering.pings.Given as goal

@@ -1,4 +1,4 @@
-use Rattle.std.proofs.Common.{◌≡◌, ◌≤◌, length, map, filter, take, not}
+use Rattle.std.proofs.Common.{◌≡◌, ◌≤◌, length, filter, take}
 use Rattle.ipx_tunnel.specs.Receivers.{is_for}
 use Rattle.ipx_tunnel.specs.inside.Kept.{places_of}
 use Rattle.ipx_tunnel.proofs.carrying.receivers.Given as goal

@@ -1,4 +1,4 @@
-use Rattle.std.proofs.Common.{◌≡◌, ◌≤◌, length, map, filter, take, not}
+use Rattle.std.proofs.Common.{◌≡◌, ◌≤◌, length, filter, take, not}
 use Rattle.ipx_tunnel.specs.inside.Kept.{places_of, stays}
 use Rattle.ipx_tunnel.proofs.changing.leaving.Given as goal
 

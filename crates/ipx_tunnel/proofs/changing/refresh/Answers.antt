@@ -1,4 +1,3 @@
-use Rattle.std.proofs.Common.{arith}
 use Rattle.ipx_tunnel.proofs.Lists.{mapped_more}
 use Rattle.ipx_tunnel.proofs.changing.refresh.Goals as goal
 

@@ -1,4 +1,4 @@
-use Rattle.std.proofs.Common.{ℕ, ◌≤◌, arith, List, length, take, length-take, Result, Ok, Err}
+use Rattle.std.proofs.Common.{ℕ, ◌≤◌, arith, List, length, length-take, Result, Ok, Err}
 use Rattle.ipx_wire.specs.Packet.{Parts, packet_of}
 use Rattle.ipx_wire.specs.declared.packet.PacketFault.{PacketFault}
 use Rattle.ipx_tunnel.specs.Says.{packet_in}

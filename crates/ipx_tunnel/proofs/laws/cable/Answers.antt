@@ -1,11 +1,10 @@
 use Rattle.std.proofs.Common.{◌≡◌, ◌∙◌, ap, ap₂, Bool, true, false, ◌&&◌, not, if◌then◌else◌, ℕ, List, [], ◌∷◌, filter}
 use Rattle.ipx_wire.specs.declared.header.Header.{Header}
 use Rattle.ipx_wire.specs.declared.node.Node.{Node}
-use Rattle.ipx_tunnel.specs.declared.said.Said.{Said}
 use Rattle.ipx_tunnel.specs.declared.said.Said.TheVariants.{Speaks}
 use Rattle.ipx_tunnel.specs.declared.sender.Sender.{Sender}
 use Rattle.ipx_tunnel.specs.declared.setting.Setting.{Setting}
-use Rattle.ipx_tunnel.specs.Places.{same_node, broadcast, is_among, is_here}
+use Rattle.ipx_tunnel.specs.Places.{same_node, broadcast, is_here}
 use Rattle.ipx_tunnel.specs.Events.{History, Datagram, Send}
 use Rattle.ipx_tunnel.specs.Says.{said}
 use Rattle.ipx_tunnel.specs.Clients.{clients}

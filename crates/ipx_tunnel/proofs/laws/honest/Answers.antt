@@ -1,13 +1,12 @@
-use Rattle.std.proofs.Common.{◌≡◌, refl, true, false, Bool, not, if◌then◌else◌, List, ◌∷◌, ℕ, Result, Ok, Err, ◌&&◌, ◌||◌}
+use Rattle.std.proofs.Common.{◌≡◌, refl, true, false, Bool, not, if◌then◌else◌, List, ◌∷◌, ℕ, Result, Ok, Err, ◌||◌}
 use Rattle.ipx_wire.specs.Packet.{Parts, packet_of}
 use Rattle.ipx_wire.specs.declared.header.Header.{Header}
 use Rattle.ipx_wire.specs.declared.network.Network.{Network}
 use Rattle.ipx_wire.specs.declared.packet.PacketFault.{PacketFault}
-use Rattle.ipx_tunnel.specs.declared.said.Said.{Said}
 use Rattle.ipx_tunnel.specs.declared.said.Said.TheVariants.{Nothing, Registers, Answers, Speaks}
 use Rattle.ipx_tunnel.specs.declared.sender.Sender.{Sender}
 use Rattle.ipx_tunnel.specs.declared.setting.Setting.{Setting}
-use Rattle.ipx_tunnel.specs.Places.{same_node, nobody, is_among, is_from_here}
+use Rattle.ipx_tunnel.specs.Places.{same_node, nobody}
 use Rattle.ipx_tunnel.specs.Events.{History, Datagram}
 use Rattle.ipx_tunnel.specs.Says.{said, said_in, is_to, names}
 use Rattle.ipx_tunnel.specs.Clients.{clients}

@@ -1,4 +1,3 @@
-use Rattle.std.proofs.Common.{sym}
 use Rattle.ipx_tunnel.specs.Clients.{is_there, clients}
 use Rattle.ipx_tunnel.proofs.Heard.{proved}
 use Rattle.ipx_tunnel.proofs.Members.{each_among}

@@ -1,4 +1,4 @@
-use Rattle.std.proofs.Common.{◌≡◌, ◌∙◌, refl, sym, ap, true, false, Bool, nat_lt, List, ℕ, ◌≢◌}
+use Rattle.std.proofs.Common.{◌≡◌, ◌∙◌, refl, ap, true, false, Bool, nat_lt, ◌≢◌}
 use Rattle.ipx_tunnel.specs.declared.said.Said.{Said}
 use Rattle.ipx_tunnel.specs.declared.said.Said.TheVariants.{Nothing, Registers, Answers, Speaks}
 use Rattle.ipx_tunnel.specs.Says.{said}

@@ -1,8 +1,4 @@
-use Rattle.std.proofs.Common.{◌≡◌, ◌∙◌, sym, ap, ap₂, Bool, List, ◌∷◌}
-use Rattle.ipx_wire.specs.declared.node.Node.{Node}
-use Rattle.ipx_tunnel.specs.declared.own.Own.{Own}
-use Rattle.ipx_tunnel.specs.declared.setting.Setting.{Setting}
-use Rattle.ipx_tunnel.specs.declared.said.Said.{Said}
+use Rattle.std.proofs.Common.{◌≡◌, ◌∙◌, ap, ◌∷◌}
 use Rattle.ipx_tunnel.specs.Events.{History, Datagram}
 use Rattle.ipx_tunnel.specs.Says.{said}
 use Rattle.ipx_tunnel.specs.Clients.{lasts_by}

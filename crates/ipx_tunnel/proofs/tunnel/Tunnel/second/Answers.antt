@@ -1,13 +1,12 @@
-use Rattle.std.proofs.Common.{◌≡◌, ◌∙◌, sym, ap, ap₂, subst, map, filter, not, List, ◌∷◌}
+use Rattle.std.proofs.Common.{◌∙◌, ap, map, filter, not, List, ◌∷◌}
 use Rattle.ipx_wire.specs.declared.network.Network.{Network}
 use Rattle.ipx_tunnel.specs.declared.client.Client.{Client}
 use Rattle.ipx_tunnel.specs.declared.setting.Setting.{Setting}
-use Rattle.ipx_tunnel.specs.Events.{History, Second}
+use Rattle.ipx_tunnel.specs.Events.{Second}
 use Rattle.ipx_tunnel.specs.Own.{ping_to, own}
-use Rattle.ipx_tunnel.specs.Clients.{clients}
-use Rattle.ipx_tunnel.specs.Stands.{State, Stands, client_at}
+use Rattle.ipx_tunnel.specs.Stands.{State}
 use Rattle.ipx_tunnel.specs.inside.Kept.{places_of, later, stays, pings_now}
-use Rattle.ipx_tunnel.proofs.Standing.{stands_second, left_second, pings_second, stands_later}
+use Rattle.ipx_tunnel.proofs.Standing.{left_second, pings_second, stands_later}
 use Rattle.ipx_tunnel.proofs.tunnel.Tunnel.second.Goals as goal
 
 pub returns-clause-stands : goal.returns-clause-stands

@@ -1,8 +1,7 @@
-use Rattle.std.proofs.Common.{◌∙◌, sym, ap, filter, map, List, ◌∷◌}
+use Rattle.std.proofs.Common.{◌∙◌, sym, ap, filter, map, List}
 use Rattle.ipx_wire.specs.declared.node.Node.{Node}
 use Rattle.ipx_tunnel.specs.declared.setting.Setting.{Setting}
 use Rattle.ipx_tunnel.specs.Receivers.{is_for}
-use Rattle.ipx_tunnel.specs.Events.{Send}
 use Rattle.ipx_tunnel.specs.Stands.{client_at}
 use Rattle.ipx_tunnel.proofs.Standing.{clients_sent, seen}
 use Rattle.ipx_tunnel.proofs.tunnel.Tunnel.send.Goals as goal

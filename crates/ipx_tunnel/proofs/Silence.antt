@@ -1,0 +1,101 @@
+-- How long a place was silent.
+use Rattle.std.proofs.Common.{◌≡◌, ◌∙◌, refl, sym, ap, ap₂, arith, ℕ, ◌-◌, ◌%◌, ◌<◌, ◌≤◌, ◌==◌, Bool, true, false, ◌&&◌, nat_lt, if◌then◌else◌, inl, inr, List, [], ◌∷◌, ◌++◌, length, filter}
+use Rattle.std.specs.List.{AllByRecursion}
+use Rattle.std.proofs.lemmas.Bool.{cases_eq, ne_eqb, lt-ltb, ltb-true}
+use Rattle.std.proofs.lemmas.List.{length-map}
+use Rattle.ipx_wire.specs.declared.node.Node.{Node}
+use Rattle.ipx_tunnel.specs.declared.own.Own.{Own}
+use Rattle.ipx_tunnel.specs.declared.said.Said.{Said}
+use Rattle.ipx_tunnel.specs.declared.said.Said.TheVariants.{Nothing, Registers, Answers, Speaks}
+use Rattle.ipx_tunnel.specs.declared.sender.Sender.{Sender}
+use Rattle.ipx_tunnel.specs.declared.setting.Setting.{Setting}
+use Rattle.ipx_tunnel.specs.Numbers.{ping_every}
+use Rattle.ipx_tunnel.specs.Places.{same_node}
+use Rattle.ipx_tunnel.specs.Events.{Datagram, Second, Send, History}
+use Rattle.ipx_tunnel.specs.Says.{said}
+use Rattle.ipx_tunnel.specs.Clients.{lasts_by, lasts, seconds_left, is_there, cookie, clients}
+use Rattle.ipx_tunnel.specs.Own.{ping_to, own, is_silent}
+use Rattle.ipx_tunnel.specs.Laws.{seconds, LastHeard, is_client, own_to}
+use Rattle.ipx_tunnel.proofs.Clients.{once}
+use Rattle.ipx_tunnel.proofs.Lists.{filter-map}
+use Rattle.ipx_tunnel.proofs.Members.{copies_passed, each_among}
+use Rattle.ipx_tunnel.proofs.Standing.{each_there}
+
+-- ---- numbers
+
+-- whatever counts does so for a multiple of five seconds
+in_fives : (is_trusted : Bool) (s : Said) → lasts_by is_trusted s % ping_every ≡ 0
+in_fives true Nothing = refl
+in_fives true Registers = refl
+in_fives true Answers = refl
+in_fives true (Speaks header) = refl
+in_fives false Nothing = refl
+in_fives false Registers = refl
+in_fives false Answers = refl
+in_fives false (Speaks header) = refl
+
+fives_of : (is_sender is_trusted : Bool) (s : Said) → (if is_sender then lasts_by is_trusted s else 0) % ping_every ≡ 0
+fives_of true is_trusted s = in_fives is_trusted s
+fives_of false is_trusted s = refl
+
+same_test : (a b : ℕ) → (a ≡ 0 → b ≡ 0) → (b ≡ 0 → a ≡ 0) → (a == 0) ≡ (b == 0)
+same_test a b one other = elim (cases_eq a 0) [
+  | inl e ↦ ap (λ (n : ℕ). n == 0) (e ∙ sym (one e))
+  | inr not_a ↦ ne_eqb a 0 not_a ∙ sym (ne_eqb b 0 (λ e. not_a (other e)))
+]
+
+left_in_fives : (n passed : ℕ) → n % ping_every ≡ 0 → passed ≤ n → ((n - passed) % ping_every == 0) ≡ (passed % ping_every == 0)
+left_in_fives n passed fives within =
+    same_test ((n - passed) % ping_every) (passed % ping_every) (λ e. omega (arith, fives, within, e)) (λ e. omega (arith, fives, within, e))
+
+-- ---- silence
+
+kept : (lasts : ℕ) (X : Type 0) (new old : X) → lasts ≡ 0 → (if nat_lt 0 lasts then new else old) ≡ old
+kept lasts X new old none = rw none refl
+
+taken : (lasts : ℕ) (X : Type 0) (new old : X) → 0 < lasts → (if nat_lt 0 lasts then new else old) ≡ new
+taken lasts X new old some = rw (lt-ltb 0 lasts some) refl
+
+module _ (setting : Setting) (place : Node) (from : Sender) (bytes : List ℕ) (earlier : History) (counts : 0 < lasts setting place (Datagram from bytes)) where
+  left_since : (later : History) → AllByRecursion (λ e. lasts setting place e ≡ 0) later
+      → seconds_left setting place (later ++ Datagram from bytes ∷ earlier) ≡ lasts setting place (Datagram from bytes) - seconds later
+  left_since [] silence = taken (lasts setting place (Datagram from bytes)) ℕ _ _ counts ∙ omega arith
+  left_since (Datagram other said ∷ later) silence = kept (lasts setting place (Datagram other said)) ℕ _ _ silence.0 ∙ left_since later silence.1
+  left_since (Second ∷ later) silence = omega (arith, left_since later silence.1)
+  left_since (Send to sent ∷ later) silence = left_since later silence.1
+
+  cookie_since : (later : History) → AllByRecursion (λ e. lasts setting place e ≡ 0) later
+      → cookie setting place (later ++ Datagram from bytes ∷ earlier) ≡ from.cookies.current
+  cookie_since [] silence = taken (lasts setting place (Datagram from bytes)) Node _ _ counts
+  cookie_since (Datagram other said ∷ later) silence = kept (lasts setting place (Datagram other said)) Node _ _ silence.0 ∙ cookie_since later silence.1
+  cookie_since (Second ∷ later) silence = cookie_since later silence.1
+  cookie_since (Send to sent ∷ later) silence = cookie_since later silence.1
+
+module _ (setting : Setting) (place : Node) where
+  pub cookie_last : (history : History) (last : LastHeard setting place history) → cookie setting place history ≡ last.from.cookies.current
+  cookie_last history last =
+      ap (cookie setting place) last.event ∙ cookie_since setting place last.from last.bytes last.earlier last.counts last.later last.silence
+
+  -- a client is silent at a second just when that is a multiple of five seconds after it was heard
+  silent_last : (history : History) (last : LastHeard setting place history) → is_there setting place history ≡ true
+      → is_silent setting history place ≡ (seconds last.later % ping_every == 0)
+  silent_last history last there =
+      let l = lasts setting place (Datagram last.from last.bytes) in
+      let left : seconds_left setting place history ≡ l - seconds last.later =
+      ap (seconds_left setting place) last.event ∙ left_since setting place last.from last.bytes last.earlier last.counts last.later last.silence in
+      let some : 0 < seconds_left setting place history = ltb-true 0 (seconds_left setting place history) there in
+      ap (λ (n : ℕ). n % ping_every == 0) left
+      ∙ left_in_fives l (seconds last.later)
+      (fives_of (same_node place last.from.place) last.from.is_trusted (said setting.network last.from last.bytes)) (omega (arith, left, some))
+
+  pub pinged : (history : History) (last : LastHeard setting place (Second ∷ history)) → is_client setting place (Second ∷ history) ≡ true
+      → own_to place (own setting (Second ∷ history)) ≡ (if seconds last.later % ping_every == 0 then 1 else 0)
+  pinged history last client =
+      let now = Second ∷ history in
+      let places = clients setting now in
+      let ping = λ (p : Node). ping_to setting.network p (cookie setting p now) in
+      let silent = filter (is_silent setting now) places in
+      let there = each_among (λ p. is_there setting p now) place places (each_there setting now) client in
+      ap length (filter-map (λ (o : Own). same_node o.place place) ping silent) ∙ length-map (filter (λ p. same_node p place) silent) ping
+      ∙ copies_passed (is_silent setting now) place places (once setting now place)
+      ∙ ap₂ (λ (a b : Bool). if a && b then 1 else 0) client (silent_last now last there)

@@ -1,0 +1,8 @@
+use Rattle.ipx_tunnel.proofs.Silence.{pinged, cookie_last}
+use Rattle.ipx_tunnel.proofs.laws.pings.Goals as goal
+
+pub returns-clause-every_five : goal.returns-clause-every_five
+returns-clause-every_five c = λ setting history place last client. pinged setting place history last client
+
+pub returns-clause-cookie : goal.returns-clause-cookie
+returns-clause-cookie c = λ setting history place last. cookie_last setting place history last
