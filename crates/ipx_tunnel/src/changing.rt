@@ -8,7 +8,7 @@ use crate::sender::Sender;
 use arrayvec::ArrayVec;
 use ipx_wire::Node;
 
-/// A client is heard, if it is one.
+/// The client at the sender's place has so many seconds from now on, if there is one.
 pub(crate) fn refresh(clients: &mut [Client], from: Sender, lasts: u8)
     ensures { clients.new ≡ map (refreshed from lasts) clients.old }
 {

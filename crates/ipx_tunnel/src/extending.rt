@@ -38,7 +38,8 @@ pub fn is_named(sockets: &[Socket], socket: Socket) -> bool
     sockets.iter().any(|named| named.0 == socket.0)
 }
 
-/// Makes the bytes of a packet those of its copy for another network.
+/// Makes the bytes of a packet those of its copy for another network, which names the packet's socket too. Only the destination's network
+/// changes.
 pub fn extend(bytes: &mut [u8], to: Network)
     requires { header_size ≤ length bytes.old }
     ensures { bytes.new ≡ extended to bytes.old }

@@ -92,7 +92,7 @@ impl<const C: usize> Tunnel<C> {
         &self.clients
     }
 
-    /// Takes a datagram.
+    /// Takes a datagram: its sender may become a client. Returns what must be sent.
     pub fn hear<'a>(&mut self, from: Sender, bytes: &'a [u8]) -> Dispatch<'a, C>
         ensures setting { self.new.setting ≡ self.old.setting }
         ensures stands { (h : History) → Stands self.old h → Stands self.new (Datagram from bytes.entry.now ∷ h) }
@@ -107,7 +107,7 @@ impl<const C: usize> Tunnel<C> {
         Dispatch::of(self.setting, &self.clients, from, said, bytes)
     }
 
-    /// Somebody said something that counts so many seconds, or nothing: he stays, or comes in where there is room.
+    /// What a place said counts for so many seconds, or not at all: it stays, or comes in where there is room.
     fn admit(&mut self, from: Sender, lasts: u8)
         ensures setting { self.new.setting ≡ self.old.setting }
         ensures clients { self.new.clients ≡ admitted self.old.setting from lasts self.old.clients }
@@ -126,7 +126,7 @@ impl<const C: usize> Tunnel<C> {
         }
     }
 
-    /// A second passes.
+    /// Lets a second pass: clients that haven't been heard for too long leave. Returns the pings that must be sent.
     pub fn second(&mut self) -> Passed<C>
         ensures setting { self.new.setting ≡ self.old.setting }
         ensures stands { (h : History) → Stands self.old h → Stands self.new (Second ∷ h) }
@@ -151,7 +151,7 @@ impl<const C: usize> Tunnel<C> {
         left
     }
 
-    /// The places that get a packet which the router sends to a node, or to all.
+    /// The places to which a packet must be sent that the router sends to a node, or to all.
     pub fn send(&self, to: Node) -> ArrayVec<Node, C>
         ensures stands { (bytes : List ℕ) (h : History) → Stands self.now h → Stands self.now (Send to bytes ∷ h) }
         ensures to { (bytes : List ℕ) (h : History) → Stands self.now h → result.items ≡ receivers self.now.setting (Send to bytes ∷ h) }
