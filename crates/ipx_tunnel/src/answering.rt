@@ -7,7 +7,7 @@ ghost use Rattle.ipx_tunnel.specs.Own.{at_node, answer_to, ping_to, own_for, is_
 ghost use Rattle.ipx_tunnel.specs.inside.Kept.{places_of, pings_now};
 
 use crate::client::Client;
-use crate::own::Own;
+use crate::own::{MOST_OWN, Own};
 use crate::places::is_open;
 use crate::reading::{TUNNEL, is_here, is_to};
 use crate::said::Said;
@@ -20,14 +20,13 @@ use ipx_wire::{Address, Header, Network, Node};
 const PING_EVERY: u8 = 5;
 
 /// The tunnel's own datagrams for what a place said.
-pub(crate) fn own_for<const C: usize>(
+pub(crate) fn own_for(
     setting: Setting,
     clients: &[Client],
     from: Sender,
     said: Said,
     is_client: bool,
-) -> ArrayVec<Own, C>
-    requires two { 2 ≤ C }
+) -> ArrayVec<Own, MOST_OWN>
     requires known { is_client ≡ is_among from.place (places_of clients.now) }
     ensures { result.items ≡ own_for setting (places_of clients.now) from said }
 {
@@ -38,13 +37,12 @@ pub(crate) fn own_for<const C: usize>(
     }
 }
 
-fn for_registration<const C: usize>(
+fn for_registration(
     setting: Setting,
     clients: &[Client],
     from: Sender,
     is_client: bool,
-) -> ArrayVec<Own, C>
-    requires two { 2 ≤ C }
+) -> ArrayVec<Own, MOST_OWN>
     requires known { is_client ≡ is_among from.place (places_of clients.now) }
     ensures { result.items ≡ own_for setting (places_of clients.now) from Registers }
 {
@@ -56,14 +54,13 @@ fn for_registration<const C: usize>(
     own
 }
 
-fn for_packet<const C: usize>(
+fn for_packet(
     setting: Setting,
     clients: &[Client],
     from: Sender,
     header: Header,
     is_client: bool,
-) -> ArrayVec<Own, C>
-    requires two { 2 ≤ C }
+) -> ArrayVec<Own, MOST_OWN>
     requires known { is_client ≡ is_among from.place (places_of clients.now) }
     ensures { result.items ≡ own_for setting (places_of clients.now) from (Speaks header) }
 {
@@ -78,18 +75,21 @@ fn for_packet<const C: usize>(
     own
 }
 
-/// The pings of the clients that were silent.
-pub(crate) fn pings<const C: usize>(network: Network, clients: &[Client]) -> ArrayVec<Own, C>
+/// Puts the pings of the clients that were silent in place of what `pings` holds.
+pub(crate) fn put_pings<const C: usize>(
+    network: Network,
+    clients: &[Client],
+    pings: &mut ArrayVec<Own, C>,
+)
     requires { length clients.now ≤ C }
-    ensures { result.items ≡ map (λ c. ping_to network c.place c.cookie) (filter pings_now clients.now) }
+    ensures { pings.new.items ≡ map (λ c. ping_to network c.place c.cookie) (filter pings_now clients.now) }
 {
-    let mut pings = ArrayVec::new();
+    pings.clear();
     for client in clients {
         if client.seconds_left % PING_EVERY == 0 {
             pings.push(ping_to(network, client.place, client.cookie));
         }
     }
-    pings
 }
 
 fn answer_to(setting: Setting, place: Node) -> Own

@@ -14,42 +14,44 @@ use crate::setting::Setting;
 use arrayvec::ArrayVec;
 use ipx_wire::{Header, Node};
 
-/// The clients that get what a place said.
-pub(crate) fn to_for<const C: usize>(
+/// Puts the clients that get what a place said in place of what `to` holds.
+pub(crate) fn put_to<const C: usize>(
     setting: Setting,
     clients: &[Client],
     from: Sender,
     said: Said,
     is_client: bool,
-) -> ArrayVec<Node, C>
+    to: &mut ArrayVec<Node, C>,
+)
     requires fits { length clients.now ≤ C }
     requires known { is_client ≡ is_among from.place (places_of clients.now) }
-    ensures { result.items ≡ to_for setting (places_of clients.now) from said }
+    ensures { to.new.items ≡ to_for setting (places_of clients.now) from said }
 {
     if let Said::Speaks(header) = said {
         if is_client && is_here(setting.network, header.destination.network) {
-            return receivers(header.destination.node, from.place, clients);
+            put_receivers(header.destination.node, from.place, clients, to);
+            return;
         }
     }
-    ArrayVec::new()
+    to.clear();
 }
 
-/// The clients for which a packet is.
-pub(crate) fn receivers<const C: usize>(
+/// Puts the clients for which a packet is in place of what `receivers` holds.
+pub(crate) fn put_receivers<const C: usize>(
     to: Node,
     sender: Node,
     clients: &[Client],
-) -> ArrayVec<Node, C>
+    receivers: &mut ArrayVec<Node, C>,
+)
     requires { length clients.now ≤ C }
-    ensures { result.items ≡ filter (is_for to sender) (places_of clients.now) }
+    ensures { receivers.new.items ≡ filter (is_for to sender) (places_of clients.now) }
 {
-    let mut receivers = ArrayVec::new();
+    receivers.clear();
     for client in clients {
         if is_for(to, sender, client.place) {
             receivers.push(client.place);
         }
     }
-    receivers
 }
 
 fn is_for(to: Node, sender: Node, place: Node) -> bool

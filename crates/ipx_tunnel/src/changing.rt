@@ -48,16 +48,15 @@ fn a_second_later(client: Client) -> Client
     }
 }
 
-/// The places of the clients that have no seconds left.
-pub(crate) fn leaving<const C: usize>(clients: &[Client]) -> ArrayVec<Node, C>
+/// Puts the places of the clients that have no seconds left in place of what `left` holds.
+pub(crate) fn put_leaving<const C: usize>(clients: &[Client], left: &mut ArrayVec<Node, C>)
     requires { length clients.now ≤ C }
-    ensures { result.items ≡ places_of (filter (λ c. not (stays c)) clients.now) }
+    ensures { left.new.items ≡ places_of (filter (λ c. not (stays c)) clients.now) }
 {
-    let mut left = ArrayVec::new();
+    left.clear();
     for client in clients {
         if client.seconds_left == 0 {
             left.push(client.place);
         }
     }
-    left
 }

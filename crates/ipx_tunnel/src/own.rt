@@ -2,6 +2,9 @@
 
 use ipx_wire::{Address, Header, Node};
 
+/// The most datagrams of the tunnel's own after one datagram: an answer and a ping.
+pub const MOST_OWN: usize = 2;
+
 /// A datagram of the tunnel's own, to one place: an answer or a ping. It is a packet without data.
 ///
 /// See the example of [`Tunnel`](crate::Tunnel).

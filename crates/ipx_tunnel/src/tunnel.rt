@@ -9,12 +9,12 @@ ghost use Rattle.ipx_tunnel.specs.Receivers.{receivers, is_heard, carried};
 ghost use Rattle.ipx_tunnel.specs.Stands.{State, Stands};
 ghost use Rattle.ipx_tunnel.specs.inside.Kept.{admitted, later, places_of, stays};
 
-use crate::answering::pings;
-use crate::carrying::receivers;
-use crate::changing::{leaving, pass, refresh};
+use crate::answering::put_pings;
+use crate::carrying::put_receivers;
+use crate::changing::{pass, put_leaving, refresh};
 use crate::client::Client;
 use crate::dispatch::Dispatch;
-use crate::passed::Passed;
+use crate::own::Own;
 use crate::places::is_open;
 use crate::reading::{lasts, said};
 use crate::sender::Sender;
@@ -60,13 +60,12 @@ impl<const C: usize> Model for Tunnel<C> {
 
     ghost view = { λ t. record { setting = t.setting; clients = t.clients.items } };
 
-    ghost invariant = { λ t. (2 ≤ C) × (t.setting.capacity ≤ C) };
+    ghost invariant = { λ t. t.setting.capacity ≤ C };
 }
 
 impl<const C: usize> Tunnel<C> {
     /// A tunnel without clients.
     pub fn new(setting: Setting) -> Tunnel<C>
-        requires two { 2 ≤ C }
         requires capacity { setting.capacity ≤ C }
         ensures setting { result.setting ≡ setting }
         ensures stands { Stands result [] }
@@ -92,19 +91,25 @@ impl<const C: usize> Tunnel<C> {
         &self.clients
     }
 
-    /// Takes a datagram: its sender may become a client. Returns what must be sent.
-    pub fn hear<'a>(&mut self, from: Sender, bytes: &'a [u8]) -> Dispatch<'a, C>
+    /// Takes a datagram: its sender may become a client. Returns what must be sent, and fills `to`, which is emptied first, with the places
+    /// of the clients that get the packet.
+    pub fn hear<'a>(
+        &mut self,
+        from: Sender,
+        bytes: &'a [u8],
+        to: &mut ArrayVec<Node, C>,
+    ) -> Dispatch<'a>
         ensures setting { self.new.setting ≡ self.old.setting }
         ensures stands { (h : History) → Stands self.old h → Stands self.new (Datagram from bytes.entry.now ∷ h) }
         ensures said { result.said ≡ said self.old.setting.network from bytes.entry.now }
         ensures own { (h : History) → Stands self.old h → result.own.items ≡ own self.old.setting (Datagram from bytes.entry.now ∷ h) }
         ensures packet { result.packet.now ≡ carried (Datagram from bytes.entry.now) }
-        ensures to { (h : History) → Stands self.old h → result.to.items ≡ receivers self.old.setting (Datagram from bytes.entry.now ∷ h) }
+        ensures to { (h : History) → Stands self.old h → to.new.items ≡ receivers self.old.setting (Datagram from bytes.entry.now ∷ h) }
         ensures heard { (h : History) → Stands self.old h → result.is_heard ≡ is_heard self.old.setting (Datagram from bytes.entry.now ∷ h) }
     {
         let said = said(self.setting.network, from, bytes);
         self.admit(from, lasts(from.is_trusted, said));
-        Dispatch::of(self.setting, &self.clients, from, said, bytes)
+        Dispatch::of(self.setting, &self.clients, from, said, bytes, to)
     }
 
     /// What a place said counts for so many seconds, or not at all: it stays, or comes in where there is room.
@@ -126,36 +131,35 @@ impl<const C: usize> Tunnel<C> {
         }
     }
 
-    /// Lets a second pass: clients that haven't been heard for too long leave. Returns the pings that must be sent.
-    pub fn second(&mut self) -> Passed<C>
+    /// Lets a second pass: clients that haven't been heard for too long leave. Fills two lists, which are emptied first: the pings that must
+    /// be sent, and the places of the clients that left.
+    pub fn second(&mut self, pings: &mut ArrayVec<Own, C>, left: &mut ArrayVec<Node, C>)
         ensures setting { self.new.setting ≡ self.old.setting }
         ensures stands { (h : History) → Stands self.old h → Stands self.new (Second ∷ h) }
-        ensures pings { (h : History) → Stands self.old h → result.pings.items ≡ own self.old.setting (Second ∷ h) }
+        ensures pings { (h : History) → Stands self.old h → pings.new.items ≡ own self.old.setting (Second ∷ h) }
         ensures left { (h : History) → Stands self.old h
-            → result.left.items ≡ filter (λ place. not (is_there self.old.setting place (Second ∷ h))) (clients self.old.setting h) }
+            → left.new.items ≡ filter (λ place. not (is_there self.old.setting place (Second ∷ h))) (clients self.old.setting h) }
     {
-        let left = self.pass();
-        let pings = pings(self.setting.network, &self.clients);
-        Passed { pings, left }
+        self.pass(left);
+        put_pings(self.setting.network, &self.clients, pings);
     }
 
-    /// Each client has a second less, and those that have none left leave.
-    fn pass(&mut self) -> ArrayVec<Node, C>
+    /// Each client has a second less, and those that have none left leave. Their places are put into `left`.
+    fn pass(&mut self, left: &mut ArrayVec<Node, C>)
         ensures setting { self.new.setting ≡ self.old.setting }
         ensures clients { self.new.clients ≡ filter stays (map later self.old.clients) }
-        ensures left { result.items ≡ places_of (filter (λ c. not (stays c)) (map later self.old.clients)) }
+        ensures left { left.new.items ≡ places_of (filter (λ c. not (stays c)) (map later self.old.clients)) }
     {
         pass(&mut self.clients);
-        let left = leaving(&self.clients);
+        put_leaving(&self.clients, left);
         self.clients.retain(|client| client.seconds_left > 0);
-        left
     }
 
-    /// The places to which a packet must be sent that the router sends to a node, or to all.
-    pub fn send(&self, to: Node) -> ArrayVec<Node, C>
+    /// Fills `places`, which is emptied first, with those to which a packet must be sent that the router sends to a node, or to all.
+    pub fn send(&self, to: Node, places: &mut ArrayVec<Node, C>)
         ensures stands { (bytes : List ℕ) (h : History) → Stands self.now h → Stands self.now (Send to bytes ∷ h) }
-        ensures to { (bytes : List ℕ) (h : History) → Stands self.now h → result.items ≡ receivers self.now.setting (Send to bytes ∷ h) }
+        ensures to { (bytes : List ℕ) (h : History) → Stands self.now h → places.new.items ≡ receivers self.now.setting (Send to bytes ∷ h) }
     {
-        receivers(to, self.setting.node, &self.clients)
+        put_receivers(to, self.setting.node, &self.clients, places);
     }
 }

@@ -15,6 +15,6 @@ pub returns-clause-to : goal.returns-clause-to
 returns-clause-to g c = λ bytes h stands.
     let s = c.args.self.now.setting in
     let meant = λ (setting : Setting) (places : List Node). filter (is_for c.args.to setting.node) places in
-    c.receivers.ensures
+    c.put_receivers.ensures
     ∙ seen meant c.deref.result.now c.self.inside.clients.items c.self.inside.setting c.args.self.now h c.deref.ensures.0 c.self.view_is stands
     ∙ ap (meant s) (sym (clients_sent s c.args.to bytes h))

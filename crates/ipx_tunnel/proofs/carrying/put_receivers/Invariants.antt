@@ -1,7 +1,7 @@
 use Rattle.std.proofs.Common.{◌≡◌, ◌≤◌, length, filter, take}
 use Rattle.ipx_tunnel.specs.Receivers.{is_for}
 use Rattle.ipx_tunnel.specs.inside.Kept.{places_of}
-use Rattle.ipx_tunnel.proofs.carrying.receivers.Given as goal
+use Rattle.ipx_tunnel.proofs.carrying.put_receivers.Given as goal
 
 abbrev pub invariant-loop-client : goal.invariant-loop-client
 invariant-loop-client g l = record {

@@ -1,6 +1,6 @@
 use Rattle.std.proofs.Common.{◌≡◌, ◌≤◌, length, filter, take, not}
 use Rattle.ipx_tunnel.specs.inside.Kept.{places_of, stays}
-use Rattle.ipx_tunnel.proofs.changing.leaving.Given as goal
+use Rattle.ipx_tunnel.proofs.changing.put_leaving.Given as goal
 
 abbrev pub invariant-loop-client : goal.invariant-loop-client
 invariant-loop-client g l = record {

@@ -1,7 +1,7 @@
 use Rattle.std.proofs.Common.{◌≡◌, ◌≤◌, length, map, filter, take}
 use Rattle.ipx_tunnel.specs.Own.{ping_to}
 use Rattle.ipx_tunnel.specs.inside.Kept.{pings_now}
-use Rattle.ipx_tunnel.proofs.answering.pings.Given as goal
+use Rattle.ipx_tunnel.proofs.answering.put_pings.Given as goal
 
 abbrev pub invariant-loop-client : goal.invariant-loop-client
 invariant-loop-client g l = record {
