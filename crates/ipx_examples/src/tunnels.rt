@@ -1,6 +1,7 @@
 //! A tunnel to which a player comes.
 
 use anyhow::Result;
+use arrayvec::ArrayVec;
 use ipx_tunnel::{Sender, Setting, Tunnel};
 use ipx_wire::{Network, Node};
 
@@ -13,11 +14,12 @@ pub fn tunnel(rt: &HostRuntime, from: Sender, registration: &[u8], answer: &[u8]
         share: 16,
     };
     let mut tunnel = Tunnel::<64>::new(setting);
-    let dispatch = tunnel.hear(from, registration);
+    let mut to = ArrayVec::new();
+    let dispatch = tunnel.hear(from, registration, &mut to);
     for own in dispatch.own.iter() {
         println!(rt; "{} bytes to {}", own.bytes().len(), own.place)?;
     }
-    tunnel.hear(from, answer);
+    tunnel.hear(from, answer, &mut to);
     for client in tunnel.clients() {
         let seconds = client.seconds_left;
         println!(rt; "{} stays for {seconds} seconds", client.place)?;

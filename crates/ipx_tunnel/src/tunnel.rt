@@ -33,11 +33,12 @@ use std::marker::Model;
 ///     share: 16,
 /// };
 /// let mut tunnel = Tunnel::<64>::new(setting);
-/// let dispatch = tunnel.hear(from, registration);
+/// let mut to = ArrayVec::new();
+/// let dispatch = tunnel.hear(from, registration, &mut to);
 /// for own in dispatch.own.iter() {
 ///     println!(rt; "{} bytes to {}", own.bytes().len(), own.place)?;
 /// }
-/// tunnel.hear(from, answer);
+/// tunnel.hear(from, answer, &mut to);
 /// for client in tunnel.clients() {
 ///     let seconds = client.seconds_left;
 ///     println!(rt; "{} stays for {seconds} seconds", client.place)?;
