@@ -13,6 +13,7 @@ enum {
     PIECE = 4096,    /* bytes that are written at once */
     MOST_LINE = 1024,
     PATIENCE = 2000, /* milliseconds without a byte that is read, after which the end waits no more */
+    REST = 5,        /* milliseconds from one look to the next */
 };
 
 /* Lines are gathered in one place, while those of the other are written. */
@@ -91,7 +92,7 @@ static const char *next_lines(writer which)
 {
     outlet *it = &outlets[which];
     while (it->count == 0 && it->dropped == 0)
-        writer_wait(which, FOREVER);
+        writer_wait(which);
     if (it->count == 0)
         take(it, "", 0);
     const char *lines = it->places[it->gathers];
@@ -111,7 +112,6 @@ static void note_written(writer which, ssize_t written)
         it->under_way = it->count = it->dropped = 0;
     else
         it->under_way -= (size_t)written;
-    writer_wake(which);
 }
 
 static void write_on(writer which)
@@ -138,16 +138,22 @@ bool output_begin(void)
     return writer_begin(OUTPUT, write_on) && writer_begin(COMPLAINTS, write_on);
 }
 
+/* Waits until nothing is left, and no longer than somebody reads. */
 static void wait_for(writer which)
 {
     outlet *it = &outlets[which];
-    bool is_read = true;
-    writer_lock(which);
-    while (is_read && !it->is_refused && it->under_way + it->count > 0) {
-        size_t before = it->under_way + it->count;
-        is_read = writer_wait(which, PATIENCE) || it->under_way + it->count < before;
+    size_t before = 0;
+    for (int rested = 0; rested < PATIENCE; rested += REST) {
+        writer_lock(which);
+        size_t left = it->is_refused ? 0 : it->under_way + it->count + (it->dropped > 0);
+        writer_unlock(which);
+        if (left == 0)
+            return;
+        if (left != before)
+            rested = 0;
+        before = left;
+        writer_rest(REST);
     }
-    writer_unlock(which);
 }
 
 void output_end(void)

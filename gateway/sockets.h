@@ -32,7 +32,7 @@ int listener_take(int listener, address *from);
 /* Begins a connection. Returns its socket, or -1. */
 int connection_begin(const address *remote);
 
-/* Whether it has come about: 1, 0 not yet, -1 it failed. */
+/* Whether it has come about: 1, 0 not yet, -1 it failed; then errno has the reason. */
 int connection_state(int fd);
 
 /* Whether a connection is one of the socket with itself: the system makes it where nobody listens at a port, and gives the socket that very

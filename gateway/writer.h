@@ -15,11 +15,12 @@ bool writer_begin(writer which, void (*write_on)(writer which));
 void writer_lock(writer which);
 void writer_unlock(writer which);
 
-enum { FOREVER = -1 /* milliseconds */ };
-
-/* With the lock: lets go of it until the other thread calls writer_wake, or the milliseconds have passed. Returns false where they have. */
-bool writer_wait(writer which, int milliseconds);
+/* In the thread, with the lock: lets go of it until writer_wake is called, or was since this was called last. */
+void writer_wait(writer which);
 void writer_wake(writer which);
+
+/* Lets some milliseconds pass, or fewer. */
+void writer_rest(int milliseconds);
 
 /* Without the lock: writes some bytes, and waits as long as that takes. Returns how many; 0 where it can't be now, after a second; -1 where
  * nobody reads them any more. */

@@ -146,7 +146,10 @@ int connection_state(int fd)
     struct pollfd waiting = {fd, POLLOUT, 0};
     if (poll(&waiting, 1, 0) <= 0)
         return 0;
-    return getsockopt(fd, SOL_SOCKET, SO_ERROR, &fault, &size) == 0 && fault == 0 ? 1 : -1;
+    if (getsockopt(fd, SOL_SOCKET, SO_ERROR, &fault, &size) != 0)
+        return -1;
+    errno = fault;
+    return fault == 0 ? 1 : -1;
 }
 
 void connection_drop(int *fd)

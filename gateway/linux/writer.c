@@ -3,17 +3,17 @@
 #include <errno.h>
 #include <poll.h>
 #include <pthread.h>
+#include <semaphore.h>
 #include <signal.h>
-#include <time.h>
 #include <unistd.h>
 
-enum { SECOND = 1000 /* milliseconds */, NANOSECONDS = 1000000 /* of one */ };
+enum { SECOND = 1000 /* milliseconds */ };
 
 static const int FILES[WRITERS] = {STDOUT_FILENO, STDERR_FILENO};
 
 static struct {
     pthread_mutex_t lock;
-    pthread_cond_t woken;
+    sem_t woken;
     void (*write_on)(writer which);
     writer which;
 } writers[WRITERS];
@@ -25,14 +25,6 @@ static void *run(void *at)
     return NULL;
 }
 
-/* Whether the condition waits by the clock that nobody sets. */
-static bool is_made(pthread_cond_t *woken)
-{
-    pthread_condattr_t how;
-    return (errno = pthread_condattr_init(&how)) == 0 && (errno = pthread_condattr_setclock(&how, CLOCK_MONOTONIC)) == 0 &&
-           (errno = pthread_cond_init(woken, &how)) == 0;
-}
-
 /* (signals are for the thread that routes: it waits no longer then) */
 bool writer_begin(writer which, void (*write_on)(writer which))
 {
@@ -40,7 +32,7 @@ bool writer_begin(writer which, void (*write_on)(writer which))
     sigset_t all, before;
     writers[which].which = which;
     writers[which].write_on = write_on;
-    if ((errno = pthread_mutex_init(&writers[which].lock, NULL)) != 0 || !is_made(&writers[which].woken))
+    if ((errno = pthread_mutex_init(&writers[which].lock, NULL)) != 0 || sem_init(&writers[which].woken, 0, 0) != 0)
         return false;
     sigfillset(&all);
     pthread_sigmask(SIG_SETMASK, &all, &before);
@@ -62,22 +54,25 @@ void writer_unlock(writer which)
     pthread_mutex_unlock(&writers[which].lock);
 }
 
-bool writer_wait(writer which, int milliseconds)
+void writer_wait(writer which)
 {
-    struct timespec until;
-    if (milliseconds == FOREVER)
-        return pthread_cond_wait(&writers[which].woken, &writers[which].lock) == 0;
-    clock_gettime(CLOCK_MONOTONIC, &until);
-    until.tv_sec += milliseconds / SECOND;
-    until.tv_nsec += (long)(milliseconds % SECOND) * NANOSECONDS;
-    until.tv_sec += until.tv_nsec / ((long)SECOND * NANOSECONDS);
-    until.tv_nsec %= (long)SECOND * NANOSECONDS;
-    return pthread_cond_timedwait(&writers[which].woken, &writers[which].lock, &until) != ETIMEDOUT;
+    writer_unlock(which);
+    while (sem_wait(&writers[which].woken) != 0)
+        ;
+    writer_lock(which);
 }
 
+/* (once is enough: the thread looks at all that there is) */
 void writer_wake(writer which)
 {
-    pthread_cond_broadcast(&writers[which].woken);
+    int count = 0;
+    if (sem_getvalue(&writers[which].woken, &count) == 0 && count == 0)
+        sem_post(&writers[which].woken);
+}
+
+void writer_rest(int milliseconds)
+{
+    (void)poll(NULL, 0, milliseconds);
 }
 
 /* (a file that is full has room again, perhaps; a reader that went doesn't come back) */

@@ -155,7 +155,13 @@ int connection_state(int fd)
     FD_SET((SOCKET)fd, &failed);
     if (select(0, NULL, &made, &failed, &at_once) <= 0)
         return 0;
-    return FD_ISSET((SOCKET)fd, &failed) ? -1 : 1;
+    if (!FD_ISSET((SOCKET)fd, &failed))
+        return 1;
+    int fault = 0, size = sizeof fault;
+    (void)getsockopt((SOCKET)fd, SOL_SOCKET, SO_ERROR, (char *)&fault, &size);
+    WSASetLastError(fault);
+    keep_fault();
+    return -1;
 }
 
 void connection_drop(int *fd)

@@ -47,14 +47,19 @@ void writer_unlock(writer which)
     LeaveCriticalSection(&writers[which].lock);
 }
 
-bool writer_wait(writer which, int milliseconds)
+void writer_wait(writer which)
 {
-    return SleepConditionVariableCS(&writers[which].woken, &writers[which].lock, milliseconds == FOREVER ? INFINITE : (DWORD)milliseconds);
+    (void)SleepConditionVariableCS(&writers[which].woken, &writers[which].lock, INFINITE);
 }
 
 void writer_wake(writer which)
 {
     WakeAllConditionVariable(&writers[which].woken);
+}
+
+void writer_rest(int milliseconds)
+{
+    Sleep((DWORD)milliseconds);
 }
 
 /* The bytes with Windows' ends of lines. Returns how many these are. */

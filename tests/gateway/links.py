@@ -133,7 +133,7 @@ def one_pc_at_a_time():
         for last in range(2, 6):
             for k in range(200):
                 station.say(far.at(), b"%d" % k)
-            pc.close()
+            pc.shutdown(socket.SHUT_WR)
             station, pc = connected(gate, 0x20, "raw", last)
             assert [far.hear()[30:] for _ in range(200)] == [b"%d" % k for k in range(200)]
         assert reaches(far, station) and gate.counted(0x20, "refused") == 50
@@ -175,6 +175,7 @@ def nobody_listens_yet():
     (port,) = free_ports(1)
     with Gateway(tunnels(1) + f"network 20 1 1490 qemu-tcp connect {port} llc\n") as gate:
         until(lambda: int(re.search(r"(?m)^report after (\d+) s$", gate.report())[1]) >= 2, "two seconds")
+        assert gate.told("can't connect").endswith(f": qemu-tcp connect 127.0.0.1:{port} llc: can't connect: Connection refused")
         assert "network 00000020 down" in gate.report()
         connection, _ = listening(port).accept()
         assert Station(Tcp(connection), "llc", 0x20, STATION, gate.nodes[0x20]).hear(is_routers)

@@ -186,17 +186,23 @@ def nobody_but_itself():
 def a_dead_pc():
     """A PC whose machine is gone without a word gives way after a minute (here 3 seconds), whether or not something was under way."""
     make_pair()
+    ways = (False, True)
+    if SYSTEM.name != "Linux":
+        left_out("a PC that is gone while something is under way", "qemu-aarch64 doesn't hand on what Linux knows of a connection")
+        ways = (False,)
     text = "network 20 1 1490 qemu-tcp listen 0 raw\nnetwork 30 1 1490 interface v0 raw\n"
     with Gateway(text, SYSTEM.troubled, environment={"TROUBLE_HASTE": "20"}) as gate:
         host = Station(Packets("v1", "raw"), "raw", 0x30, STATION, gate.nodes[0x30])
-        for is_under_way in (False, True):
+        for is_under_way in ways:
             station, _ = connected(gate, 0x20, "raw")
             assert reaches(host, station) and gate.told("network 00000020 is up")
             ip("link", "set", "lo", "down")
-            if is_under_way:
-                host.say(station.at(), b"is lost")
-            assert gate.told("network 00000020 is down").endswith("nobody is connected")
-            ip("link", "set", "lo", "up")
+            try:
+                if is_under_way:
+                    host.say(station.at(), b"is lost")
+                assert gate.told("network 00000020 is down").endswith("nobody is connected")
+            finally:
+                ip("link", "set", "lo", "up")
     ip("link", "del", "v0")
 
 
