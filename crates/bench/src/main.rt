@@ -1,10 +1,11 @@
 //! How fast packets are read and written, beside copying the same bytes in the same run; and how fast a
 //! full table is called, beside reading its records in the same run; and how fast a router with full tables takes its events,
 //! beside copying what it sends; and how it takes them as its table of routes grows, and how a table grows beside an ordered map; and
-//! how fast a capture is shown, beside copying its file; and how fast internets settle and a packet is traced, in larger and larger ones.
+//! how fast a capture is shown, beside copying its file; and how fast internets settle and a packet is traced, in larger and larger ones;
+//! and how fast a tunnel with room for many clients is called, beside one with room for few.
 //!
 //! With no word it prints what it can measure; with the word `run` it measures, all or the part that a second word names:
-//! packets, tables, events, growth, captures or internets. A copy is what any
+//! packets, tables, events, growth, captures, internets or tunnels. A copy is what any
 //! program must at least do with a packet, and a reading with records that age, so the ratios hold on
 //! any machine.
 #![tactic(auto)]
@@ -19,6 +20,7 @@ mod maps;
 mod packets;
 mod tables;
 mod traffic;
+mod tunnels;
 mod work;
 
 use crate::captures::measure_decode;
@@ -28,6 +30,7 @@ use crate::kinds::{Kind, measure_kind};
 use crate::maps::{Kept, measure_kept};
 use crate::packets::Packets;
 use crate::tables::{CALLS, Call, RECORDS};
+use crate::tunnels::Kind as Called;
 use std::{env, fmt, io};
 
 /// How many packets of a kind are read or written.
@@ -51,7 +54,8 @@ fn list(rt: &HostRuntime) -> io::Result<()> {
     let records = u64::from(captures::RECORDS);
     list_one(rt, "show a capture", records, "records")?;
     let rings = internets::RINGS.len() as u64;
-    list_one(rt, "settle a ring, trace a packet", rings, "rings")
+    list_one(rt, "settle a ring, trace a packet", rings, "rings")?;
+    list_rooms(rt)
 }
 
 fn list_packets(rt: &HostRuntime) -> io::Result<()> {
@@ -96,6 +100,13 @@ fn list_kept(rt: &HostRuntime) -> io::Result<()> {
     Ok(())
 }
 
+fn list_rooms(rt: &HostRuntime) -> io::Result<()> {
+    for kind in Called::ALL {
+        list_one(rt, kind.name(), u64::from(tunnels::CLIENTS), "clients")?;
+    }
+    Ok(())
+}
+
 fn list_sizes(rt: &HostRuntime) -> io::Result<()> {
     for routes in growth::SIZES {
         list_one(rt, "a size", u64::from(routes), "routes or records")?;
@@ -129,6 +140,9 @@ fn measure(rt: &HostRuntime, part: &Option<String>) -> io::Result<()> {
     }
     if is_wanted(part, "internets") {
         report_internets(rt)?;
+    }
+    if is_wanted(part, "tunnels") {
+        report_rooms(rt)?;
     }
     Ok(())
 }
@@ -251,6 +265,21 @@ fn report_internets(rt: &HostRuntime) -> io::Result<()> {
     let each = ratio(timed.nanoseconds, u128::from(timed.count));
     let count = timed.count;
     println!(rt; "trace a packet: {each} ns a reception of {count}")
+}
+
+fn report_rooms(rt: &HostRuntime) -> io::Result<()> {
+    for kind in Called::ALL {
+        let timed = tunnels::measure_rooms(rt, kind)?;
+        let name = kind.name();
+        let count = u128::from(timed.count);
+        let (large, small) = (ratio(timed.large, count), ratio(timed.small, count));
+        let (room, clients) = (tunnels::LARGE, tunnels::CLIENTS);
+        let mark = timed.seen % 10;
+        println!(rt;
+            "{name}: {large} ns with room for {room}, {small} ns with room for {clients} ({mark})"
+        )?;
+    }
+    Ok(())
 }
 
 /// A number of tenths, shown with a point.

@@ -1,68 +1,106 @@
 -- What a copy for another network says.
-use Rattle.std.proofs.Common.{◌≡◌, ◌≢◌, ◌∙◌, refl, sym, ap, ap₂, arith, ℕ, ◌≤◌, ◌==◌, Bool, true, false, ◌&&◌, ◌||◌, not, if◌then◌else◌, nat_lt, inl, inr, List, ◌++◌, length, take, drop, length-take-le, Result, Ok, Err}
-use Rattle.std.specs.Int.{to_be_bytes, from_be_bytes, w32}
-use Rattle.std.proofs.lemmas.Bool.{cases_lt, cases_eq, lt-ltb, ne_eqb, false≢true}
-use Rattle.std.proofs.lemmas.List.{take_at, drop_at, drop-drop, append_assoc, length-append}
+use Rattle.std.proofs.Common.{◌≡◌, ◌≢◌, ◌∙◌, refl, sym, ap, ap₂, arith, ℕ, ◌+◌, ◌-◌, ◌<◌, ◌≤◌, ◌==◌, Bool, true, false, ◌&&◌, ◌||◌, not, inl, inr, List, ◌++◌, length, take, drop, get_or-take, length-append, length-drop, length-take-le, Result, Ok, Err}
+use Rattle.std.specs.Prelude.{slice_index}
+use Rattle.std.specs.Int.{to_be_bytes, from_be_bytes, w16, w32}
+use Rattle.std.proofs.lemmas.Bool.{cases_eq, ne_eqb, false≢true}
+use Rattle.std.proofs.lemmas.List.{take_at, drop_at, drop-drop, drop-take, append_assoc, drop-append-le, take-append-le, get_or_append_left}
 use Rattle.std.proofs.lemmas.Nat.{from_be_bytes-to_be_bytes_4}
-use Rattle.ipx_wire.specs.Address.{address_at}
-use Rattle.ipx_wire.specs.Header.{header_at, length_field}
+use Rattle.ipx_wire.specs.Header.{length_field}
+use Rattle.ipx_wire.specs.Numbers.{local_network, all_routes, propagated_type}
 use Rattle.ipx_wire.specs.Packet.{Parts, packet_of}
 use Rattle.ipx_wire.specs.Piece.{piece}
-use Rattle.ipx_wire.specs.Numbers.{local_network, all_routes, propagated_type}
 use Rattle.ipx_wire.specs.declared.header.Header.{Header}
 use Rattle.ipx_wire.specs.declared.network.Network.{Network}
 use Rattle.ipx_wire.specs.declared.packet.PacketFault.{PacketFault}
-use Rattle.ipx_wire.specs.declared.packet.PacketFault.TheVariants.{Short, LengthSmall, LengthBeyond}
 use Rattle.ipx_wire.specs.declared.socket.Socket.{Socket}
 use Rattle.ipx_tunnel.specs.Places.{is_here, same_node, broadcast}
-use Rattle.ipx_tunnel.specs.Extend.{network_place, network_end, is_named, is_extended_by, is_extended_in, is_extended, extended}
+use Rattle.ipx_tunnel.specs.Extend.{network_place, network_end, is_named, is_extended_by, is_extended_in, is_extended, extended, with_network}
 use Rattle.ipx_tunnel.specs.Laws.{IsOrdinary}
+use Rattle.ipx_tunnel.proofs.Packets.{SameFields, reads, is_read, same_header, piece_within}
 
 -- ---- pieces of the copy
 
 -- over any list of four bytes in place of the network
-network_of : (bytes middle : List ℕ) → length middle ≡ 4 → network_end ≤ length bytes → piece (take network_place bytes ++ middle ++ drop network_end bytes) 6 4 ≡ middle
-network_of bytes middle four long =
-    ap (take 4) (ap (drop 6) (append_assoc (take 6 bytes) middle (drop 10 bytes)) ∙ drop_at (take 6 bytes) (middle ++ drop 10 bytes) 6 (length-take-le 6 bytes (omega arith)))
-    ∙ take_at middle (drop 10 bytes) 4 four
+module _ (bytes middle : List ℕ) (four : length middle ≡ 4) (long : network_end ≤ length bytes) where
+  abbrev copy : List ℕ
+  copy = take network_place bytes ++ middle ++ drop network_end bytes
 
-behind : (bytes middle : List ℕ) (n : ℕ) → length middle ≡ 4 → network_end ≤ length bytes → piece (take network_place bytes ++ middle ++ drop network_end bytes) 18 n ≡ piece bytes 18 n
-behind bytes middle n four long =
-    let front : length (take 6 bytes ++ middle) ≡ 10 = omega (arith, length-append (take 6 bytes) middle, length-take-le 6 bytes (omega arith), four) in
-    ap (take n) (sym (drop-drop 8 10 (take 6 bytes ++ middle ++ drop 10 bytes)) ∙ ap (drop 8) (drop_at (take 6 bytes ++ middle) (drop 10 bytes) 10 front) ∙ drop-drop 8 10 bytes)
+  in_parts : copy ≡ take 6 bytes ++ (middle ++ drop 10 bytes)
+  in_parts = append_assoc (take 6 bytes) middle (drop 10 bytes)
 
--- ---- what is read
+  six : length (take 6 bytes) ≡ 6
+  six = length-take-le 6 bytes (omega (arith, long))
 
--- a packet's header is what stands at the front, and there are as many bytes
-read_by : (short small beyond : Bool) (p packet : Parts) → (if short then Err Short else if small then Err LengthSmall else if beyond then Err LengthBeyond else Ok p) ≡ Ok packet
-    → (short ≡ false) × (packet ≡ p)
-read_by true small beyond p packet is = cc
-read_by false true beyond p packet is = cc
-read_by false false true p packet is = cc
-read_by false false false p packet is = (refl, cc)
+  network_of : piece copy 6 4 ≡ middle
+  network_of =
+      ap (take 4) (ap (drop 6) in_parts ∙ drop_at (take 6 bytes) (middle ++ drop 10 bytes) 6 six)
+      ∙ take_at middle (drop 10 bytes) 4 four
 
-header_is : (bytes : List ℕ) (packet : Parts) → packet_of bytes ≡ Ok packet → (nat_lt (length bytes) 30 ≡ false) × (packet.header ≡ header_at bytes)
-unfolding packet_of
-header_is bytes packet is =
-    let read = read_by (nat_lt (length bytes) 30) (nat_lt (length_field bytes) 30) (nat_lt (length bytes) (length_field bytes)) _ packet is in
-    (read.0, ap (λ (p : Parts). p.header) read.1)
+  before : (place count : ℕ) → place + count ≤ 6 → piece copy place count ≡ piece bytes place count
+  before place count fits =
+      let room : count ≤ length (drop place (take 6 bytes)) = omega (arith, length-drop place (take 6 bytes), six, fits) in
+      ap (λ (l : List ℕ). piece l place count) in_parts
+      ∙ ap (take count) (drop-append-le place (take 6 bytes) (middle ++ drop 10 bytes) (omega (arith, six, fits)))
+      ∙ take-append-le count (drop place (take 6 bytes)) (middle ++ drop 10 bytes) room
+      ∙ piece_within bytes 6 place count fits
 
--- where the networks of a header stand
-to_network : (bytes : List ℕ) → (header_at bytes).destination.network.0 ≡ from_be_bytes w32 (piece bytes 6 4)
-unfolding header_at address_at
-to_network bytes = refl
+  byte_before : (place : ℕ) → place < 6 → slice_index copy place ≡ slice_index bytes place
+  byte_before place fits =
+      ap (λ (l : List ℕ). slice_index l place) in_parts
+      ∙ get_or_append_left (take 6 bytes) (middle ++ drop 10 bytes) 0 place (omega (arith, six, fits))
+      ∙ get_or-take 6 bytes place 0 fits
 
-from_network : (bytes : List ℕ) → (header_at bytes).source.network.0 ≡ from_be_bytes w32 (piece bytes 18 4)
-unfolding header_at address_at
-from_network bytes = refl
+  rest : drop 10 copy ≡ drop 10 bytes
+  rest = drop_at (take 6 bytes ++ middle) (drop 10 bytes) 10 (omega (arith, length-append (take 6 bytes) middle, six, four))
+
+  behind : (further count : ℕ) → piece copy (10 + further) count ≡ piece bytes (10 + further) count
+  behind further count =
+      ap (take count) (sym (drop-drop further 10 copy) ∙ ap (drop further) rest ∙ drop-drop further 10 bytes)
+
+  length_copy : length copy ≡ length bytes
+  length_copy = omega (arith, length-append (take 6 bytes ++ middle) (drop 10 bytes), length-append (take 6 bytes) middle, six, four, length-drop 10 bytes, long)
+
+  fields_copy : SameFields copy bytes
+  fields_copy = record {
+    checksum = before 0 2 (omega arith);
+    count = before 2 2 (omega arith);
+    control = byte_before 4 (omega arith);
+    kind = byte_before 5 (omega arith);
+    to_node = behind 0 6;
+    to_socket = behind 6 2;
+    from_network = behind 8 4;
+    from_node = behind 12 6;
+    from_socket = behind 18 2;
+  }
+
+  payload_copy : (n : ℕ) → 30 ≤ n → drop 30 (take n copy) ≡ drop 30 (take n bytes)
+  payload_copy n enough =
+      let whole : n ≡ 30 + (n - 30) = omega (arith, enough) in
+      let last : drop 30 copy ≡ drop 30 bytes = sym (drop-drop 20 10 copy) ∙ ap (drop 20) rest ∙ drop-drop 20 10 bytes in
+      ap (λ (m : ℕ). drop 30 (take m copy)) whole ∙ drop-take 30 (n - 30) copy ∙ ap (take (n - 30)) last
+      ∙ sym (drop-take 30 (n - 30) bytes) ∙ ap (λ (m : ℕ). drop 30 (take m bytes)) (sym whole)
+
+-- the number of the network is read from the copy
+number_copy : (to : Network) (bytes : List ℕ) → IsOrdinary to → network_end ≤ length bytes → from_be_bytes w32 (piece (extended to bytes) 6 4) ≡ to.0
+number_copy to bytes ordinary long =
+    ap (from_be_bytes w32) (network_of bytes (to_be_bytes w32 to.0) refl long) ∙ from_be_bytes-to_be_bytes_4 to.0 (omega (arith, ordinary.ordinary))
+
+pub copy_reads : (to : Network) (bytes : List ℕ) (packet : Parts) → IsOrdinary to → packet_of bytes ≡ Ok packet → packet_of (extended to bytes) ≡ Ok (with_network to packet)
+copy_reads to bytes packet ordinary is =
+    let read = reads bytes packet is in
+    let n = length_field bytes in
+    let number = to_be_bytes w32 to.0 in
+    let long : network_end ≤ length bytes = omega (arith, read.long, read.within) in
+    let same = fields_copy bytes number refl long in
+    let header = same_header (extended to bytes) bytes to same (number_copy to bytes ordinary long) in
+    is_read (extended to bytes) n (ap (from_be_bytes w16) same.count) read.long (omega (arith, read.within, length_copy bytes number refl long))
+    ∙ ap₂ (λ (h : Header) (l : List ℕ). Ok (let p : Parts = record { header = h; payload = l } in p)) header (payload_copy bytes number refl long n read.long)
+    ∙ ap (λ (p : Parts). Ok (with_network to p)) (sym read.parts)
 
 -- ---- tests
 
 number_of : (a b : ℕ) → (a == b) ≡ true → a ≡ b
 number_of a b is = elim (cases_eq a b) [ inl e ↦ e | inr other ↦ absurd (false≢true (sym (ne_eqb a b other) ∙ is)) ]
-
-long_of : (n : ℕ) → nat_lt n 30 ≡ false → network_end ≤ n
-long_of n is = elim (cases_lt n 30) [ inl short ↦ absurd (false≢true (sym is ∙ lt-ltb n 30 short)) | inr long ↦ omega (arith, long) ]
 
 second_of_five : (a b c d e : Bool) → b ≡ false → (a && b && c && d && e) ≡ false
 second_of_five true b c d e is = rw is refl
@@ -103,32 +141,22 @@ refused from to other named h copied source ordinary different =
           (ap (λ (n : ℕ). let m : Network = record { 0 = n } in is_here other m) copied ∙ not_here to other ordinary apart)
     ]
 
-never_again : (from to other : Network) (named : List Socket) (bytes : List ℕ) (r : Result Parts PacketFault) → packet_of (extended to bytes) ≡ r
-    → network_end ≤ length bytes → (header_at bytes).source.network.0 ≡ from.0 → IsOrdinary to → from.0 ≢ to.0 → is_extended_in other named r ≡ false
-never_again from to other named bytes (Err fault) is long source ordinary different = refl
-never_again from to other named bytes (Ok packet) is long source ordinary different =
-    let number = to_be_bytes w32 to.0 in
-    let read = (header_is (extended to bytes) packet is).1 in
-    refused from to other named packet.header
-    (ap (λ (h : Header). h.destination.network.0) read ∙ to_network (extended to bytes) ∙ ap (from_be_bytes w32) (network_of bytes number refl long)
-    ∙ from_be_bytes-to_be_bytes_4 to.0 (omega (arith, ordinary.ordinary)))
-    (ap (λ (h : Header). h.source.network.0) read ∙ from_network (extended to bytes) ∙ ap (from_be_bytes w32) (behind bytes number 4 refl long)
-    ∙ sym (from_network bytes) ∙ source)
-    ordinary different
+never_again : (from to other : Network) (named : List Socket) (bytes : List ℕ) (packet : Parts) → IsOrdinary to → packet_of bytes ≡ Ok packet
+    → packet.header.source.network.0 ≡ from.0 → from.0 ≢ to.0 → is_extended other named (extended to bytes) ≡ false
+never_again from to other named bytes packet ordinary is source different =
+    ap (is_extended_in other named) (copy_reads to bytes packet ordinary is)
+    ∙ refused from to other named (with_network to packet).header refl source ordinary different
 
 -- what is copied came from the network
-came : (from : Network) (sockets : List Socket) (bytes : List ℕ) (r : Result Parts PacketFault) → packet_of bytes ≡ r → is_extended_in from sockets r ≡ true
-    → (network_end ≤ length bytes) × ((header_at bytes).source.network.0 ≡ from.0)
-came from sockets bytes (Err fault) read is = absurd (false≢true is)
-came from sockets bytes (Ok packet) read is =
+came : (from to other : Network) (sockets named : List Socket) (bytes : List ℕ) (r : Result Parts PacketFault) → packet_of bytes ≡ r → is_extended_in from sockets r ≡ true
+    → IsOrdinary to → from.0 ≢ to.0 → is_extended other named (extended to bytes) ≡ false
+came from to other sockets named bytes (Err fault) read is ordinary different = absurd (false≢true is)
+came from to other sockets named bytes (Ok packet) read is ordinary different =
     let h = packet.header in
-    let whole = header_is bytes packet read in
     let own = third_holds (same_node h.destination.node broadcast) (is_here from h.destination.network) (h.source.network.0 == from.0)
     (is_named sockets h.destination.socket) (not (h.kind == propagated_type)) is in
-    (long_of (length bytes) whole.0, sym (ap (λ (x : Header). x.source.network.0) whole.1) ∙ number_of h.source.network.0 from.0 own)
+    never_again from to other named bytes packet ordinary read (number_of h.source.network.0 from.0 own) different
 
 pub copied_once : (from to other : Network) (sockets named : List Socket) (bytes : List ℕ) → is_extended from sockets bytes ≡ true
     → IsOrdinary to → from.0 ≢ to.0 → is_extended other named (extended to bytes) ≡ false
-copied_once from to other sockets named bytes is ordinary different =
-    let first = came from sockets bytes (packet_of bytes) refl is in
-    never_again from to other named bytes (packet_of (extended to bytes)) refl first.0 first.1 ordinary different
+copied_once from to other sockets named bytes is ordinary different = came from to other sockets named bytes (packet_of bytes) refl is ordinary different

@@ -4,6 +4,7 @@ pub mod Heard
 pub mod Lists
 pub mod Members
 pub mod Nodes
+pub mod Packets
 pub mod Sending
 pub mod Silence
 pub mod Standing

@@ -39,3 +39,7 @@ is_extended network sockets bytes = is_extended_in network sockets (packet_of by
 -- the copy for another network: the same bytes, but for the destination's network
 abbrev pub extended : Network → List ℕ → List ℕ
 extended to bytes = take network_place bytes ++ to_be_bytes w32 to.0 ++ drop network_end bytes
+
+-- the packet of the copy
+abbrev pub with_network : Network → Parts → Parts
+with_network to packet = record packet { header = record packet.header { destination = record packet.header.destination { network = to } } }

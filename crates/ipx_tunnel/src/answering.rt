@@ -75,7 +75,7 @@ fn for_packet(
     own
 }
 
-/// Puts the pings of the clients that were silent in place of what `pings` holds.
+/// Fills `pings`, which is emptied first, with the pings of the clients that were silent.
 pub(crate) fn put_pings<const C: usize>(
     network: Network,
     clients: &[Client],

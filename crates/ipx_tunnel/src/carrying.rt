@@ -14,7 +14,7 @@ use crate::setting::Setting;
 use arrayvec::ArrayVec;
 use ipx_wire::{Header, Node};
 
-/// Puts the clients that get what a place said in place of what `to` holds.
+/// Fills `to`, which is emptied first, with the clients that get what a place said.
 pub(crate) fn put_to<const C: usize>(
     setting: Setting,
     clients: &[Client],
@@ -36,7 +36,7 @@ pub(crate) fn put_to<const C: usize>(
     to.clear();
 }
 
-/// Puts the clients for which a packet is in place of what `receivers` holds.
+/// Fills `receivers`, which is emptied first, with the clients for which a packet is.
 pub(crate) fn put_receivers<const C: usize>(
     to: Node,
     sender: Node,

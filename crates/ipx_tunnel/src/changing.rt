@@ -48,7 +48,7 @@ fn a_second_later(client: Client) -> Client
     }
 }
 
-/// Puts the places of the clients that have no seconds left in place of what `left` holds.
+/// Fills `left`, which is emptied first, with the places of the clients that have no seconds left.
 pub(crate) fn put_leaving<const C: usize>(clients: &[Client], left: &mut ArrayVec<Node, C>)
     requires { length clients.now ≤ C }
     ensures { left.new.items ≡ places_of (filter (λ c. not (stays c)) clients.now) }

@@ -1,6 +1,7 @@
 //! What holds by the definitions alone, of every history.
-ghost use Rattle.std.specs.Prelude.{◌≡◌, ◌≢◌, ℕ, ◌+◌, ◌*◌, ◌<◌, ◌≤◌, ◌⊎◌, ◌%◌, ◌==◌, ◌&&◌, not, max, if◌then◌else◌, true, false, List, [], ◌∷◌, ◌++◌, length};
+ghost use Rattle.std.specs.Prelude.{◌≡◌, ◌≢◌, ℕ, ◌+◌, ◌*◌, ◌<◌, ◌≤◌, ◌⊎◌, ◌%◌, ◌==◌, ◌&&◌, not, max, if◌then◌else◌, true, false, List, [], ◌∷◌, ◌++◌, length, Ok};
 ghost use Rattle.std.specs.List.{filter};
+ghost use Rattle.ipx_wire.specs.Packet.{Parts, packet_of};
 ghost use Rattle.ipx_wire.specs.declared.header.Header.{Header};
 ghost use Rattle.ipx_wire.specs.declared.network.Network.{Network};
 ghost use Rattle.ipx_wire.specs.declared.node.Node.{Node};
@@ -15,7 +16,7 @@ ghost use Rattle.ipx_tunnel.specs.Says.{said};
 ghost use Rattle.ipx_tunnel.specs.Clients.{seconds_left, is_there, cookie, clients};
 ghost use Rattle.ipx_tunnel.specs.Own.{own};
 ghost use Rattle.ipx_tunnel.specs.Receivers.{receivers, is_heard, carried};
-ghost use Rattle.ipx_tunnel.specs.Extend.{is_extended, extended};
+ghost use Rattle.ipx_tunnel.specs.Extend.{is_extended, extended, with_network};
 ghost use Rattle.ipx_tunnel.specs.Laws.{copies, Answered, Trusted, is_client, IsThereThrough, AnswersThrough, SpeaksThrough, IsAlwaysTrusted, concerns, IsHonest, IsOrdinary, LastHeard, seconds, own_to, came_from, sent_to_stranger, came_in_all};
 
 /// Each client answered its cookie less than 30 seconds ago, or is trusted and said something less than 180 seconds ago.
@@ -32,8 +33,8 @@ pub fn honest()
         → IsHonest setting (Datagram from bytes ∷ history) from bytes }
 {}
 
-/// A packet comes to whom a cable would bring it, once: one for a node to the client of that node, one for all to each client but its sender.
-/// What the router sends is the same.
+/// A packet goes where a cable would bring it, once: one for a node to the client of that node, a broadcast to every client but its sender.
+/// The same holds of what the router sends.
 pub fn cable()
     ensures node { (setting : Setting) (history : History) (from : Sender) (bytes : List ℕ) (header : Header) (place : Node) → let after = Datagram from bytes ∷ history in
         said setting.network from bytes ≡ Speaks header → is_client setting from.place after ≡ true → is_here setting.network header.destination.network ≡ true
@@ -51,7 +52,7 @@ pub fn cable()
         → copies place (receivers setting (Send to bytes ∷ history)) ≡ (if is_client setting place history && not (same_node place setting.node) then 1 else 0) }
 {}
 
-/// Nobody puts out a client: as long as it answered its cookie less than 30 seconds ago, it stays, whatever else comes from wherever.
+/// Nobody puts out a client: as long as it answered its cookie less than 30 seconds ago, it stays, whatever else comes and from wherever.
 /// So does a place that is always trusted, as long as it said something less than 180 seconds ago.
 /// Whether a place is there depends on seconds and its own datagrams alone.
 pub fn no_eviction()
@@ -65,7 +66,8 @@ pub fn no_eviction()
         seconds_left setting place history ≡ seconds_left setting place (filter (concerns place) history) }
 {}
 
-/// Who answers its cookie, or is trusted and says something, comes in where there is a free place and its address has fewer clients than its share.
+/// A place that answers its cookie, or is trusted and says something, comes in where there is room for a client more and its address has fewer
+/// clients than its share.
 /// There are never more clients than the capacity, never more of an address than the share, and none twice.
 pub fn room()
     ensures answers { (setting : Setting) (history : History) (from : Sender) (bytes : List ℕ) → said setting.network from bytes ≡ Answers
@@ -86,8 +88,8 @@ pub fn pings()
     ensures cookie { (setting : Setting) (history : History) (place : Node) (last : LastHeard setting place history) → cookie setting place history ≡ last.from.cookies.current }
 {}
 
-/// To a place where no client is, no packet is carried, and no more than two datagrams of the tunnel's own go for each that came from there:
-/// in one event, and in a whole history.
+/// A place without a client gets no packet, and at most two of the tunnel's own datagrams for each that came from there: in one event, and in a
+/// whole history.
 pub fn no_reflection()
     ensures carried { (setting : Setting) (history : History) (place : Node) → is_client setting place history ≡ false
         → copies place (receivers setting history) ≡ 0 }
@@ -107,4 +109,11 @@ pub fn bounded()
 pub fn once()
     ensures { (from to other : Network) (sockets named : List Socket) (bytes : List ℕ) → is_extended from sockets bytes ≡ true
         → IsOrdinary to → from.0 ≢ to.0 → is_extended other named (extended to bytes) ≡ false }
+{}
+
+/// What is carried is the packet that came. A copy for another network is this packet, but for its destination's network.
+pub fn read_again()
+    ensures carried { (from : Sender) (bytes : List ℕ) (packet : Parts) → packet_of bytes ≡ Ok packet → packet_of (carried (Datagram from bytes)) ≡ Ok packet }
+    ensures copied { (to : Network) (bytes : List ℕ) (packet : Parts) → IsOrdinary to → packet_of bytes ≡ Ok packet
+        → packet_of (extended to bytes) ≡ Ok (with_network to packet) }
 {}

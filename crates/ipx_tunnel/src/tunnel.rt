@@ -132,8 +132,8 @@ impl<const C: usize> Tunnel<C> {
         }
     }
 
-    /// Lets a second pass: clients that haven't been heard for too long leave. Fills two lists, which are emptied first: the pings that must
-    /// be sent, and the places of the clients that left.
+    /// Lets a second pass: clients that haven't been heard for too long leave. Fills two lists, which are emptied first: the pings that
+    /// must be sent, and the places of the clients that left.
     pub fn second(&mut self, pings: &mut ArrayVec<Own, C>, left: &mut ArrayVec<Node, C>)
         ensures setting { self.new.setting ≡ self.old.setting }
         ensures stands { (h : History) → Stands self.old h → Stands self.new (Second ∷ h) }
@@ -145,7 +145,7 @@ impl<const C: usize> Tunnel<C> {
         put_pings(self.setting.network, &self.clients, pings);
     }
 
-    /// Each client has a second less, and those that have none left leave. Their places are put into `left`.
+    /// Each client has a second less, and those that have none left leave. Fills `left` with their places.
     fn pass(&mut self, left: &mut ArrayVec<Node, C>)
         ensures setting { self.new.setting ≡ self.old.setting }
         ensures clients { self.new.clients ≡ filter stays (map later self.old.clients) }
