@@ -1,5 +1,7 @@
+mod Boxed
+mod Crossing
 mod FirstBad
-mod MachineBox
 mod Placed
+mod Sent
 mod Unmade
 pub mod examples

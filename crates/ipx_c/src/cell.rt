@@ -3,8 +3,10 @@
 //! This is the only place with a raw pointer. What ends a cell stands here too: `into_box` hands its machine on, and `close` asks
 //! that it has none. A cell isn't `Drop`, and no other module sees its fields or those of `Parts`, so none can lose a machine.
 ghost use Rattle.std.specs.Prelude.{◌≡◌, Option, None, Some, IsSome};
+ghost use Rattle.std.specs.Coded.{coded_option};
 ghost use Rattle.std.specs.Box.Ownership.{box_owns};
-ghost use Rattle.ipx_c.specs.inside.Holds.{holds, code};
+ghost use Rattle.ipx_c.specs.inside.Holds.{holds};
+ghost use Rattle.ipx_c.specs.contracts.machine.Machine.{the_row as router_row};
 ghost use Rattle.ipx_c.specs.declared.machine.Machine.{Machine};
 
 use crate::machine::Machine;
@@ -42,21 +44,20 @@ impl<T, A: Allocator> Parts<T, A> {
     }
 }
 
-/// A pointer to a machine, which it owns, or to nothing. To C it is a pointer whose type it doesn't know.
-#[repr(C)]
-pub struct Cell {
-    at: *mut u8,
+/// A pointer to a machine, which it owns, or to nothing.
+pub struct Cell<M> {
+    at: *mut M,
     alloc: Global,
-    pub ghost machine: { Option Machine } by { code },
+    pub ghost machine: { Option M } by { coded_option M.code },
 }
 
-impl Model for Cell {
-    ghost also_owns = { λ c. holds c.alloc c.at c.machine };
+impl<M> Model for Cell<M> {
+    ghost also_owns = { λ c. holds M.row c.alloc c.at c.machine };
 }
 
-impl Cell {
+impl<M> Cell<M> {
     /// A cell without a machine.
-    pub(crate) fn none(alloc: Global) -> Cell
+    pub(crate) fn none(alloc: Global) -> Cell<M>
         ensures { result.machine ≡ None }
     {
         Cell {
@@ -66,14 +67,16 @@ impl Cell {
     }
 
     /// A cell with the machine of a box.
-    pub(crate) fn of(machine: Box<Machine>) -> Cell
+    pub(crate) fn of(machine: Box<M>) -> Cell<M>
+    where
+        M: Drop,
         ensures { result.machine ≡ Some machine.value }
     {
         Cell::of_parts(Parts::of(machine))
     }
 
     /// The box of a cell that has a machine.
-    pub(crate) fn into_box(self) -> Box<Machine>
+    pub(crate) fn into_box(self) -> Box<M>
         requires { IsSome self.machine }
         ensures { self.machine ≡ Some result.value }
     {
@@ -88,27 +91,58 @@ impl Cell {
     }
 
     /// A cell with what a box was taken apart to.
-    fn of_parts(parts: Parts<Machine, Global>) -> Cell
+    fn of_parts(parts: Parts<M, Global>) -> Cell<M>
         ensures { result.machine ≡ Some parts.value }
     {
         let Parts { at, alloc } = parts;
-        Cell {
+        Cell { at, alloc }
+    }
+
+    /// What the box of a cell that has a machine is taken apart to.
+    fn into_parts(self) -> Parts<M, Global>
+        requires { IsSome self.machine }
+        ensures { self.machine ≡ Some result.value }
+    {
+        let Cell { at, alloc } = self;
+        Parts { at, alloc }
+    }
+}
+
+/// The cell of a router, as C keeps it: to C it is a pointer whose type it doesn't know. It has no type parameter, since nothing
+/// with one crosses to C.
+#[repr(C)]
+pub struct RouterCell {
+    at: *mut u8,
+    alloc: Global,
+    pub ghost machine: { Option Machine } by { coded_option router_row.coded },
+}
+
+impl Model for RouterCell {
+    ghost also_owns = { λ c. holds router_row c.alloc c.at c.machine };
+}
+
+impl RouterCell {
+    /// The same cell, for C.
+    pub(crate) fn of(cell: Cell<Machine>) -> RouterCell
+        ensures { result.machine ≡ cell.machine }
+    {
+        let Cell { at, alloc } = cell;
+        RouterCell {
             at: at as *mut u8,
             alloc,
         }
     }
 
-    /// What the box of a cell that has a machine is taken apart to.
-    fn into_parts(self) -> Parts<Machine, Global>
-        requires { IsSome self.machine }
-        ensures { self.machine ≡ Some result.value }
+    /// The same cell, from C.
+    pub(crate) fn into_cell(self) -> Cell<Machine>
+        ensures { result.machine ≡ self.machine }
     {
-        let Cell { at, alloc } = self;
-        Parts {
+        let RouterCell { at, alloc } = self;
+        Cell {
             at: at as *mut Machine,
             alloc,
         }
     }
 }
 
-unsafe impl Send for Cell {}
+unsafe impl Send for RouterCell {}

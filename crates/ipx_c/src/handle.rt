@@ -1,23 +1,22 @@
 //! The handle by which C holds a machine.
-ghost use Rattle.std.specs.Prelude.{◌≡◌, None, Some, is_some};
+ghost use Rattle.std.specs.Prelude.{◌≡◌, Option, None, Some, is_some};
 ghost use Rattle.std.specs.Option.{option_map};
 
-use crate::cell::Cell;
+use crate::cell::{Cell, RouterCell};
 use crate::machine::Machine;
 use std::alloc::Global;
 use std::mem::replace;
 
-/// A machine, or none. All bytes 0 are a handle without one. It isn't `Drop`, so no call can let go of a machine that one has.
-#[repr(C)]
-pub struct Handle {
+/// A machine, or none. It isn't `Drop`, so no call can let go of a machine that one has.
+pub struct Handle<M> {
     made: bool,
-    pub cell: Cell,
+    pub cell: Cell<M>,
     ghost agrees: { made ≡ is_some cell.machine },
 }
 
-impl Handle {
+impl<M> Handle<M> {
     /// A handle without a machine.
-    pub(crate) fn none(alloc: Global) -> Handle
+    pub(crate) fn none(alloc: Global) -> Handle<M>
         ensures { result.cell.machine ≡ None }
     {
         Handle {
@@ -27,7 +26,9 @@ impl Handle {
     }
 
     /// A handle with that machine.
-    pub(crate) fn of(machine: Box<Machine>) -> Handle
+    pub(crate) fn of(machine: Box<M>) -> Handle<M>
+    where
+        M: Drop,
         ensures { result.cell.machine ≡ Some machine.value }
     {
         Handle {
@@ -37,7 +38,7 @@ impl Handle {
     }
 
     /// The machine, if there is one.
-    pub(crate) fn into_box(self) -> Option<Box<Machine>>
+    pub(crate) fn into_box(self) -> Option<Box<M>>
         ensures { option_map (λ b. b.value) result ≡ self.cell.machine }
     {
         let Handle { made, cell } = self;
@@ -58,19 +59,70 @@ impl Handle {
     }
 }
 
+/// A handle as C keeps it: a struct of its own for each kind of machine, since nothing with a type parameter crosses to C.
+pub(crate) trait Crosses: Sized {
+    type Machine: Drop;
+
+    ghost machine: { Self → Option Self.Machine };
+
+    /// The same handle, for C.
+    fn of(handle: Handle<Self::Machine>) -> Self
+        ensures { Self.machine result ≡ handle.cell.machine };
+
+    /// The same handle, from C.
+    fn into_handle(self) -> Handle<Self::Machine>
+        ensures { result.cell.machine ≡ Self.machine self };
+}
+
 /// The machine of a handle, if it has one; the handle then has none.
-pub(crate) fn taken_out(alloc: Global, handle: &mut Handle) -> Option<Box<Machine>>
-    ensures machine { option_map (λ b. b.value) result ≡ handle.old.cell.machine }
-    ensures empty { handle.new.cell.machine ≡ None }
+pub(crate) fn taken_out<H: Crosses>(alloc: Global, handle: &mut H) -> Option<Box<H::Machine>>
+    ensures machine { option_map (λ b. b.value) result ≡ H.machine handle.old }
+    ensures empty { H.machine handle.new ≡ None }
 {
-    replace(handle, Handle::none(alloc)).into_box()
+    replace(handle, H::of(Handle::none(alloc)))
+        .into_handle()
+        .into_box()
 }
 
 /// Puts a machine into a handle that has none.
-pub(crate) fn put_in(handle: &mut Handle, machine: Box<Machine>)
-    requires { handle.old.cell.machine ≡ None }
-    ensures { handle.new.cell.machine ≡ Some machine.value }
+pub(crate) fn put_in<H: Crosses>(handle: &mut H, machine: Box<H::Machine>)
+    requires { H.machine handle.old ≡ None }
+    ensures { H.machine handle.new ≡ Some machine.value }
 {
-    let empty = replace(handle, Handle::of(machine));
-    empty.close();
+    let empty = replace(handle, H::of(Handle::of(machine)));
+    empty.into_handle().close();
+}
+
+/// The handle of a router, as C keeps it. All bytes 0 are one without a router.
+#[repr(C)]
+pub struct RouterHandle {
+    made: bool,
+    pub cell: RouterCell,
+    ghost agrees: { made ≡ is_some cell.machine },
+}
+
+impl Crosses for RouterHandle {
+    type Machine = Machine;
+
+    ghost machine = { λ handle. handle.cell.machine };
+
+    fn of(handle: Handle<Machine>) -> RouterHandle
+        ensures { result.cell.machine ≡ handle.cell.machine }
+    {
+        let Handle { made, cell } = handle;
+        RouterHandle {
+            made,
+            cell: RouterCell::of(cell),
+        }
+    }
+
+    fn into_handle(self) -> Handle<Machine>
+        ensures { result.cell.machine ≡ self.cell.machine }
+    {
+        let RouterHandle { made, cell } = self;
+        Handle {
+            made,
+            cell: cell.into_cell(),
+        }
+    }
 }

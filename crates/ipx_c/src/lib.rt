@@ -1,6 +1,8 @@
 //! The router for C, and for whatever can call C: a static library, whose header is `include/ipxr.h`.
 //!
-//! - C holds a router by a `Handle`: a flag and a pointer. All bytes 0 are a handle without a router.
+//! - C holds a router by a `RouterHandle`: a flag and a pointer. All bytes 0 are a handle without a router.
+//! - `Handle` and `Cell` serve any machine, and are proved once. What crosses to C may have no type parameter, so each kind of machine
+//!   has a cell and a handle of its own beside them, with the same fields.
 //! - Each export answers a number (`specs/Codes`), and its clause says what it did, by the definitions of `ipx_router`: an event
 //!   was taken (`Happens`), a router was made (`Makes`), a packet was copied out (`Copies`), a record was read (`Reads`). Below 0
 //!   nothing happened.
@@ -33,7 +35,7 @@ pub use crate::events::{
 };
 pub use crate::fault::Fault;
 pub use crate::frames::{ipxr_frame_read, ipxr_frame_write};
-pub use crate::handle::Handle;
+pub use crate::handle::RouterHandle;
 pub use crate::machine::Machine;
 pub use crate::making::{ipxr_free, ipxr_make, ipxr_version};
 pub use crate::reading::{

@@ -9,7 +9,7 @@ ghost use Rattle.ipx_c.specs.Values.{port_of};
 
 use crate::code::{DONE, fault_code};
 use crate::fault::Fault;
-use crate::handle::{Handle, put_in, taken_out};
+use crate::handle::{RouterHandle, put_in, taken_out};
 use crate::machine::{Machine, SizedRouter};
 use crate::sizes::MOST_PORTS;
 use crate::values::PortValues;
@@ -23,7 +23,7 @@ const VERSION: u32 = (1 << 16) + 2;
 
 /// Makes a router, and frees the one that the handle had. Where none can be made, that one stays.
 #[unsafe(no_mangle)]
-pub extern "C" fn ipxr_make(alloc: Global, handle: &mut Handle, ports: &[PortValues]) -> i32
+pub extern "C" fn ipxr_make(alloc: Global, handle: &mut RouterHandle, ports: &[PortValues]) -> i32
     ensures { Makes handle.old.cell.machine handle.new.cell.machine ports.now result }
 {
     match made(alloc, ports) {
@@ -38,7 +38,7 @@ pub extern "C" fn ipxr_make(alloc: Global, handle: &mut Handle, ports: &[PortVal
 
 /// Frees the router, if there is one.
 #[unsafe(no_mangle)]
-pub extern "C" fn ipxr_free(alloc: Global, handle: &mut Handle)
+pub extern "C" fn ipxr_free(alloc: Global, handle: &mut RouterHandle)
     ensures { handle.new.cell.machine ≡ None }
 {
     free(alloc, handle);
@@ -53,7 +53,7 @@ pub extern "C" fn ipxr_version() -> u32
 }
 
 /// Frees the machine of a handle, if it has one. That it is freed, and not forgotten, is `drop`'s doing: no clause says it.
-fn free(alloc: Global, handle: &mut Handle)
+fn free(alloc: Global, handle: &mut RouterHandle)
     ensures { handle.new.cell.machine ≡ None }
 {
     if let Some(machine) = taken_out(alloc, handle) {

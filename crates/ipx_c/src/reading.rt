@@ -5,7 +5,7 @@ ghost use Rattle.ipx_c.specs.Values.{route_record, service_record};
 
 use crate::code::{DONE, fault_code};
 use crate::fault::Fault;
-use crate::handle::{Handle, put_in, taken_out};
+use crate::handle::{RouterHandle, put_in, taken_out};
 use crate::machine::Machine;
 use crate::values::{RouteRecord, ServiceRecord};
 use ipx_router::{RouteOffer, ServiceOffer};
@@ -14,7 +14,7 @@ use std::alloc::Global;
 
 /// Whether the router runs.
 #[unsafe(no_mangle)]
-pub extern "C" fn ipxr_is_running(alloc: Global, handle: &mut Handle) -> i32
+pub extern "C" fn ipxr_is_running(alloc: Global, handle: &mut RouterHandle) -> i32
     ensures kept { handle.new.cell.machine ≡ handle.old.cell.machine }
     ensures code { result ≡ running_code handle.old.cell.machine }
 {
@@ -28,7 +28,7 @@ pub extern "C" fn ipxr_is_running(alloc: Global, handle: &mut Handle) -> i32
 
 /// Whether a port is up.
 #[unsafe(no_mangle)]
-pub extern "C" fn ipxr_is_up(alloc: Global, handle: &mut Handle, port: u8) -> i32
+pub extern "C" fn ipxr_is_up(alloc: Global, handle: &mut RouterHandle, port: u8) -> i32
     ensures kept { handle.new.cell.machine ≡ handle.old.cell.machine }
     ensures code { result ≡ up_code handle.old.cell.machine port }
 {
@@ -52,7 +52,7 @@ fn up_code(machine: &Machine, port: u8) -> i32
 
 /// How many routes there are.
 #[unsafe(no_mangle)]
-pub extern "C" fn ipxr_routes(alloc: Global, handle: &mut Handle) -> usize
+pub extern "C" fn ipxr_routes(alloc: Global, handle: &mut RouterHandle) -> usize
     ensures kept { handle.new.cell.machine ≡ handle.old.cell.machine }
     ensures count { result ≡ route_count handle.old.cell.machine }
 {
@@ -66,7 +66,7 @@ pub extern "C" fn ipxr_routes(alloc: Global, handle: &mut Handle) -> usize
 
 /// How many services there are.
 #[unsafe(no_mangle)]
-pub extern "C" fn ipxr_services(alloc: Global, handle: &mut Handle) -> usize
+pub extern "C" fn ipxr_services(alloc: Global, handle: &mut RouterHandle) -> usize
     ensures kept { handle.new.cell.machine ≡ handle.old.cell.machine }
     ensures count { result ≡ service_count handle.old.cell.machine }
 {
@@ -82,7 +82,7 @@ pub extern "C" fn ipxr_services(alloc: Global, handle: &mut Handle) -> usize
 #[unsafe(no_mangle)]
 pub extern "C" fn ipxr_route(
     alloc: Global,
-    handle: &mut Handle,
+    handle: &mut RouterHandle,
     index: usize,
     route: &mut RouteRecord,
 ) -> i32
@@ -106,7 +106,7 @@ pub extern "C" fn ipxr_route(
 #[unsafe(no_mangle)]
 pub extern "C" fn ipxr_service(
     alloc: Global,
-    handle: &mut Handle,
+    handle: &mut RouterHandle,
     index: usize,
     service: &mut ServiceRecord,
 ) -> i32

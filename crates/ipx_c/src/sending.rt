@@ -4,14 +4,14 @@ ghost use Rattle.ipx_c.specs.Copies.{IsCleared, sent_count, packet_at, told_afte
 
 use crate::code::{DONE, fault_code};
 use crate::fault::Fault;
-use crate::handle::{Handle, put_in, taken_out};
+use crate::handle::{RouterHandle, put_in, taken_out};
 use crate::machine::Machine;
 use crate::values::PacketSent;
 use std::alloc::Global;
 
 /// How many packets are to be sent.
 #[unsafe(no_mangle)]
-pub extern "C" fn ipxr_sent(alloc: Global, handle: &mut Handle) -> usize
+pub extern "C" fn ipxr_sent(alloc: Global, handle: &mut RouterHandle) -> usize
     ensures kept { handle.new.cell.machine ≡ handle.old.cell.machine }
     ensures count { result ≡ sent_count handle.old.cell.machine }
 {
@@ -27,7 +27,7 @@ pub extern "C" fn ipxr_sent(alloc: Global, handle: &mut Handle) -> usize
 #[unsafe(no_mangle)]
 pub extern "C" fn ipxr_get(
     alloc: Global,
-    handle: &mut Handle,
+    handle: &mut RouterHandle,
     index: usize,
     sent: &mut PacketSent,
     buffer: &mut [u8],
@@ -77,7 +77,7 @@ pub(crate) fn put(buffer: &mut [u8], bytes: &[u8])
 
 /// Takes all packets out.
 #[unsafe(no_mangle)]
-pub extern "C" fn ipxr_clear(alloc: Global, handle: &mut Handle)
+pub extern "C" fn ipxr_clear(alloc: Global, handle: &mut RouterHandle)
     ensures { IsCleared handle.old.cell.machine handle.new.cell.machine }
 {
     let Some(mut machine) = taken_out(alloc, handle) else {

@@ -2,9 +2,12 @@
 use mathlib.Core.Path.{◌≡◌, refl, sym, subst}
 use mathlib.Core.List.{List, [], ◌∷◌, ◌++◌}
 use seplogic.Ra.Ura.{Ura}
+use mir.Syntax.{Fn, a_type}
+use mir.MapTy.{inst_fn}
 use mir.Val.{Val}
 use base.Logic.{SProp, ent, id⊢}
-use base.Fml.{ftrue, fsep}
+use base.Fml.{ftrue, fsep, flft}
+use contract.BorrowLft.{◌⊑◌}
 use prog.Memory.{Memory}
 use prog.Routine.{Routine}
 use prog.Wp.{WpFn, Tables}
@@ -16,71 +19,88 @@ use types.Kit.{Item, ‵, raw, ◌⊛◌, ◌$◌, ◌∵◌, !, qed, by, move, 
 use types.Part.{whole, sub, agg}
 use types.Run.{stop, fld, no_more, and_then, of_opd, returns, enter}
 use types.ByLocal.{alloc_all, pass_all, free_all, look_at, get, get_in, sets}
-use denote.Exit.{yes}
+use denote.Exit.{no}
+use denote.RattleType.{RattleType, owns}
+use denote.Param.{layouts}
+use denote.Param.Laws.{Laws}
+use denote.RawPtr.{Ptr}
 use denote.Signature.{type_at, types_at}
-use denote.RattleType.{owns}
 use denote.Steps.{heard, nothing}
+use denote.Triple.Clauses.{Ended, Clauses}
 use denote.Triple.Spec.{triple_of}
 use denote.Triple.Table.{entered}
-use denote.Triple.Walked.{says, Stays, stay_dropped, walk_of, ends_at, Goes-dropped, walk_Meets}
-use Rattle.std_alloc.proofs.BoxSteps.Form.{D, B, word, box_typed}
+use denote.Triple.Walked.{says, Stays, stay_dropped, walk_of, ends_at, walk_Meets}
+use Rattle.core.proofs.alloc.Calls.{Goes-blank}
+use Rattle.std_alloc.proofs.BoxSteps.Form.{Bx, D, B, word, box_typed}
 use Rattle.std_alloc.proofs.BoxSteps.Steps.{box_out, box_in}
-use denote.RawPtr.{Ptr}
 use Rattle.std.proofs.lemmas.Bool.{false≢true}
 use Rattle.std.specs.Prelude.{Option, None, Some, is_some, true}
 use Rattle.std.specs.Global.{Global}
-use Rattle.ipx_c.proofs.MachineBox.{boxed, InCell}
-use Rattle.ipx_c.specs.declared.machine.Machine.{Machine}
+use Rattle.ipx_c.proofs.Boxed.{boxed, InCell}
 use Rattle.ipx_c.specs.contracts.cell.Cell.into_parts as Contracted
 use Rattle.ipx_c.specs.contracts.cell.Cell.into_parts.Key.{name as symbol}
 use Rattle.ipx_c.proofs.cell.Cell.into_parts.Statement as stated
 use Rattle.ipx_c.proofs.cell.Cell.into_parts.Code as code
 
-abbrev stays : Stays (Contracted.ended).signature.params (Contracted.ended).kept
-stays = (stay_dropped InCell yes, tt)
+module _ (X : RattleType) (LX : Laws X) where
+  abbrev E : Bx
+  E = boxed X LX
 
-module _ {M : Type 1} {𝓤 : Ura M} (𝓛 : Logic 𝓤) (at_mem : Memory → SProp 𝓤) (run : Routine → Fun 𝓤) (𝓣 : Tables 𝓤 𝓛.H) where
-  open 𝓛 use {H}
+  abbrev body : Fn
+  body = inst_fn (layouts (a_type ∷ []) (X, tt)) code.function
 
-  abbrev Ghosts : Type 0
-  Ghosts = (walk_of 𝓛 Contracted.ended stays (Contracted.clauses 𝓛 at_mem run)).Ghost
+  abbrev ended : Ended
+  ended = Contracted.ended X
 
-  abbrev Walks : Ghosts → Type 1
-  Walks z = ent 𝓤 ((walk_of 𝓛 Contracted.ended stays (Contracted.clauses 𝓛 at_mem run)).pre z) (WpFn 𝓤 H 𝓣.C 𝓣.Λ code.function (z.0.4.0 ++ []) ((walk_of 𝓛 Contracted.ended stays (Contracted.clauses 𝓛 at_mem run)).post z))
+  abbrev stays : Stays ended.signature.params ended.kept
+  stays = (stay_dropped (InCell E) no, tt)
 
-  abbrev given_cell : Ptr → Global → Option Machine → List Val → Ghosts
-  given_cell at alloc machine words = ((tt, tt, tt, (record { at = at; alloc = alloc; machine = machine }, tt), (words, tt)), tt)
+  module _ {M : Type 1} {𝓤 : Ura M} (𝓛 : Logic 𝓤) (at_mem : Memory → SProp 𝓤) (run : Routine → Fun 𝓤) (𝓣 : Tables 𝓤 𝓛.H) where
+    open 𝓛 use {H}
 
-  walk : (at : Ptr) (alloc : Global) (machine : Option Machine) (words : List Val) → Walks (given_cell at alloc machine words)
-  walk at alloc None words =
-      qed 𝓛 ((‵ ftrue ⊛ ‵ (owns (types_at Contracted.signature.params tt) (given_cell at alloc None words).0.3 (given_cell at alloc None words).0.4)) ∷ raw (fact 𝓤 (is_some {T = Machine} None ≡ true)) ∷ []) ∵ move ! (1 ∷ []) $
-      heard ! (is_some {T = Machine} None ≡ true) (λ has. absurd (false≢true has))
-  walk at alloc (Some machine) words =
-      let z = given_cell at alloc (Some machine) words in
-      let Post = (walk_of 𝓛 Contracted.ended stays (Contracted.clauses 𝓛 at_mem run)).post z in
-      let given : D boxed = record { ptr = at; alloc = alloc; value = machine } in
-      let Made = type_at (Contracted.signature).result tt in
-      let made : Made.Denot = record { at = at; alloc = alloc; value = machine } in
-      qed 𝓛 ((‵ ftrue ⊛ ‵ (fsep ((B boxed).own_val given words) ftrue)) ∷ raw (fact 𝓤 (is_some (Some machine) ≡ true)) ∷ []) ∵ move ! (1 ∷ []) $
-      heard ! (is_some (Some machine) ≡ true) (λ _. split ! $ drop ! $ fsplit ! $
-      box_out boxed ! given words (λ block offset handle inside same typed.
-      let w = word boxed handle block offset in
-      box_in boxed ! given block offset machine inside refl $ use1 𝓛 (‵ (Made.own_val made (w ∷ []))) (id⊢ 𝓤 _) $ move ! (1 ∷ []) $ drop ! $
-      let Γ : List (Item 𝓤) = ‵ (Made.own_val made (w ∷ [])) ∷ [] in
-      by ! (subst (λ (us : List Val). ent 𝓤 (types.Kit.⋆ 𝓛 Γ) (WpFn 𝓤 H 𝓣.C 𝓣.Λ code.function (us ++ []) Post)) (sym same)
-      (qed 𝓛 Γ ∵ enter ! 𝓣.C 𝓣.Λ code.function (w ∷ []) _ $ alloc_all ! (λ ls. pass_all ! refl (box_typed boxed handle block offset typed, tt) $
-      sets ! (of_opd ! (get_in ! (fld ! refl (stop !)) (sub ! 0 refl (whole !)))) refl (tt, tt) $
-      sets ! (of_opd ! (get_in ! (fld ! refl (stop !)) (sub ! 1 refl (whole !)))) refl typed $
-      -- the cast
-      sets ! (of_opd ! (get ! refl)) refl (tt, tt) $
-      sets ! (agg ! (and_then ! (get ! refl) (and_then ! (get ! refl) (no_more !)))) refl (box_typed boxed handle block offset typed) $ returns ! (look_at ! 0 refl) $ free_all ! refl $
-      suffices ! _ (ends_at 𝓛 Contracted.ended stays (Contracted.clauses 𝓛 at_mem run) z w made (tt, tt) (tt, tt)) $ says ! refl $
-      nothing ! $ nothing ! $ fjoin ! $ join ! $ nothing ! $ join ! $ done !)))))
+    abbrev clauses : Clauses 𝓤 ended
+    clauses = Contracted.clauses X 𝓛 at_mem run
+
+    abbrev Ghosts : Type 0
+    Ghosts = (walk_of 𝓛 ended stays clauses).Ghost
+
+    abbrev Walks : Ghosts → Type 1
+    Walks z = ent 𝓤 ((walk_of 𝓛 ended stays clauses).pre z) (WpFn 𝓤 H 𝓣.C 𝓣.Λ body (z.0.4.0 ++ []) ((walk_of 𝓛 ended stays clauses).post z))
+
+    abbrev given_cell : Ghosts → Ptr → Global → Option X.Denot → List Val → Ghosts
+    given_cell z at alloc machine words = ((z.0.0, z.0.1, z.0.2, (record { at = at; alloc = alloc; machine = machine }, tt), (words, tt)), tt)
+
+    walk : (z : Ghosts) (at : Ptr) (alloc : Global) (machine : Option X.Denot) (words : List Val) → Walks (given_cell z at alloc machine words)
+    walk z at alloc None words =
+        let lives = z.0.0 in let shares = z.0.1 in let given = given_cell z at alloc None words in
+        let tokens : Item 𝓤 = ‵ (flft lives.0 shares.0) ⊛ ‵ ftrue in
+        qed 𝓛 ((tokens ⊛ ‵ (owns (types_at (Contracted.signature X).params lives) given.0.3 given.0.4)) ∷ (raw (fact 𝓤 (lives.0 ⊑ E.row.lives)) ⊛ raw (fact 𝓤 (is_some {T = X.Denot} None ≡ true))) ∷ []) ∵ move ! (1 ∷ []) $ split ! $ move ! (1 ∷ []) $
+        heard ! (is_some {T = X.Denot} None ≡ true) (λ has. absurd (false≢true has))
+    walk z at alloc (Some machine) words =
+        let lives = z.0.0 in let shares = z.0.1 in let whole_cell = given_cell z at alloc (Some machine) words in
+        let Post = (walk_of 𝓛 ended stays clauses).post whole_cell in
+        let given : D E = record { ptr = at; alloc = alloc; value = machine } in
+        let Made = type_at (Contracted.signature X).result lives in
+        let made : Made.Denot = record { at = at; alloc = alloc; value = machine } in
+        let tokens : Item 𝓤 = ‵ (flft lives.0 shares.0) ⊛ ‵ ftrue in
+        qed 𝓛 ((tokens ⊛ ‵ (fsep ((B E).own_val given words) ftrue)) ∷ (raw (fact 𝓤 (lives.0 ⊑ E.row.lives)) ⊛ raw (fact 𝓤 (is_some (Some machine) ≡ true))) ∷ []) ∵ move ! (1 ∷ []) $ split ! $ drop ! $
+        heard ! (is_some (Some machine) ≡ true) (λ _. split ! $ move ! (1 ∷ []) $ fsplit ! $
+        box_out E ! given words (λ block offset handle inside same typed.
+        let w = word E handle block offset in
+        box_in E ! given block offset machine inside refl $ use1 𝓛 (‵ (Made.own_val made (w ∷ []))) (id⊢ 𝓤 _) $ move ! (1 ∷ []) $ drop ! $
+        let Γ : List (Item 𝓤) = ‵ (Made.own_val made (w ∷ [])) ∷ tokens ∷ [] in
+        by ! (subst (λ (us : List Val). ent 𝓤 (types.Kit.⋆ 𝓛 Γ) (WpFn 𝓤 H 𝓣.C 𝓣.Λ body (us ++ []) Post)) (sym same)
+        (qed 𝓛 Γ ∵ enter ! 𝓣.C 𝓣.Λ body (w ∷ []) _ $ alloc_all ! (λ ls. pass_all ! refl (box_typed E handle block offset typed, tt) $
+        sets ! (of_opd ! (get_in ! (fld ! refl (stop !)) (sub ! 0 refl (whole !)))) refl (tt, tt) $
+        sets ! (of_opd ! (get_in ! (fld ! refl (stop !)) (sub ! 1 refl (whole !)))) refl typed $
+        sets ! (agg ! (and_then ! (get ! refl) (and_then ! (get ! refl) (no_more !)))) refl (box_typed E handle block offset typed) $ returns ! (look_at ! 0 refl) $ free_all ! refl $
+        suffices ! _ (ends_at 𝓛 ended stays clauses whole_cell w made (tt, tt) (tt, tt)) $ says ! refl $
+        nothing ! $ nothing ! $ fjoin ! $ join ! $ move ! (1 ∷ 0 ∷ []) $ join ! $ done !)))))
 
 pub into_parts_spec : {M : Type 1} → stated.statement M
 unfolding tables_of
-into_parts_spec 𝓤 𝓛 𝓜 𝓡 wired =
+into_parts_spec 𝓤 𝓛 𝓜 𝓡 wired X LX =
     let 𝓣 : Tables 𝓤 𝓛.H = tables_of 𝓤 𝓛.H 𝓜 (tables 𝓤 𝓛.H 𝓜 𝓡 𝓡.env) in
-    entered 𝓤 𝓛.H (triple_of 𝓛 Contracted.signature (Contracted.spec 𝓛 𝓜.mem 𝓡.returns)) 𝓣.C 𝓣.Λ symbol code.function (code.unfolded 𝓤 𝓛.H 𝓜 𝓡 wired)
-    (walk_Meets 𝓛 Contracted.ended stays (Goes-dropped 𝓛 0 InCell yes (λ κs x f. refl), tt) (Contracted.clauses 𝓛 𝓜.mem 𝓡.returns) (WpFn 𝓤 𝓛.H 𝓣.C 𝓣.Λ code.function) (WpFn-mono 𝓤 𝓛.H 𝓛.laws 𝓣 code.function)
-    (λ z. walk 𝓛 𝓜.mem 𝓡.returns 𝓣 z.0.3.0.at z.0.3.0.alloc z.0.3.0.machine z.0.4.0))
+    entered 𝓤 𝓛.H (triple_of 𝓛 (Contracted.signature X) (Contracted.spec X 𝓛 𝓜.mem 𝓡.returns)) 𝓣.C 𝓣.Λ (symbol (layouts (a_type ∷ []) (X, tt))) (body X LX) (code.unfolded 𝓤 𝓛.H 𝓜 𝓡 wired (X, tt))
+    (walk_Meets 𝓛 (ended X LX) (stays X LX) (Goes-blank 𝓛 1 (InCell (boxed X LX)) no (λ κs x f. tt), tt) (clauses X LX 𝓛 𝓜.mem 𝓡.returns 𝓣) (WpFn 𝓤 𝓛.H 𝓣.C 𝓣.Λ (body X LX)) (WpFn-mono 𝓤 𝓛.H 𝓛.laws 𝓣 (body X LX))
+    (λ z. walk X LX 𝓛 𝓜.mem 𝓡.returns 𝓣 z z.0.3.0.at z.0.3.0.alloc z.0.3.0.machine z.0.4.0))
