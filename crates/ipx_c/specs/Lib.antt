@@ -16,5 +16,10 @@ pub mod Kinds
 pub mod Writes
 -- words
 pub mod Words
+-- tunnels: structs, making, events, and what is read of them
+pub mod TunnelValues
+pub mod TunnelMakes
+pub mod TunnelEvents
+pub mod TunnelReads
 -- nothing that a public contract says
 pub mod inside

@@ -1,6 +1,6 @@
--- How much one router of this library can have; and the version of its interface.
+-- How much one router or tunnel of this library can have; and the version of its interface.
 use Rattle.std.specs.Prelude.{ℕ, ◌+◌, ◌*◌}
-use Rattle.ipx_c.specs.declared.sizes.TheConstants.{MOST_PORTS, MOST_ROUTES, MOST_SERVICES}
+use Rattle.ipx_c.specs.declared.sizes.TheConstants.{MOST_PORTS, MOST_ROUTES, MOST_SERVICES, MOST_CLIENTS}
 
 -- ports
 abbrev pub most_ports : ℕ
@@ -12,6 +12,10 @@ most_routes = MOST_ROUTES
 
 abbrev pub most_services : ℕ
 most_services = MOST_SERVICES
+
+-- clients of a tunnel
+abbrev pub most_clients : ℕ
+most_clients = MOST_CLIENTS
 
 -- a major number and a minor number
 abbrev pub version : ℕ

@@ -9,7 +9,7 @@ use Rattle.ipx_router.specs.declared.port.PortFault.TheVariants.{Longest, Cost, 
 use Rattle.ipx_router.specs.declared.ports_fault.PortsFault.TheVariants.{NoPort as NoPorts, TooMany as ManyPorts, SameNetwork}
 use Rattle.ipx_router.specs.declared.why.Why.TheVariants.{NotRunning, Malformed, OwnEcho, BadSource, CrossedShort, CrossedFull, CrossedSeen, Elsewhere, OtherSocket, NotNeighbour, BadRip, BadSap, NearestReply, TooManyRouters, FarSide, NoRoute, TooLong, DownPort}
 use Rattle.ipx_c.specs.Codes.{outcome_number, fault_number}
-use Rattle.ipx_c.specs.declared.fault.Fault.TheVariants.{NoRouter, NoPort, NoPacket, NoRecord, ShortBuffer, OutOfMemory, Port, Ports, Operation, NoEntries, ManyEntries, Name, LongPacket}
+use Rattle.ipx_c.specs.declared.fault.Fault.TheVariants.{NoRouter, NoPort, NoPacket, NoRecord, ShortBuffer, OutOfMemory, NoTunnel, ManyClients, Port, Ports, Operation, NoEntries, ManyEntries, Name, LongPacket}
 
 -- of what became of an event
 abbrev pub event_word : ℕ → List ℕ
@@ -67,6 +67,7 @@ fault_word n =
     if n == fault_number NoRecord then codes "no such record" else
     if n == fault_number ShortBuffer then codes "short buffer" else
     if n == fault_number OutOfMemory then codes "out of memory" else
+    if n == fault_number NoTunnel then codes "no tunnel" else
     if n == fault_number (Port Longest) then codes "bad longest packet" else
     if n == fault_number (Port Cost) then codes "bad cost" else
     if n == fault_number (Port Network) then codes "bad network" else
@@ -74,6 +75,7 @@ fault_word n =
     if n == fault_number (Ports NoPorts) then codes "no ports" else
     if n == fault_number (Ports ManyPorts) then codes "too many ports" else
     if n == fault_number (Ports SameNetwork) then codes "same network" else
+    if n == fault_number ManyClients then codes "too many clients" else
     if n == fault_number Operation then codes "bad operation" else
     if n == fault_number NoEntries then codes "no entries" else
     if n == fault_number ManyEntries then codes "too many entries" else

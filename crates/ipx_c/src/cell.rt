@@ -7,9 +7,12 @@ ghost use Rattle.std.specs.Coded.{coded_option};
 ghost use Rattle.std.specs.Box.Ownership.{box_owns};
 ghost use Rattle.ipx_c.specs.inside.Holds.{holds};
 ghost use Rattle.ipx_c.specs.contracts.machine.Machine.{the_row as router_row};
+ghost use Rattle.ipx_c.specs.contracts.tunnel_machine.TunnelMachine.{the_row as tunnel_row};
 ghost use Rattle.ipx_c.specs.declared.machine.Machine.{Machine};
+ghost use Rattle.ipx_c.specs.declared.tunnel_machine.TunnelMachine.{TunnelMachine};
 
 use crate::machine::Machine;
+use crate::tunnel_machine::TunnelMachine;
 use std::alloc::{Allocator, Global};
 use std::marker::Model;
 
@@ -146,3 +149,41 @@ impl RouterCell {
 }
 
 unsafe impl Send for RouterCell {}
+
+/// The cell of a tunnel, as C keeps it.
+#[repr(C)]
+pub struct TunnelCell {
+    at: *mut u8,
+    alloc: Global,
+    pub ghost machine: { Option TunnelMachine } by { coded_option tunnel_row.coded },
+}
+
+impl Model for TunnelCell {
+    ghost also_owns = { λ c. holds tunnel_row c.alloc c.at c.machine };
+}
+
+impl TunnelCell {
+    /// The same cell, for C.
+    pub(crate) fn of(cell: Cell<TunnelMachine>) -> TunnelCell
+        ensures { result.machine ≡ cell.machine }
+    {
+        let Cell { at, alloc } = cell;
+        TunnelCell {
+            at: at as *mut u8,
+            alloc,
+        }
+    }
+
+    /// The same cell, from C.
+    pub(crate) fn into_cell(self) -> Cell<TunnelMachine>
+        ensures { result.machine ≡ self.machine }
+    {
+        let TunnelCell { at, alloc } = self;
+        Cell {
+            at: at as *mut TunnelMachine,
+            alloc,
+        }
+    }
+}
+
+unsafe impl Send for TunnelCell {}

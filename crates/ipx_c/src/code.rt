@@ -46,6 +46,8 @@ fn fault_number(fault: Fault) -> u16
         Fault::NoRecord => 4,
         Fault::ShortBuffer => 5,
         Fault::OutOfMemory => 6,
+        Fault::NoTunnel => 7,
+        Fault::ManyClients => 18,
         Fault::Port(PortFault::Longest) => 11,
         Fault::Port(PortFault::Cost) => 12,
         Fault::Port(PortFault::Network) => 13,

@@ -23,6 +23,12 @@ pub enum Fault {
     /// Memory was refused.
     #[error("out of memory")]
     OutOfMemory,
+    /// The handle has no tunnel.
+    #[error("no tunnel")]
+    NoTunnel,
+    /// A tunnel would have more clients than one can have.
+    #[error("too many clients")]
+    ManyClients,
     /// Values that make no port.
     #[error("{0}")]
     Port(PortFault),

@@ -2,8 +2,9 @@
 ghost use Rattle.std.specs.Prelude.{◌≡◌, Option, None, Some, is_some};
 ghost use Rattle.std.specs.Option.{option_map};
 
-use crate::cell::{Cell, RouterCell};
+use crate::cell::{Cell, RouterCell, TunnelCell};
 use crate::machine::Machine;
+use crate::tunnel_machine::TunnelMachine;
 use std::alloc::Global;
 use std::mem::replace;
 
@@ -120,6 +121,40 @@ impl Crosses for RouterHandle {
         ensures { result.cell.machine ≡ self.cell.machine }
     {
         let RouterHandle { made, cell } = self;
+        Handle {
+            made,
+            cell: cell.into_cell(),
+        }
+    }
+}
+
+/// The handle of a tunnel, as C keeps it. All bytes 0 are one without a tunnel.
+#[repr(C)]
+pub struct TunnelHandle {
+    made: bool,
+    pub cell: TunnelCell,
+    ghost agrees: { made ≡ is_some cell.machine },
+}
+
+impl Crosses for TunnelHandle {
+    type Machine = TunnelMachine;
+
+    ghost machine = { λ handle. handle.cell.machine };
+
+    fn of(handle: Handle<TunnelMachine>) -> TunnelHandle
+        ensures { result.cell.machine ≡ handle.cell.machine }
+    {
+        let Handle { made, cell } = handle;
+        TunnelHandle {
+            made,
+            cell: TunnelCell::of(cell),
+        }
+    }
+
+    fn into_handle(self) -> Handle<TunnelMachine>
+        ensures { result.cell.machine ≡ self.cell.machine }
+    {
+        let TunnelHandle { made, cell } = self;
         Handle {
             made,
             cell: cell.into_cell(),

@@ -26,6 +26,11 @@ mod making;
 mod reading;
 mod sending;
 mod sizes;
+mod tunnel_events;
+mod tunnel_machine;
+mod tunnel_making;
+mod tunnel_reading;
+mod tunnel_values;
 mod values;
 mod words;
 mod writing;
@@ -35,13 +40,22 @@ pub use crate::events::{
 };
 pub use crate::fault::Fault;
 pub use crate::frames::{ipxr_frame_read, ipxr_frame_write};
-pub use crate::handle::RouterHandle;
+pub use crate::handle::{RouterHandle, TunnelHandle};
 pub use crate::machine::Machine;
 pub use crate::making::{ipxr_free, ipxr_make, ipxr_version};
 pub use crate::reading::{
     ipxr_is_running, ipxr_is_up, ipxr_route, ipxr_routes, ipxr_service, ipxr_services,
 };
 pub use crate::sending::{ipxr_clear, ipxr_get, ipxr_sent};
+pub use crate::tunnel_events::{ipxr_tunnel_hear, ipxr_tunnel_second, ipxr_tunnel_send};
+pub use crate::tunnel_machine::TunnelMachine;
+pub use crate::tunnel_making::{ipxr_tunnel_free, ipxr_tunnel_make};
+pub use crate::tunnel_reading::{
+    ipxr_tunnel_carried, ipxr_tunnel_client, ipxr_tunnel_clients, ipxr_tunnel_is_heard,
+    ipxr_tunnel_leaver, ipxr_tunnel_leavers, ipxr_tunnel_own, ipxr_tunnel_owns,
+    ipxr_tunnel_receiver, ipxr_tunnel_receivers,
+};
+pub use crate::tunnel_values::{ClientRecord, OwnRecord, SenderValues, TunnelSetting};
 pub use crate::values::{
     AddressValues, PacketSent, PortValues, RouteEntry, RouteRecord, ServiceEntry, ServiceRecord,
 };

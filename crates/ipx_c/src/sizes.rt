@@ -1,4 +1,4 @@
-//! How much one router of this library can have.
+//! How much one router or tunnel of this library can have.
 
 /// How many ports it has at most, from 1 to 32.
 pub(crate) const MOST_PORTS: usize = 32;
@@ -8,3 +8,6 @@ pub(crate) const MOST_ROUTES: usize = 2048;
 
 /// How many services it has at most, from 1 to 65,535.
 pub(crate) const MOST_SERVICES: usize = 1024;
+
+/// How many clients a tunnel has at most, from 2 to 65,535.
+pub(crate) const MOST_CLIENTS: usize = 4096;

@@ -1,6 +1,6 @@
--- How much one router has in the library as it is delivered. For a library of other sizes tools/sized writes the numbers anew.
+-- How much one router or tunnel has in the library as it is delivered. For a library of other sizes tools/sized writes the numbers anew.
 use Rattle.std.proofs.Common.{◌≡◌, refl}
-use Rattle.ipx_c.specs.Sizes.{most_ports, most_routes, most_services}
+use Rattle.ipx_c.specs.Sizes.{most_ports, most_routes, most_services, most_clients}
 
 ports : most_ports ≡ 32
 ports = refl
@@ -10,3 +10,6 @@ routes = refl
 
 services : most_services ≡ 1024
 services = refl
+
+clients : most_clients ≡ 4096
+clients = refl

@@ -1,0 +1,153 @@
+/* ipxr_tunnel.h: DOSBox' IPX tunnel as a value, for C and for whatever can call C. It belongs to ipxr.h and lies in the same library.
+ *
+ * A tunnel is the server of what DOSBox calls IPXNET: clients register with it by UDP, and their packets come and go in datagrams. It takes
+ * events (a datagram that came, a second, a packet that the router sends) and says who gets what. It has no socket, no clock, no thread and
+ * no memory but its own. What each call does is proved from its code; docs/TUNNEL.md says what a tunnel does, docs/EMBED.md how far it is
+ * proved.
+ *
+ *     ipxr_tunnel tunnel = IPXR_TUNNEL_NONE;
+ *     ipxr_tunnel_setting setting = {0x10, {0, 0, 0, 0, 0, 1}, 64, 16};
+ *     if (ipxr_tunnel_make(&tunnel, &setting) < 0) ...;
+ *     ...
+ *     if (ipxr_tunnel_hear(&tunnel, &sender, bytes, length) >= 0)
+ *         send_all(&tunnel, bytes);  -- each own datagram, then ipxr_tunnel_carried bytes to each receiver and, if heard, to the router
+ *     ...
+ *     ipxr_tunnel_free(&tunnel);
+ *
+ * PLACES. A place is where datagrams come from and go to: six bytes, the four of the IPv4 address and the two of the port, as they lie on
+ * the wire. It is its client's node on the tunnel's network.
+ *
+ * COOKIES. A tunnel sends a stranger one ping, and makes it a client only where the answer comes to the ping's source node, the cookie of
+ * that place. So nobody becomes a client at a place where he doesn't hear. Cookies are yours to make: a keyed hash of the place and the
+ * minute, such as SipHash, so that nobody can guess one, with the first byte 2, so that it is no node of a card. Each datagram is given
+ * with the cookie of this minute and that of the last.
+ *
+ * WHAT C HAS TO PROMISE is what ipxr.h says, of this handle too. And:
+ *
+ * 11. The flag `is_trusted` is 0 or 1: any other byte there is no flag, and anything may happen.
+ * 12. Cookies can't be guessed, and one place has one cookie a minute. Where that is broken, a stranger may become a client at a place that
+ *     isn't his; nothing worse.
+ *
+ * Everything else is answered with a number: a handle without a tunnel, a second free, a datagram of any bytes, a record that there is not,
+ * a setting with too many clients, memory that is refused. ipxr_word has the words of the faults. */
+#ifndef IPXR_TUNNEL_H
+#define IPXR_TUNNEL_H
+
+#include "ipxr.h"
+
+#ifdef __cplusplus
+extern "C" {
+#endif
+
+/* How many clients one tunnel can have. */
+#define IPXR_MOST_CLIENTS 4096
+
+/* ---- What a datagram said: what ipxr_tunnel_hear returns. These numbers have no words. ---- */
+
+#define IPXR_SAID_NOTHING 0 /* nothing that counts: it is no packet, or names another source than its place on this network */
+#define IPXR_REGISTERS 1    /* that it wants to be a client */
+#define IPXR_ANSWERS 2      /* that it heard its ping: it names one of its cookies */
+#define IPXR_SPEAKS 3       /* something to others */
+
+/* ---- Faults: below 0. The call did nothing. ---- */
+
+#define IPXR_NO_TUNNEL (-7)     /* the handle has no tunnel */
+/* of ipxr_tunnel_make alone: */
+#define IPXR_MANY_CLIENTS (-18) /* it would have more than IPXR_MOST_CLIENTS */
+
+/* ---- Values ---- */
+
+/* A tunnel, or none. Begin with none, hand its address to the calls, and look at nothing in it. */
+typedef struct ipxr_tunnel {
+    ipxr_flag made;
+    void *at;
+} ipxr_tunnel;
+
+/* A handle without a tunnel, to begin with: ipxr_tunnel tunnel = IPXR_TUNNEL_NONE; */
+#define IPXR_TUNNEL_NONE {0, NULL}
+
+/* What a tunnel is told when it is made. */
+typedef struct ipxr_tunnel_setting {
+    uint32_t network;  /* the number of its network; the one of the router's port there */
+    uint8_t node[6];   /* the server's node there, which is the router's too: no place of a client */
+    uint16_t capacity; /* how many clients it takes: at most IPXR_MOST_CLIENTS. 0 takes none */
+    uint16_t share;    /* how many of them may have one IPv4 address. 0 takes none */
+} ipxr_tunnel_setting;
+
+/* Where a datagram came from. */
+typedef struct ipxr_sender {
+    uint8_t place[6];     /* the place */
+    uint8_t current[6];   /* its cookie of this minute */
+    uint8_t previous[6];  /* its cookie of the last minute, whose answer counts too */
+    ipxr_flag is_trusted; /* whether its address is one of a network of yours, so that it is a client without an answer: 0 or 1 */
+} ipxr_sender;
+
+/* A datagram of the tunnel's own, an answer or a ping. */
+typedef struct ipxr_own {
+    uint8_t place[6];  /* where it goes */
+    uint8_t bytes[30]; /* what it has */
+} ipxr_own;
+
+/* A client. */
+typedef struct ipxr_client {
+    uint8_t place[6];
+    uint8_t seconds_left; /* how many seconds longer it stays, unless it is heard: at least 1 */
+} ipxr_client;
+
+/* ---- Making and freeing ---- */
+
+/* Makes a tunnel with that setting, which is copied. It has no clients, and nothing came of any event. A tunnel that the handle had is
+ * freed, but only where the new one could be made. Returns 0; or IPXR_MANY_CLIENTS or IPXR_OUT_OF_MEMORY, and then the handle is as it
+ * was. */
+IPXR_CALL int32_t ipxr_tunnel_make(ipxr_tunnel *tunnel, const ipxr_tunnel_setting *setting);
+
+/* Frees the tunnel, if there is one; the handle then has none. Its clients are forgotten, and nobody is told. */
+IPXR_CALL void ipxr_tunnel_free(ipxr_tunnel *tunnel);
+
+/* ---- Events ----
+ * What came of an event is read by the calls below it, until the next event. No event takes memory. IPXR_NO_TUNNEL: nothing was done. */
+
+/* A datagram came. `bytes` is what it held, any bytes at all; they are only read, and only during the call. Returns what it said. */
+IPXR_CALL int32_t ipxr_tunnel_hear(ipxr_tunnel *tunnel, const ipxr_sender *sender, const uint8_t *bytes, size_t length);
+
+/* A second has passed: clients that were silent are pinged, and those whose time is over leave. Returns 0. Call it once for each second of
+ * your clock, at most once for each turn of your loop: where it stood still, the clients shouldn't be counted out at once. */
+IPXR_CALL int32_t ipxr_tunnel_second(ipxr_tunnel *tunnel);
+
+/* The router sends a packet on the tunnel's network to that node, or to all: ipxr_packet_sent has it. The receivers are those that get its
+ * bytes, which the tunnel doesn't need. Returns 0. */
+IPXR_CALL int32_t ipxr_tunnel_send(ipxr_tunnel *tunnel, const uint8_t node[6]);
+
+/* ---- What came of the last event ----
+ * Of each there is a count, 0 without a tunnel, and a call that copies the one with exactly `index` others before it. That call returns 0;
+ * with IPXR_NO_TUNNEL and IPXR_NO_RECORD what is lent for it stays as it was. */
+
+/* Datagrams of the tunnel's own, which are to be sent first: after a datagram at most two, after a second one for each silent client. */
+IPXR_CALL size_t ipxr_tunnel_owns(ipxr_tunnel *tunnel);
+IPXR_CALL int32_t ipxr_tunnel_own(ipxr_tunnel *tunnel, size_t index, ipxr_own *own);
+
+/* The places that get the packet: of a datagram that was heard, or of what the router sends. */
+IPXR_CALL size_t ipxr_tunnel_receivers(ipxr_tunnel *tunnel);
+IPXR_CALL int32_t ipxr_tunnel_receiver(ipxr_tunnel *tunnel, size_t index, uint8_t place[6]);
+
+/* How many bytes of the datagram, from its first on, are the packet; what lies behind isn't carried. 0 where the event was no datagram, or
+ * one without a packet. */
+IPXR_CALL size_t ipxr_tunnel_carried(ipxr_tunnel *tunnel);
+
+/* Whether the router hears the packet of the datagram: give these bytes to ipxr_packet then. */
+IPXR_CALL ipxr_flag ipxr_tunnel_is_heard(ipxr_tunnel *tunnel);
+
+/* The places of the clients that left in the second. */
+IPXR_CALL size_t ipxr_tunnel_leavers(ipxr_tunnel *tunnel);
+IPXR_CALL int32_t ipxr_tunnel_leaver(ipxr_tunnel *tunnel, size_t index, uint8_t place[6]);
+
+/* ---- Its clients, in the order in which they came ---- */
+
+IPXR_CALL size_t ipxr_tunnel_clients(ipxr_tunnel *tunnel);
+IPXR_CALL int32_t ipxr_tunnel_client(ipxr_tunnel *tunnel, size_t index, ipxr_client *client);
+
+#ifdef __cplusplus
+}
+#endif
+
+#endif
