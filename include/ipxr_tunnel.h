@@ -146,6 +146,16 @@ IPXR_CALL int32_t ipxr_tunnel_leaver(ipxr_tunnel *tunnel, size_t index, uint8_t 
 IPXR_CALL size_t ipxr_tunnel_clients(ipxr_tunnel *tunnel);
 IPXR_CALL int32_t ipxr_tunnel_client(ipxr_tunnel *tunnel, size_t index, ipxr_client *client);
 
+/* ---- Broadcasts for other networks ----
+ * Games look for each other by broadcasts on their own network, and routers keep those there. Where two networks name the same sockets, a
+ * server may copy such a broadcast from one to the other. This call needs no tunnel, and serves any network. */
+
+/* Whether a packet that came on the network of that number is copied: it is a broadcast there to one of the `count` sockets, its source
+ * names the network, and it isn't of the type that routers propagate (20). If so, its bytes become those of the copy for the network `to`:
+ * they differ in the destination's network alone, and the copy is sent there as a packet to all. Else they stay as they were. A copy isn't
+ * copied again, on any network and by any sockets, where `to` is another network than `network`, and neither 0 nor FFFFFFFFh. */
+IPXR_CALL ipxr_flag ipxr_tunnel_extend(uint32_t network, const uint16_t *sockets, size_t count, uint32_t to, uint8_t *bytes, size_t length);
+
 #ifdef __cplusplus
 }
 #endif

@@ -13,6 +13,8 @@ from systems import IMPORTS, PROGRAM, WINDOWS  # noqa: F401 (tools that play the
 TOP = os.path.dirname(os.path.dirname(os.path.realpath(__file__)))
 # Sections that are never in memory: a program without them is the same program.
 DEAD_WEIGHT = "--strip-unneeded"
+# How a header says a size.
+SIZE = re.compile(r"(?m)^#define IPXR_MOST_(PORTS|ROUTES|SERVICES|CLIENTS) (\d+)$")
 
 
 class Piece(NamedTuple):
@@ -39,11 +41,9 @@ def is_built(name):
 
 
 def sizes(system):
-    """What fills the places of a router's sizes: how much the library has room for that is built, as its header says."""
-    if not is_built(system.header):
-        return {}
-    found = re.findall(r"(?m)^#define IPXR_MOST_(PORTS|ROUTES|SERVICES) (\d+)$", content(system.header).decode())
-    return {f"@{name}@": number for name, number in found}
+    """What fills the places of the sizes: how much the library has room for that is built, as its headers say."""
+    text = "".join(content(it).decode() for it in filter(is_built, system.headers))
+    return {f"@{name}@": number for name, number in SIZE.findall(text)}
 
 
 def tool(name):
@@ -100,7 +100,8 @@ def library(system, lib, system_prefix):
     beside = "${pcfiledir}" + "/.." * (lib.count("/") + 2)
     libs = "-L${libdir} -lipxr" if system_prefix else "${libdir}/libipxr.a"
     values = {"@PREFIX@": system_prefix or beside, "@LIB@": lib, "@LIBS@": libs, **sizes(system)}
-    yield Piece("libipxr-dev", "include/ipxr.h", content(system.header))
+    for header in system.headers:
+        yield Piece("libipxr-dev", f"include/{os.path.basename(header)}", content(header))
     yield Piece("libipxr-dev", f"{lib}/libipxr.a", content(system.archive))
     yield Piece("libipxr-dev", f"{lib}/libipxr.so", link=name)
     yield Piece("libipxr-dev", f"{lib}/pkgconfig/ipxr.pc", filled("include/ipxr.pc.in", values))
@@ -143,7 +144,8 @@ def windows():
     at = WINDOWS.folder
     for file in WINDOWS.programs(version()):
         yield Piece("ipxr", os.path.basename(file), content(file), 0o755)
-    yield Piece("ipxr", "include/ipxr.h", content(WINDOWS.header))
+    for header in WINDOWS.headers:
+        yield Piece("ipxr", f"include/{os.path.basename(header)}", content(header))
     for name in ("libipxr.a", *IMPORTS):
         yield Piece("ipxr", f"lib/{name}", content(f"{at}/{name}"))
     yield Piece("ipxr", "gateway.conf", windows_configuration())

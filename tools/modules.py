@@ -97,10 +97,9 @@ def keep_program(name):
     return f"{name}.o", built
 
 
-def sizes_of(header):
-    """The sizes of a library's tables, by the words of `make embed`."""
-    with open(header, encoding="utf-8") as it:
-        return dict(re.findall(r"(?m)^#define IPXR_MOST_(PORTS|ROUTES|SERVICES) (\d+)$", it.read()))
+def sizes():
+    """The sizes of the library that is built, by the words of `make embed`."""
+    return {name.strip("@"): number for name, number in layout.sizes(systems.LINUX).items()}
 
 
 def built_library():
@@ -114,7 +113,7 @@ def keep_library(name):
     """Keeps the library's module; returns what was built with it and what was built without."""
     built = built_library()
     words = [f"{TOP}/tools/sized", FOLDER, "--keep", name, "--cpu", CPU]
-    done = subprocess.run(words, env={**os.environ, **sizes_of(f"{TOP}/{systems.LINUX.header}")}, capture_output=True, text=True, check=False)
+    done = subprocess.run(words, env={**os.environ, **sizes()}, capture_output=True, text=True, check=False)
     if done.returncode:
         fail(f"ipx_c is not built\n{done.stdout}{done.stderr}")
     return f"{FOLDER}/{os.path.basename(built)}", built

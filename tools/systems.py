@@ -2,6 +2,8 @@
 from typing import NamedTuple
 
 PROGRAM = "crates/ipxr/out/ipxr"
+# The headers of the library for C.
+HEADERS = ("ipxr.h", "ipxr_tunnel.h")
 
 
 class System(NamedTuple):
@@ -26,8 +28,8 @@ class System(NamedTuple):
         return self.tool("gcc") if self.tools else "cc"
 
     @property
-    def header(self):
-        return f"{self.folder}/ipxr.h"
+    def headers(self):
+        return [f"{self.folder}/{it}" for it in HEADERS]
 
     @property
     def archive(self):
@@ -44,7 +46,7 @@ class System(NamedTuple):
 
     def built(self, version):
         """All files that are packed, each with the command that builds it."""
-        library = [self.archive, self.header, self.programs(version)[2]]
+        library = [self.archive, *self.headers, self.programs(version)[2]]
         library += [f"{self.folder}/{it}" for it in IMPORTS] if self is WINDOWS else []
         how = [f"make {self.target}"] * 3 if self.target else ["make build", "make gateway", "make embed"]
         return {self.program: how[0], self.gateway: how[1], **dict.fromkeys(library, how[2])}

@@ -6,7 +6,7 @@ import tempfile
 
 import binaries
 import layout
-from systems import ARM, LINUX
+from systems import ARM, HEADERS, LINUX
 from trying import TOP, complaint, differs, has, left_out, plays, run, tell, text_of
 
 
@@ -34,7 +34,8 @@ def try_stamp(system, name):
 
 
 def calls_of_header():
-    return sorted(re.findall(r"^IPXR_CALL [a-z][a-z0-9_ ]*[ *](ipxr_[a-z_]+)\(", text_of("include/ipxr.h"), re.M))
+    text = "".join(text_of(f"include/{it}") for it in HEADERS)
+    return sorted(re.findall(r"^IPXR_CALL [a-z][a-z0-9_ ]*[ *](ipxr_[a-z_]+)\(", text, re.M))
 
 
 def try_library(root):

@@ -1,4 +1,5 @@
 mod Boxed
+mod Copied
 mod Crossing
 mod FirstBad
 mod Placed

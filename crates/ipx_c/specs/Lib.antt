@@ -21,5 +21,7 @@ pub mod TunnelValues
 pub mod TunnelMakes
 pub mod TunnelEvents
 pub mod TunnelReads
+-- broadcasts that are copied to another network
+pub mod Extends
 -- nothing that a public contract says
 pub mod inside

@@ -1,5 +1,5 @@
 -- What making a tunnel does to what a handle has.
-use Rattle.std.specs.Prelude.{◌≡◌, ℤ, ◌<◌, ◌≤◌, ◌⊎◌, false, List, [], Option, Some}
+use Rattle.std.specs.Prelude.{◌≡◌, ℤ, ◌<◌, ◌≤◌, ◌⊎◌, false, [], Option, Some}
 use Rattle.ipx_tunnel.specs.Stands.{Stands}
 use Rattle.ipx_c.specs.Codes.{fault_code, done}
 use Rattle.ipx_c.specs.Sizes.{most_clients}

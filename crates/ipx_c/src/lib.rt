@@ -18,6 +18,7 @@
 mod cell;
 mod code;
 mod events;
+mod extending;
 mod fault;
 mod frames;
 mod handle;
@@ -38,6 +39,7 @@ mod writing;
 pub use crate::events::{
     ipxr_packet, ipxr_port_down, ipxr_port_up, ipxr_second, ipxr_start, ipxr_stop,
 };
+pub use crate::extending::ipxr_tunnel_extend;
 pub use crate::fault::Fault;
 pub use crate::frames::{ipxr_frame_read, ipxr_frame_write};
 pub use crate::handle::{RouterHandle, TunnelHandle};

@@ -8,7 +8,7 @@
 #include <stdlib.h>
 #include <string.h>
 
-#include "ipxr.h"
+#include "ipxr_tunnel.h"
 #include "packets.h"
 
 enum { STACK = IPXR_STACK + (1 << 20), PAINT = 0xA5, LONGEST = 65535, PORTS = 3 };
@@ -21,6 +21,8 @@ static const uint8_t NEIGHBOUR[6] = {0, 0, 0, 0, 0, 0xBB};
 static const uint32_t FAR = 0x10000;
 
 static ipxr router;
+static ipxr_tunnel tunnel;
+static ipxr_sender sender;
 static unsigned char *stack;
 static uint8_t packet[LONGEST];
 static size_t length;
@@ -96,6 +98,29 @@ static void up(void) { answer = ipxr_port_up(&router, 0); }
 static void take(void) { answer = ipxr_packet(&router, 0, packet, length); }
 static void take_on_1(void) { answer = ipxr_packet(&router, 1, packet, length); }
 static void empty(void) { ipxr_free(&router); }
+
+static void make_tunnel(void)
+{
+    const ipxr_tunnel_setting setting = {1, {0, 0, 0, 0, 0, 1}, IPXR_MOST_CLIENTS, IPXR_MOST_CLIENTS};
+    answer = ipxr_tunnel_make(&tunnel, &setting);
+}
+
+static void hear(void) { answer = ipxr_tunnel_hear(&tunnel, &sender, packet, length); }
+static void send_to_all(void) { answer = ipxr_tunnel_send(&tunnel, EVERYONE); }
+static void second_of_tunnel(void) { answer = ipxr_tunnel_second(&tunnel); }
+static void empty_tunnel(void) { ipxr_tunnel_free(&tunnel); }
+
+/* Whatever reads the tunnel. */
+static void read_tunnel(void)
+{
+    ipxr_own own;
+    ipxr_client client;
+    uint8_t place[6];
+    ipxr_tunnel_own(&tunnel, 0, &own);
+    ipxr_tunnel_receiver(&tunnel, 0, place);
+    ipxr_tunnel_leaver(&tunnel, 0, place);
+    ipxr_tunnel_client(&tunnel, 0, &client);
+}
 
 /* Whatever reads the router, and the packets that it sends. */
 static void read(void)
@@ -262,6 +287,38 @@ static void lose_ports(void)
     measure("a port goes down, and half ends", down, MOST);
 }
 
+/* As many clients as there is room for: trusted ones, which register. */
+static void fill_tunnel(void)
+{
+    static const uint8_t NOBODY[6] = {0};
+    sender.is_trusted = true;
+    for (uint32_t k = 0; k < IPXR_MOST_CLIENTS; k++) {
+        put_number(sender.place, 4, k + 1);
+        const struct address to = {1, NOBODY, 2}, from = {1, sender.place, 2};
+        length = HEADER;
+        put_header(packet, length, 0, to, from);
+        play(hear, 1);
+    }
+}
+
+static void play_tunnel(void)
+{
+    measure("a tunnel is made", make_tunnel, MOST);
+    measure("a tunnel is made in its place", make_tunnel, MOST);
+    fill_tunnel();
+    measure("a client registers again", hear, MOST);
+    const struct address to = {1, EVERYONE, 0x4003}, from = {1, sender.place, 0x4003};
+    put_header(packet, length, 0, to, from);
+    measure("a client speaks to all", hear, MOST);
+    measure("the router speaks to all", send_to_all, MOST);
+    play(second_of_tunnel, 4);
+    measure("a second that pings all", second_of_tunnel, MOST);
+    measure("all of the tunnel is read", read_tunnel, MOST);
+    play(second_of_tunnel, 174);
+    measure("a second in which all leave", second_of_tunnel, MOST);
+    measure("a tunnel is freed", empty_tunnel, MOST);
+}
+
 int main(int count, char **words)
 {
     in_figures = count > 1 && strcmp(words[1], "figures") == 0;
@@ -276,6 +333,7 @@ int main(int count, char **words)
     lose_ports();
     measure("a stop", stop, MOST);
     measure("a router is freed", empty, MOST);
+    play_tunnel();
     free(stack);
     printf("faults: %d\n", faults);
     return 0;

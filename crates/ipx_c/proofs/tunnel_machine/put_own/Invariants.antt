@@ -1,4 +1,4 @@
-use Rattle.std.proofs.Common.{◌≡◌, ◌≤◌, length, take}
+use Rattle.std.proofs.Common.{◌≡◌, take}
 use Rattle.ipx_c.proofs.tunnel_machine.put_own.Given as goal
 
 abbrev pub invariant-loop-datagram : goal.invariant-loop-datagram
