@@ -68,7 +68,7 @@ typedef struct ipxr_tunnel {
 
 /* What a tunnel is told when it is made. */
 typedef struct ipxr_tunnel_setting {
-    uint32_t network;  /* the number of its network; the one of the router's port there */
+    uint32_t network;  /* the number of its network, as the router's port there has it */
     uint8_t node[6];   /* the server's node there, which is the router's too: no place of a client */
     uint16_t capacity; /* how many clients it takes: at most IPXR_MOST_CLIENTS. 0 takes none */
     uint16_t share;    /* how many of them may have one IPv4 address. 0 takes none */

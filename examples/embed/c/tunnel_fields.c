@@ -27,8 +27,9 @@ static void print_hex(const uint8_t *bytes, size_t length)
 static void tell(const char *event, int32_t answer)
 {
     char word[IPXR_MOST_WORD] = "";
-    ipxr_text(answer, word, sizeof word);
-    printf("%s: %d %s\n", event, (int)answer, answer < 0 ? word : "");
+    if (answer < 0)
+        ipxr_text(answer, word, sizeof word);
+    printf("%s: %d%s%s\n", event, (int)answer, answer < 0 ? " " : "", word);
 }
 
 /* A datagram from a sender to that node and socket; some bytes stand behind its packet. */
@@ -90,9 +91,9 @@ static void fill(ipxr_tunnel *tunnel)
             sender.place[3] = k;
         size_t before = ipxr_tunnel_clients(tunnel);
         hear(tunnel, &sender, NOBODY, TUNNEL_SOCKET);
-        printf("%zu%s", ipxr_tunnel_clients(tunnel), ipxr_tunnel_clients(tunnel) > before ? " " : " refused ");
+        size_t now = ipxr_tunnel_clients(tunnel);
+        printf("registration %u: %s, clients: %zu\n", k, now > before ? "taken" : "refused", now);
     }
-    printf("\n");
 }
 
 /* One of two sockets is asked for, and then neither. */
