@@ -1,0 +1,260 @@
+"""Attacks on DOSBox' tunnel, kept so that the gateway stands them: while somebody floods it, forges addresses, fills its tables or switches
+PCs off, the players who are there lose at most 2 % of what they say.
+
+It runs in networks of its own (spaces.py). The floods come from flood.c at the rates that are named, and the rate that was reached is printed.
+"""
+import os
+import resource
+import sys
+import time
+
+from lab import EVERYONE, GAME, Clock, Counts, address, left_out, packet, until
+from players import GUEST, NETWORK, PORT, Party, Player
+from spaces import (CROWD, GATEWAY_HOST, INSIDE, NEIGHBOURS, STRANGERS, VICTIM, Field, Flood, Placed, build_flood, in_own_network, leave,
+                    own_addresses)
+from systems import SYSTEM
+from troubles import ROUTES, SERVICES, advertise, is_held
+
+SECONDS = 2  # that a flood lasts
+PATIENCE = 33  # seconds after which who doesn't answer is gone
+OWN = 30  # bytes of the gateway's own answers and pings
+MOST_OWN = 2  # of them for a datagram
+QUIET = 0.2  # seconds in which what was sent has come
+TUNNEL = f"network {NETWORK:X} 1 1424 dosbox 0.0.0.0:{PORT}\n"
+TWO = TUNNEL + f"network 20 1 1424 dosbox 0.0.0.0:{PORT + 1}\n"
+VICTIMS_PORT = 5000
+
+
+def figures(what):
+    print(f"        {what}", flush=True)
+
+
+def named(name, test, *words, **values):
+    """A test with a name of its own, and what it tries."""
+    def it():
+        test(*words, **values)
+
+    it.__doc__ = name
+    return it
+
+
+def flood(gate, way, kind, rate=1000, count=None, **places):
+    """A flood for the gateway that begins."""
+    return Flood(way, kind, to=f"{GATEWAY_HOST}:{PORT}", gateway=gate.run.pid, rate=rate, count=count or rate * SECONDS, **places)
+
+
+class Playground:
+    """A field with a gateway and a party that plays there."""
+
+    def __init__(self, text=TUNNEL, numbers=(2, 2, 3), more=0, clock=None):
+        self.field = Field()
+        hosts = own_addresses(1, sum(numbers) + more)
+        self.free = hosts[sum(numbers):]
+        how = {"program": SYSTEM.fast, "environment": clock.environment()} if clock else {}
+        self.clock = clock
+        self.gate = Placed(self.field.gate, text, **how)
+        self.party = Party(hosts, GATEWAY_HOST, numbers=numbers)
+
+    def __enter__(self):
+        self.party.enter()
+        return self
+
+    def __exit__(self, kind, *_):
+        self.party.close()
+        try:
+            self.gate.__exit__(kind)
+        finally:
+            self.field.close()
+
+    def let_pass(self, seconds):
+        """Seconds pass by the gateway's clock, one by one; meanwhile the players answer pings."""
+        for _ in range(seconds):
+            self.clock.let_pass(1)
+            self.gate.report()
+            self.party.until(lambda: False, 0.01)
+
+    def play(self, lasts):
+        """They play while something lasts; then each must have heard all. What it was is printed with what was lost."""
+        self.party.play(lasts)
+        came = self.party.settle()
+        figures(f"lost: {self.party.figures()}{'' if came else '; a last word never came'}")
+        self.party.must_have_heard(came)
+
+    def received(self, do):
+        """Datagrams that come to others than the players while something is done, and the bytes in them."""
+        before = self.field.victim.received()
+        do()
+        self.gate.report()
+        time.sleep(QUIET)
+        return tuple(now - old for now, old in zip(self.field.victim.received(), before))
+
+    def is_small(self, received, came):
+        """Sees that no more came to others than two short datagrams for each that came in their name."""
+        datagrams, size = received
+        figures(f"{came} datagrams in others' names: {datagrams} to these, of {size} bytes together")
+        assert datagrams <= MOST_OWN * came and size <= MOST_OWN * OWN * came, f"{datagrams} datagrams of {size} bytes for {came}"
+
+
+def during(seconds):
+    end = time.monotonic() + seconds
+    return lambda: time.monotonic() < end
+
+
+# ---- Floods ----
+
+
+def stands(way, kind, rate, **places):
+    """Players lose nothing while a flood lasts, and nobody gets more than is due."""
+    with Playground() as it:
+        sent = flood(it.gate, way, kind, rate, **places)
+        received = it.received(lambda: it.party.play(sent.lasts))
+        figures(sent.end())
+        if way == "forged":
+            it.is_small(received, rate * SECONDS)
+        it.play(lambda: False)
+
+
+def a_crowd_answers():
+    """200 ports of a host register, and answer pings: nobody leaves for them."""
+    with Playground(more=1) as it:
+        crowd = Party(it.free * 200, GATEWAY_HOST, numbers=(200, 0, 0))
+        for player in crowd.all:
+            player.register()
+        lasts = during(SECONDS)
+        it.play(lambda: crowd.hear() or lasts())
+        crowd.close()
+
+
+def false_sources():
+    """A client's packets name other players as their source: nobody hears them."""
+    with Playground(more=1) as it:
+        liar = Player(it.free[0], GATEWAY_HOST)
+        liar.register()
+        it.party.until(lambda: liar.receive() or liar.network, QUIET)
+        lasts, count = during(SECONDS), 0
+
+        def lies():
+            nonlocal count
+            liar.receive()
+            for other in it.party.all:
+                liar.send(packet(address(0, EVERYONE, GAME), address(NETWORK, other.node, GAME), b"a lie that nobody hears"))
+                count += 1
+            return lasts()
+
+        it.play(lies)
+        figures(f"{count} packets with false sources")
+        liar.close()
+
+
+# ---- PCs that are switched off ----
+
+
+def gone(number):
+    """Players switch their PCs off: after 30 s nothing is sent to them, and what the others say isn't lost."""
+    with Playground(more=number, clock=Clock()) as it:
+        guests = [Player(host, GATEWAY_HOST) for host in it.free]
+        for guest in guests:
+            guest.register()
+        def here():
+            for guest in guests:
+                guest.receive()
+                guest.say(GUEST)
+            return all(guest.node in it.party.all[0].guests for guest in guests)
+        assert it.party.until(here, PATIENCE), "the guests aren't heard"
+        for guest in guests:
+            guest.close()
+        leave(it.free)
+        for host in it.free:
+            it.field.gate.ip("neigh", "del", host, "dev", "g0")
+        it.let_pass(PATIENCE)
+        for size in (100, 1000):
+            it.party.begin_again(size)
+            figures(f"{number} are gone, packets of {size} bytes")
+            it.play(during(SECONDS))
+
+
+# ---- Much for little ----
+
+
+def fill(it):
+    """A client fills the tables."""
+    filler = it.party.speakers[0]
+    until(lambda: advertise(filler, ROUTES, SERVICES) or it.party.hear() or is_held(it.gate, ROUTES, SERVICES), "full tables")
+
+
+def forged(it, kind, count, **places):
+    """Datagrams in the victim's name, all of which the gateway has heard."""
+    flood(it.gate, "forged", kind, count=count, host=VICTIM, port=VICTIMS_PORT, **places).end()
+    it.gate.report()
+
+
+def asked_for_others(kind):
+    """With full tables, queries in a victim's name bring it no more than two short datagrams each."""
+    with Playground(TWO, numbers=(1, 0, 1), clock=Clock()) as it:
+        fill(it)
+        it.is_small(it.received(lambda: forged(it, kind, 10)), 10)
+
+
+def forged_clients():
+    """63 clients in a victim's name, who speak every ten seconds: in 125 seconds it gets no more than two short datagrams each time."""
+    with Playground(TWO, numbers=(1, 0, 1), clock=Clock()) as it:
+        fill(it)
+
+        def two_minutes():
+            forged(it, "register", 63, ports=63)
+            for _ in range(12):
+                forged(it, "speak", 63, ports=63)
+                it.let_pass(10)
+            it.let_pass(5)
+
+        it.is_small(it.received(two_minutes), 13 * 63)
+
+
+# ---- All of them ----
+
+PORTS = {"host": "10.77.1.1", "port": 3000, "ports": 512}
+ADDRESSES = {"host": CROWD, "hosts": 512, "port": 3000}
+NOBODYS = {"host": STRANGERS, "hosts": 60000, "port": 3000, "ports": 8}
+ABSENT = {"host": NEIGHBOURS, "hosts": 10000, "port": 3000}
+
+TESTS = [
+    *(named(f"512 ports of a host register, {rate} a second", stands, "sockets", "register", rate, **PORTS) for rate in (640, 6400, 20000)),
+    *(named(f"512 addresses register, {rate} a second", stands, "sockets", "register", rate, **ADDRESSES) for rate in (64, 6400)),
+    named("512 ports guess what answers a ping, 20000 a second", stands, "sockets", "guess", 20000, **PORTS),
+    a_crowd_answers,
+    named("registrations from forged addresses, 6400 a second", stands, "forged", "register", 6400, **NOBODYS),
+    named("packets for all from forged addresses, 6400 a second", stands, "forged", "speak", 6400, **NOBODYS),
+    named("registrations from addresses of the same Ethernet that nobody has, 640 a second", stands, "forged", "register", 640, **ABSENT),
+    false_sources,
+    named("4 players switch their PCs off", gone, 4),
+    named("8 players switch their PCs off", gone, 8),
+    named("SAP's queries in a victim's name, with full tables", asked_for_others, "sap"),
+    named("RIP's requests in a victim's name, with full tables", asked_for_others, "rip"),
+    forged_clients,
+]
+
+
+def inside():
+    """In the network of its own."""
+    counts = Counts()
+    began = time.monotonic()
+    build_flood()
+    for test in TESTS:
+        counts.run(test)
+    used = [resource.getrusage(of) for of in (resource.RUSAGE_SELF, resource.RUSAGE_CHILDREN)]
+    figures(f"attacks: {time.monotonic() - began:.0f} s, {sum(it.ru_utime + it.ru_stime for it in used):.0f} processor seconds")
+    print(f"{counts.passed} passed, {counts.failed} failed")
+
+
+def main():
+    if SYSTEM.name != "Linux":
+        left_out("attacks", "they are tried on this machine's own system")
+        return Counts()
+    return in_own_network(os.path.realpath(__file__), "attacks")
+
+
+if __name__ == "__main__":
+    if sys.argv[1:] == [INSIDE]:
+        inside()
+    else:
+        main()

@@ -1,0 +1,208 @@
+"""Players as the gateway sees them: a DOSBox registers once, answers pings, and its program says something to all, or listens.
+
+What a player says to all has a number. So what is lost is counted, and no time of the machine is in it: when everything is said, each
+speaker says a last word until everybody has heard it, and LIMIT_OF_LAST ends that only where it fails.
+"""
+import select
+import socket
+import struct
+import time
+
+from lab import EVERYONE, GAME, LIMIT, NOBODY, ROOM, address, packet, socket_of
+
+TUNNEL = 2  # the socket of registrations and pings
+PORT = 2130  # of the gateway
+NETWORK = 0x10
+LIMIT_OF_LAST = 4  # seconds for a last word that is lost
+BETWEEN_LAST = 0.05  # seconds until a last word is said again
+FAST = 1 / 35  # seconds between packets of a game
+HELLO, NUMBERED, LAST, GUEST = b"hello", b"number", b"last", b"guest"
+MOST_LOST = 0.02
+
+
+class Player:
+    """One DOSBox: `every` is how many seconds pass between two words of its program; None says nothing."""
+
+    def __init__(self, host, gateway, every=None, port=0, size=100):
+        self.udp = socket.socket(socket.AF_INET, socket.SOCK_DGRAM)
+        self.udp.setsockopt(socket.SOL_SOCKET, socket.SO_RCVBUF, ROOM)
+        self.udp.bind((host, port))
+        self.udp.connect((gateway, PORT))
+        self.node = socket.inet_aton(host) + struct.pack(">H", self.udp.getsockname()[1])
+        self.every, self.size = every, size
+        self.network = 0
+        self.pings = self.said = self.twice = self.foreign = 0
+        self.heard = {}  # by the node of who said it: the numbers
+        self.met, self.ended, self.guests = set(), set(), set()  # of whom it has heard a hello, a last word, a guest's
+        self.due = 0
+
+    def at(self, port=GAME):
+        return address(self.network, self.node, port)
+
+    def send(self, bytes_):
+        """Sends a datagram; whether it came is seen elsewhere."""
+        try:
+            self.udp.send(bytes_)
+        except OSError:
+            pass
+
+    def register(self):
+        self.send(packet(address(0, NOBODY, TUNNEL), address(0, NOBODY, TUNNEL), kind=0))
+
+    def say(self, what, number=0):
+        """Says something to all."""
+        data = struct.pack(">6sI", what, number).ljust(self.size - 30, b".")
+        self.send(packet(address(0, EVERYONE, GAME), self.at(), data))
+
+    def speak(self, now):
+        """Says the next of its numbers where it is time."""
+        if self.every is None or now < self.due:
+            return
+        self.due = max(self.due + self.every, now - self.every)
+        self.say(NUMBERED, self.said)
+        self.said += 1
+
+    def receive(self):
+        """Hears all that has come, and answers pings."""
+        while True:
+            try:
+                bytes_ = self.udp.recv(65536, socket.MSG_DONTWAIT)
+            except BlockingIOError:
+                return
+            except OSError:
+                continue  # (a datagram of its own wasn't taken)
+            if len(bytes_) >= 30:
+                self.hear(bytes_)
+
+    def hear(self, bytes_):
+        to, source = bytes_[10:16], bytes_[22:28]
+        if socket_of(bytes_) == TUNNEL and to == EVERYONE:
+            self.pings += 1
+            self.send(packet(address(0, source, TUNNEL), address(0, self.node, TUNNEL), kind=0))
+        elif socket_of(bytes_) == TUNNEL and to == self.node:
+            self.network = int.from_bytes(bytes_[6:10], "big") or self.network
+        elif socket_of(bytes_) == GAME:
+            self.hear_word(source, bytes_[30:])
+
+    def hear_word(self, source, data):
+        what, number = data[:6].rstrip(b"\0"), int.from_bytes(data[6:10], "big")
+        if what == HELLO:
+            self.met.add(source)
+        elif what == LAST:
+            self.ended.add(source)
+        elif what == GUEST:
+            self.guests.add(source)
+        elif what == NUMBERED:
+            numbers = self.heard.setdefault(source, set())
+            self.twice += number in numbers
+            numbers.add(number)
+        else:
+            self.foreign += 1
+
+    def close(self):
+        self.udp.close()
+
+
+class Party:
+    """Players of one network. Listeners say nothing, slow ones something each second, fast ones 35 packets a second."""
+
+    KINDS = {"listeners": None, "each second": 1.0, "35 a second": FAST}
+
+    def __init__(self, hosts, gateway, size=100, numbers=(2, 2, 3)):
+        hosts = iter(hosts)
+        self.players = [(kind, Player(next(hosts), gateway, every, size=size))
+                        for (kind, every), number in zip(self.KINDS.items(), numbers) for _ in range(number)]
+        self.all = [it for _, it in self.players]
+        self.speakers = [it for it in self.all if it.every is not None]
+        self.poll = select.epoll()
+        self.by_number = {it.udp.fileno(): it for it in self.all}
+        for number in self.by_number:
+            self.poll.register(number, select.EPOLLIN)
+
+    def hear(self, patience=0.0):
+        """Hears what has come."""
+        for number, _ in self.poll.poll(patience):
+            self.by_number[number].receive()
+
+    def until(self, holds, patience, every=None):
+        """Hears until something holds; meanwhile each speaker says a word again and again. Returns whether it holds."""
+        end, due = time.monotonic() + patience, 0
+        while not holds():
+            now = time.monotonic()
+            if now > end:
+                return False
+            if every is not None and now >= due:
+                due = now + BETWEEN_LAST
+                for speaker in self.speakers:
+                    speaker.say(every)
+            self.hear(0.005)
+        return True
+
+    def have_all(self, seen):
+        """Whether everybody has heard everybody else who speaks."""
+        nodes = {it.node for it in self.speakers}
+        return all(nodes - {it.node} <= seen(it) for it in self.all)
+
+    def enter(self):
+        """Each registers once; then they wait until everybody hears everybody."""
+        for player in self.all:
+            player.register()
+        assert self.until(lambda: all(it.network for it in self.all), LIMIT), "a registration isn't answered"
+        assert self.until(lambda: self.have_all(lambda it: it.met), LIMIT, HELLO), "not everybody hears everybody"
+
+    def play(self, lasts):
+        """They play while something lasts."""
+        began = time.monotonic()
+        for k, speaker in enumerate(self.speakers):
+            speaker.due = began + 0.003 * k
+        while lasts():
+            now = time.monotonic()
+            for speaker in self.speakers:
+                speaker.speak(now)
+            self.hear(0.002)
+
+    def begin_again(self, size):
+        """From now on packets of a size are counted."""
+        for player in self.all:
+            player.size, player.said, player.heard = size, 0, {}
+
+    def settle(self):
+        """Waits until each has heard the last word of each. Returns whether it came."""
+        for player in self.all:
+            player.ended = set()
+        return self.until(lambda: self.have_all(lambda it: it.ended), LIMIT_OF_LAST, LAST)
+
+    def lost(self, player):
+        """The part of what the others said that didn't come to a player."""
+        said = sum(it.said for it in self.speakers if it is not player)
+        heard = sum(len(player.heard.get(it.node, ())) for it in self.speakers if it is not player)
+        return 1 - heard / said if said else 0.0
+
+    def not_heard(self, speaker):
+        """The part of what a player said that didn't come to the others."""
+        heard = sum(len(it.heard.get(speaker.node, ())) for it in self.all if it is not speaker)
+        said = speaker.said * (len(self.all) - 1)
+        return 1 - heard / said if said else 0.0
+
+    def losses(self):
+        """For each kind of player the largest part that one of them lost."""
+        found = dict.fromkeys(self.KINDS, 0.0)
+        for kind, player in self.players:
+            found[kind] = max(found[kind], self.lost(player))
+        return found
+
+    def figures(self):
+        return ", ".join(f"{kind} {100 * lost:.1f} %" for kind, lost in self.losses().items())
+
+    def must_have_heard(self, came):
+        """Sees that everything came, once, and nobody else's words."""
+        worst = max([*self.losses().values(), *map(self.not_heard, self.speakers)])
+        assert worst <= MOST_LOST, f"lost: {self.figures()}"
+        assert came, f"a last word doesn't come; lost: {self.figures()}"
+        assert not any(it.twice for it in self.all), "a packet comes twice"
+        assert not any(it.foreign for it in self.all), "a packet comes that nobody said"
+
+    def close(self):
+        self.poll.close()
+        for player in self.all:
+            player.close()
