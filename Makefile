@@ -3,8 +3,9 @@
 PREFIX ?= /usr/local
 PROGRAM = crates/ipxr/out/ipxr
 MINUTES ?= 60
+SOAK ?= 10
 
-.PHONY: run try show build embed aarch64 windows portable wasm page web gateway test edits fuzz bench dist release-test install
+.PHONY: run try show build embed aarch64 windows portable wasm page web gateway test edits fuzz soak bench dist release-test install
 
 # Proves and builds all, then plays the worked script and prints what the router sent and learned.
 run: build
@@ -65,6 +66,11 @@ edits:
 # compiler. docs/PROVED.md tells what came. The last line is 'N inputs, M crashes'.
 fuzz: build embed
 	@tools/fuzz $(MINUTES)
+
+# Plays everything at once to the gateway, under the sanitizers, for SOAK minutes, while players play, who must lose nothing. Needs Linux, a
+# C compiler, Python and the right to make networks. The last line is 'N datagrams, M faults'; docs/GATEWAY.md.
+soak:
+	@tools/gateway soak $(SOAK)
 
 # Proves, builds and runs the measurements; docs/SPEED.md tells what they gave.
 bench:

@@ -9,9 +9,9 @@ import sys
 import time
 
 from lab import EVERYONE, GAME, Clock, Counts, address, left_out, packet, until
-from players import GUEST, NETWORK, PORT, Party, Player
-from spaces import (CROWD, GATEWAY_HOST, INSIDE, NEIGHBOURS, STRANGERS, VICTIM, Field, Flood, Placed, build_flood, in_own_network, leave,
-                    own_addresses)
+from players import GUEST, NETWORK, Party, Player
+from spaces import (CROWD, GATEWAY, INSIDE, NEIGHBOURS, STRANGERS, VICTIM, Field, Flood, Placed, build_flood, leave, own_addresses,
+                    tried_inside)
 from systems import SYSTEM
 from troubles import ROUTES, SERVICES, advertise, is_held
 
@@ -20,8 +20,8 @@ PATIENCE = 33  # seconds after which who doesn't answer is gone
 OWN = 30  # bytes of the gateway's own answers and pings
 MOST_OWN = 2  # of them for a datagram
 QUIET = 0.2  # seconds in which what was sent has come
-TUNNEL = f"network {NETWORK:X} 1 1424 dosbox 0.0.0.0:{PORT}\n"
-TWO = TUNNEL + f"network 20 1 1424 dosbox 0.0.0.0:{PORT + 1}\n"
+TUNNEL = f"network {NETWORK:X} 1 1424 dosbox 0.0.0.0:{GATEWAY[1]}\n"
+TWO = TUNNEL + f"network 20 1 1424 dosbox 0.0.0.0:{GATEWAY[1] + 1}\n"
 VICTIMS_PORT = 5000
 
 
@@ -40,20 +40,20 @@ def named(name, test, *words, **values):
 
 def flood(gate, way, kind, rate=1000, count=None, **places):
     """A flood for the gateway that begins."""
-    return Flood(way, kind, to=f"{GATEWAY_HOST}:{PORT}", gateway=gate.run.pid, rate=rate, count=count or rate * SECONDS, **places)
+    return Flood(way, kind, to=f"{GATEWAY[0]}:{GATEWAY[1]}", gateway=gate.run.pid, rate=rate, count=count or rate * SECONDS, **places)
 
 
 class Playground:
     """A field with a gateway and a party that plays there."""
 
-    def __init__(self, text=TUNNEL, numbers=(2, 2, 3), more=0, clock=None):
-        self.field = Field()
+    def __init__(self, text=TUNNEL, numbers=(2, 2, 3), more=0, clock=None, environment=None, field=None):
+        self.field = field or Field()
         hosts = own_addresses(1, sum(numbers) + more)
         self.free = hosts[sum(numbers):]
-        how = {"program": SYSTEM.fast, "environment": clock.environment()} if clock else {}
+        how = {"program": SYSTEM.fast, "environment": clock.environment()} if clock else {"environment": environment}
         self.clock = clock
         self.gate = Placed(self.field.gate, text, **how)
-        self.party = Party(hosts, GATEWAY_HOST, numbers=numbers)
+        self.party = Party(hosts, GATEWAY, numbers=numbers)
 
     def __enter__(self):
         self.party.enter()
@@ -74,11 +74,11 @@ class Playground:
             self.party.until(lambda: False, 0.01)
 
     def play(self, lasts):
-        """They play while something lasts; then each must have heard all. What it was is printed with what was lost."""
+        """They play while something lasts. Returns what is wrong with what they heard; what was lost is printed."""
         self.party.play(lasts)
         came = self.party.settle()
         figures(f"lost: {self.party.figures()}{'' if came else '; a last word never came'}")
-        self.party.must_have_heard(came)
+        return self.party.fault(came)
 
     def received(self, do):
         """Datagrams that come to others than the players while something is done, and the bytes in them."""
@@ -88,11 +88,18 @@ class Playground:
         time.sleep(QUIET)
         return tuple(now - old for now, old in zip(self.field.victim.received(), before))
 
-    def is_small(self, received, came):
-        """Sees that no more came to others than two short datagrams for each that came in their name."""
-        datagrams, size = received
+    def too_much(self, do, came):
+        """What is wrong where others than the players get more than two short datagrams for each that comes in their name; it is printed."""
+        datagrams, size = self.received(do)
         figures(f"{came} datagrams in others' names: {datagrams} to these, of {size} bytes together")
-        assert datagrams <= MOST_OWN * came and size <= MOST_OWN * OWN * came, f"{datagrams} datagrams of {size} bytes for {came}"
+        is_fair = datagrams <= MOST_OWN * came and size <= MOST_OWN * OWN * came
+        return "" if is_fair else f"{datagrams} datagrams of {size} bytes for {came}"
+
+
+def none(*faults):
+    """Ends a test."""
+    found = [it for it in faults if it]
+    assert not found, "; ".join(found)
 
 
 def during(seconds):
@@ -107,28 +114,28 @@ def stands(way, kind, rate, **places):
     """Players lose nothing while a flood lasts, and nobody gets more than is due."""
     with Playground() as it:
         sent = flood(it.gate, way, kind, rate, **places)
-        received = it.received(lambda: it.party.play(sent.lasts))
+        fault = it.too_much(lambda: it.party.play(sent.lasts), rate * SECONDS) if way == "forged" else ""
+        lost = it.play(sent.lasts)
         figures(sent.end())
-        if way == "forged":
-            it.is_small(received, rate * SECONDS)
-        it.play(lambda: False)
+        none(fault, lost)
 
 
 def a_crowd_answers():
     """200 ports of a host register, and answer pings: nobody leaves for them."""
     with Playground(more=1) as it:
-        crowd = Party(it.free * 200, GATEWAY_HOST, numbers=(200, 0, 0))
+        crowd = Party(it.free * 200, GATEWAY, numbers=(200, 0, 0))
         for player in crowd.all:
             player.register()
         lasts = during(SECONDS)
-        it.play(lambda: crowd.hear() or lasts())
+        fault = it.play(lambda: crowd.hear() or lasts())
         crowd.close()
+        none(fault)
 
 
 def false_sources():
     """A client's packets name other players as their source: nobody hears them."""
     with Playground(more=1) as it:
-        liar = Player(it.free[0], GATEWAY_HOST)
+        liar = Player(it.free[0], GATEWAY)
         liar.register()
         it.party.until(lambda: liar.receive() or liar.network, QUIET)
         lasts, count = during(SECONDS), 0
@@ -141,36 +148,46 @@ def false_sources():
                 count += 1
             return lasts()
 
-        it.play(lies)
+        fault = it.play(lies)
         figures(f"{count} packets with false sources")
         liar.close()
+        none(fault)
 
 
 # ---- PCs that are switched off ----
 
 
+def invite(it):
+    """Guests at the free addresses come, and are heard."""
+    guests = [Player(host, GATEWAY) for host in it.free]
+    for guest in guests:
+        guest.register()
+
+    def are_here():
+        for guest in guests:
+            guest.receive()
+            guest.say(GUEST)
+        return all(guest.node in it.party.all[0].guests for guest in guests)
+
+    assert it.party.until(are_here, PATIENCE), "the guests aren't heard"
+    return guests
+
+
 def gone(number):
     """Players switch their PCs off: after 30 s nothing is sent to them, and what the others say isn't lost."""
     with Playground(more=number, clock=Clock()) as it:
-        guests = [Player(host, GATEWAY_HOST) for host in it.free]
-        for guest in guests:
-            guest.register()
-        def here():
-            for guest in guests:
-                guest.receive()
-                guest.say(GUEST)
-            return all(guest.node in it.party.all[0].guests for guest in guests)
-        assert it.party.until(here, PATIENCE), "the guests aren't heard"
-        for guest in guests:
+        for guest in invite(it):
             guest.close()
         leave(it.free)
         for host in it.free:
             it.field.gate.ip("neigh", "del", host, "dev", "g0")
         it.let_pass(PATIENCE)
+        faults = []
         for size in (100, 1000):
             it.party.begin_again(size)
             figures(f"{number} are gone, packets of {size} bytes")
-            it.play(during(SECONDS))
+            faults.append(it.play(during(SECONDS)))
+        none(*faults)
 
 
 # ---- Much for little ----
@@ -192,7 +209,7 @@ def asked_for_others(kind):
     """With full tables, queries in a victim's name bring it no more than two short datagrams each."""
     with Playground(TWO, numbers=(1, 0, 1), clock=Clock()) as it:
         fill(it)
-        it.is_small(it.received(lambda: forged(it, kind, 10)), 10)
+        none(it.too_much(lambda: forged(it, kind, 10), 10))
 
 
 def forged_clients():
@@ -207,7 +224,7 @@ def forged_clients():
                 it.let_pass(10)
             it.let_pass(5)
 
-        it.is_small(it.received(two_minutes), 13 * 63)
+        none(it.too_much(two_minutes, 13 * 63))
 
 
 # ---- All of them ----
@@ -250,7 +267,7 @@ def main():
     if SYSTEM.name != "Linux":
         left_out("attacks", "they are tried on this machine's own system")
         return Counts()
-    return in_own_network(os.path.realpath(__file__), "attacks")
+    return tried_inside(os.path.realpath(__file__), "attacks")
 
 
 if __name__ == "__main__":

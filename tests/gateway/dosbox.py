@@ -1,4 +1,4 @@
-"""Two real DOSBox' on two networks, without a screen, each with a small DOS program of ours."""
+"""Real DOSBox' without a screen, most with a small DOS program of ours: two on two networks, and some that come and go."""
 import os
 import re
 import shutil
@@ -6,40 +6,47 @@ import subprocess
 import tempfile
 import time
 
-from lab import Counts, Gateway, left_out, tunnels
+from lab import Counts, Gateway, address, free_ports, left_out, packet, tunnels, until
+from players import NETWORK, Player
 from systems import TOP
 
 DOS = os.path.join(TOP, "tests", "gateway", "dos")
 MOST = 300  # seconds until a DOSBox is taken for lost
+BETWEEN_LOOKS = 0.2  # seconds, where some are awaited for half a minute
 CONFIGURATION = """[sdl]
 output=surface
 [mixer]
 nosound=true
 [cpu]
 core=normal
-cycles=fixed 20000
+cycles=fixed {cycles}
 [ipx]
 ipx=true
 [autoexec]
 mount c {folder}
 c:
 ipxnet connect 127.0.0.1 {port}
-{name}.com > {name}.txt
+"""
+PROGRAM = """{name}.com > {name}.txt
 exit
 """
 
 
 class DosBox:
-    """One that connects to the gateway, runs a program, and ends; what the program printed is in a file."""
+    """One that connects to the gateway, runs a program, and ends; what the program printed is in a file. Without a program it waits at its
+    prompt, and says nothing."""
 
-    def __init__(self, folder, name, port):
+    def __init__(self, folder, name, port, has_program=True, cycles=20000):
         self.folder = os.path.join(folder, name)
         self.name = name
         os.mkdir(self.folder)
-        subprocess.run(["nasm", "-f", "bin", "-o", f"{self.folder}/{name}.com", f"{name}.asm"], cwd=DOS, check=True)
+        text = CONFIGURATION
+        if has_program:
+            subprocess.run(["nasm", "-f", "bin", "-o", f"{self.folder}/{name}.com", f"{name}.asm"], cwd=DOS, check=True)
+            text += PROGRAM
         configuration = os.path.join(folder, f"{name}.conf")
         with open(configuration, "w", encoding="ascii") as it:
-            it.write(CONFIGURATION.format(folder=self.folder, port=port, name=name))
+            it.write(text.format(folder=self.folder, port=port, name=name, cycles=cycles))
         environment = {**os.environ, "SDL_VIDEODRIVER": "dummy", "SDL_AUDIODRIVER": "dummy", "HOME": folder}
         how = {"stdin": subprocess.DEVNULL, "stdout": subprocess.DEVNULL, "stderr": subprocess.DEVNULL}
         self.run = subprocess.Popen(["dosbox", "-conf", configuration], env=environment, **how)
@@ -84,6 +91,85 @@ def two_dosboxes():
         assert "0004 REPLY at 00000020." in report and gate.counted(0x20, "clients", report) == 1
 
 
+def told(gate, what):
+    """The nodes of the clients that come or leave, by the lines that the gateway has written."""
+    gate.report()
+    found = (re.search(rf"client (\w{{12}}) {what} {NETWORK:08X}", it) for it in gate.lines)
+    return [bytes.fromhex(it[1]) for it in found if it]
+
+
+def echoes(player, node):
+    """Waits until REPLY sends back what a player says to it."""
+    def is_back():
+        player.send(packet(address(0, node, 0x4003), player.at(), b"echo" + node))
+        player.receive()
+        return b"echo" + node in player.others
+
+    until(is_back, "REPLY sends back what it gets")
+
+
+class Guests:
+    """DOSBox' on one network, by name, and their nodes: two run REPLY, and two wait at their prompt."""
+
+    CYCLES = 3000  # (slow ones: there are four, for half a minute)
+    PROGRAMS = {"stays": True, "is killed": True, "waits": False, "waits, and is killed": False}
+
+    def __init__(self, folder, gate):
+        self.boxes, self.nodes = {}, {}
+        for number, (name, has_program) in enumerate(self.PROGRAMS.items()):
+            own = os.path.join(folder, str(number))
+            os.mkdir(own)
+            self.boxes[name] = DosBox(own, "reply", gate.ports[NETWORK], has_program, self.CYCLES)
+            try:
+                until(lambda: len(told(gate, "comes to")) > len(self.nodes), f"the one comes that {name}")
+            except AssertionError:
+                self.kill_all()
+                raise
+            self.nodes[name] = told(gate, "comes to")[-1]
+
+    def kill_all(self):
+        for box in self.boxes.values():
+            box.kill()
+
+
+def some_leave(gate, guests, player):
+    """Of four, two are killed, and these alone leave."""
+    dead = {"is killed", "waits, and is killed"}
+    for name in dead:
+        guests.boxes[name].kill()
+
+    def are_gone():
+        time.sleep(BETWEEN_LOOKS)
+        player.receive()
+        return {guests.nodes[name] for name in dead} <= set(told(gate, "leaves"))
+
+    until(are_gone, "who is killed leaves")
+    for name in guests.nodes.keys() - dead:
+        assert guests.nodes[name] not in told(gate, "leaves"), f"it leaves, though it {name}"
+
+
+def come_and_go():
+    """DOSBox' come, play, and stay though one says nothing; killed, they leave; where the gateway is started anew the others come again."""
+    with tempfile.TemporaryDirectory() as folder, Gateway(f"network {NETWORK:X} 1 1424 dosbox {free_ports(1)[0]}\n") as gate:
+        player = Player("127.0.0.1", ("127.0.0.1", gate.ports[NETWORK]))
+        guests = Guests(folder, gate)
+        stays = guests.nodes["stays"]
+        try:
+            player.register()
+            echoes(player, stays)
+            echoes(player, guests.nodes["is killed"])
+            some_leave(gate, guests, player)
+            echoes(player, stays)
+            gate.run.kill()
+            gate.run.communicate()
+            gate.start(gate.program)
+            until(lambda: stays in told(gate, "comes to"), "it comes again")
+            echoes(player, stays)
+        finally:
+            player.close()
+            guests.kill_all()
+
+
 def main():
     counts = Counts()
     missing = [it for it in ("dosbox", "nasm") if not shutil.which(it)]
@@ -91,6 +177,7 @@ def main():
         left_out("real DOSBox", f"no {missing[0]}")
     else:
         counts.run(two_dosboxes)
+        counts.run(come_and_go)
     return counts
 
 

@@ -11,7 +11,6 @@ import time
 from lab import EVERYONE, GAME, LIMIT, NOBODY, ROOM, address, packet, socket_of
 
 TUNNEL = 2  # the socket of registrations and pings
-PORT = 2130  # of the gateway
 NETWORK = 0x10
 LIMIT_OF_LAST = 4  # seconds for a last word that is lost
 BETWEEN_LAST = 0.05  # seconds until a last word is said again
@@ -23,15 +22,16 @@ MOST_LOST = 0.02
 class Player:
     """One DOSBox: `every` is how many seconds pass between two words of its program; None says nothing."""
 
-    def __init__(self, host, gateway, every=None, port=0, size=100):
+    def __init__(self, host, gateway, every=None, size=100):
         self.udp = socket.socket(socket.AF_INET, socket.SOCK_DGRAM)
         self.udp.setsockopt(socket.SOL_SOCKET, socket.SO_RCVBUF, ROOM)
-        self.udp.bind((host, port))
-        self.udp.connect((gateway, PORT))
+        self.udp.bind((host, 0))
+        self.udp.connect(gateway)
         self.node = socket.inet_aton(host) + struct.pack(">H", self.udp.getsockname()[1])
         self.every, self.size = every, size
         self.network = 0
-        self.pings = self.said = self.twice = self.foreign = 0
+        self.pings = self.said = self.twice = 0
+        self.others = []  # words that no player of a party says
         self.heard = {}  # by the node of who said it: the numbers
         self.met, self.ended, self.guests = set(), set(), set()  # of whom it has heard a hello, a last word, a guest's
         self.due = 0
@@ -97,7 +97,7 @@ class Player:
             self.twice += number in numbers
             numbers.add(number)
         else:
-            self.foreign += 1
+            self.others.append(data)
 
     def close(self):
         self.udp.close()
@@ -194,13 +194,16 @@ class Party:
     def figures(self):
         return ", ".join(f"{kind} {100 * lost:.1f} %" for kind, lost in self.losses().items())
 
-    def must_have_heard(self, came):
-        """Sees that everything came, once, and nobody else's words."""
+    def fault(self, came):
+        """What is wrong with what they heard, or nothing: everything comes, once, and nobody else's words."""
         worst = max([*self.losses().values(), *map(self.not_heard, self.speakers)])
-        assert worst <= MOST_LOST, f"lost: {self.figures()}"
-        assert came, f"a last word doesn't come; lost: {self.figures()}"
-        assert not any(it.twice for it in self.all), "a packet comes twice"
-        assert not any(it.foreign for it in self.all), "a packet comes that nobody said"
+        if worst > MOST_LOST:
+            return f"lost: {self.figures()}"
+        if not came:
+            return f"a last word never comes; lost: {self.figures()}"
+        if any(it.twice for it in self.all):
+            return "a packet comes twice"
+        return "a packet comes that nobody said" if any(it.others for it in self.all) else ""
 
     def close(self):
         self.poll.close()

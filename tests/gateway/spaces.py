@@ -15,7 +15,7 @@ from lab import Counts, Gateway, left_out
 from systems import BUILD, TOP
 
 INSIDE = "--inside"
-GATEWAY_HOST = "10.77.0.1"
+GATEWAY = ("10.77.0.1", 2130)
 VICTIM = "10.78.0.9"
 # The first of many addresses: of the attacker, of nobody on the same Ethernet, and of strangers behind the victim.
 CROWD, NEIGHBOURS, STRANGERS = "10.79.0.1", "10.77.200.1", "198.18.0.1"
@@ -91,10 +91,10 @@ class Field:
 
     def __init__(self):
         self.gate, self.victim = Space(), Space()
-        self.cable("t0", None, "g0", "10.77.0.1/16")
+        self.cable("t0", None, "g0", f"{GATEWAY[0]}/16")
         self.cable("v0", self.victim, "g1", "10.78.0.1/24")
         ip("link", "set", "t0", "up")
-        ip("route", "add", "10.78.0.0/24", "via", GATEWAY_HOST, "src", host(0))
+        ip("route", "add", "10.78.0.0/24", "via", GATEWAY[0], "src", host(0))
         ip("route", "add", "local", "10.79.0.0/16", "dev", "lo")
         self.gate.ip("route", "add", "10.79.0.0/16", "via", host(0))
         self.victim.ip("addr", "add", f"{VICTIM}/24", "dev", "v0")
@@ -161,22 +161,27 @@ def build_flood():
     subprocess.run(["cc", "-std=c99", "-O2", "-Wall", "-Wextra", "-pedantic", source, "-o", Flood.program], check=True)
 
 
-def in_own_network(script, what):
-    """Runs a script in a network of its own, where one can be made: its word is then INSIDE. Returns what it counted."""
-    counts = Counts()
+def way_inside(what):
+    """The words before a command that runs in a network of its own; None where none can be made, which is told."""
     missing = [it for it in ("ip", "unshare", "nsenter") if not shutil.which(it)]
     if missing:
         left_out(what, f"no {missing[0]}")
-        return counts
+        return None
     # (root needs no other user; who isn't is root in a namespace of his own)
-    ways = (["unshare", "-n"], ["unshare", "-rn"])
-    way = next((it for it in ways if subprocess.run([*it, "true"], stderr=subprocess.DEVNULL, check=False).returncode == 0), None)
+    for way in ["unshare", "-n"], ["unshare", "-rn"]:
+        if subprocess.run([*way, "true"], stderr=subprocess.DEVNULL, check=False).returncode == 0:
+            return way
+    left_out(what, "no network of the test's own can be made")
+    return None
+
+
+def tried_inside(script, what):
+    """Runs a script of tests in a network of its own, where one can be made: its word is then INSIDE. Returns what it counted."""
+    counts, way, last = Counts(), way_inside(what), ""
     if way is None:
-        left_out(what, "no network of the test's own can be made")
         return counts
-    last = ""
-    with subprocess.Popen([*way, sys.executable, script, INSIDE], stdout=subprocess.PIPE, text=True) as run_:
-        for line in run_.stdout:
+    with subprocess.Popen([*way, sys.executable, script, INSIDE], stdout=subprocess.PIPE, text=True) as script_:
+        for line in script_.stdout:
             print(last, end="", flush=True)
             last = line
     words = last.split()

@@ -1,0 +1,266 @@
+"""Minutes of everything at once, on the gateway with the sanitizers: tools/gateway soak [MINUTES].
+
+Datagrams of all kinds, altered and made up, from many places and in the name of others; frames the same on a card, in datagrams and on
+connections that are cut; cards that go down, come up and are taken out. Meanwhile players play, who must lose nothing, the gateway must
+end well, and its memory must stay what it was. The last line is 'N datagrams, M faults'.
+"""
+import collections
+import os
+import random
+import socket
+import subprocess
+import sys
+import time
+
+from attacks import ADDRESSES, NOBODYS, PORTS, Playground, figures
+from frames import KINDS, Packets, frame
+from lab import EVERYONE, GAME, RIP, SAP, address, packet, rip_response, sap_response
+from spaces import GATEWAY, INSIDE, Field, Flood, build_flood, host, ip, way_inside
+from systems import SYSTEM
+
+MINUTES = 10
+RATE = 5000  # datagrams a second of each flood
+STAGE = 1.0  # seconds that a flood lasts
+FRAMES = 4  # of each wire, each time the players are heard
+BETWEEN_CARDS = 0.7  # seconds between two changes of a card
+CUT, CHANGED = "connections cut", "cards switched, taken out or put in"  # what is counted, and is no datagram
+MOST_GROWN = 1.1  # memory at the end, as a part of that at the start
+SANITIZER = "quarantine_size_mb=1:malloc_context_size=1"  # (else what is freed is kept, and counted as memory)
+UDP_PORT, CARD_PORT, LISTEN_PORT, CONNECT_PORT = 5001, 5002, 5003, 5004
+CONFIGURATION = f"""network 10 1 1424 dosbox 0.0.0.0:{GATEWAY[1]}
+network 20 1 1424 100 100 dosbox 0.0.0.0:{GATEWAY[1] + 1}
+extend 4005
+network 30 1 1500 100 100 qemu-udp {GATEWAY[0]}:{UDP_PORT} {host(0)}:{CARD_PORT} raw
+network 40 1 1492 qemu-tcp listen {GATEWAY[0]}:{LISTEN_PORT} snap
+extend 4005
+network 41 1 1497 qemu-tcp connect {host(0)}:{CONNECT_PORT} llc
+network 50 1 1500 200 100 interface g2 raw
+network 51 1 1492 200 100 interface g2 snap
+"""
+PLACES = {"sockets": [PORTS, ADDRESSES], "forged": [NOBODYS]}
+FLOODS = [("sockets", it) for it in ("register", "mutated", "junk", "guess")] + [
+    ("forged", it) for it in ("register", "speak", "sap", "rip", "mutated", "junk")]
+
+
+class Frames:
+    """Frames that nobody should send: packets of routers and of programs, some bytes of them altered, cut, or made up."""
+
+    def __init__(self, seed):
+        self.random = random.Random(seed)
+
+    def packet(self):
+        number = self.random.randrange
+        node = bytes([2, 0, 0, 0, 0, number(256)])
+        network = self.random.choice([0x10, 0x20, 0x30, 0x40, 0x41, 0x50, 0x51, number(1 << 32)])
+        to = address(network, self.random.choice([EVERYONE, node]), self.random.choice([GAME, 0x4005, RIP, SAP]))
+        return self.random.choice([
+            lambda: packet(to, address(network, node, GAME), bytes(number(1400)), kind=self.random.choice([0, 4, 20])),
+            lambda: rip_response(network, node, [(number(1 << 32), number(17), number(9)) for _ in range(number(51))]),
+            lambda: sap_response(network, node, [(number(9), f"S{number(99)}", network, node, GAME, number(17)) for _ in range(number(8))]),
+            lambda: packet(address(network, EVERYONE, SAP), address(network, node, SAP), b"\0\1\xff\xff"),
+            lambda: packet(address(network, EVERYONE, RIP), address(network, node, RIP), b"\0\1" + b"\xff" * 8, kind=1),
+        ])()
+
+    def next(self):
+        number = self.random.randrange
+        if number(8) == 0:
+            return self.random.randbytes(14 + number(1500))
+        bytes_ = bytearray(frame(self.random.choice(KINDS), EVERYONE, bytes([2, 0, 0, 0, 0, number(256)]), self.packet()))
+        for _ in range(number(4)):
+            bytes_[number(len(bytes_))] = number(256)
+        return bytes(bytes_[:number(len(bytes_)) + 1] if number(8) == 0 else bytes_)[:1514]
+
+
+class Streams:
+    """Connections that come, and that the gateway begins: frames on them in pieces, and each is cut, often within a frame."""
+
+    def __init__(self, frames, counts):
+        self.frames, self.counts, self.open = frames, counts, []
+        self.place = socket.socket()
+        self.place.setsockopt(socket.SOL_SOCKET, socket.SO_REUSEADDR, 1)
+        self.place.bind((host(0), CONNECT_PORT))
+        self.place.listen()
+        self.place.setblocking(False)
+
+    def begin(self):
+        try:
+            self.open.append(self.place.accept()[0])
+        except BlockingIOError:
+            pass
+        if len(self.open) < 3:
+            self.open.append(socket.create_connection((GATEWAY[0], LISTEN_PORT)))
+        for it in self.open:
+            it.setblocking(False)
+
+    def act(self):
+        self.begin()
+        for it in list(self.open):
+            bytes_ = self.frames.next()
+            whole = len(bytes_).to_bytes(4, "big") + bytes_
+            try:
+                it.send(whole[:self.frames.random.randrange(1, 2 * len(whole))])
+                it.recv(1 << 16)
+            except BlockingIOError:
+                pass
+            except OSError:
+                self.cut(it)
+                continue
+            self.counts["frames on connections"] += 1
+            if self.frames.random.randrange(50) == 0:
+                self.cut(it)
+
+    def cut(self, it):
+        self.counts[CUT] += 1
+        self.open.remove(it)
+        it.close()
+
+
+class Cards:
+    """A card of the gateway's and its far end: they go down and up, and are taken out."""
+
+    def __init__(self, field):
+        self.field, self.counts, self.due = field, collections.Counter(), 0
+        self.number = 0
+        self.insert()
+
+    def insert(self):
+        ip("link", "add", "t2", "type", "veth", "peer", "name", "g2")
+        ip("link", "set", "g2", "netns", str(self.field.gate.holder.pid))
+        self.field.gate.ip("link", "set", "g2", "up")
+        ip("link", "set", "t2", "up")
+        self.socket = Packets("t2", "raw").socket
+
+    def act(self):
+        if time.monotonic() < self.due:
+            return
+        self.due = time.monotonic() + BETWEEN_CARDS
+        self.number += 1
+        self.counts[CHANGED] += 1
+        step = self.number % 6
+        if step == 4:
+            ip("link", "del", "t2")
+            self.socket.close()
+        elif step == 5:
+            self.insert()
+        else:
+            space = self.field.gate if step < 2 else None
+            words = ("link", "set", "t2" if space is None else "g2", "down" if step % 2 == 0 else "up")
+            (space.ip if space else ip)(*words)
+
+    def send(self, bytes_):
+        try:
+            self.socket.send(bytes_)
+        except OSError:
+            return  # (it is down, or taken out)
+        self.counts["frames on a card"] += 1
+
+
+class Trouble:
+    """Everything that is done beside the floods."""
+
+    def __init__(self, cards, counts, seed):
+        self.counts, self.frames = counts, Frames(seed)
+        self.streams, self.cards = Streams(self.frames, counts), cards
+        cards.counts = counts
+        self.udp = socket.socket(socket.AF_INET, socket.SOCK_DGRAM)
+        self.udp.bind((host(0), CARD_PORT))
+        self.udp.setblocking(False)
+
+    def act(self):
+        self.cards.act()
+        self.streams.act()
+        for _ in range(FRAMES):
+            self.cards.send(self.frames.next())
+            self.udp.sendto(self.frames.next(), (GATEWAY[0], UDP_PORT))
+            self.counts["frames in datagrams"] += 1
+
+
+class Soak:
+    """What is done, what was counted, and what went wrong."""
+
+    def __init__(self, ground, cards, seconds):
+        self.ground, self.end = ground, time.monotonic() + seconds
+        self.counts, self.faults = collections.Counter(), []
+        self.seed = random.randrange(1 << 30)
+        self.trouble = Trouble(cards, self.counts, self.seed)
+        self.lost = dict.fromkeys(ground.party.KINDS, 0.0)
+        self.memory = []
+        figures(f"seed {self.seed}")
+
+    def is_over(self):
+        return bool(self.faults) or time.monotonic() > self.end
+
+    def stage(self, way, kind):
+        """A flood, and everything else beside it."""
+        self.seed += 1
+        count = int(RATE * STAGE)
+        port = GATEWAY[1] + self.seed % 2
+        places = PLACES[way][self.seed // 2 % len(PLACES[way])]
+        flood = Flood(way, kind, to=f"{GATEWAY[0]}:{port}", gateway=self.ground.gate.run.pid, rate=RATE, count=count, seed=self.seed, **places)
+        self.ground.party.play(lambda: self.trouble.act() or flood.lasts())
+        flood.end()
+        self.counts[f"{kind}, forged" if way == "forged" else kind] += count
+
+    def judge(self):
+        """Looks what the players lost, and whether the gateway is well."""
+        party = self.ground.party
+        came = party.settle()
+        for kind, lost in party.losses().items():
+            self.lost[kind] = max(self.lost[kind], lost)
+        for player in party.all:
+            player.others.clear()  # (what came over the router from a wire)
+        fault = party.fault(came)
+        self.faults += [fault] if fault else []
+        self.counts["packets of players"] += sum(it.said for it in party.speakers)
+        party.begin_again(100)
+        self.ground.gate.report()
+        self.memory.append(self.ground.gate.memory())
+
+    def run(self):
+        try:
+            while not self.is_over():
+                for way, kind in FLOODS:
+                    if not self.is_over():
+                        self.stage(way, kind)
+                self.judge()
+            self.ground.gate.end()
+        except AssertionError as fault:
+            self.faults.append(str(fault))
+        if self.memory and self.memory[-1] > MOST_GROWN * self.memory[0]:
+            self.faults.append("its memory grows")
+
+    def tell(self):
+        for what, count in sorted(self.counts.items()):
+            figures(f"{what}: {count}")
+        figures("lost in the worst round: " + ", ".join(f"{kind} {100 * lost:.1f} %" for kind, lost in self.lost.items()))
+        if self.memory:
+            figures(f"memory: {self.memory[0]} KB after the first round, {self.memory[-1]} KB after the last, {max(self.memory)} KB at most")
+        for fault in self.faults:
+            print(f"FAULT   gateway: {fault}")
+        sent = sum(count for what, count in self.counts.items() if what not in (CUT, CHANGED))
+        print(f"{sent} datagrams, {len(self.faults)} faults")
+
+
+def inside(minutes):
+    """In the network of its own."""
+    build_flood()
+    field = Field()
+    cards = Cards(field)
+    with Playground(CONFIGURATION, environment={"ASAN_OPTIONS": SANITIZER}, field=field) as ground:
+        soak = Soak(ground, cards, 60 * minutes)
+        soak.run()
+        soak.tell()
+    return 1 if soak.faults else 0
+
+
+def main(minutes):
+    if "sanitized" not in SYSTEM.program:
+        print("left out: gateway: the sanitizers (no -fsanitize=address that runs)")
+    way = way_inside("soak")
+    return 0 if way is None else subprocess.run([*way, sys.executable, os.path.realpath(__file__), INSIDE, minutes], check=False).returncode
+
+
+if __name__ == "__main__":
+    if sys.argv[1:2] == [INSIDE]:
+        sys.exit(inside(float(sys.argv[2])))
+    sys.exit(main((sys.argv[1:] or [str(MINUTES)])[0]))
