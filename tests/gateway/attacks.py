@@ -8,9 +8,9 @@ import resource
 import sys
 import time
 
-from lab import EVERYONE, GAME, Clock, Counts, address, left_out, packet, until
+from lab import EVERYONE, GAME, Clock, Counts, Gateway, address, left_out, packet, until
 from players import GUEST, NETWORK, Party, Player
-from spaces import (CROWD, GATEWAY, INSIDE, NEIGHBOURS, STRANGERS, VICTIM, Field, Flood, Placed, build_flood, leave, own_addresses,
+from spaces import (CROWD, GATEWAY, INSIDE, NEIGHBOURS, STRANGERS, VICTIM, Field, Flood, build_flood, leave, own_addresses,
                     tried_inside)
 from systems import SYSTEM
 from troubles import ROUTES, SERVICES, advertise, is_held
@@ -52,7 +52,7 @@ class Playground:
         self.free = hosts[sum(numbers):]
         how = {"program": SYSTEM.fast, "environment": clock.environment()} if clock else {"environment": environment}
         self.clock = clock
-        self.gate = Placed(self.field.gate, text, **how)
+        self.gate = Gateway(text, before=self.field.gate.within, **how)
         self.party = Party(hosts, GATEWAY, numbers=numbers)
 
     def __enter__(self):

@@ -11,7 +11,7 @@ import shutil
 import subprocess
 import sys
 
-from lab import Counts, Gateway, left_out
+from lab import Counts, left_out
 from systems import BUILD, TOP
 
 INSIDE = "--inside"
@@ -127,14 +127,6 @@ class Field:
 
     def __exit__(self, *_):
         self.close()
-
-
-class Placed(Gateway):
-    """A gateway that runs in a space."""
-
-    def __init__(self, space, *words, **how):
-        self.within = space.within
-        super().__init__(*words, **how)
 
 
 class Flood:

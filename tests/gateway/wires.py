@@ -11,6 +11,7 @@ import tempfile
 from frames import KINDS, Packets, Station, Tcp
 from lab import AGAIN, Client, Counts, Gateway, comes_next, is_routers, left_out, reaches, reaches_again, says, tunnels, until
 from links import both_ways, connected, listening, places_joined
+from spaces import tried_inside
 from systems import SYSTEM
 from troubles import ends_well, troubled
 
@@ -390,22 +391,7 @@ def inside():
 
 
 def main():
-    counts = Counts()
-    if not shutil.which("ip") or not shutil.which("unshare"):
-        left_out("interfaces and TAPs", "no ip or no unshare")
-        return counts
-    # (root needs no other user; who isn't is root in a namespace of his own)
-    ways = (["unshare", "-n"], ["unshare", "-rn"])
-    way = next((it for it in ways if subprocess.run([*it, "true"], stderr=subprocess.DEVNULL, check=False).returncode == 0), None)
-    if way is None:
-        left_out("interfaces and TAPs", "no network of the test's own can be made")
-        return counts
-    run = subprocess.run([*way, sys.executable, os.path.realpath(__file__), INSIDE], stdout=subprocess.PIPE, check=False)
-    *lines, last = run.stdout.decode().splitlines() or [""]
-    print("\n".join(lines), flush=True)
-    words = last.split()
-    counts.passed, counts.failed = (int(words[0]), int(words[2])) if len(words) == 4 else (0, 1)
-    return counts
+    return tried_inside(os.path.realpath(__file__), "interfaces and TAPs")
 
 
 if __name__ == "__main__":
