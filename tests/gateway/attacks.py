@@ -21,7 +21,8 @@ OWN = 30  # bytes of the gateway's own answers and pings
 MOST_OWN = 2  # of them for a datagram
 QUIET = 0.2  # seconds in which what was sent has come
 TUNNEL = f"network {NETWORK:X} 1 1424 dosbox 0.0.0.0:{GATEWAY[1]}\n"
-TWO = TUNNEL + f"network 20 1 1424 dosbox 0.0.0.0:{GATEWAY[1] + 1}\n"
+OTHER_PORT = GATEWAY[1] + 1
+TWO = TUNNEL + f"network 20 1 1424 dosbox 0.0.0.0:{OTHER_PORT}\n"
 VICTIMS_PORT = 5000
 
 
@@ -38,9 +39,9 @@ def named(name, test, *words, **values):
     return it
 
 
-def flood(gate, way, kind, rate=1000, count=None, **places):
-    """A flood for the gateway that begins."""
-    return Flood(way, kind, to=f"{GATEWAY[0]}:{GATEWAY[1]}", gateway=gate.run.pid, rate=rate, count=count or rate * SECONDS, **places)
+def flood(gate, way, kind, rate=1000, count=None, port=GATEWAY[1], **places):
+    """A flood that begins, for one of the gateway's ports."""
+    return Flood(way, kind, to=f"{GATEWAY[0]}:{port}", gateway=gate.run.pid, rate=rate, count=count or rate * SECONDS, **places)
 
 
 class Playground:
@@ -200,8 +201,8 @@ def fill(it):
 
 
 def forged(it, kind, count, **places):
-    """Datagrams in the victim's name, all of which the gateway has heard."""
-    flood(it.gate, "forged", kind, count=count, host=VICTIM, port=VICTIMS_PORT, **places).end()
+    """Datagrams in the victim's name, all of which the gateway has heard: on the network where all that it knows is advertised."""
+    flood(it.gate, "forged", kind, count=count, port=OTHER_PORT, host=VICTIM, first=VICTIMS_PORT, **places).end()
     it.gate.report()
 
 
@@ -229,10 +230,10 @@ def forged_clients():
 
 # ---- All of them ----
 
-PORTS = {"host": "10.77.1.1", "port": 3000, "ports": 512}
-ADDRESSES = {"host": CROWD, "hosts": 512, "port": 3000}
-NOBODYS = {"host": STRANGERS, "hosts": 60000, "port": 3000, "ports": 8}
-ABSENT = {"host": NEIGHBOURS, "hosts": 10000, "port": 3000}
+PORTS = {"host": "10.77.1.1", "first": 3000, "ports": 512}
+ADDRESSES = {"host": CROWD, "hosts": 512, "first": 3000}
+NOBODYS = {"host": STRANGERS, "hosts": 60000, "first": 3000, "ports": 8}
+ABSENT = {"host": NEIGHBOURS, "hosts": 10000, "first": 3000}
 
 TESTS = [
     *(named(f"512 ports of a host register, {rate} a second", stands, "sockets", "register", rate, **PORTS) for rate in (640, 6400, 20000)),

@@ -5,7 +5,7 @@
  *
  *     to=ADDRESS:PORT              the gateway
  *     host=ADDRESS hosts=COUNT     where the datagrams come from: the first address, and how many
- *     port=PORT ports=COUNT        the same of the ports of each address
+ *     first=PORT ports=COUNT       the same of the ports of each address
  *     rate=COUNT count=COUNT       datagrams a second, and in all
  *     seed=NUMBER                  what the bytes begin with that are made up
  *     gateway=PROCESS              waits while the gateway has much to do: nothing is lost then since a machine is slow
@@ -92,7 +92,7 @@ static void read_word(order *it, char *word)
         it->to = place_of(value);
     else if (strcmp(word, "host") == 0)
         it->first.host = place_of(value).host;
-    else if (strcmp(word, "port") == 0)
+    else if (strcmp(word, "first") == 0)
         it->first.port = (uint16_t)atoi(value);
     for (size_t k = 0; k < sizeof numbers / sizeof *numbers; k++)
         if (strcmp(word, numbers[k].name) == 0)
