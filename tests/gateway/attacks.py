@@ -8,7 +8,7 @@ import resource
 import sys
 import time
 
-from lab import EVERYONE, GAME, Clock, Counts, Gateway, address, left_out, packet, until
+from lab import EVERYONE, GAME, LIMIT, Clock, Counts, Gateway, address, left_out, packet, until
 from players import GUEST, NETWORK, Party, Player
 from spaces import (CROWD, GATEWAY, INSIDE, NEIGHBOURS, STRANGERS, VICTIM, Field, Flood, build_flood, leave, own_addresses,
                     tried_inside)
@@ -16,7 +16,7 @@ from systems import SYSTEM
 from troubles import ROUTES, SERVICES, advertise, is_held
 
 SECONDS = 2  # that a flood lasts
-PATIENCE = 33  # seconds after which who doesn't answer is gone
+PATIENCE = 33  # seconds after which a client that doesn't answer is gone
 OWN = 30  # bytes of the gateway's own answers and pings
 MOST_OWN = 2  # of them for a datagram
 QUIET = 0.2  # seconds in which what was sent has come
@@ -96,6 +96,12 @@ class Playground:
         is_fair = datagrams <= MOST_OWN * came and size <= MOST_OWN * OWN * came
         return "" if is_fair else f"{datagrams} datagrams of {size} bytes for {came}"
 
+    def strangers(self):
+        """What is wrong where more come, by the gateway's lines, than play."""
+        self.gate.report()
+        came = sum(" comes to " in it for it in self.gate.lines)
+        return f"{came} came" if came > len(self.party.all) else ""
+
 
 def none(*faults):
     """Ends a test."""
@@ -111,6 +117,22 @@ def during(seconds):
 # ---- Floods ----
 
 
+def invite(it):
+    """Guests at the free addresses come, and are heard."""
+    guests = [Player(host, GATEWAY) for host in it.free]
+    for guest in guests:
+        guest.register()
+
+    def are_here():
+        for guest in guests:
+            guest.receive()
+            guest.say(GUEST)
+        return all(guest.node in it.party.all[0].guests for guest in guests)
+
+    assert it.party.until(are_here, LIMIT), "the guests aren't heard"
+    return guests
+
+
 def stands(way, kind, rate, **places):
     """Players lose nothing while a flood lasts, and nobody gets more than is due."""
     with Playground() as it:
@@ -118,7 +140,20 @@ def stands(way, kind, rate, **places):
         fault = it.too_much(lambda: it.party.play(sent.lasts), rate * SECONDS) if way == "forged" else ""
         lost = it.play(sent.lasts)
         figures(sent.end())
-        none(fault, lost)
+        none(fault, lost, it.strangers())
+
+
+def a_newcomer():
+    """While 512 ports register, 6400 a second, somebody comes who registers once, and plays with the others."""
+    with Playground(more=1) as it:
+        sent = flood(it.gate, "sockets", "register", 6400, **PORTS)
+        (guest,) = invite(it)
+        fault = it.play(sent.lasts)
+        sent.end()
+        guest.receive()
+        guest.close()
+        hears_all = guest.heard.keys() == {speaker.node for speaker in it.party.speakers}
+        none(fault, "" if hears_all else "the newcomer doesn't hear all")
 
 
 def a_crowd_answers():
@@ -156,22 +191,6 @@ def false_sources():
 
 
 # ---- PCs that are switched off ----
-
-
-def invite(it):
-    """Guests at the free addresses come, and are heard."""
-    guests = [Player(host, GATEWAY) for host in it.free]
-    for guest in guests:
-        guest.register()
-
-    def are_here():
-        for guest in guests:
-            guest.receive()
-            guest.say(GUEST)
-        return all(guest.node in it.party.all[0].guests for guest in guests)
-
-    assert it.party.until(are_here, PATIENCE), "the guests aren't heard"
-    return guests
 
 
 def gone(number):
@@ -239,6 +258,7 @@ TESTS = [
     *(named(f"512 ports of a host register, {rate} a second", stands, "sockets", "register", rate, **PORTS) for rate in (640, 6400, 20000)),
     *(named(f"512 addresses register, {rate} a second", stands, "sockets", "register", rate, **ADDRESSES) for rate in (64, 6400)),
     named("512 ports guess what answers a ping, 20000 a second", stands, "sockets", "guess", 20000, **PORTS),
+    a_newcomer,
     a_crowd_answers,
     named("registrations from forged addresses, 6400 a second", stands, "forged", "register", 6400, **NOBODYS),
     named("packets for all from forged addresses, 6400 a second", stands, "forged", "speak", 6400, **NOBODYS),

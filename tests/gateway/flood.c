@@ -8,7 +8,7 @@
  *     first=PORT ports=COUNT       the same of the ports of each address
  *     rate=COUNT count=COUNT       datagrams a second, and in all
  *     seed=NUMBER                  what the bytes begin with that are made up
- *     gateway=PROCESS              waits while the gateway has much to do: nothing is lost then since a machine is slow
+ *     gateway=PROCESS              waits while much of it waits for the gateway: nothing is lost then since a machine is slow
  *
  * The last line is what was sent: `COUNT datagrams in SECONDS s, RATE a second`. */
 #define _DEFAULT_SOURCE
@@ -42,7 +42,8 @@ enum {
     UDP_HEADER = 8,
     MOST_PLACES = 4096,
     BETWEEN_LOOKS = 64,   /* datagrams that are sent before one looks what the gateway has to do */
-    MOST_WAITING = 100000 /* bytes of the system's that may wait for the gateway */
+    MOST_WAITING = 100000, /* bytes of the system's that may wait for the gateway */
+    MOST_PATIENCE = 20    /* seconds that one waits for a gateway which does nothing more */
 };
 
 typedef struct place {
@@ -309,7 +310,7 @@ static void wait_for(double seconds)
     nanosleep(&at, NULL);
 }
 
-/* Whether more than a little waits for the gateway. */
+/* Whether much has come for the gateway that it hasn't heard yet. */
 static bool is_busy(const order *it)
 {
     char name[64], line[256];
@@ -325,7 +326,7 @@ static bool is_busy(const order *it)
     return is_much;
 }
 
-/* Waits while the gateway has much to do. Returns how many seconds later everything comes for that. */
+/* Waits while the gateway has much to do. Returns by how many seconds that delays the rest. */
 static double wait_for_gateway(const order *it)
 {
     double began = now();
@@ -333,7 +334,7 @@ static double wait_for_gateway(const order *it)
         return 0;
     do
         wait_for(0.001);
-    while (is_busy(it));
+    while (is_busy(it) && now() - began < MOST_PATIENCE);
     return now() - began;
 }
 
