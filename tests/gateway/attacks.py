@@ -252,7 +252,7 @@ def forged_clients():
 PORTS = {"host": "10.77.1.1", "first": 3000, "ports": 512}
 ADDRESSES = {"host": CROWD, "hosts": 512, "first": 3000}
 NOBODYS = {"host": STRANGERS, "hosts": 60000, "first": 3000, "ports": 8}
-ABSENT = {"host": NEIGHBOURS, "hosts": 10000, "first": 3000}
+ABSENT = {"host": NEIGHBOURS, "hosts": 400, "first": 3000}  # (few: the kernel keeps a thousand neighbours, for all networks together)
 
 TESTS = [
     *(named(f"512 ports of a host register, {rate} a second", stands, "sockets", "register", rate, **PORTS) for rate in (640, 6400, 20000)),
