@@ -43,7 +43,7 @@ enum {
     MOST_PLACES = 4096,
     BETWEEN_LOOKS = 64,   /* datagrams that are sent before one looks what the gateway has to do */
     MOST_WAITING = 100000, /* bytes of the system's that may wait for the gateway */
-    MOST_PATIENCE = 20    /* seconds that one waits for a gateway which does nothing more */
+    MOST_PATIENCE = 20     /* seconds that one waits for a gateway which does nothing more */
 };
 
 typedef struct place {

@@ -1,7 +1,7 @@
 """Minutes of everything at once, on the gateway with the sanitizers: tools/gateway soak [MINUTES].
 
 Datagrams of all kinds, altered and made up, from many places and in the name of others; frames the same on a card, in datagrams and on
-connections that are cut; cards that go down, come up and are taken out. Meanwhile players play, who must lose nothing, the gateway must
+connections that are cut; cards that go down, come up and are taken out. Meanwhile players play, who may lose 2 % at most, the gateway must
 end well, and its memory must stay what it was. The last line is 'N datagrams, M faults'.
 """
 import collections
