@@ -215,7 +215,7 @@ bool cable_send(cable *it, const uint8_t *bytes, size_t length)
     return it->set->type == LINK_TAP ? tap_send(it->fd, bytes, length) : datagram_send(it->fd, bytes, length);
 }
 
-bool cable_send_to(cable *it, const address *to, const uint8_t *bytes, size_t length)
+bool cable_send_to(cable *it, const address *to, const uint8_t *bytes, size_t length, bool is_there)
 {
-    return datagram_send_to(it->fd, to, bytes, length);
+    return datagram_send_to(it->fd, to, bytes, length, is_there);
 }

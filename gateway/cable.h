@@ -45,9 +45,9 @@ bool cable_has_more(const cable *it);
  * lost), or -1 where there is none now. */
 ssize_t cable_receive(cable *it, uint8_t *bytes, size_t room, address *from);
 
-/* Sends a frame; a datagram to someone. Returns whether it is on its way. */
+/* Sends a frame; a datagram to someone, who has answered lately or may not be there. Returns whether it is on its way. */
 bool cable_send(cable *it, const uint8_t *bytes, size_t length);
-bool cable_send_to(cable *it, const address *to, const uint8_t *bytes, size_t length);
+bool cable_send_to(cable *it, const address *to, const uint8_t *bytes, size_t length, bool is_there);
 
 /* Whether it can carry something now; where it can't, `lacks` and `fault` tell why. What isn't open is tried again, once a second, and
  * interfaces are looked for. */

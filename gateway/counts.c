@@ -8,6 +8,9 @@
 static const char *const WORDS_OF[REASONS] = {
     [TOO_LONG] = "longer than the link carries",
     [FALSE_SOURCE] = "source of another",
+    [STRANGER] = "from a stranger",
+    [NO_ROOM] = "no room for a client",
+    [NOT_ALLOWED] = "address not allowed",
     [NO_CLIENT] = "no such client",
     [NO_IPX] = "no IPX",
     [OTHER_KIND] = "another kind of frame",

@@ -8,8 +8,11 @@
 typedef enum {
     TOO_LONG,      /* longer than what the link carries */
     FALSE_SOURCE,  /* it names the address of another as its source */
+    STRANGER,      /* its sender is no client of the tunnel; he was asked whether he hears */
+    NO_ROOM,       /* its sender is none, and there is no room for him */
+    NOT_ALLOWED,   /* its sender may not be one */
     NO_CLIENT,     /* for a node of the tunnel that nobody has */
-    NO_IPX,        /* a frame without an IPX packet */
+    NO_IPX,        /* a frame, or a datagram, without an IPX packet */
     OTHER_KIND,    /* a frame of a kind that no network has there */
     FOR_ANOTHER,   /* a frame for another node of the cable */
     OWN_FRAME,     /* a frame of the gateway's own that came back */

@@ -38,7 +38,7 @@ void gateway_send(network *on, const uint8_t *node, const uint8_t *packet, size_
              address_at(packet + AT_TO_NETWORK, to), packet[AT_TYPE], length);
     if (on->set->type == LINK_DOSBOX) {
         capture_packet(packet, length, on->node);
-        tunnel_send(on, node, NULL, packet, length);
+        tunnel_send(on, node, packet, length);
     } else {
         ether_send(on, node, packet, length);
     }
@@ -111,6 +111,18 @@ static void receive(gateway *it, cable *at)
     }
 }
 
+/* One second for the tunnels, however many have passed: who could not be asked meanwhile isn't put out. */
+static void let_tunnels_pass(gateway *it, uint64_t passed)
+{
+    if (it->looked >= passed)
+        return;
+    it->looked = passed;
+    it->seconds++;
+    for (size_t k = 0; k < it->count; k++)
+        if (it->networks[k].set->type == LINK_DOSBOX)
+            tunnel_second(&it->networks[k]);
+}
+
 /* Each second that passed since the last turn, late ones too. */
 static void let_seconds_pass(gateway *it)
 {
@@ -119,6 +131,7 @@ static void let_seconds_pass(gateway *it)
         return;
     links_look_at_all(it);
     gateway_renew(it);
+    let_tunnels_pass(it, passed);
     for (; it->told < passed; it->told++) {
         if (ipxr_second(&it->router) < 0)
             break; /* (no memory: the second is given again) */

@@ -5,10 +5,12 @@
 #include <stdbool.h>
 
 #include "cable.h"
-#include "clients.h"
 #include "counts.h"
 #include "ipxr.h"
+#include "ipxr_tunnel.h"
+#include "roster.h"
 #include "settings.h"
+#include "siphash.h"
 
 /* A network: the router's port of the same number. */
 typedef struct network {
@@ -19,7 +21,8 @@ typedef struct network {
     const char *lacks; /* what it was told to lack, while it is down; */
     int fault;         /* and the system's number for it, or 0 */
     counts counts;
-    clients clients; /* of DOSBox' tunnel */
+    ipxr_tunnel tunnel; /* of DOSBox', where it is one */
+    roster roster;      /* and its clients */
 } network;
 
 typedef struct gateway {
@@ -30,6 +33,9 @@ typedef struct gateway {
     size_t cable_count;
     uint64_t began; /* milliseconds of the clock at the start */
     uint64_t told;  /* seconds that the router has heard of since */
+    uint8_t key[SIPHASH_KEY]; /* of the cookies */
+    uint64_t seconds; /* that the tunnels have heard of */
+    uint64_t looked;  /* the second since the start in which they heard of the last */
 } gateway;
 
 /* Opens the links of all networks; what isn't there yet is waited for. Returns false where one can't be opened, which is told on

@@ -26,6 +26,9 @@ enum {
 /* The network that stands for all of them. */
 #define EVERY_NETWORK 0xFFFFFFFFu
 
+/* The first byte of a node that is nobody's card: locally administered, and not a group's. */
+#define LOCAL_NODE 0x02
+
 /* Bytes of the longest packet that any link here carries. */
 #define LONGEST 1500
 

@@ -7,9 +7,6 @@
 #include "machine.h"
 #include "siphash.h"
 
-/* A node's first byte, where it is nobody's card: locally administered, and not a group's. */
-#define LOCAL 0x02
-
 /* (not secret: it makes the hash the gateway's own, so that what is made of the machine's number elsewhere is another one) */
 static const uint8_t KEY[SIPHASH_KEY] = "a made-up node.";
 
@@ -19,7 +16,7 @@ static void make_up(const network_setting *set, uint8_t node[6])
     machine_words(machine, sizeof machine);
     int length = snprintf(words, sizeof words, "%s %08" PRIX32 " %s", machine, set->network, link_words(set, link));
     uint64_t hash = siphash(KEY, (const uint8_t *)words, (size_t)length);
-    node[0] = LOCAL;
+    node[0] = LOCAL_NODE;
     for (int k = 1; k < NODE; k++)
         node[k] = (uint8_t)(hash >> 8 * k);
 }

@@ -2,23 +2,12 @@
 #include <inttypes.h>
 #include <stdio.h>
 
-#include "clock.h"
 #include "gateway.h"
 #include "note.h"
 #include "output.h"
+#include "tunnel.h"
 
-static void show_clients(const network *on)
-{
-    char node[WORDS];
-    uint64_t now = clock_now();
-    say("  clients: %zu", on->clients.count);
-    for (size_t k = 0; k < on->clients.count; k++) {
-        const client *at = &on->clients.list[k];
-        say("    %s, silent for %" PRIu64 " s", node_words(at->node, node), (now - at->heard) / 1000);
-    }
-}
-
-static void show_network(const network *on)
+static void show_network(network *on)
 {
     char words[LINK_ROOM], node[WORDS], extended[40] = "";
     const network_setting *set = on->set;
@@ -31,7 +20,7 @@ static void show_network(const network *on)
     if (set->type == LINK_QEMU_LISTEN && on->cable->refused > 0)
         say("  refused: %" PRIu64, on->cable->refused);
     if (set->type == LINK_DOSBOX)
-        show_clients(on);
+        tunnel_show(on);
 }
 
 static void show_routes(gateway *it)

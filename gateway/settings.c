@@ -4,6 +4,7 @@
 #include <stdlib.h>
 #include <string.h>
 
+#include "below.h"
 #include "card.h"
 #include "ipx.h"
 #include "reader.h"
@@ -11,6 +12,14 @@
 #include "words.h"
 
 enum { SHORTEST_LONGEST = 576 };
+
+/* Of a network of DOSBox': how many clients it has, and how much they may advertise, where its lines don't say it. So the clients of all
+ * networks that there may be can't fill a table together. */
+enum {
+    USUAL_CLIENTS = 256,
+    TUNNEL_ROUTES = IPXR_MOST_ROUTES / IPXR_MOST_PORTS,
+    TUNNEL_SERVICES = IPXR_MOST_SERVICES / IPXR_MOST_PORTS,
+};
 
 /* The default route and all networks: numbers that no network has. */
 #define FIRST_RESERVED 0xFFFFFFFEu
@@ -70,7 +79,6 @@ static bool read_cost_and_longest(reader *r, network_setting *it)
 static bool read_shares(reader *r, network_setting *it)
 {
     uint32_t routes, services;
-    it->routes = it->services = IPXR_NO_LIMIT;
     if (r->next == r->count || r->words[r->next][0] < '0' || r->words[r->next][0] > '9')
         return true;
     const char *word = reader_word(r);
@@ -79,6 +87,7 @@ static bool read_shares(reader *r, network_setting *it)
     word = reader_word(r);
     if (word == NULL || !is_number(word, 65535, &services))
         return reader_fault(r, word, "expected the most services, 0 to 65535");
+    it->has_shares = true;
     it->routes = (uint16_t)routes;
     it->services = (uint16_t)services;
     return true;
@@ -140,10 +149,22 @@ static bool read_type(reader *r, network_setting *it)
     return true;
 }
 
+/* What holds where no line says more of a network. */
+static void choose_defaults(network_setting *it)
+{
+    bool is_tunnel = it->type == LINK_DOSBOX;
+    it->clients = it->per_address = USUAL_CLIENTS;
+    if (it->has_shares)
+        return;
+    it->routes = is_tunnel ? TUNNEL_ROUTES : IPXR_NO_LIMIT;
+    it->services = is_tunnel ? TUNNEL_SERVICES : IPXR_NO_LIMIT;
+}
+
 static bool read_link(reader *r, network_setting *it)
 {
     if (!read_type(r, it))
         return false;
+    choose_defaults(it);
     switch (it->type) {
     case LINK_DOSBOX:
         return read_address(r, &it->local, false);
@@ -266,43 +287,6 @@ static void read_network_line(reader *r)
     }
 }
 
-static bool names_socket(const network_setting *it, uint32_t socket)
-{
-    for (size_t k = 0; k < it->socket_count; k++)
-        if (it->sockets[k] == socket)
-            return true;
-    return false;
-}
-
-/* The sockets of the network above; they aren't looked at where its line is wrong. */
-static void read_extend_line(reader *r)
-{
-    uint32_t socket;
-    if (r->is_below_wrong)
-        return;
-    if (r->into->count == 0) {
-        reader_fault(r, r->words[0], "expected below the line of a network");
-        return;
-    }
-    network_setting *it = &r->into->networks[r->into->count - 1];
-    do {
-        const char *word = reader_word(r);
-        if (word == NULL || !is_hexadecimal(word, 4, &socket) || socket == 0) {
-            reader_fault(r, word, "expected a socket in hexadecimal digits, 1 to FFFF");
-            return;
-        }
-        if (names_socket(it, socket)) {
-            reader_fault(r, word, "expected another socket, this one is named already");
-            return;
-        }
-        if (it->socket_count == MOST_SOCKETS) {
-            reader_fault(r, word, "expected at most %d sockets", MOST_SOCKETS);
-            return;
-        }
-        it->sockets[it->socket_count++] = (uint16_t)socket;
-    } while (r->next < r->count);
-}
-
 static void read_line(reader *r, char *line)
 {
     const char *word = reader_cut(r, line) ? reader_word(r) : NULL;
@@ -310,10 +294,8 @@ static void read_line(reader *r, char *line)
         return;
     if (strcmp(word, "network") == 0)
         read_network_line(r);
-    else if (strcmp(word, "extend") == 0)
-        read_extend_line(r);
-    else
-        reader_fault(r, word, "expected network or extend");
+    else if (!read_line_below(r, word))
+        reader_fault(r, word, "expected network, extend, clients, allow or trust");
 }
 
 /* Reads all lines; returns false where memory or the file fails. */

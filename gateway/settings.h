@@ -9,6 +9,8 @@
 
 #include "address.h"
 #include "ipxr.h"
+#include "ipxr_tunnel.h"
+#include "range.h"
 
 enum {
     MOST_SOCKETS = 16, /* that a network's `extend` may name */
@@ -31,6 +33,7 @@ typedef struct network_setting {
     uint32_t network;
     uint16_t cost;             /* ticks */
     uint16_t longest;          /* bytes of the longest packet */
+    bool has_shares;           /* whether the line says them: */
     uint16_t routes, services; /* shares of the tables, or IPXR_NO_LIMIT */
     link_type type;
     address local;             /* where datagrams and connections come in */
@@ -41,6 +44,11 @@ typedef struct network_setting {
     uint8_t node[6];
     uint16_t sockets[MOST_SOCKETS]; /* whose broadcasts are extended */
     size_t socket_count;
+    size_t clients_line;       /* the number of the line that says these two, or 0 */
+    uint16_t clients;          /* most clients of DOSBox' */
+    uint16_t per_address;      /* and most of one address */
+    ranges allowed;            /* who may be a client; none where all may */
+    ranges trusted;            /* who may be one though he answers no ping */
 } network_setting;
 
 typedef struct settings {

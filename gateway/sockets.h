@@ -18,9 +18,10 @@ int datagram_open(address *local, const address *remote);
  * which may be more than the room (what is beyond is lost), or -1. */
 ssize_t datagram_receive(int fd, uint8_t *bytes, size_t room, address *from);
 
-/* Sends a datagram, or a frame, to where the socket is bound to send; to someone. Returns whether it is on its way. */
+/* Sends a datagram, or a frame, to where the socket is bound to send; to someone, who has answered lately or may not be there. Returns
+ * whether it is on its way. */
 bool datagram_send(int fd, const uint8_t *bytes, size_t length);
-bool datagram_send_to(int fd, const address *to, const uint8_t *bytes, size_t length);
+bool datagram_send_to(int fd, const address *to, const uint8_t *bytes, size_t length, bool is_there);
 
 /* Waits at an address for connections; `local` is told the port. Returns the socket, or -1. */
 int listener_open(address *local);

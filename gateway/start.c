@@ -11,6 +11,7 @@
 #include "note.h"
 #include "output.h"
 #include "system.h"
+#include "tunnel.h"
 
 /* ---- Links ---- */
 
@@ -75,10 +76,26 @@ static void tell_start(const gateway *it)
     }
 }
 
+/* Makes the tunnels. Returns 0, or the library's fault. */
+static int32_t open_tunnels(gateway *it)
+{
+    int32_t made = 0;
+    for (size_t k = 0; made >= 0 && k < it->count; k++)
+        if (it->networks[k].set->type == LINK_DOSBOX)
+            made = tunnel_open(&it->networks[k]);
+    return made;
+}
+
 bool gateway_start(gateway *it)
 {
     char words[WORDS];
+    if (!system_random(it->key, sizeof it->key)) {
+        complain("ipxr-gateway: the system has no random numbers: %s", fault_words());
+        return false;
+    }
     int32_t made = make(it);
+    if (made >= 0)
+        made = open_tunnels(it);
     if (made < 0) {
         complain("ipxr-gateway: %s", answer_words(made, words));
         return false;
@@ -134,6 +151,8 @@ void gateway_stop(gateway *it)
     ipxr_stop(&it->router);
     gateway_send_all(it);
     ipxr_free(&it->router);
+    for (size_t k = 0; k < it->count; k++)
+        tunnel_close(&it->networks[k]);
     for (size_t k = 0; k < it->cable_count; k++)
         cable_close(&it->cables[k]);
     capture_close();

@@ -3,7 +3,9 @@
 #ifndef SYSTEM_H
 #define SYSTEM_H
 
+#include <stdbool.h>
 #include <stddef.h>
+#include <stdint.h>
 #include <stdio.h>
 #include <sys/types.h>
 
@@ -17,6 +19,9 @@ FILE *file_open(const char *name, const char *how);
 /* Reads a line with its end as getline does, into memory that is made or made larger. Returns its length; -1 at the end of the file, or
  * where there is a fault in errno. */
 ssize_t line_read(char **line, size_t *room, FILE *file);
+
+/* Bytes that nobody can tell beforehand. Returns whether the system gave them; else errno has the reason. */
+bool system_random(uint8_t *bytes, size_t count);
 
 /* The words of the fault that is in errno. */
 const char *fault_words(void);

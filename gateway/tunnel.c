@@ -1,124 +1,218 @@
-/* A client registers by a packet to socket 2 of nobody, and the answer tells it its network and its node. What goes to a node of the
- * same network the gateway hands on itself, as a cable would. The router hears what goes to it, to everyone or to another network.
- *
- * A client registers once. After a gateway is started again nobody does; so whoever names its own address as source is a client. */
+/* A client's node is the place where its datagrams come from: four bytes of address, two of port. Who wants to be one has to answer a ping
+ * whose source node he can't guess, a cookie; so nobody comes in by a forged address, and who is gone is known by his silence. */
 #include "tunnel.h"
 
 #include <inttypes.h>
 #include <string.h>
 
 #include "capture.h"
-#include "clock.h"
+#include "cookie.h"
 #include "extend.h"
 #include "ipx.h"
 #include "note.h"
+#include "output.h"
 
-/* The socket of registrations, and of IPXNET PING. */
-enum { TUNNEL_SOCKET = 2 };
+/* Seconds with which a client is kept: from its answer on, and from each word of one that is trusted. */
+enum { ANSWER_LASTS = 30, TRUST_LASTS = 180 };
 
-void tunnel_send(network *on, const uint8_t *node, const uint8_t *except, const uint8_t *packet, size_t length)
+/* Seconds for which a cookie is a place's own. The one before counts too. */
+enum { MINUTE = 60 };
+
+static address address_of(const uint8_t place[NODE])
 {
-    bool is_to_all = is_broadcast(node);
-    size_t sent = 0, refused = 0;
-    for (size_t k = 0; k < on->clients.count; k++) {
-        const uint8_t *at = on->clients.list[k].node;
-        if (is_to_all ? except != NULL && same_node(at, except) : !same_node(at, node))
-            continue;
-        address to = address_of(at);
-        if (cable_send_to(on->cable, &to, packet, length))
-            sent++;
-        else
-            refused++;
+    address at;
+    memcpy(at.host, place, sizeof at.host);
+    at.port = get16(place + sizeof at.host);
+    return at;
+}
+
+/* ---- Beginning and end ---- */
+
+int32_t tunnel_open(network *on)
+{
+    ipxr_tunnel_setting set = {.network = on->set->network, .capacity = on->set->clients, .share = on->set->per_address};
+    memcpy(set.node, on->node, NODE);
+    return ipxr_tunnel_make(&on->tunnel, &set);
+}
+
+void tunnel_close(network *on)
+{
+    ipxr_tunnel_free(&on->tunnel);
+}
+
+/* ---- Sending ---- */
+
+/* Sends a datagram to a place. What the system refuses is counted, to its client too. Returns whether it is on its way. */
+static bool send_to(network *on, const uint8_t place[NODE], const uint8_t *bytes, size_t length, bool is_client)
+{
+    address to = address_of(place);
+    if (cable_send_to(on->cable, &to, bytes, length, is_client))
+        return true;
+    member *client = roster_find(&on->roster, place);
+    on->counts.lost[NOT_SENT]++;
+    if (client != NULL)
+        client->refused++;
+    return false;
+}
+
+/* Sends the answers and pings that the tunnel gave. */
+static void send_own(network *on, bool are_clients)
+{
+    ipxr_own own;
+    for (size_t k = 0; ipxr_tunnel_own(&on->tunnel, k, &own) == 0; k++) {
+        on->counts.out += send_to(on, own.place, own.bytes, sizeof own.bytes, are_clients);
+        capture_packet(own.bytes, sizeof own.bytes, on->node);
     }
+}
+
+/* Sends a packet to the clients that get it, as the tunnel said. */
+static void send_carried(network *on, const uint8_t *packet, size_t length)
+{
+    uint8_t place[NODE];
+    size_t sent = 0;
+    for (size_t k = 0; ipxr_tunnel_receiver(&on->tunnel, k, place) == 0; k++)
+        sent += send_to(on, place, packet, length, true);
     on->counts.out += sent > 0;
-    on->counts.lost[NOT_SENT] += refused;
-    if (!is_to_all && sent + refused == 0)
+}
+
+void tunnel_send(network *on, const uint8_t *node, const uint8_t *packet, size_t length)
+{
+    ipxr_tunnel_send(&on->tunnel, node);
+    if (ipxr_tunnel_receivers(&on->tunnel) == 0 && !is_broadcast(node))
         gateway_lose(on, NO_CLIENT);
+    send_carried(on, packet, length);
 }
 
-/* A packet of the tunnel's own: from the gateway to a node, without data. */
-static void send_own(network *on, const uint8_t *node)
-{
-    uint8_t packet[HEADER] = {0xFF, 0xFF};
-    put16(packet + AT_LENGTH, HEADER);
-    put32(packet + AT_TO_NETWORK, on->set->network);
-    memcpy(packet + AT_TO_NODE, node, NODE);
-    put16(packet + AT_TO_SOCKET, TUNNEL_SOCKET);
-    put32(packet + AT_FROM_NETWORK, on->set->network);
-    memcpy(packet + AT_FROM_NODE, on->node, NODE);
-    put16(packet + AT_FROM_SOCKET, TUNNEL_SOCKET);
-    tunnel_send(on, node, NULL, packet, sizeof packet);
-    capture_packet(packet, sizeof packet, on->node);
-}
+/* ---- Who comes and who leaves ---- */
 
-/* A client was heard. */
-static void heard(network *on, const uint8_t *node)
+static void tell_comes(network *on, const uint8_t place[NODE])
 {
-    bool is_new;
-    uint8_t left[NODE];
     char words[WORDS];
-    client_heard(&on->clients, node, clock_now(), &is_new, left);
-    if (!is_no_node(left))
-        note("client %s leaves %08" PRIX32 " for a new one", node_words(left, words), on->set->network);
-    if (is_new)
-        note("client %s comes to %08" PRIX32, node_words(node, words), on->set->network);
+    roster_add(&on->roster, place);
+    event("client %s comes to %08" PRIX32, node_words(place, words), on->set->network);
 }
 
-static bool is_registration(const uint8_t *bytes, size_t length)
+static void tell_leaves(network *on, const uint8_t place[NODE])
 {
-    return length >= HEADER && get16(bytes + AT_TO_SOCKET) == TUNNEL_SOCKET && is_no_node(bytes + AT_TO_NODE);
+    char words[WORDS];
+    roster_remove(&on->roster, place);
+    event("client %s leaves %08" PRIX32, node_words(place, words), on->set->network);
 }
 
-/* Whether the packet's source is the client that sent it. One that doesn't know its network yet names none. */
-static bool names_itself(const network *on, const uint8_t *bytes, const uint8_t *node)
+void tunnel_second(network *on)
 {
-    uint32_t from = get32(bytes + AT_FROM_NETWORK);
-    return same_node(bytes + AT_FROM_NODE, node) && (from == 0 || from == on->set->network);
+    uint8_t place[NODE];
+    ipxr_tunnel_second(&on->tunnel);
+    for (size_t k = 0; ipxr_tunnel_leaver(&on->tunnel, k, place) == 0; k++)
+        tell_leaves(on, place);
+    send_own(on, true);
 }
 
-/* What a cable would do: the packet comes to its node, or to all. */
-static void hand_on(gateway *it, network *on, const uint8_t *packet, size_t length, const uint8_t *node)
+/* ---- Hearing ---- */
+
+/* Whether a network lets somebody in who sends from that address. */
+static bool lets_in(const network_setting *set, const address *from)
 {
-    const uint8_t *to = packet + AT_TO_NODE;
-    bool is_to_all = is_broadcast(to), is_to_gateway = same_node(to, on->node);
-    bool is_ping = get16(packet + AT_TO_SOCKET) == TUNNEL_SOCKET && is_to_all;
-    if (!is_to_gateway)
-        tunnel_send(on, to, node, packet, length);
-    if (is_ping)
-        send_own(on, node);
-    else if (is_to_all)
+    return set->allowed.count == 0 || ranges_have(&set->allowed, from) || ranges_have(&set->trusted, from);
+}
+
+static ipxr_sender sender_at(const gateway *it, const network *on, const address *from)
+{
+    ipxr_sender sender = {.is_trusted = ranges_have(&on->set->trusted, from)};
+    uint64_t minute = it->seconds / MINUTE;
+    memcpy(sender.place, from->host, sizeof from->host);
+    put16(sender.place + sizeof from->host, from->port);
+    cookie_make(it->key, sender.place, minute, sender.current);
+    cookie_make(it->key, sender.place, minute - 1, sender.previous);
+    return sender;
+}
+
+/* Why nothing became of what somebody said; REASONS, which is none, where something did. */
+static reason why_lost(network *on, const uint8_t place[NODE], int32_t said, bool is_packet)
+{
+    bool is_answered = ipxr_tunnel_owns(&on->tunnel) > 0;
+    if (ipxr_tunnel_receivers(&on->tunnel) > 0 || ipxr_tunnel_is_heard(&on->tunnel))
+        return REASONS;
+    bool is_client = roster_find(&on->roster, place) != NULL;
+    switch (said) {
+    case IPXR_REGISTERS:
+        return is_answered ? REASONS : NO_ROOM;
+    case IPXR_ANSWERS:
+        return is_client ? REASONS : NO_ROOM;
+    case IPXR_SPEAKS:
+        if (is_client)
+            return is_answered ? REASONS : NO_CLIENT;
+        return is_answered ? STRANGER : NO_ROOM;
+    default:
+        return is_packet ? FALSE_SOURCE : NO_IPX;
+    }
+}
+
+/* What a client said goes to the router, and to other networks where it is extended. */
+static void pass_on(gateway *it, network *on, const uint8_t *packet, size_t length)
+{
+    if (is_broadcast(packet + AT_TO_NODE) && is_for_here(on, packet))
         extend(it, on, packet, length);
-    if (is_ping || !(is_to_all || is_to_gateway))
-        gateway_note(on, packet, length, "handed on");
-    else
-        gateway_hear(it, on, packet, length);
+    gateway_hear(it, on, packet, length);
+}
+
+/* Sends what is to be sent before the router, which sends too, hears the packet. */
+static void hear(gateway *it, network *on, const ipxr_sender *sender, const uint8_t *bytes, size_t length)
+{
+    size_t before = ipxr_tunnel_clients(&on->tunnel);
+    int32_t said = ipxr_tunnel_hear(&on->tunnel, sender, bytes, length);
+    size_t carried = ipxr_tunnel_carried(&on->tunnel);
+    bool is_heard = ipxr_tunnel_is_heard(&on->tunnel);
+    if (ipxr_tunnel_clients(&on->tunnel) > before)
+        tell_comes(on, sender->place);
+    reason why = why_lost(on, sender->place, said, has_length(bytes, length));
+    send_own(on, false);
+    send_carried(on, bytes, carried);
+    if (why != REASONS)
+        gateway_lose(on, why);
+    else if (is_heard)
+        pass_on(it, on, bytes, carried);
+    else if (said == IPXR_SPEAKS)
+        gateway_note(on, bytes, carried, "handed on");
 }
 
 void tunnel_hear(gateway *it, network *on, uint8_t *bytes, size_t length, const address *from)
 {
-    uint8_t node[NODE];
-    node_of(from, node);
+    ipxr_sender sender = sender_at(it, on, from);
     on->counts.in++;
     if (length > on->set->longest) {
         gateway_lose(on, TOO_LONG);
         return;
     }
-    capture_packet(bytes, length, node);
-    if (is_registration(bytes, length)) {
-        heard(on, node);
-        send_own(on, node);
-    } else if (!has_length(bytes, length)) {
-        gateway_hear(it, on, bytes, length);
-    } else if (!names_itself(on, bytes, node)) {
-        gateway_lose(on, FALSE_SOURCE);
-    } else {
-        heard(on, node);
-        /* (a driver clears it; DOSBox' leaves there what the program left) */
-        bytes[AT_CONTROL] = 0;
-        length = get16(bytes + AT_LENGTH);
-        if (is_for_here(on, bytes))
-            hand_on(it, on, bytes, length, node);
-        else
-            gateway_hear(it, on, bytes, length);
+    capture_packet(bytes, length, sender.place);
+    if (!lets_in(on->set, from)) {
+        gateway_lose(on, NOT_ALLOWED);
+        return;
     }
+    /* (a driver clears it; DOSBox' leaves there what the program left) */
+    if (length >= HEADER)
+        bytes[AT_CONTROL] = 0;
+    hear(it, on, &sender, bytes, length);
+}
+
+/* ---- Reports ---- */
+
+static void show_client(network *on, const ipxr_client *client)
+{
+    char node[WORDS], refused[40] = "";
+    address at = address_of(client->place);
+    bool is_trusted = ranges_have(&on->set->trusted, &at);
+    const member *known = roster_find(&on->roster, client->place);
+    if (known != NULL && known->refused > 0)
+        snprintf(refused, sizeof refused, ", %" PRIu64 " not sent", known->refused);
+    say("    %s, %s %d s ago%s", node_words(client->place, node), is_trusted ? "trusted, heard" : "answered",
+        (is_trusted ? TRUST_LASTS : ANSWER_LASTS) - client->seconds_left, refused);
+}
+
+void tunnel_show(network *on)
+{
+    ipxr_client client;
+    say("  clients: %zu of %u", ipxr_tunnel_clients(&on->tunnel), on->set->clients);
+    for (size_t k = 0; ipxr_tunnel_client(&on->tunnel, k, &client) == 0; k++)
+        show_client(on, &client);
 }

@@ -88,6 +88,16 @@ bool is_address(const char *word, address *at)
     return colon == NULL || colon == word || is_host(word, colon, at->host);
 }
 
+bool is_range(const char *word, range *it)
+{
+    uint32_t bits = HOST_BITS;
+    const char *end = strchr(word, '/');
+    if (end != NULL && !is_number(end + 1, HOST_BITS, &bits))
+        return false;
+    it->bits = (uint8_t)bits;
+    return is_host(word, end != NULL ? end : word + strlen(word), it->host);
+}
+
 const char *address_words(const address *at, char words[ADDRESS_ROOM])
 {
     snprintf(words, ADDRESS_ROOM, "%u.%u.%u.%u:%u", at->host[0], at->host[1], at->host[2], at->host[3], at->port);

@@ -7,6 +7,7 @@
 #include <stdint.h>
 
 #include "address.h"
+#include "range.h"
 
 /* Decimal digits, up to a number. */
 bool is_number(const char *word, uint32_t most, uint32_t *number);
@@ -19,6 +20,9 @@ bool is_node(const char *word, uint8_t node[6]);
 
 /* PORT, :PORT or ADDRESS:PORT, the address by its four numbers; without one it is 127.0.0.1. */
 bool is_address(const char *word, address *at);
+
+/* ADDRESS/BITS, or ADDRESS alone for all its bits. */
+bool is_range(const char *word, range *it);
 
 enum { ADDRESS_ROOM = 24 /* bytes of an address in words, with the 0 behind */ };
 

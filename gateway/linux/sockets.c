@@ -11,8 +11,8 @@
 #include <sys/socket.h>
 #include <unistd.h>
 
-/* Bytes that the system keeps for the gateway, while it sends to many. */
-enum { KEPT = 1 << 20, MOST_WAITING = 4 };
+/* Bytes that the system keeps: of what has come, while the gateway sends to many; and of what it sends, as for machines that don't answer. */
+enum { KEPT = 1 << 20, KEPT_SENT = 8 << 20, MOST_WAITING = 4 };
 
 /* Seconds of silence, after which a connection is asked whether it is there; from one question to the next; and how many there are. */
 enum { SILENT = 20, AGAIN = 20, TIMES = 2, MINUTE = SILENT + AGAIN * TIMES, MILLISECONDS = 1000 };
@@ -85,14 +85,25 @@ static int kept_if(bool is_well, int fd)
     return fd;
 }
 
+static bool set(int fd, int level, int option, int value)
+{
+    return setsockopt(fd, level, option, &value, sizeof value) == 0;
+}
+
+/* Asks for room, as much as the gateway has the right to: by the first option without the limit for all programs, by the second within it.
+ * (less is enough: then more is lost when many send at once) */
+static void keep(int fd, int without_limit, int within_limit, int size)
+{
+    (void)(set(fd, SOL_SOCKET, without_limit, size) || set(fd, SOL_SOCKET, within_limit, size));
+}
+
 int datagram_open(address *local, const address *remote)
 {
-    int kept = KEPT;
     int fd = unwaiting(socket(AF_INET, SOCK_DGRAM, 0));
     if (fd < 0)
         return -1;
-    /* (less is enough: then more is lost when many send at once) */
-    (void)!setsockopt(fd, SOL_SOCKET, SO_RCVBUF, &kept, sizeof kept);
+    keep(fd, SO_RCVBUFFORCE, SO_RCVBUF, KEPT);
+    keep(fd, SO_SNDBUFFORCE, SO_SNDBUF, KEPT_SENT);
     return kept_if(is_bound(fd, local) && (remote == NULL || is_connected(fd, remote)), fd);
 }
 
@@ -106,21 +117,16 @@ int listener_open(address *local)
     return kept_if(is_well && listen(fd, MOST_WAITING) == 0, fd);
 }
 
-static void set(int fd, int level, int option, int value)
-{
-    (void)!setsockopt(fd, level, option, &value, sizeof value);
-}
-
 /* Frames go out at once; and whether the other end is there is known after a minute. */
 static int plain_connection(int fd)
 {
     if (fd < 0)
         return fd;
-    set(fd, IPPROTO_TCP, TCP_NODELAY, 1);
-    set(fd, SOL_SOCKET, SO_KEEPALIVE, 1);
-    set(fd, IPPROTO_TCP, TCP_KEEPIDLE, SILENT);
-    set(fd, IPPROTO_TCP, TCP_KEEPINTVL, AGAIN);
-    set(fd, IPPROTO_TCP, TCP_KEEPCNT, TIMES);
+    (void)set(fd, IPPROTO_TCP, TCP_NODELAY, 1);
+    (void)set(fd, SOL_SOCKET, SO_KEEPALIVE, 1);
+    (void)set(fd, IPPROTO_TCP, TCP_KEEPIDLE, SILENT);
+    (void)set(fd, IPPROTO_TCP, TCP_KEEPINTVL, AGAIN);
+    (void)set(fd, IPPROTO_TCP, TCP_KEEPCNT, TIMES);
     return fd;
 }
 
@@ -201,10 +207,13 @@ bool datagram_send(int fd, const uint8_t *bytes, size_t length)
     return send(fd, bytes, length, MSG_NOSIGNAL) == (ssize_t)length;
 }
 
-bool datagram_send_to(int fd, const address *to, const uint8_t *bytes, size_t length)
+/* (Linux doesn't ask for the card of one who is known to be there. Else it would, a while after he was switched off, and keep what goes to
+ * him meanwhile, until nothing goes to anybody) */
+bool datagram_send_to(int fd, const address *to, const uint8_t *bytes, size_t length, bool is_there)
 {
     struct sockaddr_in at = to_system(to);
-    return sendto(fd, bytes, length, 0, (const struct sockaddr *)&at, sizeof at) == (ssize_t)length;
+    int how = is_there ? MSG_CONFIRM : 0;
+    return sendto(fd, bytes, length, how, (const struct sockaddr *)&at, sizeof at) == (ssize_t)length;
 }
 
 ssize_t connection_receive(int fd, uint8_t *bytes, size_t room)

@@ -2,6 +2,7 @@
 
 #include <errno.h>
 #include <string.h>
+#include <sys/random.h>
 
 FILE *file_open(const char *name, const char *how)
 {
@@ -11,6 +12,11 @@ FILE *file_open(const char *name, const char *how)
 ssize_t line_read(char **line, size_t *room, FILE *file)
 {
     return getline(line, room, file);
+}
+
+bool system_random(uint8_t *bytes, size_t count)
+{
+    return getrandom(bytes, count, 0) == (ssize_t)count;
 }
 
 const char *fault_words(void)

@@ -218,8 +218,10 @@ bool datagram_send(int fd, const uint8_t *bytes, size_t length)
     return connection_send(fd, bytes, length) == (ssize_t)length;
 }
 
-bool datagram_send_to(int fd, const address *to, const uint8_t *bytes, size_t length)
+/* (Windows keeps one datagram for a machine that doesn't answer, and no others wait for it) */
+bool datagram_send_to(int fd, const address *to, const uint8_t *bytes, size_t length, bool is_there)
 {
+    (void)is_there;
     struct sockaddr_in at = to_system(to);
     return answered(sendto((SOCKET)fd, (const char *)bytes, (int)length, 0, (const struct sockaddr *)&at, sizeof at)) == (int)length;
 }

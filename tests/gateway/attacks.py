@@ -8,7 +8,7 @@ import resource
 import sys
 import time
 
-from lab import EVERYONE, GAME, LIMIT, Clock, Counts, Gateway, address, left_out, packet, until
+from lab import ALL_THERE_IS, EVERYONE, GAME, LIMIT, Clock, Counts, Gateway, address, left_out, packet, until
 from players import GUEST, NETWORK, Party, Player
 from spaces import (CROWD, GATEWAY, INSIDE, NEIGHBOURS, STRANGERS, VICTIM, Field, Flood, build_flood, leave, own_addresses,
                     tried_inside)
@@ -22,7 +22,7 @@ MOST_OWN = 2  # of them for a datagram
 QUIET = 0.2  # seconds in which what was sent has come
 TUNNEL = f"network {NETWORK:X} 1 1424 dosbox 0.0.0.0:{GATEWAY[1]}\n"
 OTHER_PORT = GATEWAY[1] + 1
-TWO = TUNNEL + f"network 20 1 1424 dosbox 0.0.0.0:{OTHER_PORT}\n"
+TWO = TUNNEL.replace("dosbox", f"{ALL_THERE_IS} dosbox") + f"network 20 1 1424 dosbox 0.0.0.0:{OTHER_PORT}\n"
 VICTIMS_PORT = 5000
 
 

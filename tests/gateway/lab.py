@@ -6,8 +6,10 @@ comes is shown by what comes next: what is said in order is heard in order. Wher
 
 The programs lie in build/, where tools/gateway puts them; systems.py knows which is tried, and how it runs.
 """
+import functools
 import itertools
 import os
+import queue
 import random
 import re
 import select
@@ -15,7 +17,9 @@ import socket
 import struct
 import subprocess
 import tempfile
+import threading
 import time
+import weakref
 
 from systems import SYSTEM
 
@@ -25,8 +29,10 @@ ROOM = 1 << 20  # bytes that a socket of a test keeps, as far as the system allo
 EVERYONE = b"\xff" * 6
 NOBODY = bytes(6)
 GATEWAY = bytes([0, 0, 0, 0, 0, 1])  # its node on a network of the tunnel
+COOKIE = 0x02  # the first byte of what its pings name as their source
 GAME = 0x4003
 RIP, SAP = 0x453, 0x452
+TUNNEL = 2  # the socket of registrations and pings
 
 
 class Counts:
@@ -84,6 +90,15 @@ def source_of(bytes_):
 
 def socket_of(bytes_):
     return int.from_bytes(bytes_[16:18], "big")
+
+
+def is_ping(bytes_):
+    """Whether it is the gateway's question to one client whether he is there: for all, from a node that is nobody's."""
+    return len(bytes_) == 30 and socket_of(bytes_) == TUNNEL and bytes_[10:16] == EVERYONE and bytes_[22] == COOKIE
+
+
+def registration():
+    return packet(address(0, NOBODY, TUNNEL), address(0, NOBODY, TUNNEL), kind=0)
 
 
 def is_routers(bytes_):
@@ -239,26 +254,74 @@ class Clock:
 # ---- Clients of the tunnel ----
 
 
-class Client:
-    """A DOSBox, as far as the gateway sees it."""
+class Ears(threading.Thread):
+    """Hears for all clients, whatever their test does meanwhile: as in DOSBox, pings are answered all the while."""
 
-    def __init__(self, port, host="127.0.0.1", registers=True, to="127.0.0.1"):
+    def __init__(self):
+        super().__init__(daemon=True)
+        self.poll, self.clients = select.epoll(), weakref.WeakValueDictionary()
+        self.start()
+
+    def add(self, client):
+        self.clients[client.udp.fileno()] = client
+        self.poll.register(client.udp.fileno(), select.EPOLLIN)
+
+    def remove(self, client):
+        self.poll.unregister(client.udp.fileno())
+
+    def run(self):
+        while True:
+            for number, _ in self.poll.poll():
+                client = self.clients.get(number)
+                if client is not None:
+                    client.receive()
+
+
+@functools.cache
+def ears():
+    return Ears()
+
+
+class Client:
+    """A DOSBox, as far as the gateway sees it: it registers once, and answers pings."""
+
+    def __init__(self, port, host="127.0.0.1", registers=True, to="127.0.0.1", answers=True):
         self.udp = socket.socket(socket.AF_INET, socket.SOCK_DGRAM)
         self.udp.setsockopt(socket.SOL_SOCKET, socket.SO_RCVBUF, ROOM)
         self.udp.bind((host, 0))
         self.udp.connect((to, port))
         own, own_port = self.udp.getsockname()
         self.node = socket.inet_aton(own) + struct.pack(">H", own_port)
-        self.network = 0
+        self.network, self.answers, self.pings = 0, answers, 0
+        self.heard = queue.SimpleQueue()
+        ears().add(self)
         if registers:
             self.register()
 
-    def register(self):
-        self.send(packet(address(0, NOBODY, 2), address(0, NOBODY, 2), kind=0))
-        answer = self.hear(lambda it: socket_of(it) == 2)
+    def receive(self):
+        """What has come, for who hears it later; a ping of the gateway's is answered."""
+        try:
+            bytes_ = self.udp.recv(65536, socket.MSG_DONTWAIT)
+            self.pings += is_ping(bytes_)
+            if is_ping(bytes_) and self.answers:
+                self.send(packet(address(0, bytes_[22:28], TUNNEL), address(0, self.node, TUNNEL), kind=0))
+        except OSError:
+            return  # (nobody is there who hears it)
+        self.heard.put(bytes_)
+
+    def ask(self):
+        """Registers, and hears the answer."""
+        self.send(registration())
+        answer = self.hear(lambda it: socket_of(it) == TUNNEL and it[10:16] == self.node)
         assert answer is not None, "nobody answers a registration"
-        assert answer[10:16] == self.node and len(answer) == 30
+        assert answer[22:28] == GATEWAY and len(answer) == 30
         self.network = int.from_bytes(answer[6:10], "big")
+
+    def register(self):
+        """Comes in: who is a client hears what he says to himself. What is said before the gateway has his answer is lost."""
+        self.ask()
+        assert self.hear(is_ping) is not None, "who registers isn't pinged"
+        assert reaches(self, self) is not None, "who answers a ping isn't a client"
 
     def at(self, port=GAME):
         return address(self.network, self.node, port)
@@ -269,18 +332,19 @@ class Client:
     def say(self, to, data, **how):
         self.send(packet(to, self.at(), data, **how))
 
-    def hear(self, wanted=lambda it: not is_routers(it), patience=LIMIT):
+    def hear(self, wanted=lambda it: not is_routers(it) and not is_ping(it), patience=LIMIT):
         """The next packet that is wanted, or None."""
         end = time.monotonic() + patience
         while True:
-            ready, _, _ = select.select([self.udp], [], [], max(0, end - time.monotonic()))
-            if not ready:
+            try:
+                bytes_ = self.heard.get(timeout=max(0, end - time.monotonic()))
+            except queue.Empty:
                 return None
-            bytes_ = self.udp.recv(65536)
             if wanted(bytes_):
                 return bytes_
 
     def close(self):
+        ears().remove(self)
         self.udp.close()
 
 
@@ -351,6 +415,9 @@ def free_ports(count):
     return list(itertools.islice(filter(is_free, ports), count))
 
 
-def tunnels(count, first=0x10, extra=""):
-    """A configuration of some networks of the tunnel."""
-    return "".join(f"network {first + 0x10 * k:X} 1 1424 dosbox 127.0.0.1:0\n{extra}" for k in range(count))
+ALL_THERE_IS = "65535 65535"  # shares of a network that may fill the tables
+
+
+def tunnels(count, first=0x10, extra="", shares=""):
+    """A configuration of some networks of the tunnel, with lines below each."""
+    return "".join(f"network {first + 0x10 * k:X} 1 1424 {shares} dosbox 127.0.0.1:0\n{extra}" for k in range(count))

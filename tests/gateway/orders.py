@@ -27,8 +27,9 @@ def reports():
     with Gateway(tunnels(2)) as gate:
         a, b = Client(gate.ports[0x10]), Client(gate.ports[0x20])
         for k in range(1, 11):
+            a.say(address(0, EVERYONE, GAME), b"all")
             assert reaches(a, b)
-            assert gate.counted(0x10, "in") == k + 1, "with the registration"
+            assert gate.counted(0x10, "drop OtherSocket") == k
 
 
 def lines_come():

@@ -8,9 +8,8 @@ import socket
 import struct
 import time
 
-from lab import EVERYONE, GAME, LIMIT, NOBODY, ROOM, address, packet, socket_of
+from lab import EVERYONE, GAME, LIMIT, NOBODY, ROOM, TUNNEL, address, packet, socket_of
 
-TUNNEL = 2  # the socket of registrations and pings
 NETWORK = 0x10
 LIMIT_OF_LAST = 4  # seconds for a last word that is lost
 BETWEEN_LAST = 0.05  # seconds until a last word is said again

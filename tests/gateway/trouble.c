@@ -16,6 +16,7 @@
 #include <stdio.h>
 #include <stdlib.h>
 #include <string.h>
+#include <sys/random.h>
 #include <sys/socket.h>
 #include <time.h>
 #include <unistd.h>
@@ -63,6 +64,7 @@ TROUBLED(FILE *, fopen, NULL, (const char *a, const char *b), (a, b))
 TROUBLED(size_t, fwrite, 0, (const void *a, size_t b, size_t c, FILE *d), (a, b, c, d))
 TROUBLED(int, fflush, EOF, (FILE *a), (a))
 TROUBLED(ssize_t, getline, -1, (char **a, size_t *b, FILE *c), (a, b, c))
+TROUBLED(ssize_t, getrandom, -1, (void *a, size_t b, unsigned c), (a, b, c))
 TROUBLED(void *, malloc, NULL, (size_t a), (a))
 TROUBLED(void *, realloc, NULL, (void *a, size_t b), (a, b))
 

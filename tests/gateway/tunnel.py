@@ -1,14 +1,17 @@
 """Clients of DOSBox' tunnel, by sockets on this machine's own addresses."""
 import os
+import re
+import socket
 import struct
 import subprocess
 import time
 
-from lab import (EVERYONE, GAME, GATEWAY, LIMIT, NOBODY, Client, Counts, Gateway, address, comes_next, free_ports, is_routers, packet,
-                 reaches, reaches_again, rip_response, sap_response, socket_of, tunnels)
+from lab import (COOKIE, EVERYONE, GAME, GATEWAY, LIMIT, ROOM, TUNNEL, Client, Counts, Gateway, address, comes_next, free_ports, is_ping,
+                 is_routers, packet, reaches, reaches_again, registration, rip_response, sap_response, socket_of, tunnels, until)
 from systems import SYSTEM, TOP
 
 DECODER = os.path.join(TOP, "crates", "ipxr", "out", "ipxr")  # (where it is built)
+IP_PKTINFO = 8  # as Linux numbers it
 
 
 def two_clients():
@@ -38,31 +41,179 @@ def three_clients():
 
 
 def seventy_clients():
-    """Of 70 clients the 64 that were heard last are there; one that left comes again by what it sends."""
+    """Where there is room for 64 clients, of 70 the first 64 are there and stay, and the others aren't answered."""
+    with Gateway(tunnels(1, extra="clients 64\n")) as gate:
+        clients = [Client(gate.ports[0x10]) for _ in range(64)]
+        for _ in range(6):
+            late = Client(gate.ports[0x10], registers=False)
+            late.send(registration())
+            late.network = 0x10
+            late.say(clients[0].at(), b"late")
+        assert all(comes_next(one, other) for one, other in zip(clients, clients[1:] + clients[:1]))
+        gate.until_counted(0x10, "no room for a client", 12)
+        assert late.heard.empty() and gate.counted(0x10, "clients") == 64
+
+
+def of_one_address():
+    """Of one address no more come than there may be; others come all the same."""
+    with Gateway(tunnels(1, extra="clients 10 2\n")) as gate:
+        a, b = Client(gate.ports[0x10]), Client(gate.ports[0x10])
+        third = Client(gate.ports[0x10], registers=False)
+        third.send(registration())
+        gate.until_counted(0x10, "no room for a client", 1)
+        other = Client(gate.ports[0x10], host="127.0.0.2")
+        assert reaches(a, other) and reaches(other, b) and third.heard.empty()
+
+
+class House:
+    """256 clients at a port, each with an address of its own."""
+
+    SIZE, AT_ONCE = 256, 64
+
+    def __init__(self, port, number):
+        self.udp = socket.socket(socket.AF_INET, socket.SOCK_DGRAM)
+        self.udp.setsockopt(socket.SOL_SOCKET, socket.SO_RCVBUF, ROOM)
+        self.udp.setsockopt(socket.IPPROTO_IP, IP_PKTINFO, 1)
+        self.udp.settimeout(LIMIT)
+        self.udp.bind(("0.0.0.0", 0))
+        self.to, self.number = ("127.0.0.1", port), number
+
+    def host(self, k):
+        return bytes([127, 10 + self.number, 0, k])
+
+    def node(self, k):
+        return self.host(k) + struct.pack(">H", self.udp.getsockname()[1])
+
+    def send(self, k, bytes_):
+        source = struct.pack("i4s4s", 0, self.host(k), bytes(4))
+        self.udp.sendmsg([bytes_], [(socket.IPPROTO_IP, IP_PKTINFO, source)], 0, self.to)
+
+    def say(self, to, data):
+        """The first says something."""
+        self.send(0, packet(to, address(0, self.node(0), GAME), data))
+
+    def hear(self, wanted, count):
+        """Waits until so many have heard what is wanted; pings are answered meanwhile. Returns who they are."""
+        found = set()
+        while len(found) < count:
+            bytes_, about, _, _ = self.udp.recvmsg(2048, 256)
+            k = about[0][2][11]
+            if is_ping(bytes_):
+                self.send(k, packet(address(0, bytes_[22:28], TUNNEL), address(0, self.node(k), TUNNEL), kind=0))
+            if wanted(bytes_):
+                found.add(k)
+        return found
+
+    def enter(self):
+        """All come in, some at once."""
+        for first in range(0, self.SIZE, self.AT_ONCE):
+            some = range(first, first + self.AT_ONCE)
+            for k in some:
+                self.send(k, registration())
+            assert self.hear(is_ping, self.AT_ONCE) == set(some)
+            for k in some:
+                self.send(k, packet(address(0, self.node(k), GAME), address(0, self.node(k), GAME), b"I"))
+            assert self.hear(lambda it: it[30:] == b"I", self.AT_ONCE) == set(some)
+
+
+def four_thousand_clients():
+    """As many clients as there may be, of an address each, are there, and one broadcast comes to all."""
+    with Gateway(tunnels(1, extra="clients 4096\n")) as gate:
+        houses = [House(gate.ports[0x10], number) for number in range(16)]
+        for house in houses:
+            house.enter()
+        assert gate.counted(0x10, "clients") == 16 * House.SIZE == 4096
+        late = Client(gate.ports[0x10], registers=False)
+        late.send(registration())
+        gate.until_counted(0x10, "no room for a client", 1)
+        houses[0].say(address(0, EVERYONE, GAME), b"all")
+        for house in houses:
+            heard = house.hear(lambda it: it[30:] == b"all", House.SIZE - (house is houses[0]))
+            assert heard == set(range(house is houses[0], House.SIZE)), "each but who says it"
+
+
+def allowed():
+    """Who isn't among the addresses that are allowed, or trusted, is not answered."""
+    extra = "allow 127.0.0.8/29 127.1.0.1\nallow 127.2.0.0/16\ntrust 127.3.0.1\n"
+    with Gateway(tunnels(1, extra=extra)) as gate:
+        for k, host in enumerate(("127.0.0.7", "127.0.0.16", "127.1.0.2", "127.3.0.2", "127.1.255.255"), 1):
+            stranger = Client(gate.ports[0x10], host=host, registers=False)
+            stranger.send(registration())
+            gate.until_counted(0x10, "address not allowed", k)
+            assert stranger.heard.empty()
+        a = Client(gate.ports[0x10], host="127.0.0.8")
+        for host in ("127.0.0.15", "127.1.0.1", "127.2.255.255", "127.3.0.1"):
+            assert reaches(a, Client(gate.ports[0x10], host=host)), host
+
+
+def trusted():
+    """A program that answers no ping is a client by registering, or by speaking, where its address is trusted."""
+    with Gateway(tunnels(1, extra="trust 127.0.0.2\n")) as gate:
+        a = Client(gate.ports[0x10])
+        mute, registered = (Client(gate.ports[0x10], host="127.0.0.2", registers=False, answers=False) for _ in range(2))
+        registered.ask()
+        assert reaches(a, registered) and reaches(registered, a)
+        mute.network = 0x10
+        assert reaches(mute, a) and reaches(a, mute)
+        report = gate.report()
+        assert f"{mute.node.hex().upper()}, trusted, heard " in report and f"{a.node.hex().upper()}, answered " in report
+
+
+def strangers():
+    """Who answers no ping is no client: nobody hears it, and it gets what is told to who registers, and not what the others say."""
     with Gateway(tunnels(2)) as gate:
-        clients = [Client(gate.ports[0x10]) for _ in range(70)]
-        far = Client(gate.ports[0x20])
-        assert gate.counted(0x10, "clients") == 64
-        for client in clients[:6]:
-            far.say(client.at(), b"gone")
-        assert all(comes_next(far, it) for it in clients[6:])
-        assert gate.counted(0x10, "no such client") == 6
-        assert reaches(clients[0], far) and comes_next(far, clients[0]), "what was for it while it was gone is lost"
-        far.say(clients[6].at(), b"gone")
-        assert reaches(far, clients[7]) and gate.counted(0x10, "no such client") == 7
-        assert gate.counted(0x10, "clients") == 64
+        a, far = Client(gate.ports[0x10]), Client(gate.ports[0x20])
+        mute = Client(gate.ports[0x10], registers=False, answers=False)
+        mute.ask()
+        mute.say(a.at(), b"?")
+        mute.say(far.at(), b"?")
+        mute.say(address(0, EVERYONE, GAME), b"?")
+        guess = bytes([COOKIE]) + os.urandom(5)
+        mute.send(packet(address(0, guess, TUNNEL), address(0, mute.node, TUNNEL), kind=0))
+        gate.until_counted(0x10, "from a stranger", 4)
+        a.say(address(0, EVERYONE, GAME), b"all")
+        assert comes_next(far, a) and comes_next(a, far)
+        mute.say(a.at(), b"?")
+        pings = [mute.heard.get(timeout=LIMIT) for _ in range(6)]
+        assert all(map(is_ping, pings)), "a ping for each that it said, and nothing else"
+        assert gate.counted(0x10, "clients") == 1 and mute.heard.empty()
+        assert len({it[22:28] for it in pings}) <= 2, "of one minute, or of two"
+
+
+def who_comes_and_leaves():
+    """A line tells who comes, without --log too, and the report who is there."""
+    with Gateway(tunnels(1)) as gate:
+        node = Client(gate.ports[0x10]).node.hex().upper()
+        assert gate.told(f" client {node} comes to 00000010")
+        assert re.search(rf"(?m)^  clients: 1 of 256\n    {node}, answered \d+ s ago$", gate.report())
+
+
+def shares():
+    """What the clients of a network advertise has a share of the tables, as its line says it, or 64 routes and 32 services."""
+    for words, routes, services in ("", 64, 32), ("70 0", 70, 0):
+        with Gateway(tunnels(1, shares=words)) as gate:
+            a = Client(gate.ports[0x10])
+            for first in range(0, 100, 50):
+                a.send(rip_response(0x10, a.node, [(0x1000 + first + k, 1, 2) for k in range(50)]))
+            for first in range(0, 42, 7):
+                entries = [(4, f"S{first + k:02}", 0x1000, bytes(5) + b"\1", 0x451, 2) for k in range(7)]
+                a.send(sap_response(0x10, a.node, entries))
+            assert reaches(a, a)
+            report = gate.report()
+            assert f"routes: {routes}\n" in report and f"services: {services}\n" in report, report
 
 
 def starts_again():
-    """A gateway that is killed and started again hears its clients, who don't register again."""
+    """A gateway that is killed and started again hears its clients, who don't register again, once they have answered a ping."""
     with Gateway("".join(f"network {n} 1 1424 dosbox {port}\n" for n, port in zip((10, 20), free_ports(2)))) as gate:
         a, b = Client(gate.ports[0x10]), Client(gate.ports[0x20])
         assert reaches(a, b)
         gate.run.kill()
         gate.run.communicate()
         gate.start(gate.program)
-        b.say(address(0, EVERYONE, GAME), b"here")
-        gate.until_counted(0x20, "clients", 1)
+        for client in a, b:
+            client.say(address(0, EVERYONE, GAME), b"here")
+            gate.until_counted(client.network, "clients", 1)
         assert reaches(a, b) and reaches(b, a)
 
 
@@ -89,16 +240,21 @@ def false_sources():
         assert comes_next(a, b) and gate.counted(0x10, "clients") == 2
 
 
+def is_of_pings(bytes_):
+    """Whether it is for the tunnel's socket, and no ping of the gateway's own."""
+    return socket_of(bytes_) == TUNNEL and not is_ping(bytes_)
+
+
 def ping():
     """IPXNET PING is answered by the gateway, and handed to the other clients."""
     with Gateway(tunnels(1)) as gate:
         a, b = Client(gate.ports[0x10]), Client(gate.ports[0x10])
         a.send(packet(address(0, EVERYONE, 2), a.at(2), kind=0))
-        answer = a.hear(lambda it: socket_of(it) == 2)
+        answer = a.hear(is_of_pings)
         assert answer is not None and answer[22:28] == GATEWAY
-        assert b.hear(lambda it: socket_of(it) == 2)[22:28] == a.node
+        assert b.hear(is_of_pings)[22:28] == a.node
         b.send(packet(address(0, a.node, 2), b.at(2), kind=0))
-        assert a.hear(lambda it: socket_of(it) == 2)[22:28] == b.node
+        assert a.hear(is_of_pings)[22:28] == b.node
 
 
 def all_sizes():
@@ -109,7 +265,7 @@ def all_sizes():
             a.send(packet(b.at(), a.at())[:size])
         a.send(packet(b.at(), a.at(), length=29))
         a.send(packet(b.at(), a.at(), length=31))
-        assert comes_next(a, b) and gate.counted(0x10, "drop Malformed:Short") == 5
+        assert comes_next(a, b) and gate.counted(0x10, "no IPX") == 7
         for size in (30, 31, 576, 1423, 1424):
             assert len(reaches(a, b, os.urandom(size - 30))) == size
         for size in (1425, 2047, 2048, 2049, 9000, 65507):
@@ -171,10 +327,10 @@ def flood():
         for k in range(20000):
             junk.send(os.urandom(k % 1500))
         for _ in range(2000):
-            junk.send(packet(address(0, NOBODY, 2), address(0, NOBODY, 2), kind=0))
+            junk.send(registration())
             a.say(address(0, EVERYONE, GAME), b"flood")
         for _ in range(200):
-            Client(gate.ports[0x10], registers=False).send(packet(address(0, NOBODY, 2), address(0, NOBODY, 2), kind=0))
+            Client(gate.ports[0x10], registers=False).send(registration())
         assert reaches_again(a, b) and reaches_again(b, a)
 
 
@@ -218,17 +374,25 @@ def counts_and_lines():
         assert b.hear() is not None and c.hear() is not None
         a.say(b.at(), b"one")
         assert b.hear() is not None
-        report = gate.report()
-        first = next(k for k, it in enumerate(gate.lines) if " comes to " in it)
-        lines = {way: sum(f" {way} 00000010 " in it for it in gate.lines[first:]) for way in ("in", "out")}
-        assert lines["in"] == 2 and gate.counted(0x10, "in", report) == 5, "three registrations are counted, and have no line"
-        assert gate.counted(0x10, "out", report) == lines["out"] + 5, "so have their answers, and what is handed on"
+
+        def are_right():
+            report = gate.report()
+            pings = sum(it.pings for it in (a, b, c))
+            first = next(k for k, it in enumerate(gate.lines) if " comes to " in it)
+            lines = {way: sum(f" {way} 00000010 " in it for it in gate.lines[first:]) for way in ("in", "out")}
+            assert lines["in"] == 3 + 2, "what each says to itself, and what one says"
+            # (registrations, and answers to pings, are counted, and have no line; so are answers, pings, and what is handed on)
+            counted = {way: gate.counted(0x10, way, report) for way in lines}
+            return counted == {"in": lines["in"] + 3 + pings, "out": lines["out"] + 3 + pings + lines["in"]}
+
+        until(are_right, "counts as there are lines")
 
 
 def main():
     counts = Counts()
-    for test in (two_clients, three_clients, seventy_clients, starts_again, control_is_cleared, false_sources, ping, all_sizes,
-                 nobody_there, neighbours, extended, flood, the_capture, counts_and_lines):
+    for test in (two_clients, three_clients, seventy_clients, of_one_address, four_thousand_clients, allowed, trusted, strangers,
+                 who_comes_and_leaves, shares, starts_again, control_is_cleared, false_sources, ping, all_sizes, nobody_there, neighbours,
+                 extended, flood, the_capture, counts_and_lines):
         counts.run(test)
     return counts
 
