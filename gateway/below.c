@@ -49,15 +49,14 @@ static bool read_most(reader *r, uint32_t most, const char *what, uint16_t *numb
 static void read_clients(reader *r, network_setting *it)
 {
     if (it->clients_line != 0) {
-        reader_fault(r, r->words[0], "expected once below a network, line %zu has it", it->clients_line);
+        reader_fault(r, r->words[0], "expected no more than once, line %zu has it", it->clients_line);
         return;
     }
-    it->clients_line = r->line;
     if (!read_most(r, IPXR_MOST_CLIENTS, "", &it->clients))
         return;
     it->per_address = it->clients;
-    if (r->next == r->count || read_most(r, it->clients, " of one address", &it->per_address))
-        (void)reader_ends(r);
+    if ((r->next == r->count || read_most(r, it->clients, " of one address", &it->per_address)) && reader_ends(r))
+        it->clients_line = r->line;
 }
 
 static bool read_range(reader *r, ranges *into)
