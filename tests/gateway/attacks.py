@@ -16,6 +16,7 @@ from systems import SYSTEM
 from troubles import ROUTES, SERVICES, advertise, is_held
 
 SECONDS = 2  # that a flood lasts
+LOOKED_FOR = 12  # seconds in which the kernel finds out that somebody is gone, and has looked for him again
 PATIENCE = 33  # seconds after which a client that doesn't answer is gone
 OWN = 30  # bytes of the gateway's own answers and pings
 MOST_OWN = 2  # of them for a datagram
@@ -210,6 +211,19 @@ def gone(number):
         none(*faults)
 
 
+def just_gone(number):
+    """While the kernel looks for players who have just switched their PCs off, what the others say isn't lost."""
+    with Playground(more=number) as it:
+        # (it looks after seconds already, and not when they would have left)
+        for name, value in ("base_reachable_time_ms", 1000), ("delay_first_probe_time", 1):
+            it.field.gate.set(f"ipv4/neigh/g0/{name}", value)
+        for guest in invite(it):
+            guest.close()
+        leave(it.free)
+        it.party.begin_again(1000)
+        none(it.play(during(LOOKED_FOR)))
+
+
 # ---- Much for little ----
 
 
@@ -266,6 +280,7 @@ TESTS = [
     false_sources,
     named("4 players switch their PCs off", gone, 4),
     named("8 players switch their PCs off", gone, 8),
+    named("8 players have just switched their PCs off", just_gone, 8),
     named("SAP's queries in a victim's name, with full tables", asked_for_others, "sap"),
     named("RIP's requests in a victim's name, with full tables", asked_for_others, "rip"),
     forged_clients,

@@ -304,10 +304,13 @@ class Client:
             bytes_ = self.udp.recv(65536, socket.MSG_DONTWAIT)
             self.pings += is_ping(bytes_)
             if is_ping(bytes_) and self.answers:
-                self.send(packet(address(0, bytes_[22:28], TUNNEL), address(0, self.node, TUNNEL), kind=0))
+                self.answer(bytes_)
         except OSError:
             return  # (nobody is there who hears it)
         self.heard.put(bytes_)
+
+    def answer(self, ping):
+        self.send(packet(address(0, ping[22:28], TUNNEL), address(0, self.node, TUNNEL), kind=0))
 
     def ask(self):
         """Registers, and hears the answer."""

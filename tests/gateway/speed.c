@@ -5,6 +5,7 @@
 #define _POSIX_C_SOURCE 200809L
 #include <arpa/inet.h>
 #include <signal.h>
+#include <stdbool.h>
 #include <stdint.h>
 #include <stdio.h>
 #include <stdlib.h>
@@ -52,17 +53,37 @@ static double now(void)
     return (double)at.tv_sec + (double)at.tv_nsec / 1e9;
 }
 
-/* Registers with the gateway, and tells the address that it gave. */
+/* Answers a ping of the gateway's: for all, from the node to which the answer goes. Returns whether it was one. */
+static bool answers(int fd, const struct sockaddr_in *gateway, const uint8_t *bytes, const uint8_t own[10])
+{
+    uint8_t answer[HEADER] = {0xFF, 0xFF, 0, HEADER, [17] = 2, [29] = 2};
+    if (bytes[17] != 2 || bytes[10] != 0xFF)
+        return false;
+    memcpy(answer + 10, bytes + 22, 6);
+    memcpy(answer + 18, own, 10);
+    sendto(fd, answer, HEADER, 0, (const struct sockaddr *)gateway, sizeof *gateway);
+    return true;
+}
+
+/* The same of all that has come. */
+static void answer_all(int fd, const struct sockaddr_in *gateway, const uint8_t own[10])
+{
+    uint8_t bytes[2048];
+    while (recv(fd, bytes, sizeof bytes, MSG_DONTWAIT) >= HEADER)
+        answers(fd, gateway, bytes, own);
+}
+
+/* Registers with the gateway, tells the address that it gave, and answers its ping. */
 static int entered(const struct sockaddr_in *gateway, uint8_t address[10])
 {
     uint8_t bytes[SIZE] = {0xFF, 0xFF, 0, HEADER, [17] = 2, [29] = 2};
     int fd = opened();
     sendto(fd, bytes, HEADER, 0, (const struct sockaddr *)gateway, sizeof *gateway);
     while (recv(fd, bytes, sizeof bytes, 0) >= HEADER)
-        if (bytes[17] == 2) {
+        if (bytes[17] == 2 && bytes[10] != 0xFF)
             memcpy(address, bytes + 6, 10);
+        else if (answers(fd, gateway, bytes, address))
             return fd;
-        }
     return -1;
 }
 
@@ -122,6 +143,8 @@ int main(int count, char **words)
     pid_t child = reflecting(between, &end);
     for (int round = 0; round < ROUNDS; round++)
         for (int k = 0; k < 2; k++) {
+            answer_all(from, &first, a);
+            answer_all(to, &second, b);
             best[0][k] = larger(best[0][k], measured(from, &first, to, packet, k == 0 ? 1 : MOST_AT_ONCE));
             best[1][k] = larger(best[1][k], measured(from, &by, to, packet, k == 0 ? 1 : MOST_AT_ONCE));
         }

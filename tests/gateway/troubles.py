@@ -6,8 +6,8 @@ import subprocess
 import time
 
 from frames import Station, Tcp, Udp
-from lab import (ALL_THERE_IS, AGAIN, EVERYONE, GAME, LIMIT, Client, Clock, Counts, Gateway, address, fresh, packet, reaches, reaches_again,
-                 rip_response, sap_response, says, tunnels, until)
+from lab import (ALL_THERE_IS, AGAIN, EVERYONE, GAME, LIMIT, Client, Clock, Counts, Gateway, address, comes_next, fresh,
+                 is_ping, reaches, reaches_again, registration, rip_response, sap_response, says, tunnels, until)
 from links import listening
 from systems import SYSTEM
 
@@ -175,9 +175,84 @@ def full_tables():
             assert gate.counted(network, "not sent", report) == 0
 
 
+def let_pass(gate, clock, seconds, *present):
+    """Seconds pass one by one; meanwhile those who are present answer what they are asked."""
+    for _ in range(seconds):
+        clock.let_pass(1)
+        gate.report()
+        # (what each says to itself comes behind its pings)
+        assert all(reaches(it, it) for it in present), "it isn't a client any more"
+
+
+def who_is_silent():
+    """Who answers no ping leaves in the 30th second, who is trusted and says nothing in the 180th; then there is room. Others stay."""
+    clock = Clock()
+    text = tunnels(1, extra="clients 3\ntrust 127.0.0.2\n")
+    with Gateway(text, SYSTEM.fast, environment=clock.environment()) as gate:
+        stays, goes = Client(gate.ports[0x10]), Client(gate.ports[0x10])
+        trusted = Client(gate.ports[0x10], host="127.0.0.2", registers=False, answers=False)
+        trusted.ask()
+        goes.answers = False
+        let_pass(gate, clock, 29, stays)
+        late = Client(gate.ports[0x10], registers=False)
+        late.send(registration())
+        gate.until_counted(0x10, "no room for a client", 1)
+        assert gate.counted(0x10, "clients") == 3
+        let_pass(gate, clock, 1, stays)
+        assert gate.told(" leaves ").endswith(f" client {goes.node.hex().upper()} leaves 00000010")
+        late.register()
+        let_pass(gate, clock, 149, stays, late)
+        assert gate.counted(0x10, "clients") == 3
+        let_pass(gate, clock, 1, stays, late)
+        assert gate.told(" leaves ").endswith(f" client {trusted.node.hex().upper()} leaves 00000010")
+        assert gate.counted(0x10, "clients") == 2
+
+
+def stands_still():
+    """A gateway that stood still for an hour puts nobody out: its clients are asked as after a second, and their answers count."""
+    clock = Clock()
+    with Gateway(tunnels(1), SYSTEM.fast, environment=clock.environment()) as gate:
+        a, b = Client(gate.ports[0x10]), Client(gate.ports[0x10])
+        clock.let_pass(3600)
+        assert gate.counted(0x10, "clients") == 2
+        let_pass(gate, clock, 35, a, b)
+        assert not any(" leaves " in it for it in gate.lines)
+
+
+def late_answers():
+    """An answer to a ping of the last minute counts, an older one doesn't."""
+    clock = Clock()
+    with Gateway(tunnels(1), SYSTEM.fast, environment=clock.environment()) as gate:
+        slow, slower = (Client(gate.ports[0x10], registers=False, answers=False) for _ in range(2))
+        pings = []
+        for client in slow, slower:
+            client.ask()
+            pings.append(client.hear(is_ping))
+        let_pass(gate, clock, 119)
+        slow.answer(pings[0])
+        gate.until_counted(0x10, "clients", 1)
+        let_pass(gate, clock, 1)
+        slower.answer(pings[1])
+        gate.until_counted(0x10, "from a stranger", 1)
+        assert gate.counted(0x10, "clients") == 1
+
+
+def one_is_refused():
+    """What the system doesn't send to a client is counted, to this client too; the others get it."""
+    clock = Clock()
+    # (before that, each of three has an answer, a ping, and what it says to itself)
+    trouble = {"TROUBLE_CALL": "sendto", "TROUBLE_AT": "10", "TROUBLE_ERRNO": str(errno.ENOBUFS)}
+    with Gateway(tunnels(1), SYSTEM.troubled, environment={**clock.environment(), **trouble}) as gate:
+        a, b, c = (Client(gate.ports[0x10]) for _ in range(3))
+        a.say(address(0, EVERYONE, GAME), b"all")
+        assert c.hear()[30:] == b"all" and comes_next(a, b)
+        report = gate.report()
+        assert f"{b.node.hex().upper()}, answered 0 s ago, 1 not sent\n" in report and gate.counted(0x10, "lost: not sent", report) == 1, report
+
+
 def main():
     counts = Counts()
-    for test in (each_fails, an_hour, full_tables):
+    for test in (each_fails, one_is_refused, who_is_silent, stands_still, late_answers, an_hour, full_tables):
         counts.run(test)
     return counts
 
