@@ -1,4 +1,4 @@
-/* DOSBox' tunnel: a datagram is an IPX packet, and the gateway is its server. Who is a client, and who gets what, is the library's to say. */
+/* DOSBox' tunnel: a datagram is an IPX packet, and the gateway is its server. Who is a client, and who gets what, the library says. */
 #ifndef TUNNEL_H
 #define TUNNEL_H
 

@@ -11,7 +11,7 @@
 #include <sys/socket.h>
 #include <unistd.h>
 
-/* Bytes that the system keeps: of what has come, while the gateway sends to many; and of what it sends, as for machines that don't answer. */
+/* Bytes that the system keeps: of what has come, while the gateway sends to many; and of what it sends, as to machines that are gone. */
 enum { KEPT = 1 << 20, KEPT_SENT = 8 << 20, MOST_WAITING = 4 };
 
 /* Seconds of silence, after which a connection is asked whether it is there; from one question to the next; and how many there are. */

@@ -6,7 +6,7 @@ import subprocess
 import tempfile
 import time
 
-from lab import Counts, Gateway, address, free_ports, left_out, packet, tunnels, until
+from lab import Client, Counts, Gateway, address, free_ports, left_out, packet, reaches, tunnels, until
 from players import NETWORK, Player
 from systems import TOP
 
@@ -25,7 +25,7 @@ ipx=true
 [autoexec]
 mount c {folder}
 c:
-ipxnet connect 127.0.0.1 {port}
+ipxnet connect 127.0.0.1 {port} > connect.txt
 """
 PROGRAM = """{name}.com > {name}.txt
 exit
@@ -51,16 +51,28 @@ class DosBox:
         how = {"stdin": subprocess.DEVNULL, "stdout": subprocess.DEVNULL, "stderr": subprocess.DEVNULL}
         self.run = subprocess.Popen(["dosbox", "-conf", configuration], env=environment, **how)
 
+    def text(self, name):
+        """What stands in a file that DOSBox wrote, or nothing."""
+        for file in os.listdir(self.folder):
+            if file.lower() == f"{name}.txt":
+                with open(os.path.join(self.folder, file), encoding="ascii", errors="replace") as it:
+                    return it.read()
+        return ""
+
+    def connects(self):
+        """What IPXNET said to who connected, once it has said it."""
+        line = r"IPX Tunneling Client .*\."
+        return until(lambda: time.sleep(BETWEEN_LOOKS) or re.search(line, self.text("connect")), "IPXNET says whether it is connected")[0]
+
     def printed(self):
         """What the program printed, once DOSBox has ended."""
         try:
             self.run.wait(timeout=MOST)
         finally:
             self.kill()
-        files = [it for it in os.listdir(self.folder) if it.lower() == f"{self.name}.txt"]
-        assert files, f"{self.name} printed nothing"
-        with open(os.path.join(self.folder, files[0]), encoding="ascii", errors="replace") as it:
-            return it.read()
+        printed = self.text(self.name)
+        assert printed, f"{self.name} printed nothing"
+        return printed
 
     def kill(self):
         if self.run.poll() is None:
@@ -89,6 +101,24 @@ def two_dosboxes():
         assert replied.splitlines()[-1] == "REPLY ends", replied
         report = gate.report()
         assert "0004 REPLY at 00000020." in report and gate.counted(0x20, "clients", report) == 1
+
+
+def no_room():
+    """A DOSBox that has room says that it is connected. One that has none, and one that isn't allowed, say that they failed to connect."""
+    with tempfile.TemporaryDirectory() as folder:
+        for name, extra, said in (
+            ("room", "", "connected"),
+            ("full", "clients 1\n", "failed to connect"),
+            ("other", "allow 127.0.0.2\n", "failed to connect"),
+        ):
+            with Gateway(tunnels(1, extra=extra)) as gate:
+                first = Client(gate.ports[0x10], host="127.0.0.2")
+                box = DosBox(folder, name, gate.ports[0x10], has_program=False)
+                try:
+                    assert box.connects() == f"IPX Tunneling Client {said} to server at 127.0.0.1.", box.connects()
+                    assert reaches(first, first), "who is there stays"
+                finally:
+                    box.kill()
 
 
 def told(gate, what):
@@ -177,6 +207,7 @@ def main():
         left_out("real DOSBox", f"no {missing[0]}")
     else:
         counts.run(two_dosboxes)
+        counts.run(no_room)
         counts.run(come_and_go)
     return counts
 
