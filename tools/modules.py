@@ -148,7 +148,8 @@ def kept(crate):
     with_it, without = KEEPERS[crate](f"{name}.new")
     if not filecmp.cmp(with_it, without, shallow=False):
         files = [os.path.relpath(it, TOP) for it in (with_it, without)]
-        fail(f"{files[0]}, built for any x86-64 with its module kept, isn't {files[1]}, byte for byte")
+        how = "Where a source has changed since that was made: make embed, and again"
+        fail(f"{files[0]}, built for any x86-64 with its module kept, isn't {files[1]}, byte for byte. {how}")
     with contextlib.suppress(FileNotFoundError):
         os.remove(f"{name}.stamp")  # (a run that ends here leaves no module with the stamp of another)
     for end in ("bc", "words"):
