@@ -14,7 +14,7 @@ pub enum Fault {
     /// There is no packet of that number.
     #[error("no such packet")]
     NoPacket,
-    /// There is no route or service of that number.
+    /// There is no record of that number.
     #[error("no such record")]
     NoRecord,
     /// The packet is longer than the buffer.

@@ -1,4 +1,4 @@
-//! The router for C, and for whatever can call C: a static library, whose header is `include/ipxr.h`.
+//! The router for C, and for whatever can call C: a static library, whose headers are `include/ipxr.h` and `include/ipxr_tunnel.h`.
 //!
 //! - C holds a router by a `RouterHandle`: a flag and a pointer. All bytes 0 are a handle without a router.
 //! - `Handle` and `Cell` serve any machine, and are proved once. What crosses to C may have no type parameter, so each kind of machine
@@ -6,13 +6,17 @@
 //! - Each export answers a number (`specs/Codes`), and its clause says what it did, by the definitions of `ipx_router`: an event
 //!   was taken (`Happens`), a router was made (`Makes`), a packet was copied out (`Copies`), a record was read (`Reads`). Below 0
 //!   nothing happened.
-//! - How many ports, routes and services a router can have stands in `sizes`, whose constants `specs/Sizes` names. `tools/sized`
-//!   writes that file anew for a library of other sizes.
+//! - How many ports, routes and services a router can have, and how many clients a tunnel, stands in `sizes`, whose constants
+//!   `specs/Sizes` names. `tools/sized` writes that file anew for a library of other sizes.
+//! - A tunnel of DOSBox' is the second kind of machine: `TunnelMachine` has the tunnel of `ipx_tunnel` and the lists of what came of
+//!   its last event, which are filled where they lie (`TunnelMakes`, `TunnelEvents`, `TunnelReads`). Broadcasts are copied without
+//!   one (`Extends`).
 //! - Frames of Ethernet are read and written as `ipx_capture` does, by the numbers of their kinds (`Kinds`).
 //! - Packets are written by the writers of `ipx_wire`, of values that C gives (`Writes`).
 //! - `cell` is the only place with a raw pointer; its proofs, and those alone, are walks by hand.
 //! - A handle isn't `Drop`: what doesn't hand its machine on, or put it into an empty one, doesn't compile or isn't proved. So no
-//!   call loses a router. That `ipxr_free` and `ipxr_make` free is one line in `making`, `drop(machine)`, which no clause can say.
+//!   call loses a router. That `ipxr_free` and `ipxr_make` free is one line in `making`, `drop(machine)`, which no clause can say; for
+//!   tunnels it is one in `tunnel_making`.
 #![tactic(auto)]
 
 mod cell;
