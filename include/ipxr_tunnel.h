@@ -17,8 +17,8 @@
  * PLACES. A place is where datagrams come from and go to: six bytes, the four of the IPv4 address and the two of the port, as they lie on
  * the wire. It is its client's node on the tunnel's network.
  *
- * COOKIES. A tunnel sends a stranger one ping, and makes it a client only where the answer comes to the ping's source node, the cookie of
- * that place. So nobody becomes a client at a place where he doesn't hear. Cookies are yours to make: a keyed hash of the place and the
+ * COOKIES. A tunnel answers a stranger with a ping, and makes it a client only where its answer goes to the ping's source node, the cookie
+ * of that place. So nobody becomes a client at a place where he doesn't hear. Cookies are yours to make: a keyed hash of the place and the
  * minute, such as SipHash, so that nobody can guess one, with the first byte 2, so that it is no node of a card. Each datagram is given
  * with the cookie of this minute and that of the last.
  *
@@ -107,7 +107,8 @@ IPXR_CALL void ipxr_tunnel_free(ipxr_tunnel *tunnel);
 /* ---- Events ----
  * What came of an event is read by the calls below it, until the next event. No event takes memory. IPXR_NO_TUNNEL: nothing was done. */
 
-/* A datagram came. `bytes` is what it held, any bytes at all; they are only read, and only during the call. Returns what it said. */
+/* A datagram came. `bytes` is what it held, any bytes at all; they are only read, and only during the call. Leave out one with a packet that
+ * is longer than your network carries: it would be carried. Returns what it said. */
 IPXR_CALL int32_t ipxr_tunnel_hear(ipxr_tunnel *tunnel, const ipxr_sender *sender, const uint8_t *bytes, size_t length);
 
 /* A second has passed: clients that were silent are pinged, and those whose time is over leave. Returns 0. Call it once for each second of
@@ -153,7 +154,8 @@ IPXR_CALL int32_t ipxr_tunnel_client(ipxr_tunnel *tunnel, size_t index, ipxr_cli
 /* Whether a packet that came on the network of that number is copied: it is a broadcast there to one of the `count` sockets, its source
  * names the network, and it isn't of the type that routers propagate (20). If so, its bytes become those of the copy for the network `to`:
  * they differ in the destination's network alone, and the copy is sent there as a packet to all. Else they stay as they were. A copy isn't
- * copied again, on any network and by any sockets, where `to` is another network than `network`, and neither 0 nor FFFFFFFFh. */
+ * copied again, on any network and by any sockets, where `to` is another network than `network`, and neither 0 nor FFFFFFFFh. Ask it of
+ * what the router hears, with the bytes that were carried. */
 IPXR_CALL ipxr_flag ipxr_tunnel_extend(uint32_t network, const uint16_t *sockets, size_t count, uint32_t to, uint8_t *bytes, size_t length);
 
 #ifdef __cplusplus
