@@ -107,8 +107,8 @@ IPXR_CALL void ipxr_tunnel_free(ipxr_tunnel *tunnel);
 /* ---- Events ----
  * What came of an event is read by the calls below it, until the next event. No event takes memory. IPXR_NO_TUNNEL: nothing was done. */
 
-/* A datagram came. `bytes` is what it held, any bytes at all; they are only read, and only during the call. Leave out one with a packet that
- * is longer than your network carries: it would be carried. Returns what it said. */
+/* A datagram came. `bytes` is what it held, any bytes at all; they are only read, and only during the call. Leave out one with a packet
+ * that is longer than your network carries: it would be carried. Returns what it said. */
 IPXR_CALL int32_t ipxr_tunnel_hear(ipxr_tunnel *tunnel, const ipxr_sender *sender, const uint8_t *bytes, size_t length);
 
 /* A second has passed: clients that were silent are pinged, and those whose time is over leave. Returns 0. Call it once for each second of
