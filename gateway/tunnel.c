@@ -131,7 +131,7 @@ static ipxr_sender sender_at(const gateway *it, const network *on, const address
 static reason why_lost(network *on, const uint8_t place[NODE], int32_t said, bool is_packet)
 {
     bool is_answered = ipxr_tunnel_owns(&on->tunnel) > 0;
-    if (ipxr_tunnel_receivers(&on->tunnel) > 0 || ipxr_tunnel_is_heard(&on->tunnel))
+    if (ipxr_tunnel_receivers(&on->tunnel) > 0 || ipxr_tunnel_is_heard(&on->tunnel) == 1)
         return REASONS;
     bool is_client = roster_find(&on->roster, place) != NULL;
     switch (said) {
@@ -162,7 +162,7 @@ static void hear(gateway *it, network *on, const ipxr_sender *sender, const uint
     size_t before = ipxr_tunnel_clients(&on->tunnel);
     int32_t said = ipxr_tunnel_hear(&on->tunnel, sender, bytes, length);
     size_t carried = ipxr_tunnel_carried(&on->tunnel);
-    bool is_heard = ipxr_tunnel_is_heard(&on->tunnel);
+    bool is_heard = ipxr_tunnel_is_heard(&on->tunnel) == 1;
     if (ipxr_tunnel_clients(&on->tunnel) > before)
         tell_comes(on, sender->place);
     reason why = why_lost(on, sender->place, said, has_length(bytes, length));

@@ -23,7 +23,7 @@ RATE = 5000  # datagrams a second of each flood
 STAGE = 1.0  # seconds that a flood lasts
 FRAMES = 4  # of each wire, each time the players are heard
 BETWEEN_CARDS = 0.7  # seconds between two changes of a card
-CUT, CHANGED = "connections cut", "cards switched, taken out or put in"  # what is counted, and is no datagram
+CUT, REFUSED, CHANGED = "connections cut", "connections refused", "cards switched, taken out or put in"  # what is no datagram
 MOST_GROWN = 1.1  # memory at the end, as a part of that at the start
 SANITIZER = "quarantine_size_mb=1:malloc_context_size=1"  # (else what is freed is kept, and counted as memory)
 UDP_PORT, CARD_PORT, LISTEN_PORT, CONNECT_PORT = 5001, 5002, 5003, 5004
@@ -88,7 +88,10 @@ class Streams:
         except BlockingIOError:
             pass
         if len(self.open) < 3:
-            self.open.append(socket.create_connection((GATEWAY[0], LISTEN_PORT)))
+            try:
+                self.open.append(socket.create_connection((GATEWAY[0], LISTEN_PORT)))
+            except ConnectionError:
+                self.counts[REFUSED] += 1  # (while another is there)
         for it in self.open:
             it.setblocking(False)
 
@@ -237,7 +240,7 @@ class Soak:
             figures(f"memory: {self.memory[0]} KB after the first round, {self.memory[-1]} KB after the last, {max(self.memory)} KB at most")
         for fault in self.faults:
             print(f"FAULT   gateway: {fault}")
-        sent = sum(count for what, count in self.counts.items() if what not in (CUT, CHANGED))
+        sent = sum(count for what, count in self.counts.items() if what not in (CUT, REFUSED, CHANGED))
         print(f"{sent} datagrams, {len(self.faults)} faults")
 
 
