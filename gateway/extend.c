@@ -4,25 +4,25 @@
 
 #include "ipx.h"
 
-static bool names(const network *it, uint16_t socket)
+static bool names(const network_setting *it, uint16_t socket)
 {
-    for (size_t k = 0; k < it->set->socket_count; k++)
-        if (it->set->sockets[k] == socket)
+    for (size_t k = 0; k < it->socket_count; k++)
+        if (it->sockets[k] == socket)
             return true;
     return false;
 }
 
-static void hand_to(network *to, const uint8_t *packet, size_t length)
+/* Sends the copy for another network, where the library makes one. */
+static void hand_to(network *to, const network_setting *from, const uint8_t *packet, size_t length)
 {
     uint8_t copy[LONGEST];
-    if (!to->is_up)
+    memcpy(copy, packet, length);
+    if (!to->is_up || ipxr_tunnel_extend(from->network, from->sockets, from->socket_count, to->set->network, copy, length) != 1)
         return;
     if (length > to->set->longest) {
         gateway_lose(to, NOT_EXTENDED);
         return;
     }
-    memcpy(copy, packet, length);
-    put32(copy + AT_TO_NETWORK, to->set->network);
     to->counts.extended++;
     gateway_send(to, copy + AT_TO_NODE, copy, length);
 }
@@ -30,13 +30,13 @@ static void hand_to(network *to, const uint8_t *packet, size_t length)
 void extend(gateway *it, network *on, const uint8_t *packet, size_t length)
 {
     uint16_t socket = get16(packet + AT_TO_SOCKET);
-    if (packet[AT_TYPE] == PROPAGATED || !names(on, socket))
+    if (packet[AT_TYPE] == PROPAGATED || !names(on->set, socket))
         return;
     if (get32(packet + AT_FROM_NETWORK) != on->set->network) {
         gateway_lose(on, NOT_EXTENDED);
         return;
     }
     for (size_t k = 0; k < it->count; k++)
-        if (&it->networks[k] != on && names(&it->networks[k], socket))
-            hand_to(&it->networks[k], packet, length);
+        if (&it->networks[k] != on && names(it->networks[k].set, socket))
+            hand_to(&it->networks[k], on->set, packet, length);
 }

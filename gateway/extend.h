@@ -1,5 +1,5 @@
 /* For games that broadcast to their own network alone: the broadcasts of some sockets are handed to the other networks that name the
- * socket too. It is no business of a router's, and the library knows nothing of it. */
+ * socket too. It is no business of a router's; the library says which are, and makes the copies. */
 #ifndef EXTEND_H
 #define EXTEND_H
 
