@@ -83,12 +83,13 @@ def try_install():
 
 def try_example(gateway, folder):
     """The example of a configuration and what of it Windows has, with the lines that are commented out."""
-    examples = {"Linux": (text_of("gateway/example.conf"), 7, 4), "Windows": (layout.windows_configuration().decode(), 5, 1)}
+    examples = {"Linux": (text_of("gateway/example.conf"), 10, 4), "Windows": (layout.windows_configuration().decode(), 8, 1)}
     for system, (text, words_there, kinds_there) in examples.items():
-        text = re.sub(r"(?m)^#   (?=network|extend)", "", text)
+        text = re.sub(r"(?m)^#   (?=network|extend|clients|allow|trust)", "", text)
         with open(f"{folder}/whole.conf", "w", encoding="utf-8", newline="") as it:
             it.write(text)
         tell(f"with all its lines that for {system} is right as well", complaint(gateway, "--check", f"{folder}/whole.conf"))
-        words = set(re.findall(r"(?m)^(?:network.* )?(extend|dosbox|qemu-udp|qemu-tcp listen|qemu-tcp connect|tap|interface) ", text))
+        links = "dosbox|qemu-udp|qemu-tcp listen|qemu-tcp connect|tap|interface"
+        words = set(re.findall(rf"(?m)^(?:network.* )?(extend|clients|allow|trust|{links}) ", text))
         kinds = set(re.findall(r"(?m)^network.* (raw|ethernet2|llc|snap)\r?$", text))
         tell("they are of each kind that it has", differs((len(words), len(kinds)), (words_there, kinds_there)))
