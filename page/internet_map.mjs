@@ -80,7 +80,7 @@ function placesBeside(from, to, isOpposite) {
 
 class InternetMap {
     constructor(script, found, { state, changed = [], chosen = "", trace = [] }) {
-        Object.assign(this, { script, plan: found, state, changed, chosen, trace, marks: [], drawing: new Drawing("map") });
+        Object.assign(this, { script, plan: found, state, changed, chosen, trace, marks: [], losses: [], drawing: new Drawing("map") });
     }
 
     point(key) {
@@ -181,14 +181,26 @@ class InternetMap {
         }
     }
 
-    // From the last router to the host for which a packet left, where the map has it.
+    // From the last router to the host that a packet is for; or as far as it got on its route, where a cross ends it.
     drawEnds(ends) {
-        for (const { router, key } of ends) {
-            const [start, host] = [this.point(`router ${router}`), this.point(key)];
-            if (!start || !host) continue;
-            const way = outside(wayOver([start.place, this.point(`network ${host.it.network}`).place, host.place], ASIDE), [start, host]);
-            if (way.length > 1) this.drawing.line(way, { colour: "way", width: 2.5, arrow: true });
+        for (const { router, network, host: key, isThere } of ends) {
+            const [start, over, host] = [this.point(`router ${router}`), this.point(`network ${network}`), this.point(key)];
+            if (!start || !over || (isThere && !host)) continue;
+            const end = host ?? over;
+            const way = outside(wayOver([...new Set([start, over, end])].map((it) => it.place), ASIDE), [start, end]);
+            if (way.length < 2) continue;
+            this.drawing.line(way, { colour: "way", width: 2.5, arrow: isThere });
+            if (!isThere) this.losses.push(way[way.length - 1]);
         }
+    }
+
+    // A cross where a packet is lost: where nobody received it, or at the corner of a router that dropped it.
+    drawLosses(lost) {
+        for (const number of lost) {
+            const { place: [x, y], wide, high } = this.point(`router ${number}`);
+            this.losses.push([x - wide / 2, y + high / 2]);
+        }
+        for (const place of this.losses) this.mark(place, "✕", { size: 19, colour: "alarm", bold: true });
     }
 
     // Sentences below the map, in columns.
@@ -202,17 +214,18 @@ class InternetMap {
         });
     }
 
-    whole(ends, sentences) {
+    whole({ ends = [], lost = [], words: sentences = [] }) {
         const numbers = this.drawWays();
         this.drawEnds(ends);
         this.drawLines();
         this.drawPoints();
+        this.drawLosses(lost);
         this.drawNumbers(numbers);
         if (sentences.length) this.drawSentences(sentences);
         return this.drawing;
     }
 }
 
-// The drawing of a script's map: `shown` has the state of routers and ports, whose tables changed, what is chosen, the ways of a trace, and
-// sentences that stand below.
-export const drawMap = (script, found, shown = {}) => new InternetMap(script, found, shown).whole(shown.ends ?? [], shown.words ?? []);
+// The drawing of a script's map: `shown` has the state of routers and ports, whose tables changed, what is chosen, the ways of a trace and
+// where they end, and sentences that stand below.
+export const drawMap = (script, found, shown = {}) => new InternetMap(script, found, shown).whole(shown);

@@ -1,6 +1,6 @@
 // The moments of a run that are shown side by side: before something fails, as it fails, and later, whenever a traced packet fares otherwise
 // than the last one did. A port that goes down or up is such an event, and a router that stops, or starts again.
-import { outcome, receptions } from "./traces.mjs";
+import { outcome } from "./traces.mjs";
 
 // The steps at which something changes that was running.
 function changesOf(steps, script) {
@@ -64,7 +64,7 @@ const later = (seconds) => (seconds ? `${seconds} s later` : "then");
 export function moments(script, steps) {
     const events = eventsOf(steps, script);
     const found = [];
-    const add = (step, title) => found.push({ step, second: steps[step].second, title, says: outcome(receptions(steps[step].said), script) });
+    const add = (step, title) => found.push({ step, second: steps[step].second, title, says: outcome(steps[step], script) });
     events.forEach((event, n) => {
         const [first, last] = [event[0], event[event.length - 1]];
         const end = events[n + 1]?.[0] ?? steps.length;

@@ -3,7 +3,8 @@ import { drawMoments, mapAt } from "./side_by_side.mjs";
 import { made, svgOf } from "./dom.mjs";
 import { receptions, sentences, waysOf } from "./traces.mjs";
 import { captureOf } from "./pcap.mjs";
-import { isChanged } from "./timeline.mjs";
+import { answers, isChanged } from "./timeline.mjs";
+import { answered, questions } from "./hops.mjs";
 import { padded } from "./bytes.mjs";
 import { plan } from "./internet_map.mjs";
 import { recordsOf } from "./records.mjs";
@@ -31,6 +32,16 @@ export class InternetPane extends ScriptPane {
         return it;
     }
 
+    // The steps, and where traced packets were sent that no router received.
+    async refined(script, done) {
+        const told = await super.refined(script, done);
+        const asked = questions(told.shown, told.steps);
+        if (!asked) return told;
+        const { text, ends } = await this.program.run(this.kind.verb, asked.text, true);
+        answered(asked, answers(text, ends, asked.count));
+        return told;
+    }
+
     // The plan changes only with routers, ports and hosts, so that the map stays as it is while a script is typed.
     plan() {
         const isTall = matchMedia(NARROW).matches;
@@ -55,8 +66,7 @@ export class InternetPane extends ScriptPane {
         else this.picture.replaceChildren(made("p", { class: "none" }, "No port goes down here, and no router stops."));
         if (focused) this.picture.querySelector(`[data-key="${CSS.escape(focused)}"]`)?.focus();
         this.drawTables(step, found);
-        const copies = receptions(step.said);
-        if (copies.length) this.said.textContent = sentences(copies, this.script).map((it) => it.text).join("\n");
+        if (receptions(step.said).length) this.said.textContent = sentences(step, this.script).map((it) => it.text).join("\n");
         if (moved) this.said.textContent = [...step.said, ...moved.sentences].join("\n");
         else if (step.words[0] === "settle") this.follow(step, found);
     }

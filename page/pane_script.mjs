@@ -6,6 +6,7 @@ import { captureOf } from "./pcap.mjs";
 import { isHex } from "./bytes.mjs";
 import { edited } from "./acts.mjs";
 import { Editor } from "./editor.mjs";
+import { explained } from "./reasons.mjs";
 import { openForm } from "./form.mjs";
 import { parsed } from "./script.mjs";
 import { Stopped } from "./program.mjs";
@@ -188,7 +189,7 @@ export class ScriptPane {
         this.moment.textContent = this.momentOf(step);
         this.slider.setAttribute("aria-valuetext", this.moment.textContent);
         this.editor.show(this.lineOf(step), step.said.some((it) => it.startsWith("line ")));
-        this.said.textContent = step.said.join("\n");
+        this.said.textContent = step.said.map(explained).join("\n");
         this.said.hidden = !step.said.length;
         await this.ask(step);
     }

@@ -1,6 +1,6 @@
 // Maps side by side: one for each moment of a run (moments.mjs), all with the same places.
 import { drawMap, plan } from "./internet_map.mjs";
-import { ends, receptions, ways } from "./traces.mjs";
+import { ends, lostAt, receptions, ways } from "./traces.mjs";
 import { Drawing, widthOf } from "./drawing.mjs";
 import { moments } from "./moments.mjs";
 
@@ -13,7 +13,8 @@ const [BOLD, PLAIN] = [13, 12];
 // The map at a step, with the way of the packet that is traced there.
 export function mapAt(script, found, step, shown = {}) {
     const copies = receptions(step.said);
-    return drawMap(script, found, { state: step.state, trace: ways(copies, script.routers), ends: ends(copies), ...shown });
+    const way = { trace: ways(copies, script.routers), ends: ends(step, script), lost: lostAt(step) };
+    return drawMap(script, found, { state: step.state, ...way, ...shown });
 }
 
 const headOf = (it) => `${it.second} s: ${it.title}`;

@@ -1,6 +1,6 @@
 // The way of a traced packet: its receptions, and the ways between routers, of which those that are gone more than once are one.
-
-import { short } from "./bytes.mjs";
+import { EVERYONE, short } from "./bytes.mjs";
+import { reason } from "./reasons.mjs";
 
 export function receptions(lines) {
     return lines.filter((it) => it.startsWith("copy ")).map((line) => {
@@ -52,7 +52,15 @@ const nameOf = (it, script) => script.routers[it.router]?.name ?? `R${it.router}
 const networkOf = (it, script) => script.routers[it.router]?.ports[it.port]?.network ?? "?";
 export const isLost = (it) => !["Forwarded", "Propagated", "Local"].includes(it.outcome);
 
-const sentence = (it, script) => `${it.number}. ${nameOf(it, script)}, from net ${networkOf(it, script)}: ${it.outcome}`;
+// The network and the node that a packet is for.
+const target = ({ hex }) => ({ network: short(hex.slice(DESTINATION, DESTINATION + 8)), node: short(hex.slice(DESTINATION + 8, DESTINATION + 20)) });
+
+const reasonOf = (it) => reason(it.outcome, target(it).network);
+
+function sentence(it, script) {
+    const why = isLost(it) && reasonOf(it);
+    return `${it.number}. ${nameOf(it, script)}, from net ${networkOf(it, script)}: ${it.outcome}${why ? ` (${why})` : ""}`;
+}
 
 // Whether a reception is as the one so many before it: the same router and port, and the same came of it.
 const repeats = (copies, k, period) => k >= period && ["router", "port", "outcome"].every((it) => copies[k][it] === copies[k - period][it]);
@@ -71,8 +79,9 @@ function round(copies, from) {
     return best;
 }
 
-// What became of each reception of a packet; what goes round and round is told once.
-export function sentences(copies, script) {
+// What became of each reception of a traced packet, and of the packet; what goes round and round is told once.
+export function sentences(step, script) {
+    const copies = receptions(step.said);
     const found = [];
     for (let k = 0; k < copies.length; k++) {
         const { period, count } = round(copies, k);
@@ -82,7 +91,44 @@ export function sentences(copies, script) {
             k += count - 1;
         } else found.push({ text: sentence(copies[k], script), isLost: isLost(copies[k]) });
     }
-    return found;
+    const last = lastOnes(copies);
+    return last.length === 1 ? [...found, endOf(last[0], copies, step, script)] : found;
+}
+
+const lastOnes = (copies) => copies.filter((it) => !copies.some((other) => other.parent === it.number));
+
+// The receptions whose packets a router sent on, and no router received.
+export const sentOn = (copies) => lastOnes(copies).filter((it) => it.outcome === "Forwarded");
+
+// Where a packet left for that no router received: to the host that it is for, on a network of the router; or where a route led that a
+// neighbour offers who isn't there.
+function leftFor(it, step, script) {
+    const to = target(it);
+    const isOn = script.routers[it.router]?.ports.some((port, k) => port.network === to.network && step.state[it.router].up[k]);
+    if (isOn) return { ...to, isThere: true };
+    const hop = step.hops?.[it.router];
+    return { network: script.routers[it.router]?.ports[hop?.port]?.network, node: hop?.node, isThere: false };
+}
+
+// The receptions before one, and itself.
+function before(it, copies) {
+    const way = [];
+    for (let one = it; one; one = copies[one.parent]) way.unshift(one);
+    return way;
+}
+
+const nodeNamed = (node) => (node === EVERYONE ? "all" : node);
+const nobody = ({ network, node }) => (network === undefined ? "sent on, and nobody is there" : `sent on to ${node} on net ${network}, which is no router`);
+
+// What became of a packet at last, as a sentence.
+function endOf(it, copies, step, script) {
+    const name = nameOf(it, script);
+    if (isLost(it)) return { text: `lost at ${name}: ${reasonOf(it) || it.outcome}`, isLost: true };
+    if (it.outcome !== "Forwarded") return { text: `${it.outcome === "Local" ? "arrived at" : "propagated by"} router ${name}`, isLost: false };
+    const to = leftFor(it, step, script);
+    if (!to.isThere) return { text: `lost behind ${name}: ${nobody(to)}`, isLost: true };
+    const count = before(it, copies).length;
+    return { text: `arrived at ${nodeNamed(to.node)} on net ${to.network} after ${count} router${count > 1 ? "s" : ""}`, isLost: false };
 }
 
 // The names of the routers of a way; of a long one the first and the last.
@@ -92,21 +138,25 @@ function wayOf(names) {
 }
 
 // What became of a packet: by which routers it went, and where it ended.
-export function outcome(copies, script) {
-    if (!copies.length) return null;
-    const last = copies.filter((it) => !copies.some((other) => other.parent === it.number));
+export function outcome(step, script) {
+    const copies = receptions(step.said);
+    const last = lastOnes(copies);
+    if (!last.length) return null;
     if (last.length > 1) return { text: `${copies.length} receptions`, isLost: false };
-    const way = [];
-    for (let it = last[0]; it; it = copies[it.parent]) way.unshift(nameOf(it, script));
-    const network = short(last[0].hex.slice(DESTINATION, DESTINATION + 8));
-    const isThere = script.routers[last[0].router]?.ports.some((it) => it.network === network);
-    if (isLost(last[0])) return { text: `${wayOf(way)}: dropped, ${last[0].outcome}`, isLost: true };
-    if (last[0].outcome === "Forwarded" && !isThere) return { text: `${wayOf(way)}: sent on, and nobody is there`, isLost: true };
-    return { text: last[0].outcome === "Forwarded" ? `${wayOf(way)} → net ${network}` : wayOf(way), isLost: false };
+    const way = wayOf(before(last[0], copies).map((it) => nameOf(it, script)));
+    if (isLost(last[0])) return { text: `${way}: lost, ${reasonOf(last[0]) || last[0].outcome}`, isLost: true };
+    if (last[0].outcome !== "Forwarded") return { text: way, isLost: false };
+    const to = leftFor(last[0], step, script);
+    return to.isThere ? { text: `${way} → net ${to.network}`, isLost: false } : { text: `${way}: ${nobody(to)}`, isLost: true };
 }
 
-// Where a packet left for a host: it was forwarded, and no router received it. Whether it arrived, only the host knows.
-export function ends(copies) {
-    const left = copies.filter((it) => it.outcome === "Forwarded" && !copies.some((other) => other.parent === it.number));
-    return left.map((it) => ({ router: it.router, key: hostAt(it.hex, DESTINATION, "") }));
+// Where a packet left that no router received: to its host, or to somebody who isn't there.
+export function ends(step, script) {
+    return sentOn(receptions(step.said)).map((it) => {
+        const { network, node, isThere } = leftFor(it, step, script);
+        return { router: it.router, network, host: `host ${network}.${node}`, isThere };
+    });
 }
+
+// The routers at which a packet was dropped.
+export const lostAt = (step) => [...new Set(receptions(step.said).filter(isLost).map((it) => it.router))];

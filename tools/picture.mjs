@@ -5,7 +5,8 @@ import { fileURLToPath } from "node:url";
 import { Fault, played, run } from "./program.mjs";
 import { drawLadder, ofRecords, ofSteps, packetsOf } from "../page/ladder.mjs";
 import { drawMoments, mapAt } from "../page/side_by_side.mjs";
-import { receptions, sentences } from "../page/traces.mjs";
+import { sentences } from "../page/traces.mjs";
+import { answered, questions } from "../page/hops.mjs";
 import { captureOf } from "../page/pcap.mjs";
 import { isOfInternet } from "../page/script.mjs";
 import { openCapture } from "../page/capture.mjs";
@@ -41,6 +42,8 @@ const EXAMPLES = fileURLToPath(new URL("../examples", import.meta.url));
 function mapOf(name, { script, said }, how) {
     if (!script.networks.length) throw new Fault(`${name} has no router with a port`);
     const all = steps(script, said);
+    const asked = questions(script, all);
+    if (asked) answered(asked, played(asked.text, true).said);
     if (how.word === "--steps") {
         const drawing = drawMoments(script, all);
         if (!drawing) throw new Fault(`in ${name} no port goes down, and no router stops`);
@@ -62,7 +65,7 @@ function shownStep(name, script, all, { word, number }) {
         const traces = all.filter((it) => it.words[0] === "trace" && !it.said[0]?.startsWith("line "));
         if (number > traces.length) throw new Fault(`${name} has ${traces.length} traces`);
         const step = traces[number - 1];
-        return [step, sentences(receptions(step.said), script)];
+        return [step, sentences(step, script)];
     }
     if (word === "--after") {
         if (number > script.lines.length) throw new Fault(`${name} has ${script.lines.length} lines`);
