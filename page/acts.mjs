@@ -1,6 +1,6 @@
 // What is built by hand: each act makes lines of a script, and says where they go. The script stays the truth.
 import { padded } from "./bytes.mjs";
-import { bytesTyped, digits, packetOf, Wrong } from "./words.mjs";
+import { bytesTyped, digits, offerOf, packetOf, Wrong } from "./words.mjs";
 
 export const MOST_PORTS = 8;
 const [MOST_ROUTERS, MOST_SECONDS] = [32, 86400];
@@ -37,9 +37,9 @@ export function timePassed(name, typed) {
 
 const routers = (script) => script.routers.map((it, k) => [String(k), it.name]);
 const ports = (script) => script.routers.flatMap((it, k) => it.ports.map((port, n) => [`${k} ${n}`, `${it.name} port ${n}, net ${port.network}`]));
-const hosts = (script) => script.hosts.map((it) => [`${it.network}.${it.node}`, `${it.node} on net ${it.network}`]);
+const hostLabel = (it) => `${it.node} on net ${it.network}${it.isForged ? " (forged)" : ""}`;
+const hosts = (script) => script.hosts.map((it) => [`${it.network}.${it.node}`, hostLabel(it)]);
 const networks = (script) => script.networks.map((it) => [it, `net ${it}`]);
-const links = (script) => [...networks(script).map(([it, label]) => [`net ${it}`, `all ports on ${label}`]), ...ports(script)];
 
 // The routers and ports of a choice: one port, or all those of a network.
 function portsOf(script, choice) {
@@ -48,13 +48,19 @@ function portsOf(script, choice) {
     return all.filter((it) => it.network === choice.slice(4)).map((it) => it.word);
 }
 
+const isUp = (state, word) => state[+word.split(" ")[0]]?.up[+word.split(" ")[1]] ?? true;
+const downOf = (script, choice, state) => portsOf(script, choice).filter((it) => !isUp(state, it));
+
+// Networks and ports to choose from: all of them, or those that are down.
+const links = (script) => [...networks(script).map(([it, label]) => [`net ${it}`, `all ports on ${label}`]), ...ports(script)];
+const downLinks = (script, state) => links(script).filter(([choice]) => downOf(script, choice, state).length);
+
 // By which port a packet of a host comes in: the first on its network that is up.
 function entry(script, host, state) {
     const net = host.split(".")[0];
     const all = portsOf(script, `net ${net}`);
-    const isUp = (word) => state[+word.split(" ")[0]]?.up[+word.split(" ")[1]];
     if (!all.length) throw new Wrong("from", "no router is on its network");
-    return all.find(isUp) ?? all[0];
+    return all.find((it) => isUp(state, it)) ?? all[0];
 }
 
 // What is chosen on the map, as the first choice of a form.
@@ -64,14 +70,38 @@ function chosenPort(chosen) {
 }
 
 export const chosenFirst = (kind, chosen) => (chosen.startsWith(`${kind} `) ? chosen.slice(kind.length + 1) : undefined);
-const link = (script, chosen, label) => [{ name: "link", label, choices: links(script), value: chosenPort(chosen) }];
+const link = (choices, chosen) => [{ name: "link", label: "Link or port", choices, value: chosenPort(chosen) }];
+
+// The first of AA, BB, .. that no host is called yet, and then of AB, AC, ..
+const NODES = ["A", "B", "C", "D", "E", "F"];
+function freshNode(script) {
+    const taken = new Set(script.hosts.map((it) => it.node));
+    const all = [...NODES.map((it) => it + it), ...NODES.flatMap((it) => NODES.map((other) => it + other))];
+    return all.find((it) => !taken.has(it)) ?? "";
+}
+
+// Behind which line the next host goes: the last one that a comment names below the routers.
+function behindHosts(script) {
+    let at = behindRouters(script);
+    while (/^#\s*host /.test(script.lines[at]?.text ?? "")) at++;
+    return at;
+}
+
+// A comment that names a forging node as such, where nobody else there has that node.
+function forgerLine(script, net, node) {
+    const isThere = (it) => it.network === net && padded(it.node, 12) === node;
+    const isKnown = script.hosts.some(isThere) || script.routers.some((it) => it.ports.some(isThere));
+    return isKnown ? [] : [`# host ${padded(net, 8)}.${node} (forged)`];
+}
 
 // ---- The acts ----
 
-// Of each: its label, the fields of its form, and its lines: `fixed` go behind a line, `now` behind the command that is shown.
+// Of each: its label, the fields of its form, and its lines: `fixed` go behind a line, `now` behind the command that is shown. What it `needs`,
+// where it can be done at all, and what is said where that `lacks`. Of a field `picked` is what is chosen on the map; where an act `remembers`,
+// what was typed last stands there otherwise.
 export const ACTS = {
     router: {
-        label: "+ Router", title: "Add a router",
+        isFixed: true, label: "+ Router", title: "Add a router",
         fields: () => [{ name: "networks", label: "On networks", value: "", hint: "such as 10 20" }],
         lines(script, { networks: typed }) {
             const nets = [...new Set(typed.trim().split(/[\s,]+/).filter((it) => it).map((it) => digits("networks", it, 4)))];
@@ -82,7 +112,7 @@ export const ACTS = {
         },
     },
     network: {
-        label: "+ Network", title: "Join a router to a network", needs: routers,
+        isFixed: true, label: "+ Network", title: "Join a router to a network", needs: routers,
         fields: (script, chosen) => [
             { name: "router", label: "Router", choices: routers(script), value: chosenFirst("router", chosen) },
             { name: "network", label: "Network", value: chosenFirst("network", chosen) ?? "", hint: "such as 30" }],
@@ -93,16 +123,18 @@ export const ACTS = {
         },
     },
     host: {
-        label: "+ Host", title: "Add a host", needs: networks, lacks: "add a network first",
+        isFixed: true, label: "+ Host", title: "Add a host", needs: networks, lacks: "add a network first",
         fields: (script, chosen) => [
             { name: "network", label: "On network", choices: networks(script), value: chosenFirst("network", chosen) },
-            { name: "node", label: "Node", value: "AA" }],
-        lines: (script, it) => ({ fixed: behindRouters(script), lines: [`# host ${padded(it.network, 8)}.${digits("node", it.node, 6)}`] }),
+            { name: "node", label: "Node", value: freshNode(script) }],
+        lines: (script, it) => ({ fixed: behindHosts(script), lines: [`# host ${padded(it.network, 8)}.${digits("node", it.node, 6)}`] }),
     },
     start: {
         label: "Start", title: "Start routers", needs: routers,
-        fields: (script, chosen) => [
-            { name: "router", label: "Router", choices: [[ALL, "all"], ...routers(script)], value: chosenFirst("router", chosen) }],
+        fields: (script, chosen, _, state) => [{
+            name: "router", label: "Router", choices: [[ALL, "all"], ...routers(script)],
+            value: state.some((it) => it.runs) ? chosenFirst("router", chosen) : ALL,
+        }],
         lines: (script, it) => ({ now: [...(it.router === ALL ? script.routers.map((_, k) => `start ${k}`) : [`start ${it.router}`]), SETTLE] }),
     },
     stop: {
@@ -111,10 +143,10 @@ export const ACTS = {
         lines: (_, it) => ({ now: [`stop ${it.router}`, SETTLE] }),
     },
     time: {
-        label: "Time", title: "Let time pass",
+        label: "Time", title: "Let time pass; after each step the packets arrive that wait", remembers: true,
         fields: () => [
             { name: "seconds", label: "Seconds", value: "60" },
-            { name: "every", label: "Packets arrive after each", value: "10", hint: "seconds" }],
+            { name: "every", label: "in steps of (s)", value: "10", hint: "seconds" }],
         lines(_, it) {
             const [seconds, every] = [timePassed("seconds", it.seconds), timePassed("every", it.every)];
             const found = [];
@@ -123,17 +155,18 @@ export const ACTS = {
         },
     },
     down: {
-        label: "Break", title: "Break a link", needs: ports, fields: (script, chosen) => link(script, chosen, "Which loses it"),
+        label: "Break", title: "Break a link", needs: ports, fields: (script, chosen) => link(links(script), chosen),
         lines: (script, it) => ({ now: [...portsOf(script, it.link).map((word) => `down ${word}`), SETTLE] }),
     },
     up: {
-        label: "Mend", title: "Mend a link", needs: ports, fields: (script, chosen) => link(script, chosen, "Which has it again"),
-        lines: (script, it) => ({ now: [...portsOf(script, it.link).map((word) => `up ${word}`), SETTLE] }),
+        label: "Mend", title: "Mend a link", needs: downLinks, lacks: "nothing is down here",
+        fields: (script, chosen, _, state) => link(downLinks(script, state), chosen),
+        lines: (script, it, state) => ({ now: [...downOf(script, it.link, state).map((word) => `up ${word}`), SETTLE] }),
     },
     send: {
-        label: "Send", title: "Send a packet from here to there", needs: hosts, lacks: "add hosts first",
+        label: "Send", title: "Send a packet from here to there", needs: hosts, lacks: "add hosts first", remembers: true,
         fields: (script, chosen) => [
-            { name: "from", label: "From host", choices: hosts(script), value: chosenFirst("host", chosen) },
+            { name: "from", label: "From host", choices: hosts(script), picked: chosenFirst("host", chosen) },
             { name: "to", label: "To host", choices: hosts(script), value: script.hosts[1] && `${script.hosts[1].network}.${script.hosts[1].node}` }],
         lines(script, it, state) {
             const [fromNetwork, fromNode] = it.from.split(".");
@@ -151,10 +184,8 @@ export const ACTS = {
         lines(script, it) {
             const [router, port] = it.link.split(" ");
             const { network: net } = script.routers[+router].ports[+port];
-            const hex = packetOf("rip-response", {
-                toNetwork: net, fromNetwork: net, fromNode: it.node, fromSocket: "453", routes: `${it.network} ${it.hops} ${it.ticks}`,
-            });
-            return { now: [`in ${it.link} ${hex}`, SETTLE] };
+            const hex = offerOf(net, it);
+            return { now: [...forgerLine(script, net, digits("node", it.node, 6)), `in ${it.link} ${hex}`, SETTLE] };
         },
     },
     bytes: {

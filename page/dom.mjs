@@ -3,6 +3,7 @@ import { tree } from "./drawing.mjs";
 
 // A large drawing becomes smaller to fit, but not so small that it can't be read: then it is moved.
 const LEAST = 0.65;
+const HIT = 16;
 const SVG = "http://www.w3.org/2000/svg";
 
 // An element with attributes, listeners (names that begin with "on"), properties (with a dot in front), and what is inside.
@@ -32,11 +33,21 @@ function svg(node) {
     return it;
 }
 
+// A line that isn't seen, wide enough to be clicked on.
+function wide(line) {
+    const it = line.cloneNode();
+    it.setAttribute("stroke", "transparent");
+    it.setAttribute("stroke-width", HIT);
+    it.removeAttribute("stroke-dasharray");
+    return it;
+}
+
 // The elements of a drawing. `choose` is told the key of what is clicked, or chosen by a key.
 export function svgOf(drawing, choose) {
     const it = svg(tree(drawing, palette(++drawings)));
     it.querySelector("title").remove(); // (it would be shown wherever one points)
     for (const side of ["width", "height"]) it.style.setProperty(`min-${side}`, `${Math.round(it.getAttribute(side) * LEAST)}px`);
+    for (const line of it.querySelectorAll("[data-key^='port '] > polyline")) line.after(wide(line));
     it.setAttribute("role", "group");
     it.setAttribute("aria-label", drawing.title);
     const chosen = (event) => event.target.closest?.("[data-key]")?.dataset.key;

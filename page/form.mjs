@@ -9,14 +9,15 @@ function input({ name, choices, value, hint }) {
     return it;
 }
 
-// Opens a dialog. `done` is told the values, and may throw a Wrong.
-export function openForm(title, fields, done) {
+// Opens a dialog. `done` is told the values, and may throw a Wrong; a note may stand below the fields.
+export function openForm(title, fields, done, note = "") {
     const fault = made("p", { class: "fault", role: "alert" });
     const close = () => dialog.close();
     const inputs = fields.map((it) => [it, input(it)]);
     const buttons = [made("button", { type: "submit", class: "main" }, "Do it"), made("button", { type: "button", onclick: close }, "Cancel")];
     const rows = inputs.map(([it, element]) => made("label", {}, made("span", {}, it.label), element));
-    const form = made("form", { method: "dialog" }, made("h2", {}, title), ...rows, fault, made("div", { class: "bar" }, buttons));
+    const below = note ? made("p", { class: "none" }, note) : null;
+    const form = made("form", { method: "dialog" }, made("h2", {}, title), ...rows, below, fault, made("div", { class: "bar" }, buttons));
     const dialog = made("dialog", { "aria-label": title, onclose: () => dialog.remove() }, form);
     form.addEventListener("submit", (event) => {
         event.preventDefault();

@@ -15,7 +15,7 @@ const SHARES = [0.25, 0.5, 0.1, 0.75];
 // As many sentences stand below each other.
 const MOST_LINES = 8;
 
-const labelOf = { router: (it) => it.name, network: (it) => `net ${it.network}`, host: (it) => it.node };
+const labelOf = { router: (it) => it.name, network: (it) => `net ${it.network}`, host: (it) => `${it.node}${it.isForged ? " (forged)" : ""}` };
 
 function sized(kind, it) {
     const label = labelOf[kind](it);
@@ -130,7 +130,7 @@ class InternetMap {
     // What a point is, for who doesn't see it.
     spoken(it) {
         if (it.kind === "network") return `network ${it.it.network}`;
-        if (it.kind === "host") return `host ${it.it.node} on network ${it.it.network}`;
+        if (it.kind === "host") return `${it.it.isForged ? "forged host" : "host"} ${it.it.node} on network ${it.it.network}`;
         return `router ${it.label}, ${this.state?.[it.number]?.runs ? "running" : "stopped"}${this.changed[it.number] ? ", its tables changed" : ""}`;
     }
 

@@ -15,13 +15,18 @@ import { svgText } from "./drawing.mjs";
 // A script with more commands than this isn't split into seconds and deliveries.
 const MOST_FINE = 2000;
 const UNDOS = 100;
+const CAUSES = new Set(["start", "stop", "down", "up", "in"]);
 const EMPTY = "";
+
+// Where the lines of an act go, which is said where it isn't the end.
+const placeOf = (line) => (line < 0 ? "inserts before the first command" : `inserts behind line ${line + 1}`);
 
 export class ScriptPane {
     // `kind` says the verb, the end of a file's name, the examples and the acts, and gives the bytes of the pane Packet;
     // `page` is told what is said below the heading, and when the text has changed.
     constructor(program, kind, page) {
         Object.assign(this, { program, kind, changed: page.changed, tell: page.tell, at: 0, steps: [], undone: [], round: 0, chosen: "" });
+        this.remembered = new Map();
         this.editor = new Editor(`script of ${kind.verb}`, () => this.play());
         this.slider = made("input", { type: "range", min: 0, max: 0, value: 0, "aria-label": "time", oninput: () => this.show(+this.slider.value) });
         this.moment = made("output", { class: "moment" });
@@ -70,17 +75,20 @@ export class ScriptPane {
     // Asks what an act needs to know, and writes its lines into the script.
     act(it) {
         const { script } = this;
-        if (!script || (it.needs && !it.needs(script).length)) {
+        const step = this.steps[this.at];
+        if (!script || (it.needs && !it.needs(script, step.state).length)) {
             this.tell(it.lacks ?? (script?.isInternet ? "add a router first" : "add a port first"), true);
             return;
         }
-        const step = this.steps[this.at];
-        openForm(it.title, it.fields(script, this.chosen, this.kind.packet()), (values) => {
-            const before = this.lineOf(step);
+        const before = this.lineOf(step);
+        const kept = (it.remembers && this.remembered.get(it)) || {};
+        const fields = it.fields(script, this.chosen, this.kind.packet(), step.state);
+        openForm(it.title, fields.map((one) => ({ ...one, value: one.picked ?? kept[one.name] ?? one.value })), (values) => {
             const next = edited(script, before, it.lines(script, values, step.state));
             const more = next.text.split("\n").length - script.lines.length;
+            this.remembered.set(it, values);
             this.replace(next.text, next.isNow ? next.line : before < 0 ? before : before + more);
-        });
+        }, it.isFixed || this.at === this.steps.length - 1 ? "" : placeOf(before));
     }
 
     // ---- The text ----
@@ -197,7 +205,7 @@ export class ScriptPane {
     momentOf(step) {
         const isLong = (it) => it.length > 20;
         const command = step.line < 0 ? "before the first command" : step.words.filter((it) => !isLong(it)).join(" ");
-        return `Second ${step.second} · ${command}`;
+        return `Second ${step.second} · ${command}${step.words[0] === "settle" ? " (packets that wait arrive)" : ""}`;
     }
 
     // Asks for all tables at a step. While one question is on its way the next waits, and only the last one that waits is asked.
@@ -219,13 +227,25 @@ export class ScriptPane {
     }
 
     async answer(step, script) {
-        const asked = asking(script, step.said.some((it) => it.startsWith("line ")) ? -1 : step.line);
+        const causes = this.causes(step);
+        const isWrong = step.said.some((it) => it.startsWith("line "));
+        const asked = asking(script, isWrong ? -1 : step.line, causes[0]?.line);
         const done = await this.program.run(this.kind.verb, asked.text, true);
         const found = tables(script, asked, answers(done.text, done.ends, asked.count));
         const packet = await this.packetOf(step);
+        for (const it of causes) await this.packetOf(it);
         if (this.next || script !== this.shown) return;
         this.moment.textContent = `${this.momentOf(step)}${packet}${this.changes(found)}`;
         await this.draw(step, found);
+    }
+
+    // The commands that a settle follows at once, whose packets it hands out: what they changed is marked there too.
+    causes(step) {
+        const at = this.steps.indexOf(step);
+        if (step.words[0] !== "settle" || this.origins) return [];
+        let first = at;
+        while (CAUSES.has(this.steps[first - 1]?.words[0])) first--;
+        return this.steps.slice(first, at);
     }
 
     // What the packet of a command says, by the program's word.
@@ -233,6 +253,7 @@ export class ScriptPane {
         const hex = ["in", "trace"].includes(step.words[0]) ? step.words[step.words.length - 1].replace("-", "") : "";
         if (!hex || !isHex(hex)) return "";
         const [it] = recordsOf((await this.program.run("decode", captureOf([{ hex }]))).text).records;
+        if (it.isPacket) step.kind = it.kind;
         return it.isPacket ? ` · ${shown(it.from)} to ${shown(it.to)}: ${it.text}` : " · no packet";
     }
 

@@ -1,23 +1,24 @@
 // What is built by hand for one router, as acts.mjs does it for an internet: the same forms, and lines of `ipxr replay`.
 import { chosenFirst, freeNode, MOST_PORTS, timePassed } from "./acts.mjs";
-import { bytesTyped, digits, packetOf, Wrong } from "./words.mjs";
+import { bytesTyped, digits, offerOf, packetOf, Wrong } from "./words.mjs";
 
 const ports = (script) => script.routers[0].ports.map((it, k) => [String(k), `port ${k}, net ${it.network}`]);
 const port = (label) => (script, chosen) => ({ name: "port", label, choices: ports(script), value: chosenFirst("port", chosen) });
 const networkOf = (script, it) => script.routers[0].ports[+it.port].network;
 const here = port("By port");
+const downPorts = (script, state) => ports(script).filter(([it]) => state[0].up[+it] === false);
 
 // A packet of a node on the network of a port.
 function came(script, it, kind, more) {
     const network = networkOf(script, it);
-    return { now: [`in ${it.port} ${packetOf(kind, { toNetwork: network, fromNetwork: network, fromNode: it.node, ...more })}`] };
+    return { now: [`in ${it.port} ${packetOf(kind, { toNetwork: network, fromNetwork: network, fromNode: digits("node", it.node, 6), ...more })}`] };
 }
 
 const node = (value) => ({ name: "node", label: "From node", value });
 
 export const ROUTER_ACTS = {
     port: {
-        label: "+ Port", title: "Add a port",
+        isFixed: true, label: "+ Port", title: "Add a port",
         fields: () => [{ name: "network", label: "On network", value: "", hint: "such as 10" }],
         lines(script, it) {
             const { ports: there, last } = script.routers[0];
@@ -33,18 +34,19 @@ export const ROUTER_ACTS = {
         lines: (_, it) => ({ now: [`second ${timePassed("seconds", it.seconds)}`] }),
     },
     down: {
-        label: "Break", title: "Break a link", needs: ports, fields: (script, chosen) => [here(script, chosen)],
+        label: "Break", title: "Break a link", needs: ports, fields: (script, chosen) => [port("Port")(script, chosen)],
         lines: (_, it) => ({ now: [`down ${it.port}`] }),
     },
     up: {
-        label: "Mend", title: "Mend a link", needs: ports, fields: (script, chosen) => [here(script, chosen)],
+        label: "Mend", title: "Mend a link", needs: downPorts, lacks: "nothing is down here",
+        fields: (script, chosen, _, state) => [{ ...port("Port")(script, chosen), choices: downPorts(script, state) }],
         lines: (_, it) => ({ now: [`up ${it.port}`] }),
     },
     offer: {
         label: "Offer", title: "A neighbour offers a route", needs: ports,
         fields: (script, chosen) => [here(script, chosen), node("BB"), { name: "network", label: "Network", value: "99" },
             { name: "hops", label: "Hops", value: "1", hint: "16: gone" }, { name: "ticks", label: "Ticks", value: "2" }],
-        lines: (script, it) => came(script, it, "rip-response", { fromSocket: "453", routes: `${it.network} ${it.hops} ${it.ticks}` }),
+        lines: (script, it) => ({ now: [`in ${it.port} ${offerOf(networkOf(script, it), it)}`] }),
     },
     ask: {
         label: "Ask", title: "A host asks for networks", needs: ports,

@@ -4,7 +4,7 @@ import { EVERYONE, short } from "./bytes.mjs";
 
 const [DESTINATION, SOURCE, PACKET] = [12, 36, 60];
 const NAMED = /\b(\w+) \(router (\d+)\)/g;
-const HOST = /^#\s*host ([0-9A-Fa-f]{1,8})\.([0-9A-Fa-f]{1,12})\b/;
+const HOST = /^#\s*host ([0-9A-Fa-f]{1,8})\.([0-9A-Fa-f]{1,12})\b( \(forged\))?/;
 
 const wordsOf = (line) => (line.startsWith("#") ? [] : line.trim().split(/[ \t]+/).filter((it) => it));
 
@@ -39,18 +39,20 @@ function nameAll(routers, lines, isInternet) {
 // Whose address stands in the digits of a packet.
 const addressAt = (hex, at) => ({ network: short(hex.slice(at, at + 8)), node: short(hex.slice(at + 8, at + 20)) });
 
-// The hosts: those of comments `# host NETWORK.NODE`, and who packets come from or are for, on networks of the routers.
+// The hosts: those of comments `# host NETWORK.NODE`, and who packets come from or are for, on networks of the routers. Behind such a comment
+// `(forged)` may stand.
 function hostsOf(lines, routers, isInternet) {
     const ports = new Set(routers.flatMap((it) => it.ports.map((port) => `${port.network}.${port.node}`)));
     const networks = new Set(routers.flatMap((it) => it.ports.map((port) => port.network)));
     const found = new Map();
-    const add = ({ network, node }) => {
+    const add = ({ network, node }, isForged = false) => {
         const key = `${network}.${node}`;
-        if (networks.has(network) && !ports.has(key) && node !== EVERYONE && node !== "0") found.set(key, { network, node });
+        if (!networks.has(network) || ports.has(key) || node === EVERYONE || node === "0") return;
+        found.set(key, { network, node, isForged: isForged || Boolean(found.get(key)?.isForged) });
     };
     for (const { text, words } of lines) {
         const said = HOST.exec(text);
-        if (said) add({ network: short(said[1]), node: short(said[2]) });
+        if (said) add({ network: short(said[1]), node: short(said[2]) }, Boolean(said[3]));
         const { router, port, hex } = aim(words, isInternet);
         if (hex.length < PACKET || !["in", "trace"].includes(words[0])) continue;
         const source = addressAt(hex, SOURCE);

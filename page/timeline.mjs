@@ -55,14 +55,15 @@ function queries(script) {
     return script.routers.flatMap((_, k) => [`routes ${k}`, `services ${k}`]);
 }
 
-// The script up to a line, with questions for all tables before and after that line; and which lines of it are the questions.
-export function asking(script, line) {
+// The script up to a line, with questions for all tables before and after that line, or before an earlier one; and which lines of it are the
+// questions.
+export function asking(script, line, since = line) {
     const asked = queries(script);
     const first = script.acts.length ? script.acts[0].line : script.lines.length;
-    const lines = script.lines.slice(0, line < 0 ? first : line).map((it) => it.text);
+    const lines = script.lines.slice(0, line < 0 ? first : since).map((it) => it.text);
     const before = lines.length;
     lines.push(...asked);
-    if (line >= 0) lines.push(script.lines[line].text);
+    if (line >= 0) lines.push(...script.lines.slice(since, line + 1).map((it) => it.text));
     const after = lines.length;
     lines.push(...asked);
     return { text: `${lines.join("\n")}\n`, before, after, count: lines.length };

@@ -9,7 +9,7 @@ export function receptions(lines) {
     });
 }
 
-const [DESTINATION, SOURCE] = [12, 36];
+const [DESTINATION, SOURCE, PACKET] = [12, 36, 60];
 
 // The host whose address stands in the digits of a packet, as the map has it.
 function hostAt(hex, at, network) {
@@ -30,6 +30,15 @@ export function ways(copies, routers) {
         found.get(key).numbers.push(it.number);
     }
     return [...found.values()].map((it) => ({ ...it, colour: "way", text: listed(it.numbers) }));
+}
+
+// The ways of packets that come in from outside, of steps that are such.
+export function waysIn(steps, routers) {
+    const came = steps.filter((it) => it.words[0] === "in" && it.words[3]?.length >= PACKET);
+    return came.map(({ words: [, to, port, hex], kind }) => {
+        const network = routers[+to]?.ports[+port]?.network;
+        return { from: -1, host: hostAt(hex, SOURCE, network), network, to: +to, text: "", colour: kind ?? "way" };
+    }).filter((it) => it.network !== undefined);
 }
 
 // The ways of packets that are handed out: those of one way are one arrow, in the colour of what they say, with their count.
@@ -118,7 +127,8 @@ function before(it, copies) {
 }
 
 const nodeNamed = (node) => (node === EVERYONE ? "all" : node);
-const nobody = ({ network, node }) => (network === undefined ? "sent on, and nobody is there" : `sent on to ${node} on net ${network}, which is no router`);
+const nobody = ({ network, node }) => (
+    network === undefined ? "sent on, and nobody is there" : `sent on to ${node} on net ${network}, which is no router`);
 
 // What became of a packet at last, as a sentence.
 function endOf(it, copies, step, script) {

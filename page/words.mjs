@@ -129,6 +129,12 @@ export function packetOf(kind, values) {
     }
 }
 
+// The digits of a response by a node of a network that offers one route, as it was typed in a form.
+export function offerOf(net, { node: from, network, hops, ticks }) {
+    const route = [digits("network", network, 4), decimal("hops", hops, 2), decimal("ticks", ticks, 2)].join(" ");
+    return packetOf("rip-response", { toNetwork: net, fromNetwork: net, fromNode: digits("node", from, 6), fromSocket: "453", routes: route });
+}
+
 // ---- Back ----
 
 const kindOf = (record) => {

@@ -69,4 +69,102 @@ def lost(b, _):
     same(said(b), "drop NotRunning (the router is stopped)", "why it is dropped")
 
 
-PLAIN = [lost]
+def opens(b, name):
+    """Opens the form of an act; what its fields propose, or nothing where it doesn't open."""
+    b.click(f"#pane-internet [data-act={name}]")
+    return b.run("return Object.fromEntries([...document.querySelectorAll('dialog [name]')].map((it) => [it.name, it.value]))")
+
+
+def closes(b):
+    b.run("document.querySelector('dialog').close()")
+
+
+def forged(b, _):
+    """Internet: behind a forged response the tables that it changed are marked, its arrow comes from a host that is called forged"""
+    opened(b)
+    shows(b, "internet")
+    script(b, "internet", FALSE.split("in 0 1")[0])
+    step(b, "internet", -1)
+    opens(b, "forge")
+    wrong = {"network": ("XY", "It offers network"), "hops": ("many", "Hops"), "ticks": ("-1", "Ticks"), "node": ("!", "In the name of node")}
+    for field, (value, name) in wrong.items():
+        before = b.run("const it = document.querySelector(given[0]); const was = it.value; it.value = given[1]; return was",
+                       f"dialog [name={field}]", value)
+        b.click("dialog button.main")
+        want(text(b, "dialog .fault").startswith(f"{name}: "), f"the field that is wrong: {text(b, 'dialog .fault')}")
+        b.run("document.querySelector(given[0]).value = given[1]", f"dialog [name={field}]", before)
+    closes(b)
+    act(b, "forge", {"link": "0 1", "node": "EE", "network": "2", "hops": "1", "ticks": "0"})
+    want("· settle" in text(b, "#pane-internet .moment"), "the step behind the act")
+    want("tables changed: West" in text(b, "#pane-internet .moment"), f"the mark: {text(b, '#pane-internet .moment')}")
+    same(count(b, "#pane-internet .picture g[aria-label^='router West'][aria-label$='its tables changed']"), 1, "the dot")
+    b.run("page.panes.internet.choose('router 0')")
+    settled(b, "internet")
+    same(count(b, "#pane-internet .tables tr.changed, #pane-internet .tables tr.new"), 1, "the route that is marked")
+    same(count(b, "#pane-internet .picture g[aria-label='forged host EE on network 1']"), 1, "the host that is forged")
+    want("EE (forged)" in text(b, "#pane-internet .picture"), "its name")
+    way = b.run("""
+        const pane = page.panes.internet;
+        const [line] = pane.drawing.shapes.filter((it) => it.colour === 'rip' && it.arrow);
+        const [start, end] = [line.points[0], line.points[line.points.length - 1]];
+        const far = ([x, y], key) => { const it = pane.found.points[pane.found.at.get(key)]; return Math.hypot(x - it.place[0], y - it.place[1]); };
+        return [far(start, 'host 1.EE') < 70, far(end, 'router 0') < 40];""")
+    same(way, [True, True], "from the forging host to the router")
+    act(b, "forge", {"link": "0 1", "node": "EE", "network": "3"})
+    same(b.run("return page.panes.internet.editor.text.split('(forged)').length - 1"), 1, "the host is told once")
+
+
+def mended(b, _):
+    """Internet: only what is down can be mended, and it is proposed; a click on a line of the picture proposes its port"""
+    opened(b)
+    shows(b, "internet")
+    script(b, "internet", FALSE)
+    step(b, "internet", -1)
+    same(opens(b, "up"), {}, "no form")
+    same(told(b), "nothing is down here", "what is said")
+    b.run("""
+        const it = document.querySelector("#pane-internet .picture g[data-key='port 1 1'] polyline:last-of-type");
+        const [start, end] = it.getAttribute('points').split(' ').map((one) => one.split(',').map(Number));
+        const at = it.ownerSVGElement.createSVGPoint();
+        [at.x, at.y] = [start[0] * 0.45 + end[0] * 0.55, start[1] * 0.45 + end[1] * 0.55 + 4];
+        const { x, y } = at.matrixTransform(it.getScreenCTM());
+        document.elementFromPoint(x, y).dispatchEvent(new MouseEvent('click', { bubbles: true }));""")
+    settled(b, "internet")
+    same(opens(b, "down"), {"link": "1 1"}, "the port that was clicked on")
+    want("Link or port" in text(b, "dialog"), "its label")
+    closes(b)
+    act(b, "down", {"link": "1 1"})
+    b.run("page.panes.internet.choose('router 0')")
+    same(opens(b, "up"), {"link": "net 2"}, "what is down")
+    same(b.run("return [...document.querySelectorAll('dialog option')].map((it) => it.value)"), ["net 2", "1 1"], "nothing else")
+    closes(b)
+    act(b, "up", {"link": "1 1"})
+    same(opens(b, "up"), {}, "nothing is left")
+
+
+def proposed(b, _):
+    """Internet: forms propose a fresh node, all routers while none runs, the hosts of the last packet; and say where they insert"""
+    opened(b)
+    shows(b, "internet")
+    script(b, "internet", "router\nport 00000010 000000000001 1 576\nrouter\nport 00000010 000000000002 1 576\n")
+    for node in ("AA", "BB", "CC"):
+        same(opens(b, "host")["node"], node, "a fresh node")
+        closes(b)
+        act(b, "host", {"network": "10"})
+    same(b.run("return page.panes.internet.script.hosts.map((it) => it.node).join()"), "AA,BB,CC", "hosts in the order in which they were added")
+    same(opens(b, "start")["router"], "all", "all routers")
+    want("inserts" not in text(b, "dialog"), "at the end nothing is inserted")
+    closes(b)
+    act(b, "start", {"router": "0"})
+    same(opens(b, "start")["router"], "0", "the router that is chosen")
+    closes(b)
+    act(b, "send", {"from": "10.CC", "to": "10.AA"})
+    same(opens(b, "send"), {"from": "10.CC", "to": "10.AA"}, "the hosts of the last packet")
+    closes(b)
+    want("(packets that wait arrive)" in (step(b, "internet", 9), text(b, "#pane-internet .moment"))[1], "what settle does")
+    opens(b, "time")
+    want("in steps of (s)" in text(b, "dialog") and "inserts behind line 9" in text(b, "dialog"), text(b, "dialog"))
+    closes(b)
+
+
+PLAIN = [lost, forged, mended, proposed]
