@@ -4,6 +4,7 @@ import { conversations } from "./conversations.mjs";
 import { Places } from "./pcap.mjs";
 import { classic, isPcapng } from "./pcapng.mjs";
 import { recordOf } from "./records.mjs";
+import { Unanswered } from "./unanswered.mjs";
 
 const BEGIN = "record ";
 
@@ -46,6 +47,7 @@ class Capture {
         Object.assign(this, { status: done.status, error: done.error, took: done.took, skipped, places: new Places(bytes) });
         const { found, fault } = starts(this.text);
         Object.assign(this, { starts: found, fault, count: Math.max(found.length - 1, 0) });
+        this.unanswered = new Unanswered(this.count, (place) => this.textAt(place), (place) => this.time(place));
         this.choose({});
     }
 
@@ -83,16 +85,22 @@ class Capture {
     row(k) {
         const place = this.place(k);
         const link = place < this.places.starts.length ? this.places.link(place) : null;
-        return { ...recordOf(this.textAt(place).trimEnd().split("\n")), place, time: this.time(place), link };
+        return { ...this.read(place), link };
     }
 
     rows(from, to) {
         return Array.from({ length: Math.max(Math.min(to, this.length()) - from, 0) }, (_, k) => this.row(from + k));
     }
 
+    // What a record says, and that nobody answers it, if it is such a query.
+    read(place) {
+        const it = recordOf(this.textAt(place).trimEnd().split("\n"));
+        return { ...it, place, time: this.time(place), silence: this.unanswered.silence(place, it) };
+    }
+
     // One record, and its bytes.
     record(place) {
-        return { ...recordOf(this.textAt(place).trimEnd().split("\n")), place, time: this.time(place), hex: hexOf(this.places.frame(place)) };
+        return { ...this.read(place), hex: hexOf(this.places.frame(place)) };
     }
 
     totals() {

@@ -2,6 +2,7 @@
 // are the nodes of its frame where they aren't those of the packet.
 import { EVERYONE, short } from "./bytes.mjs";
 import { Drawing, widthOf } from "./drawing.mjs";
+import { FRAMES } from "./records.mjs";
 
 const [ROW, LEFT, TOP] = [30, 58, 52];
 // A lane is as wide as these allow, and so that all lanes together are no wider than the third if they can.
@@ -43,13 +44,16 @@ function inOrder(rows) {
     return [...[...found].filter((it) => !isAll(it)), ...[...found].filter(isAll)];
 }
 
-// The rows and parties of the records of a capture.
+// The rows and parties of the records of a capture. The kind of a frame is told where there are several, and a query that nobody answers.
 export function ofRecords(records) {
-    const party = partiesOf(records.filter((it) => it.isPacket));
+    const packets = records.filter((it) => it.isPacket);
+    const party = partiesOf(packets);
+    const differ = new Set(packets.map((it) => it.frame)).size > 1;
+    const textOf = (it) => (differ ? `${FRAMES[it.frame] ?? it.frame} · ${it.text}` : it.text);
     const rows = records.map((it) => (it.isPacket
         ? {
             key: `record ${it.place}`, second: it.time, start: party(it.from), by: carriers(it).map((node) => party({ network: "", node })),
-            end: party(it.to), kind: it.kind, text: it.text,
+            end: party(it.to), kind: it.kind, text: textOf(it), silence: it.silence,
         }
         : { key: `record ${it.place}`, second: it.time, text: it.text }));
     return { rows, parties: inOrder(rows), routers: new Set(rows.flatMap((it) => it.by ?? [])) };
@@ -152,16 +156,16 @@ function drawRow(drawing, row, y, place, right) {
     const [first, last, end] = [Math.min(...places), Math.max(...places), places[places.length - 1]];
     const aside = drawWay(drawing, row, places, y);
     drawing.words((first + last) / 2, y - 10, shortened(row.text, last - first - 8), { size: 11, colour: row.kind, halo: true });
-    if (row.lost) {
+    if (row.lost || row.silence) {
         const anchor = aside > 0 ? "start" : "end";
-        drawing.words(end + 2 * aside, y + 1, `✕ ${row.lost}`, { size: 11, colour: "alarm", anchor, halo: true });
+        drawing.words(end + 2 * aside, y + 1, `✕ ${row.lost || "no answer"}`, { size: 11, colour: "alarm", anchor, halo: true });
     }
 }
 
 // What a row is, for who doesn't see it.
-function spoken({ start, by = [], end, text, lost }) {
+function spoken({ start, by = [], end, text, lost, silence }) {
     const way = start ? `${[start, ...by, end].join(" to ")}: ` : "";
-    return `${way}${text}${lost ? `, dropped: ${lost}` : ""}`;
+    return `${way}${text}${lost ? `, dropped: ${lost}` : silence ? ", no answer" : ""}`;
 }
 
 // The drawing of rows between parties; the row with the chosen key is marked.

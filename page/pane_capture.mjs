@@ -5,7 +5,7 @@ import { made, save, svgOf } from "./dom.mjs";
 import { bytesView } from "./bytes_view.mjs";
 import { EVERYONE, fromBase64, short } from "./bytes.mjs";
 import { jsonOf } from "./json.mjs";
-import { shown } from "./records.mjs";
+import { FRAMES, shown } from "./records.mjs";
 import { Stopped } from "./program.mjs";
 import { svgText } from "./drawing.mjs";
 import { VirtualList } from "./virtual_list.mjs";
@@ -21,7 +21,7 @@ export class CapturePane {
     constructor(program, kind, page) {
         Object.assign(this, { program, kind, tell: page.tell, name: "", round: 0 });
         this.list = new VirtualList({
-            label: "packets", heads: ["No.", "Time", "From", "To", "What"],
+            label: "packets", heads: ["No.", "Time", "From", "To", "Frame", "What"],
             rowsAt: (from, to) => program.ask("rows", { from, to }), cells: (it) => this.cells(it), chosen: (it) => this.pick(it.place),
         });
         this.detail = made("div", { class: "detail", "aria-live": "polite" });
@@ -61,7 +61,8 @@ export class CapturePane {
     }
 
     cells(it) {
-        return [String(it.number), it.time.toFixed(3), it.isPacket ? shown(it.from) : it.frame, it.isPacket ? shown(it.to) : "", it.text];
+        const ends = it.isPacket ? [shown(it.from), shown(it.to)] : ["", ""];
+        return [String(it.number), it.time.toFixed(3), ...ends, FRAMES[it.frame] ?? it.frame, it.silence ? `✕ no answer · ${it.text}` : it.text];
     }
 
     // ---- Opening ----
@@ -87,8 +88,6 @@ export class CapturePane {
             if (round !== this.round) return;
             const faults = [told.fault, told.error.trim(), ...told.skipped.map((it) => `skipped ${it}`)].filter((it) => it);
             this.tell([`${name}: ${told.count} records`, ...faults].join(" · "), Boolean(told.fault || told.error));
-            if (told.count) this.list.choose(0);
-            else this.detail.replaceChildren();
         } catch (why) {
             if (why instanceof Stopped) throw why;
             this.tell(`${name}: ${why.message}`, true);
@@ -120,15 +119,17 @@ export class CapturePane {
         await this.list.reset(count);
         await this.countTotals();
         this.ladder = ofRecords(await this.program.ask("ladder", { most: MOST_ROWS }));
-        this.drawLadder("");
         this.ladderNote = count > MOST_ROWS ? `the first ${MOST_ROWS} of ${count}` : "";
-        if (this.ladderNote) this.picture.prepend(made("p", { class: "none" }, this.ladderNote));
+        this.drawLadder("");
+        if (count) await this.list.choose(0);
+        else this.detail.replaceChildren();
     }
 
     async pick(place) {
         const it = await this.program.ask("record", { place });
-        this.detail.replaceChildren(made("h2", {}, `Record ${it.number}: ${it.frame}, ${it.text}`),
-            made("pre", { class: "said" }, it.lines.join("\n")), bytesView(it.hex, frameFields(it.hex)));
+        const frame = FRAMES[it.frame] ? `${FRAMES[it.frame]} (${it.frame})` : it.frame;
+        this.detail.replaceChildren(made("h2", {}, `Record ${it.number}: ${frame}, ${it.text}`),
+            ...(it.silence ? [made("p", { class: "fault" }, it.silence)] : []), made("pre", { class: "said" }, it.lines.join("\n")), bytesView(it.hex, frameFields(it.hex)));
         this.drawLadder(`record ${place}`);
     }
 
@@ -136,6 +137,7 @@ export class CapturePane {
         this.drawing = drawLadder(this.ladder, key);
         if (!this.drawing) this.picture.replaceChildren(made("p", { class: "none" }, "no packets"));
         else this.picture.replaceChildren(svgOf(this.drawing, (chosen) => chosen && this.pick(+chosen.split(" ")[1])));
+        if (this.ladderNote) this.picture.prepend(made("p", { class: "none" }, this.ladderNote));
     }
 
     // Counting takes a while in large captures, so it is done for who looks.
@@ -146,7 +148,7 @@ export class CapturePane {
     drawTotals(found) {
         const name = (it) => `${short(it.split(".")[0])}.${isAll(it) ? "all" : short(it.split(".")[1])}`;
         const button = (it) => made("button", {
-            type: "button", class: "link", title: "filter by this address", onclick: () => this.only(isAll(it.a) ? it.b : it.a),
+            type: "button", class: "link", title: "filter by this address", onclick: () => this.only(isAll(it.a) ? it.b : it.a, it.joined),
         }, `${name(it.a)} ↔ ${name(it.b)}`);
         const rows = found.map((it) => made("tr", {}, [button(it), it.packets, it.bytes, it.forth, it.back].map((cell) => (
             made("td", {}, cell instanceof Node ? cell : String(cell))))));
@@ -154,8 +156,9 @@ export class CapturePane {
         this.totals.replaceChildren(made("table", {}, made("thead", {}, made("tr", {}, heads)), made("tbody", {}, rows)));
     }
 
-    only(address) {
-        this.form.elements.address.value = address;
+    // A node that was also told without its network is looked for by its node alone.
+    only(address, joined) {
+        this.form.elements.address.value = joined.includes(address) ? address.split(".")[1] : address;
         this.filterNow();
     }
 

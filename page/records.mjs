@@ -6,6 +6,8 @@ const UNREACHABLE = 16;
 const ASKED = 65535;
 const SHOWN = 3;
 export const SOCKETS = { "0451": "NCP", "0452": "SAP", "0453": "RIP", "0455": "NetBIOS", "0456": "diagnostics" };
+// The kinds of frames, in words of the trade beside those of `ipxr`.
+export const FRAMES = { Raw: "802.3 raw", Llc: "802.2", EthernetII: "Ethernet II", Snap: "SNAP" };
 const TYPES = { 0: "data", 1: "RIP", 4: "SAP", 5: "SPX", 17: "NCP", 20: "NetBIOS" };
 
 function entry(line) {

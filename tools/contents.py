@@ -15,7 +15,7 @@ WEB = {"build/web/libipxr.wasm": "make web", "build/ipxr.html": "make page"}
 PLACES = {"build/web/libipxr.wasm": "examples/embed/web/libipxr.wasm", "build/ipxr.html": "ipxr.html"}
 # With what of the page tools/picture draws, and reads captures.
 DRAWING = "drawing hops internet_map ladder layout moments reasons records script side_by_side timeline traces".split()
-READING = "bytes capture conversations pcap pcapng".split()
+READING = "bytes capture conversations pcap pcapng unanswered".split()
 MODULES = [f"page/{it}.mjs" for it in DRAWING + READING]
 TOOLS = [f"tools/{it}" for it in ["json", "pcap.py", "picture", "picture.mjs", "program.mjs", "to-pcap"]] + MODULES
 LINK = re.compile(r"(?<!!)\[([^]]*)\]\(([^)#\s]+)(#[^)]*)?\)")

@@ -1,5 +1,6 @@
 """What must be plain to who uses the page: where a packet got to and why not, what a form proposes, what is marked. Checks as in page_checks.py."""
-from page_checks import act, count, opened, same, script, settled, shows, text, told, want
+from page_checks import act, captured, count, opened, same, script, settled, shows, text, told, typed, want
+from page_file import TOP
 
 PACKET = "FFFF001E0000000000020000000000BB40030000000A0000000000AA4003"
 # Two routers between AA on network A and BB on network 2; then somebody forges a route to network 2 by EE on network 1.
@@ -167,4 +168,54 @@ def proposed(b, _):
     closes(b)
 
 
-PLAIN = [lost, forged, mended, proposed]
+def chosen_example(b, name):
+    b.run("const it = document.querySelector('#pane-capture .drop select'); it.value = given[0]; it.dispatchEvent(new Event('change'))", name)
+    b.waits("document.querySelector('#told').textContent.startsWith(given[0]) && !page.programs[1].isBusy", name)
+
+
+def columns(b, number):
+    """What stands in a column of the list."""
+    return b.run("return [...document.querySelectorAll(`#pane-capture .scroller .row span:nth-child(${given[0]})`)].map((it) => it.textContent)",
+                 number)
+
+
+def framed(b, _):
+    """Capture: kinds of frames stand in words in the list and, where they differ, in the ladder; the detail follows the filter"""
+    opened(b)
+    shows(b, "capture")
+    captured(b, f"{TOP}/tests/decode/kinds.pcap")
+    same(columns(b, 5)[:4], ["Ethernet II", "802.3 raw", "802.2", "SNAP"], "kinds of frames")
+    want("SNAP · RIP request" in text(b, "#pane-capture .picture"), "the ladder tells kinds that differ")
+    chosen_example(b, "nearest-server")
+    want(" · " not in text(b, "#pane-capture .picture"), "and none where they don't")
+    typed(b, "#pane-capture [name=word]", "rip response")
+    b.waits("document.querySelector('#pane-capture .detail h2')?.textContent.includes('RIP response')")
+    want("802.3 raw (Raw), RIP response" in text(b, "#pane-capture .detail h2"), "the record that is left")
+    typed(b, "#pane-capture [name=word]", "nothing so")
+    b.waits("!document.querySelector('#pane-capture .detail').textContent")
+
+
+def unanswered(b, _):
+    """Capture: queries that nobody answers are marked, with what their frame has to do with it; a node is told once"""
+    opened(b)
+    shows(b, "capture")
+    chosen_example(b, "no-server")
+    silent = [k + 1 for k, it in enumerate(columns(b, 6)) if it.startswith("✕ no answer")]
+    same(silent, [3, 4, 7, 11], "the queries that nobody answers")
+    same(count(b, "#pane-capture .picture g[aria-label$=', no answer']"), 4, "in the ladder")
+    b.click("#pane-capture .scroller .row:nth-child(3)")
+    b.waits("document.querySelector('#pane-capture .detail .fault')")
+    same(text(b, "#pane-capture .detail .fault"),
+         "Nobody answers within 10 s. It is sent as 802.3 raw; routers and servers here use 802.2.", "why")
+    b.click("#pane-capture .scroller .row:nth-child(5)")
+    b.waits("document.querySelector('#pane-capture .detail h2').textContent.startsWith('Record 5:')")
+    same(count(b, "#pane-capture .detail .fault"), 0, "a query that is answered")
+    b.run("document.querySelectorAll('#pane-capture .more details')[1].open = true")
+    b.waits("document.querySelector('#pane-capture .tables td')")
+    parties = b.run("return [...document.querySelectorAll('#pane-capture .tables td:first-child')].map((it) => it.textContent)")
+    want(not any("0.1B020433" == one for it in parties for one in it.split(" ↔ ")), f"told without its network: {parties}")
+    chosen_example(b, "nearest-server")
+    same([it for it in columns(b, 6) if "no answer" in it], [], "where all is answered")
+
+
+PLAIN = [framed, unanswered, lost, forged, mended, proposed]
