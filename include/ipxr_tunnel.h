@@ -135,8 +135,8 @@ IPXR_CALL int32_t ipxr_tunnel_receiver(ipxr_tunnel *tunnel, size_t index, uint8_
  * one without a packet. */
 IPXR_CALL size_t ipxr_tunnel_carried(ipxr_tunnel *tunnel);
 
-/* Whether the router hears the packet of the datagram: give these bytes to ipxr_packet then. */
-IPXR_CALL ipxr_flag ipxr_tunnel_is_heard(ipxr_tunnel *tunnel);
+/* 1 if the router hears the packet of the datagram, else 0: give these bytes to ipxr_packet then. */
+IPXR_CALL uint8_t ipxr_tunnel_is_heard(ipxr_tunnel *tunnel);
 
 /* The places of the clients that left in the second. */
 IPXR_CALL size_t ipxr_tunnel_leavers(ipxr_tunnel *tunnel);
@@ -153,10 +153,10 @@ IPXR_CALL int32_t ipxr_tunnel_client(ipxr_tunnel *tunnel, size_t index, ipxr_cli
 
 /* Whether a packet that came on the network of that number is copied: it is a broadcast there to one of the `count` sockets, its source
  * names the network, and it isn't of the type that routers propagate (20). If so, its bytes become those of the copy for the network `to`:
- * they differ in the destination's network alone, and the copy is sent there as a packet to all. Else they stay as they were. A copy isn't
- * copied again, on any network and by any sockets, where `to` is another network than `network`, and neither 0 nor FFFFFFFFh. Ask it of
- * what the router hears, with the bytes that were carried. */
-IPXR_CALL ipxr_flag ipxr_tunnel_extend(uint32_t network, const uint16_t *sockets, size_t count, uint32_t to, uint8_t *bytes, size_t length);
+ * they differ in the destination's network alone, the copy is sent there as a packet to all, and 1 is returned. Else they stay as they
+ * were, and 0 is returned. A copy isn't copied again, on any network and by any sockets, where `to` is another network than `network`, and
+ * neither 0 nor FFFFFFFFh. Ask it of what the router hears, with the bytes that were carried. */
+IPXR_CALL uint8_t ipxr_tunnel_extend(uint32_t network, const uint16_t *sockets, size_t count, uint32_t to, uint8_t *bytes, size_t length);
 
 #ifdef __cplusplus
 }

@@ -1,8 +1,9 @@
 -- What C reads of a tunnel: what came of its last event, and its clients.
-use Rattle.std.specs.Prelude.{ℕ, Bool, false, List, length, Option, None, Some, Result, Ok, Err}
+use Rattle.std.specs.Prelude.{ℕ, List, length, Option, None, Some, Result, Ok, Err}
 use Rattle.ipx_wire.specs.declared.node.Node.{Node}
 use Rattle.ipx_tunnel.specs.declared.client.Client.{Client}
 use Rattle.ipx_tunnel.specs.declared.own.Own.{Own}
+use Rattle.ipx_c.specs.Extends.{flag}
 use Rattle.ipx_c.specs.Reads.{record_at}
 use Rattle.ipx_c.specs.TunnelValues.{own_record, client_record}
 use Rattle.ipx_c.specs.declared.fault.Fault.{Fault}
@@ -44,9 +45,9 @@ carried_size None = 0
 carried_size (Some machine) = machine.carried
 
 -- the router hears it
-abbrev pub is_router_told : Option TunnelMachine → Bool
-is_router_told None = false
-is_router_told (Some machine) = machine.is_heard
+abbrev pub heard_flag : Option TunnelMachine → ℕ
+heard_flag None = 0
+heard_flag (Some machine) = flag machine.is_heard
 
 -- ---- clients
 

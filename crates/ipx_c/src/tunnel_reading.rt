@@ -1,7 +1,7 @@
 //! What C reads of a tunnel: what came of its last event, and its clients.
 ghost use Rattle.std.specs.Prelude.{◌≡◌, slice_get};
 ghost use Rattle.ipx_c.specs.Reads.{read_code};
-ghost use Rattle.ipx_c.specs.TunnelReads.{found_or, own_count, own_at, own_after, receiver_count, receiver_at, carried_size, is_router_told, leaver_count, leaver_at, place_after, client_count, client_at, client_after};
+ghost use Rattle.ipx_c.specs.TunnelReads.{found_or, own_count, own_at, own_after, receiver_count, receiver_at, carried_size, heard_flag, leaver_count, leaver_at, place_after, client_count, client_at, client_after};
 ghost use Rattle.ipx_c.specs.TunnelValues.{own_record, client_record};
 
 use crate::code::{DONE, fault_code};
@@ -100,16 +100,16 @@ pub extern "C" fn ipxr_tunnel_carried(alloc: Global, handle: &mut TunnelHandle) 
 
 /// Whether the router hears the packet.
 #[unsafe(no_mangle)]
-pub extern "C" fn ipxr_tunnel_is_heard(alloc: Global, handle: &mut TunnelHandle) -> bool
+pub extern "C" fn ipxr_tunnel_is_heard(alloc: Global, handle: &mut TunnelHandle) -> u8
     ensures kept { handle.new.cell.machine ≡ handle.old.cell.machine }
-    ensures heard { result ≡ is_router_told handle.old.cell.machine }
+    ensures heard { result ≡ heard_flag handle.old.cell.machine }
 {
     let Some(machine) = taken_out(alloc, handle) else {
-        return false;
+        return 0;
     };
     let is_heard = machine.is_heard;
     put_in(handle, machine);
-    is_heard
+    u8::from(is_heard)
 }
 
 /// How many clients left.

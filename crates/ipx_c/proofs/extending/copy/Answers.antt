@@ -2,7 +2,7 @@ use Rattle.std.proofs.Common.{◌∙◌, sym, map}
 use Rattle.ipx_tunnel.specs.Extend.{extended}
 use Rattle.ipx_c.specs.Extends.{network_of, socket_of, is_copied}
 use Rattle.ipx_c.proofs.Copied.{named_by_one, has_header, picked, kept}
-use Rattle.ipx_c.proofs.extending.ipxr_tunnel_extend.Goals as goal
+use Rattle.ipx_c.proofs.extending.copy.Goals as goal
 
 pub extend-requires : goal.extend-requires
 extend-requires c =
