@@ -4,6 +4,9 @@ import { tree } from "./drawing.mjs";
 // A large drawing becomes smaller to fit, but not so small that it can't be read: then it is moved.
 const LEAST = 0.65;
 const HIT = 16;
+// The width of windows (as in style.css) in which things stand below each other.
+const NARROW = "(max-width: 820px)";
+export const isNarrow = () => matchMedia(NARROW).matches;
 const SVG = "http://www.w3.org/2000/svg";
 
 // An element with attributes, listeners (names that begin with "on"), properties (with a dot in front), and what is inside.
@@ -58,6 +61,14 @@ export function svgOf(drawing, choose) {
         choose?.(chosen(event) ?? "");
     });
     return it;
+}
+
+// A drawing that is wider than its place is moved there: to where it was, or so that its middle is seen, as a ladder's router.
+export function centred(place, drawing, before) {
+    const svg = find("svg", place);
+    const [wide, box] = [svg.getBoundingClientRect().width, svg.viewBox.baseVal];
+    if (wide <= place.clientWidth || drawing.middle === undefined) return;
+    place.scrollLeft = before || ((drawing.middle - box.x) / box.width) * wide - place.clientWidth / 2;
 }
 
 // Hands a file to who sits there.

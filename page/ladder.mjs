@@ -181,6 +181,7 @@ export function drawLadder({ rows, parties, routers = new Set() }, chosen = "") 
         drawing.box(x, TOP - 32, widthOf(name, 12) + 18, 24, { fill: isRouter ? "router" : "paper", corner: isRouter ? 3 : 12 });
         drawing.words(x, TOP - 32, name, { size: 12, bold: isRouter });
     }
+    drawing.middle = place.get(parties.find((it) => routers.has(it)));
     let last = null;
     rows.forEach((row, k) => {
         const y = TOP + ROW * k + 16;

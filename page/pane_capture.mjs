@@ -1,10 +1,11 @@
 // The pane Capture: the packets of a file, which are filtered; the chosen one field by field; a ladder and totals of those that are shown.
 import { drawLadder, ofRecords } from "./ladder.mjs";
 import { frameFields } from "./fields.mjs";
-import { made, save, svgOf } from "./dom.mjs";
+import { centred, made, save, svgOf } from "./dom.mjs";
 import { bytesView } from "./bytes_view.mjs";
 import { EVERYONE, fromBase64, short } from "./bytes.mjs";
 import { jsonOf } from "./json.mjs";
+import { LEGENDS, legendButton } from "./legend.mjs";
 import { FRAMES, shown } from "./records.mjs";
 import { Stopped } from "./program.mjs";
 import { svgText } from "./drawing.mjs";
@@ -14,6 +15,11 @@ import { VirtualList } from "./virtual_list.mjs";
 const MOST_ROWS = 200;
 const TYPES = [["", "any type"], ["1", "1 RIP"], ["4", "4 SAP"], ["17", "17 NCP"], ["20", "20 NetBIOS"], ["5", "5 SPX"], ["0", "0"]];
 const PAUSE = 200;
+// What the examples show.
+const SHOWS = {
+    "nearest-server": "A client finds its nearest server, and sends it the first packet by the router.",
+    "no-server": "One client asks in another kind of frame than the server's, and nobody answers; another one is answered.",
+};
 
 const isAll = (party) => party.endsWith(`.${EVERYONE}`);
 
@@ -35,9 +41,11 @@ export class CapturePane {
     opening() {
         const taken = () => this.file(file.files[0]).then(() => (file.value = ""));
         const file = made("input", { type: "file", id: "file", accept: ".pcap,.pcapng,.cap,.dmp", onchange: taken });
-        const menu = made("select", { "aria-label": "example", onchange: () => (this.example(menu.value), (menu.value = "")) },
+        this.about = made("span", { class: "none" });
+        const menu = made("select", { "aria-label": "example", onchange: () => this.example(menu.value) },
             made("option", { value: "" }, "Examples"), Object.keys(this.kind.examples).map((it) => made("option", { value: it }, it)));
-        return made("div", { class: "drop" }, made("label", { for: "file" }, "Drop a capture here, or choose one:"), file, menu);
+        this.menu = menu;
+        return made("div", { class: "drop" }, made("label", { for: "file" }, "Drop a capture here, or choose one:"), file, menu, this.about);
     }
 
     filters() {
@@ -50,7 +58,7 @@ export class CapturePane {
             input("address", "Address"), type, input("socket", "Socket"), input("word", "Word"));
         const out = (label, act) => made("button", { type: "button", onclick: act }, label);
         this.form.append(made("span", { class: "bar aside" }, out("Text", () => this.saveText()), out("JSON", () => this.saveJson()),
-            out("Picture", () => this.savePicture())));
+            out("Save picture", () => this.savePicture()), legendButton(LEGENDS.capture)));
         return this.form;
     }
 
@@ -72,16 +80,19 @@ export class CapturePane {
     }
 
     example(name) {
-        if (name) this.open(`${name}.pcap`, fromBase64(this.kind.examples[name]));
+        if (name) this.open(`${name}.pcap`, fromBase64(this.kind.examples[name]), true);
     }
 
     // Opens the bytes of a file. Where another one is chosen meanwhile, that is shown and this is forgotten.
-    async open(name, bytes) {
+    async open(name, bytes, isExample = false) {
         const round = ++this.round;
         try {
             const told = await this.program.ask("open", { bytes }, [bytes.buffer]);
             if (round !== this.round) return;
             Object.assign(this, { name, opened: told });
+            const example = name.replace(/\.pcap$/, "");
+            this.menu.value = isExample ? example : "";
+            this.about.textContent = (isExample && SHOWS[example]) || "";
             this.full.hidden = false;
             this.form.reset();
             await this.refresh(told.count);
@@ -135,9 +146,11 @@ export class CapturePane {
 
     drawLadder(key) {
         this.drawing = drawLadder(this.ladder, key);
+        const { scrollLeft } = this.picture;
         if (!this.drawing) this.picture.replaceChildren(made("p", { class: "none" }, "no packets"));
         else this.picture.replaceChildren(svgOf(this.drawing, (chosen) => chosen && this.pick(+chosen.split(" ")[1])));
         if (this.ladderNote) this.picture.prepend(made("p", { class: "none" }, this.ladderNote));
+        if (this.drawing) centred(this.picture, this.drawing, scrollLeft);
     }
 
     // Counting takes a while in large captures, so it is done for who looks.

@@ -1,6 +1,6 @@
 // The pane Internet: the map of a script of `ipxr internet`, the tables of the router that is chosen, and acts that write lines.
 import { drawMoments, mapAt } from "./side_by_side.mjs";
-import { made, svgOf } from "./dom.mjs";
+import { isNarrow, made, svgOf } from "./dom.mjs";
 import { receptions, sentences, waysIn, waysOf } from "./traces.mjs";
 import { captureOf } from "./pcap.mjs";
 import { answers, isChanged } from "./timeline.mjs";
@@ -11,9 +11,6 @@ import { recordsOf } from "./records.mjs";
 import { ScriptPane } from "./pane_script.mjs";
 import { Stopped } from "./program.mjs";
 import { tablesOf } from "./tables_view.mjs";
-
-// The width of windows (as in style.css) in which a map stands upright.
-const NARROW = "(max-width: 820px)";
 
 // As many packets of a settle are told in words.
 const MOST_TOLD = 60;
@@ -44,7 +41,7 @@ export class InternetPane extends ScriptPane {
 
     // The plan changes only with routers, ports and hosts, so that the map stays as it is while a script is typed.
     plan() {
-        const isTall = matchMedia(NARROW).matches;
+        const isTall = isNarrow();
         const shape = JSON.stringify([isTall, this.script.routers.map((it) => [it.name, it.ports.map((port) => port.network)]), this.script.hosts]);
         if (shape === this.shape) return;
         this.shape = shape;

@@ -1,7 +1,7 @@
 // The pane Router: who sent what to whom in a script of `ipxr replay`, and the tables of the router.
 import { drawLadder, ofSteps, packetsOf } from "./ladder.mjs";
 import { answers, steps, together, toldApart } from "./timeline.mjs";
-import { made, svgOf } from "./dom.mjs";
+import { centred, made, svgOf } from "./dom.mjs";
 import { captureOf } from "./pcap.mjs";
 import { parsed } from "./script.mjs";
 import { recordsOf } from "./records.mjs";
@@ -30,9 +30,11 @@ export class RouterPane extends ScriptPane {
         const ladder = await this.ladder(networks);
         const rows = around(ladder.rows, `step ${this.at}`);
         this.drawing = drawLadder({ ...ladder, rows }, `step ${this.at}`);
+        const { scrollLeft } = this.picture;
         if (!this.drawing) this.picture.replaceChildren(made("p", { class: "none" }, "Choose an example, or type a script."));
         else this.picture.replaceChildren(svgOf(this.drawing, (key) => key && this.show(+key.split(" ")[1])));
         this.picture.querySelector(`[data-key="step ${this.at}"]`)?.scrollIntoView({ block: "nearest" });
+        if (this.drawing) centred(this.picture, this.drawing, scrollLeft);
         const state = step.state[0];
         const ports = networks.map((it, k) => `${k}: net ${it}${state.up[k] ? "" : " (down)"}`).join(", ");
         this.tables.replaceChildren(made("p", {}, `${state.runs ? "running" : "stopped"}${ports ? ` · ports ${ports}` : ""}`),

@@ -7,6 +7,7 @@ import { isHex } from "./bytes.mjs";
 import { edited } from "./acts.mjs";
 import { Editor } from "./editor.mjs";
 import { explained } from "./reasons.mjs";
+import { LEGENDS, legendButton } from "./legend.mjs";
 import { openForm } from "./form.mjs";
 import { parsed } from "./script.mjs";
 import { Stopped } from "./program.mjs";
@@ -47,12 +48,13 @@ export class ScriptPane {
         const file = made("input", { type: "file", hidden: true, onchange: () => this.opened(file.files[0]).then(() => (file.value = "")) });
         this.undo = this.button("Undo", () => this.back(), "undo the last act");
         this.undo.disabled = true;
+        this.about = made("p", { class: "none about" });
         const bar = made("div", { class: "bar" }, this.menu, this.button("New", () => this.replace(EMPTY)), this.button("Open", () => file.click()),
             this.button("Save", () => save(`script.${this.kind.end}`, this.editor.text)), this.undo, file);
         const all = made("details", { class: "all", ontoggle: () => this.showAll() }, made("summary", {}, "All that ipxr writes"),
             (this.all = made("pre", { class: "said", tabindex: "0" })));
         this.allOpen = all;
-        return made("div", { class: "left" }, bar, this.editor.element, all);
+        return made("div", { class: "left" }, bar, this.about, this.editor.element, all);
     }
 
     right() {
@@ -62,7 +64,7 @@ export class ScriptPane {
             made("button", { type: "button", onclick: step(-1), "aria-label": "one step back" }, "◀"), this.slider,
             made("button", { type: "button", onclick: step(1), "aria-label": "one step on" }, "▶"),
             made("label", { class: "fine", title: "single seconds and single deliveries" }, this.fine, "slow motion"),
-            this.button("Picture", () => this.savePicture(), "save the picture as SVG"));
+            this.button("Save picture", () => this.savePicture(), "save the picture as SVG"), legendButton(LEGENDS[this.kind.verb]));
         return made("div", { class: "right" }, ...this.acts(), this.picture, bar, this.moment, this.said, this.tables);
     }
 
@@ -99,7 +101,13 @@ export class ScriptPane {
 
     example(name) {
         if (name) this.replace(this.kind.examples[name]);
-        this.menu.value = "";
+    }
+
+    // Names the example whose text this is, with what it shows: its first line says so.
+    name() {
+        const [name, text] = Object.entries(this.kind.examples).find(([, it]) => it === this.editor.text) ?? ["", ""];
+        this.menu.value = name;
+        this.about.textContent = text.split("\n")[0].replace(/^# */, "");
     }
 
     // Puts another text into the editor; what was there can be had back.
@@ -122,6 +130,7 @@ export class ScriptPane {
     // Plays the script; `line` is the line to be shown then, -2 for where a new script begins, and else the one that was shown.
     async play(line) {
         const round = ++this.round;
+        this.name();
         const isInternet = this.kind.verb === "internet";
         const script = parsed(this.editor.text, isInternet);
         const wanted = line ?? this.steps[this.at]?.line ?? -1;

@@ -1,7 +1,8 @@
 // A list of very many rows, of which only those in sight are there.
-import { made } from "./dom.mjs";
+import { isNarrow, made } from "./dom.mjs";
 
-const [ROW, MORE] = [24, 12];
+// How high a row is, as in style.css: in a narrow window it has two lines.
+const [ROW, TWO_LINES, MORE] = [24, 40, 12];
 // Browsers refuse higher elements; a longer list is scrolled in larger steps.
 const HIGHEST = 8000000;
 
@@ -18,13 +19,17 @@ export class VirtualList {
         new ResizeObserver(() => this.draw()).observe(this.scroller);
     }
 
+    get rowHigh() {
+        return isNarrow() ? TWO_LINES : ROW;
+    }
+
     get high() {
-        return Math.min(this.count * ROW, HIGHEST);
+        return Math.min(this.count * this.rowHigh, HIGHEST);
     }
 
     // How many pixels of the list one of the scroller is.
     get scale() {
-        const [all, seen] = [this.count * ROW, this.scroller.clientHeight];
+        const [all, seen] = [this.count * this.rowHigh, this.scroller.clientHeight];
         return this.high > seen ? (all - seen) / (this.high - seen) : 1;
     }
 
@@ -40,12 +45,12 @@ export class VirtualList {
     async draw() {
         const round = ++this.round;
         const top = this.scroller.scrollTop * this.scale;
-        const first = Math.max(Math.floor(top / ROW) - MORE, 0);
-        const last = Math.min(Math.ceil((top + this.scroller.clientHeight) / ROW) + MORE, this.count);
+        const first = Math.max(Math.floor(top / this.rowHigh) - MORE, 0);
+        const last = Math.min(Math.ceil((top + this.scroller.clientHeight) / this.rowHigh) + MORE, this.count);
         const found = first < last ? await this.rowsAt(first, last).catch(() => []) : [];
         if (round !== this.round) return;
         this.rows.replaceChildren(...found.map((it, k) => this.row(it, first + k)));
-        this.rows.style.transform = `translateY(${this.scroller.scrollTop - (top - first * ROW)}px)`;
+        this.rows.style.transform = `translateY(${this.scroller.scrollTop - (top - first * this.rowHigh)}px)`;
     }
 
     row(it, number) {
@@ -66,12 +71,12 @@ export class VirtualList {
     // Brings a row into sight.
     sight(number) {
         const [top, seen] = [this.scroller.scrollTop * this.scale, this.scroller.clientHeight];
-        const wanted = number * ROW < top ? number * ROW : (number + 1) * ROW > top + seen ? (number + 1) * ROW - seen : top;
+        const wanted = number * this.rowHigh < top ? number * this.rowHigh : (number + 1) * this.rowHigh > top + seen ? (number + 1) * this.rowHigh - seen : top;
         if (wanted !== top) this.scroller.scrollTop = wanted / this.scale;
     }
 
     key(event) {
-        const page = Math.max(Math.floor(this.scroller.clientHeight / ROW) - 1, 1);
+        const page = Math.max(Math.floor(this.scroller.clientHeight / this.rowHigh) - 1, 1);
         const steps = { ArrowDown: 1, ArrowUp: -1, PageDown: page, PageUp: -page, Home: -this.count, End: this.count };
         if (!(event.key in steps) || !this.count) return;
         event.preventDefault();

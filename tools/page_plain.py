@@ -218,4 +218,58 @@ def unanswered(b, _):
     same([it for it in columns(b, 6) if "no answer" in it], [], "where all is answered")
 
 
-PLAIN = [framed, unanswered, lost, forged, mended, proposed]
+def named(b, _):
+    """the box of examples names what is loaded and says what it shows, until it is changed; buttons say what they do; a legend"""
+    opened(b)
+    shows(b, "internet")
+    settled(b, "internet")
+    shown = "const pane = page.panes[given[0]]; return [pane.menu.value, pane.about.textContent]"
+    same(b.run(shown, "internet"), ["ring", "A ring of four routers, one of whose links fails: how long until packets go round the other side."], "named")
+    script(b, "internet", FALSE)
+    same(b.run(shown, "internet"), ["", ""], "another script")
+    b.click("#pane-internet .help")
+    want("its tables changed" in text(b, "dialog.legend"), "the legend")
+    b.click("dialog.legend button.main")
+    same(count(b, "dialog"), 0, "it is closed")
+    shows(b, "capture")
+    b.waits("page.panes.capture.menu.value === 'nearest-server'")
+    chosen_example(b, "no-server")
+    named_so, what = b.run(shown, "capture")
+    want(named_so == "no-server" and "nobody answers" in what, f"{named_so}: {what}")
+    captured(b, f"{TOP}/tests/decode/kinds.pcap")
+    same(b.run(shown, "capture"), ["", ""], "a file")
+    labels = b.run("return [...document.querySelectorAll('button')].map((it) => it.textContent)")
+    want(labels.count("Save picture") == 3 and "Copy link" in labels and "Cancel" in labels and not {"Picture", "Link"} & set(labels), str(labels))
+
+
+def narrow(b, _):
+    """narrow: fields of forms aren't cut, nodes of the list differ, the map fits, and a ladder begins at its router"""
+    opened(b)
+    b.resize(400, 860)
+    shows(b, "capture")
+    chosen_example(b, "no-server")
+    want(b.run("""
+        const ends = [...document.querySelectorAll('#pane-capture .scroller .row span:nth-child(n + 3):nth-child(-n + 4)')];
+        return ends.length > 8 && ends.every((it) => it.scrollWidth <= it.clientWidth);"""), "addresses are cut")
+    same(b.run("return document.querySelector('#pane-capture .scroller .row').offsetHeight"), 40, "two lines")
+    shows(b, "internet")
+    script(b, "internet", FALSE)
+    want(b.run("const it = document.querySelector('#pane-internet .picture'); return it.scrollWidth <= it.clientWidth"), "the map fits")
+    opens(b, "down")
+    want(b.run("""
+        const dialog = document.querySelector('dialog').getBoundingClientRect();
+        const all = [...document.querySelectorAll('dialog [name]')].map((it) => it.getBoundingClientRect());
+        return all.every((it) => it.right <= dialog.right && it.left >= dialog.left) && dialog.right <= innerWidth;"""), "fields are cut")
+    closes(b)
+    shows(b, "router")
+    settled(b, "router")
+    want(b.run("""
+        const picture = document.querySelector('#pane-router .picture').getBoundingClientRect();
+        const head = [...document.querySelectorAll('#pane-router .picture text')].find((it) => it.textContent === 'router').getBoundingClientRect();
+        return head.left >= picture.left && head.right <= picture.right;"""), "the router is out of sight")
+    b.resize(1280, 940)
+
+
+# What is tried in Chromium alone, whose window can be as narrow as that.
+NARROW = [narrow]
+PLAIN = [named, framed, unanswered, lost, forged, mended, proposed]

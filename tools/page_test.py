@@ -54,7 +54,7 @@ def rounds():
         if lacks():
             print(f"left out: the page in {name} (no {lacks()})")
             continue
-        yield name, open_it, [*page_checks.EVERYWHERE, *page_plain.PLAIN, *([pictures] if name == "chromium" else [])]
+        yield name, open_it, [*page_checks.EVERYWHERE, *page_plain.PLAIN, *([*page_plain.NARROW, pictures] if name == "chromium" else [])]
         if name == "chromium":
             flags = [f"--js-flags=--wasm-max-mem-pages={FEW_PAGES}"]
             yield "chromium with little memory", lambda it: browsers.chromium(it, flags), [no_memory]
