@@ -140,7 +140,8 @@ export class CapturePane {
         const it = await this.program.ask("record", { place });
         const frame = FRAMES[it.frame] ? `${FRAMES[it.frame]} (${it.frame})` : it.frame;
         this.detail.replaceChildren(made("h2", {}, `Record ${it.number}: ${frame}, ${it.text}`),
-            ...(it.silence ? [made("p", { class: "fault" }, it.silence)] : []), made("pre", { class: "said" }, it.lines.join("\n")), bytesView(it.hex, frameFields(it.hex)));
+            ...(it.silence ? [made("p", { class: "fault" }, it.silence)] : []), made("pre", { class: "said" }, it.lines.join("\n")),
+            bytesView(it.hex, frameFields(it.hex)));
         this.drawLadder(`record ${place}`);
     }
 

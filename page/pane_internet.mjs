@@ -1,7 +1,7 @@
 // The pane Internet: the map of a script of `ipxr internet`, the tables of the router that is chosen, and acts that write lines.
 import { drawMoments, mapAt } from "./side_by_side.mjs";
 import { isNarrow, made, svgOf } from "./dom.mjs";
-import { receptions, sentences, waysIn, waysOf } from "./traces.mjs";
+import { droppedBy, receptions, sentences, waysIn, waysOf } from "./traces.mjs";
 import { captureOf } from "./pcap.mjs";
 import { answers, isChanged } from "./timeline.mjs";
 import { answered, questions } from "./hops.mjs";
@@ -69,9 +69,10 @@ export class InternetPane extends ScriptPane {
     }
 
     mapOf(step, found, moved) {
-        const came = waysIn([step, ...this.causes(step)], this.script.routers);
+        const told = [step, ...this.causes(step)];
+        const came = waysIn(told, this.script.routers);
         const all = moved ? [...came, ...waysOf(moved.packets, moved.kinds)] : came;
-        const ways = all.length && { trace: all };
+        const ways = all.length && { trace: all, lost: droppedBy(told) };
         return mapAt(this.script, this.found, step, { changed: found.map(isChanged), chosen: this.chosen, ...ways });
     }
 

@@ -41,6 +41,10 @@ export function waysIn(steps, routers) {
     }).filter((it) => it.network !== undefined);
 }
 
+// The routers that dropped a packet which came in from outside.
+export const droppedBy = (steps) => steps.filter((it) => it.words[0] === "in" && it.said.some((line) => line.startsWith("drop ")))
+    .map((it) => +it.words[1]);
+
 // The ways of packets that are handed out: those of one way are one arrow, in the colour of what they say, with their count.
 export function waysOf(moved, kinds) {
     const found = new Map();

@@ -71,7 +71,8 @@ export class VirtualList {
     // Brings a row into sight.
     sight(number) {
         const [top, seen] = [this.scroller.scrollTop * this.scale, this.scroller.clientHeight];
-        const wanted = number * this.rowHigh < top ? number * this.rowHigh : (number + 1) * this.rowHigh > top + seen ? (number + 1) * this.rowHigh - seen : top;
+        const [upper, lower] = [number * this.rowHigh, (number + 1) * this.rowHigh];
+        const wanted = upper < top ? upper : lower > top + seen ? lower - seen : top;
         if (wanted !== top) this.scroller.scrollTop = wanted / this.scale;
     }
 

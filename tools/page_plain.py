@@ -68,6 +68,7 @@ def lost(b, _):
     script(b, "internet", FALSE + f"in 0 0 {PACKET[:4]}\nstop 0\nin 0 0 {PACKET}\n")
     step(b, "internet", -1)
     same(said(b), "drop NotRunning (the router is stopped)", "why it is dropped")
+    same(crosses(b), 1, "where it is dropped")
 
 
 def opens(b, name):
@@ -224,7 +225,8 @@ def named(b, _):
     shows(b, "internet")
     settled(b, "internet")
     shown = "const pane = page.panes[given[0]]; return [pane.menu.value, pane.about.textContent]"
-    same(b.run(shown, "internet"), ["ring", "A ring of four routers, one of whose links fails: how long until packets go round the other side."], "named")
+    about = "A ring of four routers, one of whose links fails: how long until packets go round the other side."
+    same(b.run(shown, "internet"), ["ring", about], "named")
     script(b, "internet", FALSE)
     same(b.run(shown, "internet"), ["", ""], "another script")
     b.click("#pane-internet .help")

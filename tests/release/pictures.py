@@ -81,6 +81,38 @@ def try_shown():
     tell("a way that is gone sixteen times is told by three numbers for each direction", differs(sorted(ways), ["1 3 … 15", "2 4 … 16"]))
 
 
+# Two routers between two hosts, and somebody else on the network between the routers who offers a better route than the second one.
+PACKET = "FFFF001E0000000000020000000000BB40030000000A0000000000AA4003"
+FALSE = f"""# West (router 0), East (router 1)
+router
+port 0000000A 000000000101 1 576
+port 00000001 000000000102 1 576
+router
+port 00000001 000000000201 1 576
+port 00000002 000000000202 1 576
+start 0
+start 1
+settle 1000000
+trace 0 0 100 {PACKET}
+in 0 1 FFFF0028000100000001FFFFFFFFFFFF0453000000010000000000EE045300020000000200010000
+settle 1000000
+trace 0 0 100 {PACKET}
+"""
+
+
+def try_lost(folder):
+    """A packet on a false route doesn't seem to arrive: a cross is where it got to."""
+    with open(f"{folder}/false.internet", "w", encoding="utf-8") as it:
+        it.write(FALSE)
+    seen = []
+    for number in ("1", "2"):
+        picture = ElementTree.fromstring(drawn("--trace", number, f"{folder}/false.internet"))
+        words = ["".join(it.itertext()) for it in picture.iterfind(".//{*}text")] or [""]
+        seen.append((words.count("✕"), words[-1]))
+    wanted = [(0, "arrived at BB on net 2 after 2 routers"), (1, "lost behind West: sent on to EE on net 1, which is no router")]
+    tell("a packet on a false route ends at a cross, and it is said where", differs(seen, wanted))
+
+
 def try_maps():
     """No box covers another, and no two have the same name."""
     wrong = []
@@ -139,6 +171,7 @@ def try_all():
     with tempfile.TemporaryDirectory() as folder:
         try_kept(folder)
         try_words(folder)
+        try_lost(folder)
     try_shown()
     try_maps()
     try_captures()
