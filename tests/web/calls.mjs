@@ -6,7 +6,9 @@ import { fresh, watched } from "./library.mjs";
 import { address, EVERYONE, hex, packet, routeRequest, routes, serviceQuery, services } from "./packets.mjs";
 
 const HEADER = readFileSync("include/ipxr.h", "utf8");
-const ANSWERS = readFileSync("examples/embed/c/header.out", "utf8").trim().split("\n").map((line) => line.match(/^IPXR_(\w+): (-?\d+) (.*)$/));
+// (those of a tunnel, which has a header of its own, aren't the module's)
+const ANSWERS = readFileSync("examples/embed/c/header.out", "utf8").trim().split("\n").map((line) => line.match(/^IPXR_(\w+): (-?\d+) (.*)$/))
+    .filter(([, name]) => HEADER.includes(`#define IPXR_${name} `));
 const CALLS = Array.from(HEADER.matchAll(/^IPXR_CALL \w+ (ipxr_\w+)\(([^)]*)\)/gm), ([, name, of]) => [name, of.split(",").map((it) => it.trim())]);
 // The places of buffers, and their room, are the module's own.
 const OWN = /\*(?!router)|\[6\]|size_t room/;
@@ -33,7 +35,7 @@ await check("the numbers of answers, and their words, are the header's", () => {
         ANSWERS.map(([, name, value, text]) => `${name} ${value} ${text}`));
     for (const value of Object.values(Outcome)) assert.equal(it.isDrop(value), false);
     for (const value of Object.values(Drop)) assert.equal(it.isDrop(value), true);
-    for (const value of [13, 99, 101, 1900, -7, -18, -20, -26, 2 ** 31 - 1, -(2 ** 31)]) assert.equal(words(value), "");
+    for (const value of [13, 99, 101, 1900, -8, -19, -20, -26, 2 ** 31 - 1, -(2 ** 31)]) assert.equal(words(value), "");
 });
 
 await check("the other numbers are the header's", () => {
