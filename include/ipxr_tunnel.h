@@ -18,15 +18,15 @@
  * the wire. It is its client's node on the tunnel's network.
  *
  * COOKIES. A tunnel answers a stranger with a ping, and makes it a client only where its answer goes to the ping's source node, the cookie
- * of that place. So nobody becomes a client at a place where he doesn't hear. Cookies are yours to make: a keyed hash of the place and the
- * minute, such as SipHash, so that nobody can guess one, with the first byte 2, so that it is no node of a card. Each datagram is given
- * with the cookie of this minute and that of the last.
+ * of that place. So nobody becomes a client at a place where he doesn't hear, unless its address is trusted. Cookies are yours to make: a
+ * keyed hash of the place and the minute, such as SipHash, so that nobody can guess one; no client's node is to have its bytes. Each
+ * datagram is given with the cookie of this minute and that of the last.
  *
  * WHAT C HAS TO PROMISE is what ipxr.h says, of this handle too. And:
  *
  * 11. The flag `is_trusted` is 0 or 1: any other byte there is no flag, and anything may happen.
- * 12. Cookies can't be guessed, and one place has one cookie a minute. Where that is broken, a stranger may become a client at a place that
- *     isn't his; nothing worse.
+ * 12. Cookies can't be guessed, and one place has one cookie a minute. Where they can be, a stranger may become a client at a place that
+ *     isn't his; where they change sooner, clients can't come in, or leave though they answer.
  *
  * Everything else is answered with a number: a handle without a tunnel, a second free, a datagram of any bytes, a record that there is not,
  * a setting with too many clients, memory that is refused. ipxr_word has the words of the faults. */
@@ -91,7 +91,7 @@ typedef struct ipxr_own {
 /* A client. */
 typedef struct ipxr_client {
     uint8_t place[6];
-    uint8_t seconds_left; /* how many seconds longer it stays, unless it is heard: at least 1 */
+    uint8_t seconds_left; /* how many seconds longer it stays, unless it answers a ping (if it is trusted: says anything) */
 } ipxr_client;
 
 /* ---- Making and freeing ---- */
@@ -108,11 +108,13 @@ IPXR_CALL void ipxr_tunnel_free(ipxr_tunnel *tunnel);
  * What came of an event is read by the calls below it, until the next event. No event takes memory. IPXR_NO_TUNNEL: nothing was done. */
 
 /* A datagram came. `bytes` is what it held, any bytes at all; they are only read, and only during the call. Leave out one with a packet
- * that is longer than your network carries: it would be carried. Returns what it said. */
+ * that is longer than your network carries: it would be carried. Clear the packet's transport control (byte 4) before, since DOSBox leaves
+ * there what its program left, and a router drops what has crossed sixteen. Returns what it said. */
 IPXR_CALL int32_t ipxr_tunnel_hear(ipxr_tunnel *tunnel, const ipxr_sender *sender, const uint8_t *bytes, size_t length);
 
-/* A second has passed: clients that were silent are pinged, and those whose time is over leave. Returns 0. Call it once for each second of
- * your clock, at most once for each turn of your loop: where it stood still, the clients shouldn't be counted out at once. */
+/* A second has passed: clients that have not answered for five seconds, or ten, .. are pinged, and those whose time is over leave.
+ * Returns 0. Call it once for each second of your clock, at most once for each turn of your loop: where it stood still, the clients
+ * shouldn't be counted out at once. */
 IPXR_CALL int32_t ipxr_tunnel_second(ipxr_tunnel *tunnel);
 
 /* The router sends a packet on the tunnel's network to that node, or to all: ipxr_packet_sent has it. The receivers are those that get its
