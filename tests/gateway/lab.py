@@ -46,7 +46,7 @@ class Counts:
         name = test.__doc__.splitlines()[0].rstrip(".")
         try:
             test()
-        except (AssertionError, OSError, subprocess.SubprocessError, IndexError, KeyError) as fault:
+        except Exception as fault:  # (of whatever kind: the tests behind it are run too)
             self.failed += 1
             print(f"FAILED  gateway: {name}\n        {type(fault).__name__}: {fault}", flush=True)
         else:

@@ -4,6 +4,7 @@ import socket
 import sys
 
 import attacks
+import counting
 import dosbox
 import links
 import orders
@@ -17,7 +18,7 @@ import words
 from lab import left_out
 from systems import SYSTEM, Windows
 
-TESTS = {it.__name__: it for it in (words, siphash, unit, orders, tunnel, links, troubles, wires, attacks, dosbox, pc)}
+TESTS = {it.__name__: it for it in (counting, words, siphash, unit, orders, tunnel, links, troubles, wires, attacks, dosbox, pc)}
 
 
 def has_loopback():
