@@ -285,10 +285,10 @@ def ears():
 class Client:
     """A DOSBox, as far as the gateway sees it: it registers once, and answers pings."""
 
-    def __init__(self, port, host="127.0.0.1", registers=True, to="127.0.0.1", answers=True):
+    def __init__(self, port, host="127.0.0.1", registers=True, to="127.0.0.1", answers=True, own_port=0):
         self.udp = socket.socket(socket.AF_INET, socket.SOCK_DGRAM)
         self.udp.setsockopt(socket.SOL_SOCKET, socket.SO_RCVBUF, ROOM)
-        self.udp.bind((host, 0))
+        self.udp.bind((host, own_port))
         self.udp.connect((to, port))
         own, own_port = self.udp.getsockname()
         self.node = socket.inet_aton(own) + struct.pack(">H", own_port)

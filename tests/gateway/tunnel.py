@@ -180,6 +180,62 @@ def strangers():
         assert len({it[22:28] for it in pings}) <= 2, "of one minute, or of two"
 
 
+def no_client(gate, mute, other):
+    """Who answers no ping, and says something to another, isn't heard there, and is told as a stranger, beside those that were before."""
+    before = gate.counted(0x10, "from a stranger")
+    mute.ask()
+    mute.say(other.at(), b"?")
+    gate.until_counted(0x10, "from a stranger", before + 1)
+    assert comes_next(other, other)
+
+
+def allowed_is_not_trusted():
+    """An address that is allowed isn't trusted: who answers no ping there is no client."""
+    with Gateway(tunnels(1, extra="allow 127.0.0.0/8\ntrust 127.0.0.3\n")) as gate:
+        a = Client(gate.ports[0x10])
+        for host in "127.0.0.1", "127.0.0.2":
+            no_client(gate, Client(gate.ports[0x10], host=host, registers=False, answers=False), a)
+        assert gate.counted(0x10, "clients") == 1
+        assert f"    {a.node.hex().upper()}, answered " in gate.report()
+
+
+def ping_of(gate, client):
+    """The ping that a client gets when it registers, and doesn't answer."""
+    client.ask()
+    ping = client.hear(is_ping)
+    assert ping is not None, "who registers isn't pinged"
+    return ping
+
+
+def cookies_of_places():
+    """A ping is answered from its own place alone: neither by another port of the address, nor by that port of another address."""
+    port, other_port = free_ports(2)
+    with Gateway(tunnels(1)) as gate:
+        def client(host, own_port):
+            return Client(gate.ports[0x10], host=host, own_port=own_port, registers=False, answers=False)
+
+        one, others = client("127.0.0.1", port), [client("127.0.0.1", other_port), client("127.0.0.2", port)]
+        ping = ping_of(gate, one)
+        for count, other in enumerate(others, 1):
+            other.answer(ping)
+            gate.until_counted(0x10, "from a stranger", count)
+            assert gate.counted(0x10, "clients") == 0
+        one.answer(ping)
+        gate.until_counted(0x10, "clients", 1)
+
+
+def cookies_of_runs():
+    """No two runs of the gateway ask one place by the same node, so that what one run asked answers no other."""
+    (port,) = free_ports(1)
+    cookies = set()
+    for _ in range(3):
+        with Gateway(tunnels(1)) as gate:
+            client = Client(gate.ports[0x10], own_port=port, registers=False, answers=False)
+            cookies.add(ping_of(gate, client)[22:28])
+            client.close()
+    assert len(cookies) == 3, cookies
+
+
 def who_comes_and_leaves():
     """A line tells who comes, without --log too, and the report who is there."""
     with Gateway(tunnels(1)) as gate:
@@ -273,6 +329,19 @@ def all_sizes():
         assert comes_next(a, b) and gate.counted(0x10, "longer than the link carries") == 6
         a.send(packet(b.at(), a.at(), b"padded", length=34) + bytes(20))
         assert b.hear()[30:] == b"padd"
+
+
+def padding():
+    """Bytes behind a packet's length stay behind: what is handed on, extended or routed has its length, and the router gets no more."""
+    with Gateway(tunnels(2, extra="extend 4003\n"), options=["--log"]) as gate:
+        a, b, c = Client(gate.ports[0x10]), Client(gate.ports[0x20]), Client(gate.ports[0x10])
+        for to, hearers in (c.at(), [c]), (address(0, EVERYONE, GAME), [b, c]), (b.at(), [b]):
+            a.send(packet(to, a.at(), b"padded") + bytes(20))
+            for heard in (it.hear() for it in hearers):
+                assert heard[30:] == b"padded", heard.hex()
+        gate.report()
+        lengths = re.findall(r"(?m) in 00000010 .* length (\d+): ", "\n".join(gate.lines))
+        assert lengths[-3:] == ["36"] * 3, "what the router, or another client, was given"
 
 
 def nobody_there():
@@ -391,8 +460,9 @@ def counts_and_lines():
 def main():
     counts = Counts()
     for test in (two_clients, three_clients, seventy_clients, of_one_address, four_thousand_clients, allowed, trusted, strangers,
-                 who_comes_and_leaves, shares, starts_again, control_is_cleared, false_sources, ping, all_sizes, nobody_there, neighbours,
-                 extended, flood, the_capture, counts_and_lines):
+                 allowed_is_not_trusted, cookies_of_places, cookies_of_runs, who_comes_and_leaves, shares, starts_again,
+                 control_is_cleared, false_sources, ping, all_sizes, padding, nobody_there, neighbours, extended, flood, the_capture,
+                 counts_and_lines):
         counts.run(test)
     return counts
 
