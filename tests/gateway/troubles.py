@@ -208,6 +208,31 @@ def who_is_silent():
         assert gate.counted(0x10, "clients") == 2
 
 
+def listed(gate):
+    """The nodes of the clients in a report, in its order."""
+    return [bytes.fromhex(it) for it in re.findall(r"(?m)^    (\w{12}), answered ", gate.report())]
+
+
+def who_left():
+    """Whoever leaves is a stranger from then on, wherever he stood in the list; the list has exactly the others, who are clients still."""
+    clock = Clock()
+    with Gateway(tunnels(1), SYSTEM.fast, environment=clock.environment()) as gate:
+        present = [Client(gate.ports[0x10]) for _ in range(5)]
+        strangers = missed = 0
+        for place in 2, 0, 2:  # (in the middle, the first, the last)
+            gone = present.pop(place)
+            gone.answers = False
+            let_pass(gate, clock, 30, *present)
+            assert listed(gate) == [it.node for it in present]
+            gone.say(present[0].at(), b"?")
+            strangers += 1
+            gate.until_counted(0x10, "from a stranger", strangers)
+            for client in present:
+                client.say(gone.at(), b"?")
+            missed += len(present)
+            gate.until_counted(0x10, "no such client", missed)
+
+
 def stands_still():
     """A gateway that stood still for an hour puts nobody out: its clients are asked as after a second, and their answers count."""
     clock = Clock()
@@ -253,7 +278,7 @@ def one_is_refused():
 
 def main():
     counts = Counts()
-    for test in (each_fails, one_is_refused, who_is_silent, stands_still, late_answers, an_hour, full_tables):
+    for test in (each_fails, one_is_refused, who_is_silent, who_left, stands_still, late_answers, an_hour, full_tables):
         counts.run(test)
     return counts
 
