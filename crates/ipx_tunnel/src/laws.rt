@@ -6,15 +6,15 @@ ghost use Rattle.ipx_wire.specs.declared.header.Header.{Header};
 ghost use Rattle.ipx_wire.specs.declared.network.Network.{Network};
 ghost use Rattle.ipx_wire.specs.declared.node.Node.{Node};
 ghost use Rattle.ipx_wire.specs.declared.socket.Socket.{Socket};
-ghost use Rattle.ipx_tunnel.specs.declared.said.Said.TheVariants.{Nothing, Answers, Speaks};
+ghost use Rattle.ipx_tunnel.specs.declared.said.Said.TheVariants.{Nothing, Registers, Answers, Speaks};
 ghost use Rattle.ipx_tunnel.specs.declared.sender.Sender.{Sender};
 ghost use Rattle.ipx_tunnel.specs.declared.setting.Setting.{Setting};
 ghost use Rattle.ipx_tunnel.specs.Numbers.{ping_every};
-ghost use Rattle.ipx_tunnel.specs.Places.{same_node, broadcast, is_among, is_here, of_address};
+ghost use Rattle.ipx_tunnel.specs.Places.{same_node, broadcast, nobody, is_among, is_here, is_from_here, of_address};
 ghost use Rattle.ipx_tunnel.specs.Events.{Event, Datagram, Second, Send, History};
 ghost use Rattle.ipx_tunnel.specs.Says.{said};
-ghost use Rattle.ipx_tunnel.specs.Clients.{seconds_left, is_there, cookie, clients};
-ghost use Rattle.ipx_tunnel.specs.Own.{own};
+ghost use Rattle.ipx_tunnel.specs.Clients.{seconds_left, is_there, is_open, cookie, clients};
+ghost use Rattle.ipx_tunnel.specs.Own.{answer_to, ping_to, own};
 ghost use Rattle.ipx_tunnel.specs.Receivers.{receivers, is_heard, carried};
 ghost use Rattle.ipx_tunnel.specs.Extend.{is_extended, extended, with_network};
 ghost use Rattle.ipx_tunnel.specs.Laws.{copies, Answered, Trusted, is_client, IsThereThrough, AnswersThrough, SpeaksThrough, IsAlwaysTrusted, concerns, IsHonest, IsOrdinary, LastHeard, seconds, own_to, came_from, sent_to_stranger, came_in_all};
@@ -79,6 +79,21 @@ pub fn room()
     ensures capacity { (setting : Setting) (history : History) → length (clients setting history) ≤ setting.capacity }
     ensures share { (setting : Setting) (history : History) (place : Node) → of_address place (clients setting history) ≤ setting.share }
     ensures once { (setting : Setting) (history : History) (place : Node) → copies place (clients setting history) ≤ 1 }
+{}
+
+/// Where there is room for one client more, a registration is answered and its sender pinged, and a stranger who speaks and isn't trusted is
+/// pinged. Whoever sends a packet to the source of the ping answers. By *room* its place is a client then.
+pub fn comes_in()
+    ensures asked { (setting : Setting) (history : History) (from : Sender) (bytes : List ℕ) → said setting.network from bytes ≡ Registers
+        → is_open setting from.place (clients setting history) ≡ true
+        → own setting (Datagram from bytes ∷ history) ≡ answer_to setting from.place ∷ ping_to setting.network from.place from.cookies.current ∷ [] }
+    ensures stranger { (setting : Setting) (history : History) (from : Sender) (bytes : List ℕ) (header : Header) → said setting.network from bytes ≡ Speaks header
+        → from.is_trusted ≡ false → is_open setting from.place (clients setting history) ≡ true
+        → own setting (Datagram from bytes ∷ history) ≡ ping_to setting.network from.place from.cookies.current ∷ [] }
+    ensures answered { (network : Network) (from : Sender) (bytes : List ℕ) (packet : Parts) (cookie : Node) → let ping = ping_to network from.place cookie in
+        packet_of bytes ≡ Ok packet → packet.header.destination.node ≡ ping.source.node → packet.header.destination.socket ≡ ping.source.socket
+        → packet.header.source.node ≡ from.place → is_from_here network packet.header.source.network ≡ true
+        → (cookie ≡ from.cookies.current) ⊎ (cookie ≡ from.cookies.previous) → cookie ≢ nobody → said network from bytes ≡ Answers }
 {}
 
 /// A client is pinged after every five seconds of silence, once, by the cookie that it had when it was last heard.
