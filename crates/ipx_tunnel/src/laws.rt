@@ -14,7 +14,7 @@ ghost use Rattle.ipx_tunnel.specs.Places.{same_node, broadcast, nobody, is_among
 ghost use Rattle.ipx_tunnel.specs.Events.{Event, Datagram, Second, Send, History};
 ghost use Rattle.ipx_tunnel.specs.Says.{said};
 ghost use Rattle.ipx_tunnel.specs.Clients.{seconds_left, is_there, is_open, cookie, clients};
-ghost use Rattle.ipx_tunnel.specs.Own.{answer_to, ping_to, own};
+ghost use Rattle.ipx_tunnel.specs.Own.{answer_to, ping_to, is_ping, own};
 ghost use Rattle.ipx_tunnel.specs.Receivers.{receivers, is_heard, carried};
 ghost use Rattle.ipx_tunnel.specs.Extend.{is_extended, extended, with_network};
 ghost use Rattle.ipx_tunnel.specs.Laws.{copies, Answered, Trusted, is_client, IsThereThrough, AnswersThrough, SpeaksThrough, IsAlwaysTrusted, concerns, IsHonest, IsOrdinary, LastHeard, seconds, own_to, came_from, sent_to_stranger, came_in_all};
@@ -34,7 +34,7 @@ pub fn honest()
 {}
 
 /// A packet goes where a cable would bring it, once: one for a node to the client of that node, a broadcast to every client but its sender.
-/// The same holds of what the router sends.
+/// The same holds of what the router sends. The router hears what is for its node, for all or for another network; but no ping.
 pub fn cable()
     ensures node { (setting : Setting) (history : History) (from : Sender) (bytes : List ℕ) (header : Header) (place : Node) → let after = Datagram from bytes ∷ history in
         said setting.network from bytes ≡ Speaks header → is_client setting from.place after ≡ true → is_here setting.network header.destination.network ≡ true
@@ -50,6 +50,15 @@ pub fn cable()
         → copies place (receivers setting (Send to bytes ∷ history)) ≡ (if is_client setting place history && same_node place to then 1 else 0) }
     ensures router_all { (setting : Setting) (history : History) (to : Node) (bytes : List ℕ) (place : Node) → same_node to broadcast ≡ true
         → copies place (receivers setting (Send to bytes ∷ history)) ≡ (if is_client setting place history && not (same_node place setting.node) then 1 else 0) }
+    ensures heard_node { (setting : Setting) (history : History) (from : Sender) (bytes : List ℕ) (header : Header) → let after = Datagram from bytes ∷ history in
+        said setting.network from bytes ≡ Speaks header → is_client setting from.place after ≡ true → is_here setting.network header.destination.network ≡ true
+        → same_node header.destination.node setting.node ≡ true → is_heard setting after ≡ true }
+    ensures heard_all { (setting : Setting) (history : History) (from : Sender) (bytes : List ℕ) (header : Header) → let after = Datagram from bytes ∷ history in
+        said setting.network from bytes ≡ Speaks header → is_client setting from.place after ≡ true → is_here setting.network header.destination.network ≡ true
+        → same_node header.destination.node broadcast ≡ true → is_ping setting.network header ≡ false → is_heard setting after ≡ true }
+    ensures heard_far { (setting : Setting) (history : History) (from : Sender) (bytes : List ℕ) (header : Header) → let after = Datagram from bytes ∷ history in
+        said setting.network from bytes ≡ Speaks header → is_client setting from.place after ≡ true → is_here setting.network header.destination.network ≡ false
+        → is_heard setting after ≡ true }
 {}
 
 /// Nobody puts out a client: as long as it answered its cookie less than 30 seconds ago, it stays, whatever else comes and from wherever.
