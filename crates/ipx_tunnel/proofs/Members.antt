@@ -1,5 +1,5 @@
 -- Places in a list of places.
-use Rattle.std.proofs.Common.{◌≡◌, ◌∙◌, refl, sym, ap, arith, ℕ, suc, ◌+◌, ◌≤◌, Bool, true, false, ◌&&◌, ◌||◌, not, if◌then◌else◌, inl, inr, List, [], ◌∷◌, ◌++◌, length, filter, take, length-append}
+use Rattle.std.proofs.Common.{◌≡◌, ◌∙◌, refl, sym, ap, ap₂, arith, ℕ, suc, ◌+◌, ◌≤◌, Bool, true, false, ◌&&◌, ◌||◌, not, if◌then◌else◌, inl, inr, List, [], ◌∷◌, ◌++◌, length, filter, take, replicate, length-append}
 use Rattle.std.specs.List.{AllByRecursion}
 use Rattle.std.proofs.lemmas.Bool.{cases_Bool, false≢true}
 use Rattle.std.proofs.lemmas.Cmp.{nat_list_eq_equiv}
@@ -119,6 +119,15 @@ others_fewer place (x ∷ xs) some =
     elim (cases_Bool (same_node x place)) [
       | inl same ↦ rw same (omega (arith, count_few (λ p. not (same_node p place)) xs))
       | inr same ↦ rw same (omega (arith, others_fewer place xs (sym (ap (λ b. b || is_among place xs) same) ∙ some)))
+    ]
+
+-- all that are the same as a place are this place, as often as it stands there
+pub alone : (place : Node) (xs : List Node) → filter (λ p. same_node p place) xs ≡ replicate (copies place xs) place
+alone place [] = refl
+alone place (x ∷ xs) =
+    elim (cases_Bool (same_node x place)) [
+      | inl same ↦ rw same (ap₂ (λ (p : Node) (l : List Node). p ∷ l) (same_is x place same) (alone place xs))
+      | inr other ↦ rw other (alone place xs)
     ]
 
 -- ---- addresses

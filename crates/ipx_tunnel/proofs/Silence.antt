@@ -1,7 +1,7 @@
 -- How long a place was silent.
-use Rattle.std.proofs.Common.{◌≡◌, ◌∙◌, refl, sym, ap, ap₂, arith, ℕ, ◌-◌, ◌%◌, ◌<◌, ◌≤◌, ◌==◌, Bool, true, false, ◌&&◌, nat_lt, if◌then◌else◌, inl, inr, List, [], ◌∷◌, ◌++◌, length, filter}
+use Rattle.std.proofs.Common.{◌≡◌, ◌∙◌, refl, sym, ap, ap₂, arith, ℕ, ◌-◌, ◌%◌, ◌<◌, ◌≤◌, ◌==◌, Bool, true, false, ◌&&◌, nat_lt, if◌then◌else◌, inl, inr, List, [], ◌∷◌, ◌++◌, length, filter, map, replicate}
 use Rattle.std.specs.List.{AllByRecursion}
-use Rattle.std.proofs.lemmas.Bool.{cases_eq, ne_eqb, lt-ltb, ltb-true}
+use Rattle.std.proofs.lemmas.Bool.{cases_Bool, cases_eq, false≢true, ne_eqb, lt-ltb, ltb-true}
 use Rattle.std.proofs.lemmas.List.{length-map}
 use Rattle.ipx_wire.specs.declared.node.Node.{Node}
 use Rattle.ipx_tunnel.specs.declared.own.Own.{Own}
@@ -11,14 +11,14 @@ use Rattle.ipx_tunnel.specs.declared.sender.Sender.{Sender}
 use Rattle.ipx_tunnel.specs.declared.setting.Setting.{Setting}
 use Rattle.ipx_tunnel.specs.Numbers.{ping_every}
 use Rattle.ipx_tunnel.specs.Places.{same_node}
-use Rattle.ipx_tunnel.specs.Events.{Datagram, Second, Send, History}
+use Rattle.ipx_tunnel.specs.Events.{Event, Datagram, Second, Send, History}
 use Rattle.ipx_tunnel.specs.Says.{said}
 use Rattle.ipx_tunnel.specs.Clients.{lasts_by, lasts, seconds_left, is_there, cookie, clients}
 use Rattle.ipx_tunnel.specs.Own.{ping_to, own, is_silent}
-use Rattle.ipx_tunnel.specs.Laws.{seconds, LastHeard, is_client, own_to}
+use Rattle.ipx_tunnel.specs.Laws.{seconds, copies, LastHeard, is_client, own_to}
 use Rattle.ipx_tunnel.proofs.Clients.{once}
 use Rattle.ipx_tunnel.proofs.Lists.{filter-map}
-use Rattle.ipx_tunnel.proofs.Members.{copies_passed, each_among}
+use Rattle.ipx_tunnel.proofs.Members.{copies_passed, each_among, alone}
 use Rattle.ipx_tunnel.proofs.Standing.{each_there}
 
 -- ---- numbers
@@ -71,7 +71,29 @@ module _ (setting : Setting) (place : Node) (from : Sender) (bytes : List ℕ) (
   cookie_since (Second ∷ later) silence = cookie_since later silence.1
   cookie_since (Send to sent ∷ later) silence = cookie_since later silence.1
 
+one_or_none : (ping : Node → Own) (place : Node) (due : Bool) → map ping (replicate (if due then 1 else 0) place) ≡ (if due then ping place ∷ [] else [])
+one_or_none ping place true = refl
+one_or_none ping place false = refl
+
+no_time : (lasts : ℕ) → nat_lt 0 lasts ≡ false → lasts ≡ 0
+no_time lasts none = elim (cases_eq lasts 0) [
+  | inl e ↦ e
+  | inr some ↦ absurd (false≢true (sym none ∙ lt-ltb 0 lasts (omega (arith, some))))
+]
+
 module _ (setting : Setting) (place : Node) where
+  -- one event more, which doesn't count
+  more : (event : Event) (earlier : History) → lasts setting place event ≡ 0 → LastHeard setting place earlier → LastHeard setting place (event ∷ earlier)
+  more event earlier none last = record {
+    later = event ∷ last.later;
+    from = last.from;
+    bytes = last.bytes;
+    earlier = last.earlier;
+    event = ap (λ (h : History). event ∷ h) last.event;
+    counts = last.counts;
+    silence = (none, last.silence);
+  }
+
   pub cookie_last : (history : History) (last : LastHeard setting place history) → cookie setting place history ≡ last.from.cookies.current
   cookie_last history last =
       ap (cookie setting place) last.event ∙ cookie_since setting place last.from last.bytes last.earlier last.counts last.later last.silence
@@ -99,3 +121,46 @@ module _ (setting : Setting) (place : Node) where
       ap length (filter-map (λ (o : Own). same_node o.place place) ping silent) ∙ length-map (filter (λ p. same_node p place) silent) ping
       ∙ copies_passed (is_silent setting now) place places (once setting now place)
       ∙ ap₂ (λ (a b : Bool). if a && b then 1 else 0) client (silent_last now last there)
+
+  -- what it gets at a second is one ping or none
+  pub pings_exact : (history : History) (last : LastHeard setting place (Second ∷ history)) → is_client setting place (Second ∷ history) ≡ true
+      → filter (λ o. same_node o.place place) (own setting (Second ∷ history))
+      ≡ (if seconds last.later % ping_every == 0 then ping_to setting.network place last.from.cookies.current ∷ [] else [])
+  pings_exact history last client =
+      let now = Second ∷ history in
+      let places = clients setting now in
+      let ping = λ (p : Node). ping_to setting.network p (cookie setting p now) in
+      let silent = filter (is_silent setting now) places in
+      let due = seconds last.later % ping_every == 0 in
+      let there = each_among (λ p. is_there setting p now) place places (each_there setting now) client in
+      let count : copies place silent ≡ (if due then 1 else 0) =
+      copies_passed (is_silent setting now) place places (once setting now place)
+      ∙ ap₂ (λ (a b : Bool). if a && b then 1 else 0) client (silent_last now last there) in
+      filter-map (λ (o : Own). same_node o.place place) ping silent ∙ ap (map ping) (alone place silent)
+      ∙ ap (λ (n : ℕ). map ping (replicate n place)) count ∙ one_or_none ping place due
+      ∙ ap (λ (k : Node). if due then ping_to setting.network place k ∷ [] else []) (cookie_last now last)
+
+  -- ---- each client was heard
+
+  last_heard : (history : History) → 0 < seconds_left setting place history → LastHeard setting place history
+  last_heard [] some = absurd (omega arith)
+  last_heard (Datagram from bytes ∷ earlier) some =
+      let l = lasts setting place (Datagram from bytes) in
+      let after = λ (b : Bool). if b then l else seconds_left setting place earlier in
+      elim (cases_Bool (nat_lt 0 l)) [
+        | inl counts ↦ record { later = []; from = from; bytes = bytes; earlier = earlier; event = refl; counts = ltb-true 0 l counts; silence = tt }
+        | inr none ↦
+            let same : seconds_left setting place (Datagram from bytes ∷ earlier) ≡ seconds_left setting place earlier = ap after none in
+            more (Datagram from bytes) earlier (no_time l none) (last_heard earlier (omega (arith, same, some)))
+      ]
+  last_heard (Second ∷ earlier) some = more Second earlier refl (last_heard earlier (omega (arith, some)))
+  last_heard (Send to bytes ∷ earlier) some = more (Send to bytes) earlier refl (last_heard earlier some)
+
+  -- a client has a second left at least
+  pub client_left : (history : History) → is_client setting place history ≡ true → 1 ≤ seconds_left setting place history
+  client_left history client =
+      ltb-true 0 (seconds_left setting place history)
+      (each_among (λ p. is_there setting p history) place (clients setting history) (each_there setting history) client)
+
+  pub client_heard : (history : History) → is_client setting place history ≡ true → LastHeard setting place history
+  client_heard history client = last_heard history (client_left history client)

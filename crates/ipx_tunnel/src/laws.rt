@@ -105,11 +105,16 @@ pub fn comes_in()
         → (cookie ≡ from.cookies.current) ⊎ (cookie ≡ from.cookies.previous) → cookie ≢ nobody → said network from bytes ≡ Answers }
 {}
 
-/// A client is pinged after every five seconds of silence, once, by the cookie that it had when it was last heard.
+/// A client is pinged after every five seconds of silence, once, by the cookie that it had when it was last heard. At a second it gets this
+/// ping or nothing. Each client has been heard.
 pub fn pings()
     ensures every_five { (setting : Setting) (history : History) (place : Node) (last : LastHeard setting place (Second ∷ history)) → is_client setting place (Second ∷ history) ≡ true
         → own_to place (own setting (Second ∷ history)) ≡ (if seconds last.later % ping_every == 0 then 1 else 0) }
     ensures cookie { (setting : Setting) (history : History) (place : Node) (last : LastHeard setting place history) → cookie setting place history ≡ last.from.cookies.current }
+    ensures exact { (setting : Setting) (history : History) (place : Node) (last : LastHeard setting place (Second ∷ history)) → is_client setting place (Second ∷ history) ≡ true
+        → filter (λ o. same_node o.place place) (own setting (Second ∷ history))
+        ≡ (if seconds last.later % ping_every == 0 then ping_to setting.network place last.from.cookies.current ∷ [] else []) }
+    ensures heard { (setting : Setting) (history : History) (place : Node) → is_client setting place history ≡ true → LastHeard setting place history }
 {}
 
 /// A place without a client gets no packet, and at most two of the tunnel's own datagrams for each that came from there: in one event, and in a
