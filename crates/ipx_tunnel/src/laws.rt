@@ -63,7 +63,7 @@ pub fn cable()
 
 /// Nobody puts out a client: as long as it answered its cookie less than 30 seconds ago, it stays, whatever else comes and from wherever.
 /// So does a place that is always trusted, as long as it said something less than 180 seconds ago.
-/// Whether a place is there depends on seconds and its own datagrams alone.
+/// Whether a place is there depends on seconds and its own datagrams alone. Each client has at least a second left.
 pub fn no_eviction()
     ensures answers { (setting : Setting) (history : History) (place : Node) (events : List Event) → is_client setting place history ≡ true
         → AnswersThrough setting place events history → is_client setting place (events ++ history) ≡ true }
@@ -73,6 +73,7 @@ pub fn no_eviction()
         → IsThereThrough setting place events history → is_client setting place (events ++ history) ≡ true }
     ensures own { (setting : Setting) (history : History) (place : Node) →
         seconds_left setting place history ≡ seconds_left setting place (filter (concerns place) history) }
+    ensures left { (setting : Setting) (history : History) (place : Node) → is_client setting place history ≡ true → 1 ≤ seconds_left setting place history }
 {}
 
 /// A place that answers its cookie, or is trusted and says something, comes in where there is room for a client more and its address has fewer
