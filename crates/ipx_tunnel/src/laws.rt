@@ -14,7 +14,7 @@ ghost use Rattle.ipx_tunnel.specs.Places.{same_node, broadcast, nobody, is_among
 ghost use Rattle.ipx_tunnel.specs.Events.{Event, Datagram, Second, Send, History};
 ghost use Rattle.ipx_tunnel.specs.Says.{said};
 ghost use Rattle.ipx_tunnel.specs.Clients.{seconds_left, is_there, is_open, cookie, clients};
-ghost use Rattle.ipx_tunnel.specs.Own.{answer_to, ping_to, is_ping, own};
+ghost use Rattle.ipx_tunnel.specs.Own.{header_of, answer_to, ping_to, is_ping, own};
 ghost use Rattle.ipx_tunnel.specs.Receivers.{receivers, is_heard, carried};
 ghost use Rattle.ipx_tunnel.specs.Extend.{is_extended, extended, with_network};
 ghost use Rattle.ipx_tunnel.specs.Laws.{copies, Answered, Trusted, is_client, IsThereThrough, AnswersThrough, SpeaksThrough, IsAlwaysTrusted, concerns, IsHonest, IsOrdinary, LastHeard, seconds, own_to, came_from, sent_to_stranger, came_in_all};
@@ -92,7 +92,8 @@ pub fn room()
 {}
 
 /// Where there is room for one client more, a registration is answered and its sender pinged, and a stranger who speaks and isn't trusted is
-/// pinged. Whoever sends a packet to the source of the ping answers. By *room* its place is a client then.
+/// pinged. The ping is for all by its destination, as the pings of clients are, and names the cookie as its source's node. Whoever sends a
+/// packet to this source answers. By *room* its place is a client then.
 pub fn comes_in()
     ensures asked { (setting : Setting) (history : History) (from : Sender) (bytes : List ℕ) → said setting.network from bytes ≡ Registers
         → is_open setting from.place (clients setting history) ≡ true
@@ -100,6 +101,8 @@ pub fn comes_in()
     ensures stranger { (setting : Setting) (history : History) (from : Sender) (bytes : List ℕ) (header : Header) → said setting.network from bytes ≡ Speaks header
         → from.is_trusted ≡ false → is_open setting from.place (clients setting history) ≡ true
         → own setting (Datagram from bytes ∷ history) ≡ ping_to setting.network from.place from.cookies.current ∷ [] }
+    ensures ping { (network : Network) (place cookie : Node) → let ping = ping_to network place cookie in
+        (ping.place ≡ place) × (is_ping network (header_of ping) ≡ true) × (ping.source.node ≡ cookie) }
     ensures answered { (network : Network) (from : Sender) (bytes : List ℕ) (packet : Parts) (cookie : Node) → let ping = ping_to network from.place cookie in
         packet_of bytes ≡ Ok packet → packet.header.destination.node ≡ ping.source.node → packet.header.destination.socket ≡ ping.source.socket
         → packet.header.source.node ≡ from.place → is_from_here network packet.header.source.network ≡ true

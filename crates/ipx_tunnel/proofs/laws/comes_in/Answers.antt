@@ -1,8 +1,10 @@
 use Rattle.std.proofs.Common.{◌≡◌, ◌≢◌, ◌∙◌, refl, sym, ap, ap₂, ◌⊎◌, inl, inr, Bool, true, false, ◌==◌, ◌&&◌, ◌||◌, not, nat_lt, if◌then◌else◌, ℕ, List, [], ◌∷◌, ◌++◌}
-use Rattle.std.proofs.lemmas.Bool.{cases_Bool}
+use Rattle.std.proofs.lemmas.Bool.{cases_Bool, eq-eqb}
 use Rattle.std.proofs.lemmas.List.{append-nil}
 use Rattle.std.proofs.Math.Bool.{or-true}
+use Rattle.ipx_wire.specs.Numbers.{local_network, all_routes}
 use Rattle.ipx_wire.specs.declared.header.Header.{Header}
+use Rattle.ipx_wire.specs.declared.network.Network.{Network}
 use Rattle.ipx_wire.specs.declared.node.Node.{Node}
 use Rattle.ipx_wire.specs.declared.socket.Socket.{Socket}
 use Rattle.ipx_tunnel.specs.declared.said.Said.{Said}
@@ -10,7 +12,7 @@ use Rattle.ipx_tunnel.specs.declared.said.Said.TheVariants.{Nothing, Registers, 
 use Rattle.ipx_tunnel.specs.declared.sender.Sender.{Sender}
 use Rattle.ipx_tunnel.specs.declared.setting.Setting.{Setting}
 use Rattle.ipx_tunnel.specs.Numbers.{tunnel_socket}
-use Rattle.ipx_tunnel.specs.Places.{same_node, nobody, is_among}
+use Rattle.ipx_tunnel.specs.Places.{same_node, broadcast, nobody, is_among, is_here}
 use Rattle.ipx_tunnel.specs.Events.{History, Datagram}
 use Rattle.ipx_tunnel.specs.Says.{said_in, is_to, names}
 use Rattle.ipx_tunnel.specs.Clients.{lasts, lasts_by, is_open, clients}
@@ -66,6 +68,16 @@ returns-clause-stranger c = λ setting history from bytes header speaks distrust
     let has = room_of setting from.place (clients setting history) room in
     ap₂ (λ (l : List Node) (s : Said). own_for setting l from s) (unchanged setting history from bytes none) speaks
     ∙ pinged setting (clients setting history) from header has.new room
+
+-- each network means itself
+here_itself : (network : Network) → is_here network network ≡ true
+here_itself network =
+    ap (λ (b : Bool). (network.0 == local_network) || (network.0 == all_routes) || b) (eq-eqb network.0 network.0 refl)
+    ∙ or-true ((network.0 == local_network) || (network.0 == all_routes))
+
+pub returns-clause-ping : goal.returns-clause-ping
+returns-clause-ping c = λ network place cookie.
+    (refl, ap₂ (λ (a b : Bool). a && b) (here_itself network) (same_itself broadcast), refl)
 
 -- ---- who answers
 
