@@ -37,11 +37,22 @@ static void refuse(cable *it, int fd, const address *from)
           address_words(&it->peer, pc));
 }
 
+/* Whether a PC has said something that wasn't heard yet, or went and that wasn't heard. */
+static bool has_more(const cable *it)
+{
+    return it->stream.is_connected && (stream_has_frame(&it->stream) || connection_has_more(it->fd));
+}
+
+/* Whether nothing reaches the PC any more; what is to go to it is sent first, where it does. */
+static bool is_out_of_reach(cable *it)
+{
+    return it->stream.is_connected && (connection_is_dead(it->fd) || !stream_push(&it->stream, it->fd));
+}
+
 static void take_or_refuse(cable *it)
 {
     address from;
-    /* (what the PC said last is heard first: behind it may stand that it went) */
-    if (it->stream.is_connected && (stream_has_frame(&it->stream) || connection_has_more(it->fd)))
+    if (has_more(it))
         return;
     int fd = listener_take(it->listener, &from);
     if (fd >= 0 && it->stream.is_connected) {
@@ -77,15 +88,14 @@ static void call(cable *it)
     it->stream.is_connected = state > 0;
 }
 
+/* (what the PC said last is heard first, also where it has reset its connection; behind it stands that it went) */
 bool pc_is_up(cable *it)
 {
-    if (it->stream.is_connected && connection_is_dead(it->fd))
+    if (is_out_of_reach(it) && !has_more(it))
         pc_goes(it);
     if (it->listener >= 0)
         take_or_refuse(it);
     else if (!it->stream.is_connected)
         call(it);
-    if (it->stream.is_connected && !stream_push(&it->stream, it->fd))
-        pc_goes(it);
     return it->stream.is_connected;
 }

@@ -1,6 +1,9 @@
 """Cards of emulators: frames in datagrams and on connections, by the four kinds."""
+import fcntl
 import re
 import socket
+import struct
+import termios
 
 from frames import KINDS, Station, Tcp, Udp, frame
 from lab import (EVERYONE, GAME, LIMIT, Client, Counts, Gateway, address, comes_next, free_ports, is_routers, left_out, packet, reaches,
@@ -116,6 +119,20 @@ def a_connection_comes():
             gate.until("network 00000020 down")
 
 
+NUMBERS = [b"%d" % k for k in range(200)]
+
+
+def says_numbers(station, far):
+    for number in NUMBERS:
+        station.say(far.at(), number)
+
+
+def hears_numbers(far):
+    """Whether all numbers come, in their order, and nothing between them."""
+    heard = (far.hear() for _ in NUMBERS)
+    return all(it is not None and it[30:] == number for it, number in zip(heard, NUMBERS))
+
+
 def one_pc_at_a_time():
     """While a PC is connected others are refused, and told; it stays. Where it goes, the next is taken at once."""
     with Gateway(tunnels(1) + "network 20 1 1490 qemu-tcp listen 0 raw\n") as gate:
@@ -131,12 +148,39 @@ def one_pc_at_a_time():
         assert gate.counted(0x20, "refused") == 50
         # (all that it said is heard, and that it went, before the next is looked at)
         for last in range(2, 6):
-            for k in range(200):
-                station.say(far.at(), b"%d" % k)
+            says_numbers(station, far)
             pc.shutdown(socket.SHUT_WR)
             station, pc = connected(gate, 0x20, "raw", last)
-            assert [far.hear()[30:] for _ in range(200)] == [b"%d" % k for k in range(200)]
+            assert hears_numbers(far)
         assert reaches(far, station) and gate.counted(0x20, "refused") == 50
+
+
+def is_at_its_end(connection):
+    """Whether all that was said on a connection has come to the machine at its other end. What has not is lost where it is reset, also by a
+    close while something is unread: the system of who resets it throws it away."""
+    return int.from_bytes(fcntl.ioctl(connection, termios.TIOCOUTQ, bytes(4)), "little") == 0
+
+
+def reset(connection):
+    connection.setsockopt(socket.SOL_SOCKET, socket.SO_LINGER, struct.pack("ii", 1, 0))
+    connection.close()
+
+
+def a_connection_is_reset():
+    """What came from a PC before it reset its connection is heard whole, though what goes to it meanwhile can't be sent."""
+    with Gateway(tunnels(1) + "network 20 1 1490 qemu-tcp listen 0 raw\n") as gate:
+        far = Client(gate.ports[0x10])
+        for last in range(1, 4):
+            station, pc = connected(gate, 0x20, "raw", last)
+            unsent = gate.counted(0x20, "not sent")
+            with gate.run.halted():
+                says_numbers(station, far)
+                until(lambda pc=pc: is_at_its_end(pc), "what the PC said has come")
+                reset(pc)
+                far.say(station.at(), b"Are you there?")
+            assert hears_numbers(far)
+            gate.until("network 00000020 down")
+            assert gate.counted(0x20, "not sent") > unsent
 
 
 def a_stream():
@@ -238,8 +282,8 @@ def nobody_listens():
 
 def main():
     counts = Counts()
-    for test in (datagrams, two_networks_on_a_link, long_frames, a_connection_comes, one_pc_at_a_time, a_stream, a_connection_goes,
-                 nobody_listens_yet, an_address_comes_later, two_gateways, extended):
+    for test in (datagrams, two_networks_on_a_link, long_frames, a_connection_comes, one_pc_at_a_time, a_connection_is_reset, a_stream,
+                 a_connection_goes, nobody_listens_yet, an_address_comes_later, two_gateways, extended):
         counts.run(test)
     if SYSTEM is Windows:
         left_out("whether what is sent to nobody is counted", "Windows doesn't tell it, though Wine does")

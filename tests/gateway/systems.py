@@ -4,6 +4,7 @@ The environment's GATEWAY_SYSTEM names the one that is tried. Without it, it is 
 sanitizers, where that is built. For 64-bit ARM it runs by qemu-aarch64; for Windows by Wine, behind console.exe, which gives it the orders
 of a console. The programs lie where tools/gateway puts them.
 """
+import contextlib
 import os
 import signal
 import subprocess
@@ -19,8 +20,31 @@ class Run(subprocess.Popen):
         """Gives it one of its system's orders."""
         self.send_signal(order)
 
+    def process(self):
+        """The number of its process."""
+        return self.pid
 
-class ConsoleRun(subprocess.Popen):
+    @contextlib.contextmanager
+    def halted(self):
+        """Lets it stand still for a while."""
+        number = self.process()
+        os.kill(number, signal.SIGSTOP)
+        try:
+            yield
+        finally:
+            os.kill(number, signal.SIGCONT)
+
+
+def words_of(process):
+    """The command line of a process of this machine, or nothing where it has gone."""
+    try:
+        with open(f"/proc/{process}/cmdline", "rb") as it:
+            return it.read().rstrip(b"\0").split(b"\0")
+    except OSError:
+        return []
+
+
+class ConsoleRun(Run):
     """The same at a console of Windows. Each letter that console.exe hears is an order, and that none comes any more kills the gateway."""
 
     def __init__(self, words, **how):
@@ -32,6 +56,12 @@ class ConsoleRun(subprocess.Popen):
 
     def order(self, order):
         os.write(self.orders, order)
+
+    def process(self):
+        """(the gateway's own, not console.exe's: by its configuration, which no other has)"""
+        console, configuration = os.fsencode(Windows.runner[-1]), os.fsencode(self.args[-1])
+        lines = ((int(it), words_of(it)) for it in os.listdir("/proc") if it.isdigit())
+        return next(number for number, words in lines if configuration in words and console not in words)
 
     def kill(self):
         if self.orders is not None:
