@@ -6,7 +6,7 @@ import subprocess
 import tempfile
 import time
 
-from lab import Client, Counts, Gateway, address, free_ports, left_out, packet, reaches, tunnels, until
+from lab import Client, Counts, Gateway, address, free_ports, left_out, packet, reaches, tunnels, until, until_wine_lets_go
 from players import NETWORK, Player
 from systems import TOP
 
@@ -178,8 +178,8 @@ def some_leave(gate, guests, player):
         assert guests.nodes[name] not in told(gate, "leaves"), f"it leaves, though it {name}"
 
 
-def come_and_go():
-    """DOSBox' come, play, and stay though one says nothing; killed, they leave; where the gateway is started anew the others come again."""
+def played_again():
+    """DOSBox', of whom some leave, and whose gateway is killed and started again. Returns whether it could start."""
     with tempfile.TemporaryDirectory() as folder, Gateway(f"network {NETWORK:X} 1 1424 dosbox {free_ports(1)[0]}\n") as gate:
         player = Player("127.0.0.1", ("127.0.0.1", gate.ports[NETWORK]))
         guests = Guests(folder, gate)
@@ -190,14 +190,19 @@ def come_and_go():
             echoes(player, guests.nodes["is killed"])
             some_leave(gate, guests, player)
             echoes(player, stays)
-            gate.run.kill()
-            gate.run.communicate()
-            gate.start(gate.program)
+            if not gate.starts_again():
+                return False
             until(lambda: stays in told(gate, "comes to"), "it comes again")
             echoes(player, stays)
+            return True
         finally:
             player.close()
             guests.kill_all()
+
+
+def come_and_go():
+    """DOSBox' come, play, and stay though one says nothing; killed, they leave; where the gateway is started anew the others come again."""
+    until_wine_lets_go(played_again)
 
 
 def main():

@@ -21,10 +21,11 @@ import threading
 import time
 import weakref
 
-from systems import SYSTEM
+from systems import SYSTEM, Windows
 
 LIMIT = 60  # seconds until a test that fails gives up
 AGAIN = 0.5  # seconds until something is said again, where it may have been lost
+TRIES = 5  # of what Wine may spoil
 ROOM = 1 << 20  # bytes that a socket of a test keeps, as far as the system allows it, while the test looks elsewhere
 EVERYONE = b"\xff" * 6
 NOBODY = bytes(6)
@@ -56,6 +57,12 @@ class Counts:
 
 def left_out(what, why):
     print(f"left out: gateway: {what} ({why})", flush=True)
+
+
+def until_wine_lets_go(plays):
+    """Plays what kills a gateway and starts it again, until its address was free; that it never was is told."""
+    if not any(plays() for _ in range(TRIES)):
+        left_out("what a gateway hears that is killed and started again", f"Wine kept its address, {TRIES} times")
 
 
 # ---- Packets ----
@@ -141,6 +148,20 @@ class Gateway:
         self.ports, self.nodes = {}, {}
         while len(self.ports) < self.networks:
             self.line()
+
+    def starts_again(self):
+        """Kills it, and starts it at once. Returns whether its addresses were free: Wine alone may keep one for good, where the gateway was
+        killed as a datagram came there."""
+        self.run.kill()
+        self.run.communicate()
+        try:
+            self.start(self.program)
+        except AssertionError as fault:
+            self.run.communicate()
+            if SYSTEM is Windows and "Address already in use" in str(fault):
+                return False
+            raise
+        return True
 
     def line(self):
         """The next line of its output."""

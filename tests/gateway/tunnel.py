@@ -7,7 +7,8 @@ import subprocess
 import time
 
 from lab import (COOKIE, EVERYONE, GAME, GATEWAY, LIMIT, ROOM, TUNNEL, Client, Counts, Gateway, address, comes_next, free_ports, is_ping,
-                 is_routers, packet, reaches, reaches_again, registration, rip_response, sap_response, socket_of, tunnels, until)
+                 is_routers, packet, reaches, reaches_again, registration, rip_response, sap_response, socket_of, tunnels, until,
+                 until_wine_lets_go)
 from systems import SYSTEM, TOP
 
 DECODER = os.path.join(TOP, "crates", "ipxr", "out", "ipxr")  # (where it is built)
@@ -259,18 +260,23 @@ def shares():
             assert f"routes: {routes}\n" in report and f"services: {services}\n" in report, report
 
 
-def starts_again():
-    """A gateway that is killed and started again hears its clients, who don't register again, once they have answered a ping."""
+def heard_again():
+    """Two clients, whose gateway is killed and started again. Returns whether it could start."""
     with Gateway("".join(f"network {n} 1 1424 dosbox {port}\n" for n, port in zip((10, 20), free_ports(2)))) as gate:
         a, b = Client(gate.ports[0x10]), Client(gate.ports[0x20])
         assert reaches(a, b)
-        gate.run.kill()
-        gate.run.communicate()
-        gate.start(gate.program)
+        if not gate.starts_again():
+            return False
         for client in a, b:
             client.say(address(0, EVERYONE, GAME), b"here")
             gate.until_counted(client.network, "clients", 1)
         assert reaches(a, b) and reaches(b, a)
+        return True
+
+
+def starts_again():
+    """A gateway that is killed and started again hears its clients, who don't register again, once they have answered a ping."""
+    until_wine_lets_go(heard_again)
 
 
 def control_is_cleared():
