@@ -4,15 +4,20 @@
 
 #include <errno.h>
 #include <fcntl.h>
+#include <linux/sockios.h>
 #include <netinet/in.h>
 #include <netinet/tcp.h>
 #include <poll.h>
 #include <string.h>
+#include <sys/ioctl.h>
 #include <sys/socket.h>
 #include <unistd.h>
 
 /* Bytes that the system keeps: of what has come, while the gateway sends to many; and of what it sends, as to machines that are gone. */
 enum { KEPT = 1 << 20, KEPT_SENT = 8 << 20, MOST_WAITING = 4 };
+
+/* What goes to strangers may hold one part in so many of what the system keeps of what is sent. */
+enum { STRANGERS_PART = 4 };
 
 /* Seconds of silence, after which a connection is asked whether it is there; from one question to the next; and how many there are. */
 enum { SILENT = 20, AGAIN = 20, TIMES = 2, MINUTE = SILENT + AGAIN * TIMES, MILLISECONDS = 1000 };
@@ -207,12 +212,24 @@ bool datagram_send(int fd, const uint8_t *bytes, size_t length)
     return send(fd, bytes, length, MSG_NOSIGNAL) == (ssize_t)length;
 }
 
-/* (Linux doesn't ask for the card of one who is known to be there. Else it would, a while after he was switched off, and keep what goes to
- * him meanwhile, until nothing goes to anybody) */
+/* Whether there is room for what goes to somebody who may not be there. Linux asks for a card that it doesn't know and keeps what is to go
+ * to it meanwhile, in the socket's room: so made-up neighbours could fill it, until nothing goes to anybody. */
+static bool has_room_for_stranger(int fd)
+{
+    int kept, room;
+    socklen_t size = sizeof room;
+    return ioctl(fd, SIOCOUTQ, &kept) != 0 || getsockopt(fd, SOL_SOCKET, SO_SNDBUF, &room, &size) != 0 || kept < room / STRANGERS_PART;
+}
+
+/* (of one who is known to be there Linux doesn't ask. Else it would, a while after he was switched off, and keep what goes to him) */
 bool datagram_send_to(int fd, const address *to, const uint8_t *bytes, size_t length, bool is_there)
 {
     struct sockaddr_in at = to_system(to);
     int how = is_there ? MSG_CONFIRM : 0;
+    if (!is_there && !has_room_for_stranger(fd)) {
+        errno = EAGAIN;
+        return false;
+    }
     return sendto(fd, bytes, length, how, (const struct sockaddr *)&at, sizeof at) == (ssize_t)length;
 }
 

@@ -276,7 +276,7 @@ TESTS = [
     a_crowd_answers,
     named("registrations from forged addresses, 6400 a second", stands, "forged", "register", 6400, **NOBODYS),
     named("packets for all from forged addresses, 6400 a second", stands, "forged", "speak", 6400, **NOBODYS),
-    named("registrations from addresses of the same Ethernet that nobody has, 640 a second", stands, "forged", "register", 640, **ABSENT),
+    named("registrations from addresses of the same Ethernet that nobody has, 20000 a second", stands, "forged", "register", 20000, **ABSENT),
     false_sources,
     named("4 players switch their PCs off", gone, 4),
     named("8 players switch their PCs off", gone, 8),
