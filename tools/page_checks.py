@@ -156,7 +156,7 @@ def capture(b, folder):
     b.run("document.querySelector('#pane-capture .filters button:nth-child(3)').click()")
     want(last_saved(b).startswith("<svg xmlns="), "picture")
     b.run("document.querySelectorAll('#pane-capture .more details').forEach((it) => (it.open = true))")
-    want(count(b, "#pane-capture .tables tbody tr") > 0, "conversations")
+    b.waits("document.querySelector('#pane-capture .tables tbody tr')")  # (drawn once the browser says that it is open)
 
 
 def filters(b, _):
@@ -283,21 +283,6 @@ def internet(b, _):
     want(b.run("return page.panes.internet.steps.length") > 300, "fine steps")
     b.click("#pane-internet .fine input")
     settled(b, "internet")
-
-
-def beside(b, _):
-    """Internet: before a failure, in it and afterwards, side by side; a click goes there"""
-    opened(b)
-    shows(b, "internet")
-    settled(b, "internet")
-    b.run("document.querySelectorAll('#pane-internet .fine input')[1].click()")
-    heads = b.run("return [...document.querySelectorAll('#pane-internet .picture g[data-key]')].map((it) => it.getAttribute('aria-label'))")
-    same([it.partition(";")[0] for it in heads[:2]], ["70 s: before", "70 s: net AB fails at A and B"], "moments")
-    same(len(heads), 6, "moments of the ring")
-    b.run("document.querySelectorAll('#pane-internet .picture g[data-key]')[2].dispatchEvent(new MouseEvent('click', { bubbles: true }))")
-    settled(b, "internet")
-    want(text(b, "#pane-internet .moment").startswith("Second 120"), "the moment that was clicked on")
-    same(count(b, "#pane-internet .picture g[data-key^='router ']"), 4, "one map again")
 
 
 def moving(b, _):
@@ -591,7 +576,7 @@ def stopped(b, folder):
 
 
 EVERYWHERE = [
-    texts, silent, capture, filters, fields_agree, dropped, large, internet, quick, beside, moving, wrong_line, built, keyboard, router, router_built,
+    texts, silent, capture, filters, fields_agree, dropped, large, internet, quick, moving, wrong_line, built, keyboard, router, router_built,
     packet, back_and_forth, shared, harmless, long, stopped,
 ]
 

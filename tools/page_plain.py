@@ -273,5 +273,20 @@ def narrow(b, _):
 
 
 # What is tried in Chromium alone, whose window can be as narrow as that.
+def beside(b, _):
+    """Internet: before a failure, in it and afterwards, side by side; a click goes there"""
+    opened(b)
+    shows(b, "internet")
+    settled(b, "internet")
+    b.run("document.querySelectorAll('#pane-internet .fine input')[1].click()")
+    heads = b.run("return [...document.querySelectorAll('#pane-internet .picture g[data-key]')].map((it) => it.getAttribute('aria-label'))")
+    same([it.partition(";")[0] for it in heads[:2]], ["70 s: before", "70 s: net AB fails at A and B"], "moments")
+    same(len(heads), 6, "moments of the ring")
+    b.run("document.querySelectorAll('#pane-internet .picture g[data-key]')[2].dispatchEvent(new MouseEvent('click', { bubbles: true }))")
+    settled(b, "internet")
+    want(text(b, "#pane-internet .moment").startswith("Second 120"), "the moment that was clicked on")
+    same(count(b, "#pane-internet .picture g[data-key^='router ']"), 4, "one map again")
+
+
 NARROW = [narrow]
-PLAIN = [named, framed, unanswered, lost, forged, mended, proposed]
+PLAIN = [beside, named, framed, unanswered, lost, forged, mended, proposed]
