@@ -1,6 +1,6 @@
 -- The least way of a router to a network: of all ways that lead from router to router, by ports that are up, the one of the fewest
 -- ticks and then of the fewest hops.
-use Rattle.std.specs.Prelude.{ℕ, zero, suc, ◌+◌, ◌*◌, ◌==◌, ◌&&◌, ◌||◌, nat_lt, Bool, not, if◌then◌else◌, List, [], ◌∷◌, length, map, Option, None, Some, slice_index_or, ◌≡◌, ◌≢◌, ◌≤◌, true, false}
+use Rattle.std.specs.Prelude.{ℕ, zero, suc, ◌+◌, ◌*◌, ◌==◌, ◌&&◌, ◌||◌, nat_lt, Bool, not, if◌then◌else◌, List, [], ◌∷◌, length, map, Option, None, Some, slice_index_or, ◌≡◌, ◌≢◌, ◌≤◌, ◌<◌, true, false}
 use Rattle.std.specs.List.{AllByRecursion, filter, flat_map, list_any}
 use Rattle.std.specs.Option.{option_map}
 use Rattle.ipx_wire.specs.Crossed.{is_among}
@@ -99,6 +99,21 @@ abbrev pub way_of : RouteOffer → Way
 way_of route = record { hops = route.hops; ticks = route.ticks }
 
 -- ---- an internet whose tables become right
+
+-- that way, unless a route would have too many hops
+abbrev pub of_few_hops : Option Way → Option Way
+of_few_hops None = None
+of_few_hops (Some way) = if nat_lt most_hops way.hops then None else Some way
+
+-- no way of too many hops hides another one: the best that a router is told of, the best of its neighbours' least ways gone on, is its least
+-- way, or it has one hop more than a route may have, and then the router has none
+pub record FifteenSuffice (net : Internet) (up : ℕ → List ℕ) (network : Network) : Type 0 where
+  pub each : (router : ℕ) → router < length net → is_on (ports_of net router) network ≡ false
+      → least net up router network ≡ of_few_hops (nearest net up network (ways_within net up most_hops network) router)
+
+-- every port costs the same
+abbrev pub CostTheSame : Internet → ℕ → Type 0
+CostTheSame net cost = AllByRecursion (AllByRecursion (λ p. p.cost ≡ cost)) net
 
 -- the most that a port may cost, so that the ticks of no way of fifteen hops are too many for an entry
 abbrev pub most_cost : ℕ

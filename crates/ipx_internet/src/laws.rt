@@ -27,7 +27,7 @@ ghost use Rattle.ipx_internet.specs.Departure.{ObservesHorizon, departures, hand
 ghost use Rattle.ipx_internet.specs.Different.{AreDifferent};
 ghost use Rattle.ipx_internet.specs.Internet.{Internet, Place, IsInternet, NodesDiffer, IsPlace, network_of, ports_of};
 ghost use Rattle.ipx_internet.specs.InternetWeight.{queued_weight};
-ghost use Rattle.ipx_internet.specs.Least.{Way, is_better, least, IsWay, most_hops, AreCheap, HasRoom, least_route, way_of, ticks_right, most_ticks_right};
+ghost use Rattle.ipx_internet.specs.Least.{Way, is_better, least, IsWay, most_hops, AreCheap, HasRoom, FifteenSuffice, CostTheSame, least_route, way_of, ticks_right, most_ticks_right};
 ghost use Rattle.ipx_internet.specs.Log.{Sending, Reception, reception_at, IsForward, IsLog};
 ghost use Rattle.ipx_internet.specs.Meanwhile.{IsWithoutRoute, IsWithoutService, SaysOnly, IsBusyTick, StaysGone, EachTick};
 ghost use Rattle.ipx_internet.specs.Most.{most, most_of, most_on_network, most_ports as ports_at_most};
@@ -454,6 +454,18 @@ pub fn least_ways()
         → (best : Way) × (least net (ups net histories) router network ≡ Some best) × (is_better way best ≡ false) }
 {}
 
+/// Fifteen hops suffice wherever no way of sixteen hops is better than all that have fewer: so in any internet of at most 16 routers, and in one
+/// of any number of routers where every port costs the same.
+///
+/// `FifteenSuffice` says it of one network and of the ports that are up. The best that a router is told of is the best of its neighbours' least
+/// ways, gone on. It is the router's least way, or it has more than fifteen hops, and then the router has none.
+pub fn fifteen_suffice()
+    ensures few_routers { (net : Internet) (histories : List History) (network : Network) → IsInternet net → length net ≤ most_routers
+        → FifteenSuffice net (ups net histories) network }
+    ensures equal_costs { (net : Internet) (cost : ℕ) (histories : List History) (network : Network) → IsInternet net → CostTheSame net cost
+        → FifteenSuffice net (ups net histories) network }
+{}
+
 /// Every table becomes right and stays so, whatever was in it before: after 2,880 ticks and 60 for each hop every router has the route of
 /// the least way to a network, and where there is no way it has none (`tables`). From then on it is the same route at the end
 /// of each tick, with hops, ticks, port and neighbour (`stay`). No network takes longer than 3,780 ticks (`soon`). That is said of ticks that
@@ -461,19 +473,20 @@ pub fn least_ways()
 /// on too it is the same route (`whatever_waits_stay`). Where every route is of a real way from the first, there is no service and nothing
 /// waits, the 60 ticks for each hop alone are enough (`sooner`, `sooner_stay`).
 ///
-/// Ways lead over the ports that are up, of routers that run, whichever these are. There are at most 16 routers, no port costs more than
-/// 4,095 ticks, and the ports of two routers on one network have different nodes. Every table has room for all networks that its router has
+/// Ways lead over the ports that are up, of routers that run, whichever these are. Fifteen hops suffice for that network, as they do where there
+/// are at most 16 routers (`fifteen_suffice`), no port costs more than 4,095 ticks, and the ports of two routers on one network have different
+/// nodes. Every table has room for all networks that its router has
 /// no port on, and so has the share of every port. Nothing but ticks happens, so ports stay as they are.
 pub fn right()
     ensures tables { (net : Internet) (most_routes most_services : ℕ) (histories : List History) (ticks : List (List Step)) (router : ℕ) (network : Network)
-        → IsInternet net → NodesDiffer net → length net ≤ most_routers → AreCheap net → HasRoom net most_routes → AreHistories net histories
+        → IsInternet net → NodesDiffer net → FifteenSuffice net (ups net histories) network → AreCheap net → HasRoom net most_routes → AreHistories net histories
         → AreTicks net most_routes most_services (begun histories) ticks → router < length net
         → ticks_right (least_route net (ups net histories) router network) ≤ length ticks
         → option_map way_of
         (route_to (offers (routes_held (ports_of net router) most_routes (history_of (ticked net most_routes most_services (begun histories) ticks).histories router))) network.0)
         ≡ least_route net (ups net histories) router network }
     ensures stay { (net : Internet) (most_routes most_services : ℕ) (histories : List History) (ticks further : List (List Step)) (router : ℕ) (network : Network)
-        → IsInternet net → NodesDiffer net → length net ≤ most_routers → AreCheap net → HasRoom net most_routes → AreHistories net histories
+        → IsInternet net → NodesDiffer net → FifteenSuffice net (ups net histories) network → AreCheap net → HasRoom net most_routes → AreHistories net histories
         → AreTicks net most_routes most_services (begun histories) (ticks ++ further) → router < length net
         → ticks_right (least_route net (ups net histories) router network) ≤ length ticks
         → route_to (offers (routes_held (ports_of net router) most_routes
@@ -481,7 +494,7 @@ pub fn right()
         ≡ route_to (offers (routes_held (ports_of net router) most_routes
         (history_of (ticked net most_routes most_services (begun histories) ticks).histories router))) network.0 }
     ensures whatever_waits { (net : Internet) (most_routes most_services : ℕ) (run : Run) (ticks : List (List Step)) (router : ℕ) (network : Network)
-        → IsInternet net → NodesDiffer net → length net ≤ most_routers → AreCheap net → HasRoom net most_routes → AreHistories net run.histories
+        → IsInternet net → NodesDiffer net → FifteenSuffice net (ups net run.histories) network → AreCheap net → HasRoom net most_routes → AreHistories net run.histories
         → AllByRecursion (λ w. IsDelivery net w.delivery) run.waiting
         → AreTicks net most_routes most_services run ticks → router < length net
         → ticks_right (least_route net (ups net run.histories) router network) < length ticks
@@ -489,7 +502,7 @@ pub fn right()
         (route_to (offers (routes_held (ports_of net router) most_routes (history_of (ticked net most_routes most_services run ticks).histories router))) network.0)
         ≡ least_route net (ups net run.histories) router network }
     ensures whatever_waits_stay { (net : Internet) (most_routes most_services : ℕ) (run : Run) (ticks further : List (List Step)) (router : ℕ) (network : Network)
-        → IsInternet net → NodesDiffer net → length net ≤ most_routers → AreCheap net → HasRoom net most_routes → AreHistories net run.histories
+        → IsInternet net → NodesDiffer net → FifteenSuffice net (ups net run.histories) network → AreCheap net → HasRoom net most_routes → AreHistories net run.histories
         → AllByRecursion (λ w. IsDelivery net w.delivery) run.waiting
         → AreTicks net most_routes most_services run (ticks ++ further) → router < length net
         → ticks_right (least_route net (ups net run.histories) router network) < length ticks
@@ -498,7 +511,7 @@ pub fn right()
         ≡ route_to (offers (routes_held (ports_of net router) most_routes
         (history_of (ticked net most_routes most_services run ticks).histories router))) network.0 }
     ensures sooner { (net : Internet) (most_routes most_services : ℕ) (histories : List History) (ticks : List (List Step)) (router : ℕ) (network : Network)
-        → IsInternet net → NodesDiffer net → length net ≤ most_routers → AreCheap net → HasRoom net most_routes → AreHistories net histories
+        → IsInternet net → NodesDiffer net → FifteenSuffice net (ups net histories) network → AreCheap net → HasRoom net most_routes → AreHistories net histories
         → ((other : ℕ) → other < length net
         → AllByRecursion (IsReal net (ups net histories) other) (offers (routes_held (ports_of net other) most_routes (history_of histories other))))
         → ((other : ℕ) → other < length net → services_held (ports_of net other) most_services (history_of histories other) ≡ [])
@@ -508,7 +521,7 @@ pub fn right()
         (route_to (offers (routes_held (ports_of net router) most_routes (history_of (ticked net most_routes most_services (begun histories) ticks).histories router))) network.0)
         ≡ least_route net (ups net histories) router network }
     ensures sooner_stay { (net : Internet) (most_routes most_services : ℕ) (histories : List History) (ticks further : List (List Step)) (router : ℕ) (network : Network)
-        → IsInternet net → NodesDiffer net → length net ≤ most_routers → AreCheap net → HasRoom net most_routes → AreHistories net histories
+        → IsInternet net → NodesDiffer net → FifteenSuffice net (ups net histories) network → AreCheap net → HasRoom net most_routes → AreHistories net histories
         → ((other : ℕ) → other < length net
         → AllByRecursion (IsReal net (ups net histories) other) (offers (routes_held (ports_of net other) most_routes (history_of histories other))))
         → ((other : ℕ) → other < length net → services_held (ports_of net other) most_services (history_of histories other) ≡ [])
@@ -542,7 +555,7 @@ pub fn right()
 /// same way after one tick more (`whatever_waits`).
 pub fn arrives()
     ensures goes { (net : Internet) (most_routes most_services : ℕ) (histories : List History) (ticks : List (List Step)) (place : Place) (bytes : List ℕ) (p : Parts) (way : Way)
-        → IsInternet net → NodesDiffer net → length net ≤ most_routers → AreCheap net → HasRoom net most_routes → AreHistories net histories
+        → IsInternet net → NodesDiffer net → FifteenSuffice net (ups net histories) p.header.destination.network → AreCheap net → HasRoom net most_routes → AreHistories net histories
         → AreTicks net most_routes most_services (begun histories) ticks → IsPlace net place → is_up (ups net histories place.router) place.port ≡ true
         → IsBytes bytes → IsPacket bytes p → IsOfHost net p
         → network_of net place ≢ p.header.destination.network → least net (ups net histories) place.router p.header.destination.network ≡ Some way
@@ -552,7 +565,7 @@ pub fn arrives()
         → Arrives (routers_after net most_routes (ticked net most_routes most_services (begun histories) ticks).histories) p.header.destination p.header.control way.hops 0
         (root place bytes) }
     ensures whatever_waits { (net : Internet) (most_routes most_services : ℕ) (run : Run) (ticks : List (List Step)) (place : Place) (bytes : List ℕ) (p : Parts) (way : Way)
-        → IsInternet net → NodesDiffer net → length net ≤ most_routers → AreCheap net → HasRoom net most_routes → AreHistories net run.histories
+        → IsInternet net → NodesDiffer net → FifteenSuffice net (ups net run.histories) p.header.destination.network → AreCheap net → HasRoom net most_routes → AreHistories net run.histories
         → AllByRecursion (λ w. IsDelivery net w.delivery) run.waiting
         → AreTicks net most_routes most_services run ticks → IsPlace net place → is_up (ups net run.histories place.router) place.port ≡ true
         → IsBytes bytes → IsPacket bytes p → IsOfHost net p

@@ -20,7 +20,7 @@ use Rattle.ipx_router.specs.Routes.{route_rules, route_reading, network_order}
 use Rattle.ipx_router.specs.declared.route_offer.RouteOffer.{RouteOffer}
 use Rattle.ipx_router.proofs.bounds.PacketsOfEachEvent.{network_total}
 use Rattle.ipx_internet.specs.Internet.{Internet, Place, IsInternet, NodesDiffer, ports_of, port_of, network_of}
-use Rattle.ipx_internet.specs.Least.{Way, is_on, by_port, way_of, AreCheap, HasRoom}
+use Rattle.ipx_internet.specs.Least.{Way, is_on, by_port, way_of, AreCheap, HasRoom, FifteenSuffice}
 use Rattle.ipx_internet.specs.Real.{IsReal}
 use Rattle.ipx_internet.proofs.lists.FoundInAList.{nothing, it_is}
 use Rattle.ipx_internet.proofs.places.OneReceiverOfANode.{one_port, apart_at, same_place}
@@ -63,8 +63,8 @@ same_offer a b network hops ticks port node =
     ∙ ap (λ t. make b.network b.hops t a.port a.node) ticks ∙ ap (λ p. make b.network b.hops b.ticks p a.node) port
     ∙ ap (λ m. make b.network b.hops b.ticks b.port m) node
 
-module _ (net : Internet) (is : IsInternet net) (differ : NodesDiffer net) (cheap : AreCheap net) (few_routers : length net ≤ 16) (up : ℕ → List ℕ)
-    (in_ports : (router : ℕ) → AllByRecursion (λ j. j < length (ports_of net router)) (up router)) (most_routes : ℕ) (room : HasRoom net most_routes) (network : Network)
+module _ (net : Internet) (is : IsInternet net) (differ : NodesDiffer net) (cheap : AreCheap net) (up : ℕ → List ℕ)
+    (in_ports : (router : ℕ) → AllByRecursion (λ j. j < length (ports_of net router)) (up router)) (most_routes : ℕ) (room : HasRoom net most_routes) (network : Network) (suffice : FifteenSuffice net up network)
     (router : ℕ) (v : Way) (off : is_on (ports_of net router) network ≡ false) (least : within net up in_ports network 15 router ≡ Some v) where
   abbrev IsSource : ℕ → Place → Type 0
   IsSource port from = Source net is cheap up in_ports network router v port from
@@ -112,7 +112,7 @@ module _ (net : Internet) (is : IsInternet net) (differ : NodesDiffer net) (chea
       let way = real_way net is cheap up in_ports network real named in (
         way.from,
         record {
-          source = came_from net is cheap up in_ports network few_routers router r v way least same;
+          source = came_from net is cheap up in_ports network suffice router r v way least same;
           same = same_offer r (right_offer r.port way.from) named (sym (ap (λ (w : Way). w.hops) same)) (sym (ap (λ (w : Way). w.ticks) same)) refl way.node;
         },
       )

@@ -22,7 +22,7 @@ use Rattle.ipx_router.specs.declared.route_offer.RouteOffer.{RouteOffer}
 use Rattle.ipx_router.proofs.bounds.PacketsOfEachEvent.{network_total}
 use Rattle.ipx_router.proofs.lists.EachElement.{all_both}
 use Rattle.ipx_internet.specs.Internet.{Internet, Place, IsInternet, NodesDiffer, ports_of, port_of}
-use Rattle.ipx_internet.specs.Least.{Way, is_on, AreCheap, HasRoom}
+use Rattle.ipx_internet.specs.Least.{Way, is_on, AreCheap, HasRoom, FifteenSuffice}
 use Rattle.ipx_internet.specs.Real.{IsReal}
 use Rattle.ipx_internet.specs.Ticks.{most_ticks_gone}
 use Rattle.ipx_internet.proofs.lists.EachElement.{all_then}
@@ -36,9 +36,9 @@ use Rattle.ipx_internet.proofs.tables.LeastWays.{IsNeighbour, within, few}
 use Rattle.ipx_internet.proofs.tables.NoRouteIsBetter.{Source}
 use Rattle.ipx_internet.proofs.tables.RoomForEachNetwork.{same_where_equal}
 
-module _ (net : Internet) (is : IsInternet net) (differ : NodesDiffer net) (cheap : AreCheap net) (few_routers : length net ≤ 16) (up : ℕ → List ℕ)
+module _ (net : Internet) (is : IsInternet net) (differ : NodesDiffer net) (cheap : AreCheap net) (up : ℕ → List ℕ)
     (in_ports : (router : ℕ) → AllByRecursion (λ j. j < length (ports_of net router)) (up router)) (most_routes : ℕ) (room : HasRoom net most_routes)
-    (network : Network)
+    (network : Network) (suffice : FifteenSuffice net up network)
     (router : ℕ) (v : Way) (off : is_on (ports_of net router) network ≡ false) (least : within net up in_ports network 15 router ≡ Some v)
     (wanted : takes_no_route (ports_of net router) network ≡ false) where
   abbrev ports : List Port
@@ -59,10 +59,10 @@ module _ (net : Internet) (is : IsInternet net) (differ : NodesDiffer net) (chea
       Aged route_reading network_order network_total most_routes (map (λ p. p.route_share) ports) (λ r. r.hops) (λ r. refl) (IsReal net up router) had facts
 
   abbrev RightOf : Place → RouteOffer → Type 0
-  RightOf = Right net is differ cheap few_routers up in_ports most_routes room network router v off least
+  RightOf = Right net is differ cheap up in_ports most_routes room network suffice router v off least
 
   abbrev pub StateOf : (Place → ℕ → Type 0) → (Place → ℕ → Type 0) → Type 0 → (RouteOffer → Type 0) → Option (Held RouteOffer) → Type 0
-  StateOf = State net is differ cheap few_routers up in_ports most_routes room network router v off least
+  StateOf = State net is differ cheap up in_ports most_routes room network suffice router v off least
 
   -- after so many ticks each route is of a real way, and none is old
   pub all_real : (had : ℕ) → most_ticks_gone ≤ had → (facts : List (Fact RouteOffer)) → RoutesAged had facts
@@ -94,7 +94,7 @@ module _ (net : Internet) (is : IsInternet net) (differ : NodesDiffer net) (chea
     -- an entry for the network is as it should be, where the neighbour is one from which the least way comes; and what is offered is real
     pub record EntryIs (e : RipEntry) : Type 0 where
       pub right : e.network ≡ network → Source net is cheap up in_ports network router v j from
-          → offer_of e ≡ right_offer net is differ cheap few_routers up in_ports most_routes room network router v off least j from
+          → offer_of e ≡ right_offer net is differ cheap up in_ports most_routes room network suffice router v off least j from
       pub real : takes_no_route ports e.network ≡ false → e.hops < unreachable → IsReal net up router (offer_of e)
 
     next_aged : (facts : List (Fact RouteOffer)) (e : RipEntry) → EntryIs e → takes_no_route ports e.network ≡ false → RoutesAged had facts
@@ -134,7 +134,7 @@ module _ (net : Internet) (is : IsInternet net) (differ : NodesDiffer net) (chea
             → Source net is cheap up in_ports network router v j from → Now (known facts) → Then (known (facts ++ Offered (offer_of e) ∷ []))
         one_right facts e is_e aged named source state =
             subst (λ (k : Option (Held RouteOffer)). Then k) (sym (own_key facts (offer_of e)))
-            (comes_right net is differ cheap few_routers up in_ports most_routes room network router v off least (records facts)
+            (comes_right net is differ cheap up in_ports most_routes room network suffice router v off least (records facts)
             (kept rules (rules_total route_reading network_order network_total most_routes (map (λ p. p.route_share) ports)) facts).distinct
             (all_then (λ h. IsReal net up router h.offer × (h.age < lifetime)) (λ h. IsReal net up router h.offer) (λ h both. both.0) (records facts)
             (all_real had long facts aged))
@@ -160,11 +160,11 @@ module _ (net : Internet) (is : IsInternet net) (differ : NodesDiffer net) (chea
           | inr apart ↦ subst (λ (k : Option (Held RouteOffer)). Now k) (sym (other_key facts (offer_of e) apart)) state
           | inl same ↦
               let named = same_number e.network network (same_where_equal e.network.0 network.0 same) in
-              elim (decide net is differ cheap few_routers up in_ports most_routes room network router v off least j from neighbour) [
+              elim (decide net is differ cheap up in_ports most_routes room network suffice router v off least j from neighbour) [
                 | inl source ↦ weaker (known (facts ++ Offered (offer_of e) ∷ [])) (one_right facts e is_e aged named source state)
                 | inr no_source ↦
                     subst (λ (k : Option (Held RouteOffer)). Now k) (sym (own_key facts (offer_of e)))
-                    (nothing_comes net is differ cheap few_routers up in_ports most_routes room network router v off least (records facts)
+                    (nothing_comes net is differ cheap up in_ports most_routes room network suffice router v off least (records facts)
                     (kept rules (rules_total route_reading network_order network_total most_routes (map (λ p. p.route_share) ports)) facts).distinct
                     (all_then (λ h. IsReal net up router h.offer × (h.age < lifetime)) (λ h. IsReal net up router h.offer) (λ h both. both.0) (records facts)
                     (all_real had long facts aged))

@@ -10,7 +10,7 @@ use Rattle.ipx_router.specs.Told.{told_at, direct_entry, entry_of}
 use Rattle.ipx_router.specs.declared.route_offer.RouteOffer.{RouteOffer}
 use Rattle.ipx_router.proofs.port_values.PortOfEachNumber.{one_up, port-all}
 use Rattle.ipx_internet.specs.Internet.{Internet, Place, IsInternet, IsPlace, ports_of, port_of, network_of}
-use Rattle.ipx_internet.specs.Least.{Way, is_on, by_port, way_of, AreCheap}
+use Rattle.ipx_internet.specs.Least.{Way, is_on, by_port, way_of, AreCheap, FifteenSuffice}
 use Rattle.ipx_internet.specs.Real.{IsReal, IsTaken, next, farther}
 use Rattle.ipx_internet.proofs.lists.EachElement.{all_or}
 use Rattle.ipx_internet.proofs.places.OneReceiverOfANode.{one_port, apart_at}
@@ -166,14 +166,14 @@ module _ (net : Internet) (is : IsInternet net) (cheap : AreCheap net) (up : ℕ
     pub there : within net up in_ports network 15 from.router ≡ Some way
     pub by : v ≡ by_port (cost_of from) way
 
-  module _ (few_routers : length net ≤ 16) where
+  module _ (suffice : FifteenSuffice net up network) where
     -- there is one
     pub a_source : (router : ℕ) (v : Way) → is_on (ports_of net router) network ≡ false → within net up in_ports network 15 router ≡ Some v
         → (port : ℕ) × (from : Place) × Source router v port from
     a_source router v off e =
         let c = came net up in_ports network 14 router v off e in
         let (u, is_u, less) = more net up in_ports network 14 c.from.router c.way c.there in
-        let same = nothing_hidden net up in_ports is network few_routers router c.port c.from v c.way u c.neighbour off e c.by is_u less in
+        let same = nothing_hidden net up in_ports is network suffice router c.port c.from v c.way u c.neighbour off e c.by is_u less in
         (c.port, c.from, record { neighbour = c.neighbour; way = c.way; there = is_u ∙ ap Some same; by = c.by })
 
     -- and a route that is as good as the least way came from one
@@ -183,7 +183,7 @@ module _ (net : Internet) (is : IsInternet net) (cheap : AreCheap net) (up : ℕ
         let short = real.few_hops in
         let (u, is_u, less) = many_more net up in_ports network (15 - real.way.hops) real.way.hops 15 real.from.router real.least (omega
         (arith, short)) real.there in
-        let equal = nothing_hidden net up in_ports is network few_routers router r.port real.from v real.way u real.neighbour real.off e (same ∙ real.by) is_u
+        let equal = nothing_hidden net up in_ports is network suffice router r.port real.from v real.way u real.neighbour real.off e (same ∙ real.by) is_u
         (no_worse_then u real.least real.way less real.no_worse) in
         record { neighbour = real.neighbour; way = real.way; there = is_u ∙ ap Some equal; by = same ∙ real.by }
 

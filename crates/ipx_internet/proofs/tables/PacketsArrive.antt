@@ -26,7 +26,7 @@ use Rattle.ipx_internet.specs.Arriving.{IsOfHost, IsAllowed, IsShort, Arrives, E
 use Rattle.ipx_internet.specs.Delivery.{receives, delivered}
 use Rattle.ipx_internet.specs.Different.{AreDifferent}
 use Rattle.ipx_internet.specs.Internet.{Internet, Place, IsInternet, NodesDiffer, IsPlace, ports_of, port_of, network_of, places}
-use Rattle.ipx_internet.specs.Least.{Way, is_on, is_up_on, by_port, way_by, ways_within, least as least_of, neighbours, AreCheap, HasRoom}
+use Rattle.ipx_internet.specs.Least.{Way, is_on, is_up_on, by_port, way_by, ways_within, least as least_of, neighbours, AreCheap, HasRoom, FifteenSuffice}
 use Rattle.ipx_internet.specs.Queue.{history_of}
 use Rattle.ipx_internet.specs.Run.{Run}
 use Rattle.ipx_internet.specs.Ticks.{most_ticks_gone}
@@ -143,10 +143,10 @@ module _ (net : Internet) (up : ℕ → List ℕ) (in_ports : (router : ℕ) →
           ] in
           rw (off, nets, every) refl
 
-module _ (net : Internet) (laws : Layouts) (is : IsInternet net) (differ : NodesDiffer net) (cheap : AreCheap net) (few_routers : length net ≤ 16) (up : ℕ → List ℕ)
+module _ (net : Internet) (laws : Layouts) (is : IsInternet net) (differ : NodesDiffer net) (cheap : AreCheap net) (up : ℕ → List ℕ)
     (in_ports : (router : ℕ) → AllByRecursion (λ j. j < length (ports_of net router)) (up router)) (most_routes most_services : ℕ) (room : HasRoom net most_routes)
-    (to : Address)
-    (ticks : ℕ) (run : Run) (rest : AtRest net laws is differ cheap few_routers up in_ports most_routes most_services room to.network
+    (to : Address) (suffice : FifteenSuffice net up to.network)
+    (ticks : ℕ) (run : Run) (rest : AtRest net laws is differ cheap up in_ports most_routes most_services room to.network suffice
     ticks run) (long : most_ticks_gone ≤ ticks) where
   abbrev routers : List Router
   routers = routers_after net most_routes run.histories
@@ -181,7 +181,7 @@ module _ (net : Internet) (laws : Layouts) (is : IsInternet net) (differ : Nodes
         (few_control : p.header.control < 16) where
       other_network : is_local (port_at ports number) p.header.destination.network ≡ false
       other_network =
-          let (place, there, named) = some_port net laws is differ cheap few_routers up in_ports most_routes most_services room to.network
+          let (place, there, named) = some_port net laws is differ cheap up in_ports most_routes most_services room to.network suffice
           15 q v least (on_or_off net up in_ports to.network q) in
           let some = (port_is net is place there).some_network in
           let number_is = ap (λ (n : Network). n.0) named in
@@ -228,7 +228,7 @@ module _ (net : Internet) (laws : Layouts) (is : IsInternet net) (differ : Nodes
 
         runs : running history ≡ true
         runs =
-            runs_where net laws is differ cheap few_routers up in_ports most_routes most_services room to.network
+            runs_where net laws is differ cheap up in_ports most_routes most_services room to.network suffice
             ticks long (λ r. 0) (λ r. omega arith) (λ r. None) q number ticks history on endures
 
         pub sends_one : (c : Copy) → c.to ≡ record { router = q; port = number } → c.bytes ≡ bytes → forwards routers c ≡ it ∷ []
@@ -386,9 +386,9 @@ module _ (net : Internet) (laws : Layouts) (is : IsInternet net) (differ : Nodes
       by (inr off) deeper =
           let inside = router_there net q port here in
           let enough : most_ticks_gone + 60 * v.hops ≤ ticks = omega (arith, some, sure) in
-          let has = route_is net laws is differ cheap few_routers up in_ports most_routes most_services room to.network
+          let has = route_is net laws is differ cheap up in_ports most_routes most_services room to.network suffice
           ticks run rest long q inside v off least enough in
-          let held = by_number net laws is differ cheap few_routers up in_ports most_routes most_services room to.network ticks run rest long q inside ∙ has.held in
+          let held = by_number net laws is differ cheap up in_ports most_routes most_services room to.network suffice ticks run rest long q inside ∙ has.held in
           let out : Outway = record { port = has.route.port; link = has.route.node } in
           let routed = way_by_route q inside off has.route held in
           let leaves = has.source.neighbour.here in

@@ -17,7 +17,7 @@ use Rattle.ipx_router.proofs.lists.EachElement.{all_both}
 use Rattle.ipx_router.proofs.histories.OneEventMore.{seconds_stay}
 use Rattle.ipx_router.proofs.tables.OffersOfAMessage.{facts_from-more}
 use Rattle.ipx_internet.specs.Internet.{Internet, Place, IsInternet, NodesDiffer, ports_of, port_of}
-use Rattle.ipx_internet.specs.Least.{Way, AreCheap, HasRoom}
+use Rattle.ipx_internet.specs.Least.{Way, AreCheap, HasRoom, FifteenSuffice}
 use Rattle.ipx_internet.specs.Queue.{Delivery, deliveries_of, history_of, with_event, sends_at, queued}
 use Rattle.ipx_internet.specs.Run.{Step, Settles}
 use Rattle.ipx_internet.specs.Ticks.{seconds_of, most_ticks_gone}
@@ -47,33 +47,33 @@ use Rattle.ipx_internet.proofs.tables.RightWithinATick.{StateFor, known_of, Righ
 use Rattle.ipx_internet.proofs.ticks.RealOrSoonEnded.{Reaches, RouteSaid, Endures, changes_said}
 use Rattle.ipx_internet.proofs.ticks.TickAfterTick.{Going, delivery_goes}
 
-module _ (net : Internet) (laws : Layouts) (is : IsInternet net) (differ : NodesDiffer net) (cheap : AreCheap net) (few_routers : length net ≤ 16) (up : ℕ → List ℕ)
+module _ (net : Internet) (laws : Layouts) (is : IsInternet net) (differ : NodesDiffer net) (cheap : AreCheap net) (up : ℕ → List ℕ)
     (in_ports : (router : ℕ) → AllByRecursion (λ j. j < length (ports_of net router)) (up router)) (most_routes most_services : ℕ) (room : HasRoom net most_routes)
-    (network : Network)
+    (network : Network) (suffice : FifteenSuffice net up network)
     (before : ℕ) (long : most_ticks_gone ≤ before) (clock : ℕ → ℕ) (few_seconds : (router : ℕ) → clock router < 60) (at_start : ℕ → Option RouteOffer) where
   abbrev Wanting : ℕ → Type 0
-  Wanting router = WantsOf net laws is differ cheap few_routers up in_ports most_routes most_services room network before long clock few_seconds at_start router
+  Wanting router = WantsOf net laws is differ cheap up in_ports most_routes most_services room network suffice before long clock few_seconds at_start router
 
   abbrev State_of : List Step → List Delivery → (router : ℕ) → Wanting router → List (Fact RouteOffer) → Type 0
-  State_of = StateIn net laws is differ cheap few_routers up in_ports most_routes most_services room network before long clock few_seconds at_start
+  State_of = StateIn net laws is differ cheap up in_ports most_routes most_services room network suffice before long clock few_seconds at_start
 
   abbrev Pends : ℕ → Place → Delivery → Type 0
-  Pends = PendingOf net laws is differ cheap few_routers up in_ports most_routes most_services room network before long clock few_seconds at_start
+  Pends = PendingOf net laws is differ cheap up in_ports most_routes most_services room network suffice before long clock few_seconds at_start
 
   abbrev Says : Place → RipEntry → Type 0
-  Says = SaidOf net laws is differ cheap few_routers up in_ports most_routes most_services room network before long clock few_seconds at_start
+  Says = SaidOf net laws is differ cheap up in_ports most_routes most_services room network suffice before long clock few_seconds at_start
 
   abbrev Source_of : ℕ → Way → ℕ → Place → Type 0
-  Source_of = Sources net laws is differ cheap few_routers up in_ports most_routes most_services room network before long clock few_seconds at_start
+  Source_of = Sources net laws is differ cheap up in_ports most_routes most_services room network suffice before long clock few_seconds at_start
 
   abbrev starts : Way → ℕ
-  starts = begins net laws is differ cheap few_routers up in_ports most_routes most_services room network before long clock few_seconds at_start
+  starts = begins net laws is differ cheap up in_ports most_routes most_services room network suffice before long clock few_seconds at_start
 
   abbrev AnyOne : Service → Type 0
-  AnyOne = Services net laws is differ cheap few_routers up in_ports most_routes most_services room network before long clock few_seconds at_start
+  AnyOne = Services net laws is differ cheap up in_ports most_routes most_services room network suffice before long clock few_seconds at_start
 
   module _ (rest : List Step) (histories : List History) (queue : List Delivery) (d : Delivery)
-      (righted : Righted net laws is differ cheap few_routers up in_ports most_routes most_services room network before long clock few_seconds at_start
+      (righted : Righted net laws is differ cheap up in_ports most_routes most_services room network suffice before long clock few_seconds at_start
       (Settles ∷ rest) (record { histories = histories; queue = d ∷ queue })) where
     abbrev left : List Step
     left = Settles ∷ rest
@@ -96,7 +96,7 @@ module _ (net : Internet) (laws : Layouts) (is : IsInternet net) (differ : Nodes
     abbrev now : History
     now = past ++ event ∷ []
 
-    abbrev speaks : Speaks net laws is differ cheap few_routers up in_ports most_routes most_services room network before long clock few_seconds at_start d
+    abbrev speaks : Speaks net laws is differ cheap up in_ports most_routes most_services room network suffice before long clock few_seconds at_start d
     speaks = righted.speaks.0
 
     inside : x < length net
@@ -122,7 +122,7 @@ module _ (net : Internet) (laws : Layouts) (is : IsInternet net) (differ : Nodes
 
     endured : Endures net up most_routes most_services x count past
     endured =
-        endures_of net laws is differ cheap few_routers up in_ports most_routes most_services room network before long clock few_seconds at_start
+        endures_of net laws is differ cheap up in_ports most_routes most_services room network suffice before long clock few_seconds at_start
         left (record { histories = histories; queue = waiting }) righted x inside
 
     going_now : Going net laws is most_routes most_services up (suc before) rest
@@ -137,7 +137,7 @@ module _ (net : Internet) (laws : Layouts) (is : IsInternet net) (differ : Nodes
 
     runs : is_up (up x) d.to.port ≡ true → running past ≡ true
     runs on =
-        runs_where net laws is differ cheap few_routers up in_ports most_routes most_services room network before long clock few_seconds at_start
+        runs_where net laws is differ cheap up in_ports most_routes most_services room network suffice before long clock few_seconds at_start
         x d.to.port count past on endured
 
     -- ---- what is offered
@@ -159,7 +159,7 @@ module _ (net : Internet) (laws : Layouts) (is : IsInternet net) (differ : Nodes
       module _ (f : Place) (reaches : Reaches net up f d.to) (on : is_up (up x) d.to.port ≡ true) where
         abbrev IsFine : RipEntry → Type 0
         IsFine =
-            EntryIs net is differ cheap few_routers up in_ports most_routes room network
+            EntryIs net is differ cheap up in_ports most_routes room network suffice
             x w.v w.off w.least w.wanted count enough d.to.port f (neighbour_of f reaches on)
 
         fine : (e : RipEntry) → Says f e → IsFine e
@@ -173,7 +173,7 @@ module _ (net : Internet) (laws : Layouts) (is : IsInternet net) (differ : Nodes
               let word_hops = ap (λ (y : RipEntry). y.hops) word in
               let word_ticks = ap (λ (y : RipEntry). y.ticks) word in
               same_offer (route_offer d.to.port (port_of net f).node e)
-              (right_offer net is differ cheap few_routers up in_ports most_routes room network x w.v w.off w.least d.to.port f) named
+              (right_offer net is differ cheap up in_ports most_routes room network suffice x w.v w.off w.least d.to.port f) named
               (omega (arith, word_hops, hops)) (omega (arith, word_ticks, ticks)) refl refl;
           real = λ taken near. elim (said.0 near) [
             | inl real ↦ real d.to reaches (record { up_here = on; wanted = taken })
@@ -192,14 +192,14 @@ module _ (net : Internet) (laws : Layouts) (is : IsInternet net) (differ : Nodes
       keeps : (f : Place) (reaches : Reaches net up f d.to) → is_up (up x) d.to.port ≡ true → (entries : List RipEntry) → AllByRecursion (Says f) entries
           → Known (route_facts ports past ++ routes_offered ports d.to.port (port_of net f).node entries)
       keeps f reaches on entries all =
-          entries_keep net is differ cheap few_routers up in_ports most_routes room network
+          entries_keep net is differ cheap up in_ports most_routes room network suffice
           x w.v w.off w.least w.wanted count enough d.to.port f (neighbour_of f reaches on)
-          (Fresh net laws is differ cheap few_routers up in_ports most_routes most_services room network before long clock few_seconds at_start
-          left waiting x w.v) (λ g. let s = few in omega (arith, s)) (Same net laws is differ cheap few_routers up in_ports most_routes most_services room network
-          before long clock few_seconds at_start left waiting x w.v) (Late net laws is differ cheap few_routers up in_ports most_routes most_services room network
-          before long clock few_seconds at_start left waiting x w.v) (Later net laws is differ cheap few_routers up in_ports most_routes most_services room network
+          (Fresh net laws is differ cheap up in_ports most_routes most_services room network suffice before long clock few_seconds at_start
+          left waiting x w.v) (λ g. let s = few in omega (arith, s)) (Same net laws is differ cheap up in_ports most_routes most_services room network suffice
+          before long clock few_seconds at_start left waiting x w.v) (Late net laws is differ cheap up in_ports most_routes most_services room network suffice
+          before long clock few_seconds at_start left waiting x w.v) (Later net laws is differ cheap up in_ports most_routes most_services room network suffice
           before long clock few_seconds at_start left waiting x w.v)
-          (free net laws is differ cheap few_routers up in_ports most_routes most_services room network before long clock few_seconds at_start
+          (free net laws is differ cheap up in_ports most_routes most_services room network suffice before long clock few_seconds at_start
           left waiting x w.v) entries (route_facts ports past) (all_then (Says f) (IsFine f reaches on)
           (λ e said. fine f reaches on e said) entries all) endured.routes state_before
 
@@ -241,13 +241,13 @@ module _ (net : Internet) (laws : Layouts) (is : IsInternet net) (differ : Nodes
       module _ (f : Place) (port : ℕ) (source : Source_of x w.v port f) (pending : Pends x f d) where
         abbrev Told : List (Fact RouteOffer) → Type 0
         Told facts =
-            StateFor net laws is differ cheap few_routers up in_ports most_routes most_services room network
-            x w (Fresh net laws is differ cheap few_routers up in_ports most_routes most_services room network before long clock few_seconds at_start
+            StateFor net laws is differ cheap up in_ports most_routes most_services room network suffice
+            x w (Fresh net laws is differ cheap up in_ports most_routes most_services room network suffice before long clock few_seconds at_start
             left waiting x w.v)
-            (λ g age. Late net laws is differ cheap few_routers up in_ports most_routes most_services room network before long clock few_seconds at_start
-            left waiting x w.v g age × (g ≢ f)) ⊥ (Same net laws is differ cheap few_routers up in_ports most_routes most_services room network before long clock few_seconds at_start
+            (λ g age. Late net laws is differ cheap up in_ports most_routes most_services room network suffice before long clock few_seconds at_start
+            left waiting x w.v g age × (g ≢ f)) ⊥ (Same net laws is differ cheap up in_ports most_routes most_services room network suffice before long clock few_seconds at_start
             left waiting x w.v)
-            (known_of net laws is differ cheap few_routers up in_ports most_routes most_services room network x w facts)
+            (known_of net laws is differ cheap up in_ports most_routes most_services room network suffice x w facts)
 
         -- the port is that by which the least way comes, so it is up
         on_now : is_up (up x) d.to.port ≡ true
@@ -271,14 +271,14 @@ module _ (net : Internet) (laws : Layouts) (is : IsInternet net) (differ : Nodes
         comes =
             subst (λ (fs : List (Fact RouteOffer)). Told fs)
             (sym (facts_now ∙ ap (λ o. route_facts ports past ++ routes_heard ports d.to.port o) heard_so))
-            (entries_come net is differ cheap few_routers up in_ports most_routes room network
+            (entries_come net is differ cheap up in_ports most_routes room network suffice
             x w.v w.off w.least w.wanted count enough d.to.port f (neighbour_of f pending.reaches on_now)
-            (Fresh net laws is differ cheap few_routers up in_ports most_routes most_services room network before long clock few_seconds at_start
-            left waiting x w.v) (λ g. let s = few in omega (arith, s)) (Same net laws is differ cheap few_routers up in_ports most_routes most_services room network
-            before long clock few_seconds at_start left waiting x w.v) (Late net laws is differ cheap few_routers up in_ports most_routes most_services room network
-            before long clock few_seconds at_start left waiting x w.v) (Later net laws is differ cheap few_routers up in_ports most_routes most_services room network
+            (Fresh net laws is differ cheap up in_ports most_routes most_services room network suffice before long clock few_seconds at_start
+            left waiting x w.v) (λ g. let s = few in omega (arith, s)) (Same net laws is differ cheap up in_ports most_routes most_services room network suffice
+            before long clock few_seconds at_start left waiting x w.v) (Late net laws is differ cheap up in_ports most_routes most_services room network suffice
+            before long clock few_seconds at_start left waiting x w.v) (Later net laws is differ cheap up in_ports most_routes most_services room network suffice
             before long clock few_seconds at_start left waiting x w.v)
-            (free net laws is differ cheap few_routers up in_ports most_routes most_services room network before long clock few_seconds at_start left waiting x w.v)
+            (free net laws is differ cheap up in_ports most_routes most_services room network suffice before long clock few_seconds at_start left waiting x w.v)
             (record { neighbour = neighbour_of f pending.reaches on_now; way = source.way; there = source.there; by = source.by })
             pending.page.page (route_facts ports past)
             (all_then (Says f) (IsFine f pending.reaches on_now)
@@ -295,20 +295,20 @@ module _ (net : Internet) (laws : Layouts) (is : IsInternet net) (differ : Nodes
     abbrev old : List RouteOffer
     old = offers (routes_held ports most_routes past)
 
-    knows_now : KnowsOf net laws is differ cheap few_routers up in_ports most_routes most_services room network before long clock few_seconds at_start x routes
+    knows_now : KnowsOf net laws is differ cheap up in_ports most_routes most_services room network suffice before long clock few_seconds at_start x routes
     knows_now =
-        knows net laws is differ cheap few_routers up in_ports most_routes most_services room network before long clock few_seconds at_start
+        knows net laws is differ cheap up in_ports most_routes most_services room network suffice before long clock few_seconds at_start
         left waiting x count now enough endures_now own_state
 
     said_news : (j : ℕ) → AllByRecursion (Says (place j)) (news ports old routes j)
     said_news j =
-        all_both (RouteSaid net up (suc before) (place j)) (Word net laws is differ cheap few_routers up in_ports most_routes most_services room network
+        all_both (RouteSaid net up (suc before) (place j)) (Word net laws is differ cheap up in_ports most_routes most_services room network suffice
         before long clock few_seconds at_start (place j)) (news ports old routes j)
         (changes_said net up most_routes most_services x count (suc before) (let f = few in omega (arith, f)) now endures_now old j)
-        (all_words net laws is differ cheap few_routers up in_ports most_routes most_services room network before long clock few_seconds at_start
+        (all_words net laws is differ cheap up in_ports most_routes most_services room network suffice before long clock few_seconds at_start
         (place j) (news ports old routes j)
-        (λ u is_u settled. words_news net laws is differ cheap few_routers up in_ports most_routes most_services room network before long clock few_seconds at_start
-        x u is_u settled old routes (knows_now u is_u settled) (all_real net laws is differ cheap few_routers up in_ports most_routes most_services room network
+        (λ u is_u settled. words_news net laws is differ cheap up in_ports most_routes most_services room network suffice before long clock few_seconds at_start
+        x u is_u settled old routes (knows_now u is_u settled) (all_real net laws is differ cheap up in_ports most_routes most_services room network suffice
         before long clock few_seconds at_start x count past enough endured) j))
 
     reply : IsReply (port_of net d.to) d.bytes
@@ -342,16 +342,16 @@ module _ (net : Internet) (laws : Layouts) (is : IsInternet net) (differ : Nodes
     abbrev new : List Delivery
     new = flat_map (deliveries_of net x) these
 
-    speaks_new : AllByRecursion (Speaks net laws is differ cheap few_routers up in_ports most_routes most_services room network
+    speaks_new : AllByRecursion (Speaks net laws is differ cheap up in_ports most_routes most_services room network suffice
         before long clock few_seconds at_start) new
     speaks_new =
-        all_speak net laws is differ cheap few_routers up in_ports most_routes most_services room network before long clock few_seconds at_start
+        all_speak net laws is differ cheap up in_ports most_routes most_services room network suffice before long clock few_seconds at_start
         histories righted.going.are x event righted.speaks.0.delivery.place righted.speaks.0.delivery.bytes answers
 
     -- ---- every router's state
 
-    due_then : (router : ℕ) (v : Way) (f : Place) → (Pends router f d → ⊥) → DueOf net laws is differ cheap few_routers up in_ports most_routes most_services room network
-        before long clock few_seconds at_start left waiting router v f → DueOf net laws is differ cheap few_routers up in_ports most_routes most_services room network
+    due_then : (router : ℕ) (v : Way) (f : Place) → (Pends router f d → ⊥) → DueOf net laws is differ cheap up in_ports most_routes most_services room network suffice
+        before long clock few_seconds at_start left waiting router v f → DueOf net laws is differ cheap up in_ports most_routes most_services room network suffice
         before long clock few_seconds at_start rest (queue ++ new) router v f
     due_then router v f never (inl later) = inl later
     due_then router v f never (inr (inl here)) = absurd (never here)
@@ -363,14 +363,14 @@ module _ (net : Internet) (laws : Layouts) (is : IsInternet net) (differ : Nodes
       holds = holds_by (own_state w sure).holds;
     }
       where
-        aged_by : (h : Held RouteOffer) (f : Place) → known_of net laws is differ cheap few_routers up in_ports most_routes most_services room network
+        aged_by : (h : Held RouteOffer) (f : Place) → known_of net laws is differ cheap up in_ports most_routes most_services room network suffice
             x w (route_facts ports now) ≡ Some h
-            → RightFor net laws is differ cheap few_routers up in_ports most_routes most_services room network x w f h.offer
-            → Fresh net laws is differ cheap few_routers up in_ports most_routes most_services room network before long clock few_seconds at_start
-            left waiting x w.v f h.age ⊎ Late net laws is differ cheap few_routers up in_ports most_routes most_services room network before long clock few_seconds at_start
+            → RightFor net laws is differ cheap up in_ports most_routes most_services room network suffice x w f h.offer
+            → Fresh net laws is differ cheap up in_ports most_routes most_services room network suffice before long clock few_seconds at_start
+            left waiting x w.v f h.age ⊎ Late net laws is differ cheap up in_ports most_routes most_services room network suffice before long clock few_seconds at_start
             left waiting x w.v f h.age
-            → Fresh net laws is differ cheap few_routers up in_ports most_routes most_services room network before long clock few_seconds at_start
-            rest (queue ++ new) x w.v f h.age ⊎ Late net laws is differ cheap few_routers up in_ports most_routes most_services room network before long clock few_seconds at_start
+            → Fresh net laws is differ cheap up in_ports most_routes most_services room network suffice before long clock few_seconds at_start
+            rest (queue ++ new) x w.v f h.age ⊎ Late net laws is differ cheap up in_ports most_routes most_services room network suffice before long clock few_seconds at_start
             rest (queue ++ new) x w.v f h.age
         aged_by h f e right (inl young) = inl young
         aged_by h f e right (inr (inl early)) = inr (inl early)
@@ -381,18 +381,18 @@ module _ (net : Internet) (laws : Layouts) (is : IsInternet net) (differ : Nodes
           | inr late ↦ absurd (late.1 refl)
         ]
 
-        holds_by : ((h : Held RouteOffer) × (f : Place) × (known_of net laws is differ cheap few_routers up in_ports most_routes most_services room network
+        holds_by : ((h : Held RouteOffer) × (f : Place) × (known_of net laws is differ cheap up in_ports most_routes most_services room network suffice
             x w (route_facts ports now) ≡ Some h)
-            × RightFor net laws is differ cheap few_routers up in_ports most_routes most_services room network
-            x w f h.offer × Same net laws is differ cheap few_routers up in_ports most_routes most_services room network before long clock few_seconds at_start
+            × RightFor net laws is differ cheap up in_ports most_routes most_services room network suffice
+            x w f h.offer × Same net laws is differ cheap up in_ports most_routes most_services room network suffice before long clock few_seconds at_start
             left waiting x w.v h.offer)
-            ⊎ Later net laws is differ cheap few_routers up in_ports most_routes most_services room network before long clock few_seconds at_start left waiting x w.v
-            → ((h : Held RouteOffer) × (f : Place) × (known_of net laws is differ cheap few_routers up in_ports most_routes most_services room network
+            ⊎ Later net laws is differ cheap up in_ports most_routes most_services room network suffice before long clock few_seconds at_start left waiting x w.v
+            → ((h : Held RouteOffer) × (f : Place) × (known_of net laws is differ cheap up in_ports most_routes most_services room network suffice
             x w (route_facts ports now) ≡ Some h)
-            × RightFor net laws is differ cheap few_routers up in_ports most_routes most_services room network
-            x w f h.offer × Same net laws is differ cheap few_routers up in_ports most_routes most_services room network before long clock few_seconds at_start
+            × RightFor net laws is differ cheap up in_ports most_routes most_services room network suffice
+            x w f h.offer × Same net laws is differ cheap up in_ports most_routes most_services room network suffice before long clock few_seconds at_start
             rest (queue ++ new) x w.v h.offer)
-            ⊎ Later net laws is differ cheap few_routers up in_ports most_routes most_services room network before long clock few_seconds at_start
+            ⊎ Later net laws is differ cheap up in_ports most_routes most_services room network suffice before long clock few_seconds at_start
             rest (queue ++ new) x w.v
         holds_by (inl held) = inl held
         holds_by (inr (port, f, source, inl early)) = inr (port, f, source, inl early)
@@ -423,7 +423,7 @@ module _ (net : Internet) (laws : Layouts) (is : IsInternet net) (differ : Nodes
         by (inr off) =
             subst (λ (h : History). State_of rest (queue ++ new) router w (route_facts (ports_of net router) h)) (sym
             (get_or-set_other histories x router now [] off))
-            (state_then net laws is differ cheap few_routers up in_ports most_routes most_services room network before long clock few_seconds at_start
+            (state_then net laws is differ cheap up in_ports most_routes most_services room network suffice before long clock few_seconds at_start
             left rest waiting (queue ++ new) router w refl
             (λ port f source at_zero due. due_then router w.v f (λ pending. off (sym pending.to)) due)
             (route_facts (ports_of net router) (history_of histories router)) (righted.states router w sure))
@@ -442,19 +442,19 @@ module _ (net : Internet) (laws : Layouts) (is : IsInternet net) (differ : Nodes
             moved e =
                 subst P (sym e) (λ there_is. subst (λ (h : History). (seconds_run h + seconds_of x rest) % 60 ≡ clock x) (sym
                 (get_or-set_same histories x now [] listed))
-                (ap (λ n. (n + seconds_of x rest) % 60) (seconds_stay past event refl refl (runs_where net laws is differ cheap few_routers up in_ports most_routes most_services room network
+                (ap (λ n. (n + seconds_of x rest) % 60) (seconds_stay past event refl refl (runs_where net laws is differ cheap up in_ports most_routes most_services room network suffice
                 before long clock few_seconds at_start x port count past there_is endured)) ∙ righted.clocks x port there_is))
         by (inr off) =
             subst (λ (h : History). (seconds_run h + seconds_of router rest) % 60 ≡ clock router) (sym (get_or-set_other histories x router now [] off))
             (righted.clocks router port here)
 
-    pub delivery_rights : Righted net laws is differ cheap few_routers up in_ports most_routes most_services room network before long clock few_seconds at_start
+    pub delivery_rights : Righted net laws is differ cheap up in_ports most_routes most_services room network suffice before long clock few_seconds at_start
         rest (queued net most_routes most_services (record { histories = histories; queue = queue }) x event)
     delivery_rights = record {
       going = going_now;
       states = state_now;
       clocks = clock_now;
       speaks =
-          all-append (Speaks net laws is differ cheap few_routers up in_ports most_routes most_services room network
+          all-append (Speaks net laws is differ cheap up in_ports most_routes most_services room network suffice
           before long clock few_seconds at_start) queue new righted.speaks.1 speaks_new;
     }

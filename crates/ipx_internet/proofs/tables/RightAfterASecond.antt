@@ -27,7 +27,7 @@ use Rattle.ipx_router.proofs.tables.OffersOfAMessage.{facts_from-more}
 use Rattle.ipx_router.proofs.port_values.PortOfEachNumber.{port-all, ports_up-within}
 use Rattle.ipx_router.proofs.telling.ToldFitsFields.{told_fits}
 use Rattle.ipx_internet.specs.Internet.{Internet, Place, IsInternet, NodesDiffer, ports_of}
-use Rattle.ipx_internet.specs.Least.{Way, is_on, AreCheap, HasRoom}
+use Rattle.ipx_internet.specs.Least.{Way, is_on, AreCheap, HasRoom, FifteenSuffice}
 use Rattle.ipx_internet.specs.Queue.{Delivery, Queued, deliveries_of, history_of, with_event, sends_at, queued}
 use Rattle.ipx_internet.specs.Real.{IsReal}
 use Rattle.ipx_internet.specs.Run.{Step, Happens, AreHistories}
@@ -48,39 +48,39 @@ use Rattle.ipx_internet.proofs.tables.SaysItsLeastWay.{Tells, second_tells}
 use Rattle.ipx_internet.proofs.ticks.RealOrSoonEnded.{RouteSaid, Endures, second_endures, routes_said, changes_said}
 use Rattle.ipx_internet.proofs.ticks.TickAfterTick.{Going, second_here, second_there, second_goes}
 
-module _ (net : Internet) (laws : Layouts) (is : IsInternet net) (differ : NodesDiffer net) (cheap : AreCheap net) (few_routers : length net ≤ 16) (up : ℕ → List ℕ)
+module _ (net : Internet) (laws : Layouts) (is : IsInternet net) (differ : NodesDiffer net) (cheap : AreCheap net) (up : ℕ → List ℕ)
     (in_ports : (router : ℕ) → AllByRecursion (λ j. j < length (ports_of net router)) (up router)) (most_routes most_services : ℕ) (room : HasRoom net most_routes)
-    (network : Network)
+    (network : Network) (suffice : FifteenSuffice net up network)
     (before : ℕ) (long : most_ticks_gone ≤ before) (clock : ℕ → ℕ) (few_seconds : (router : ℕ) → clock router < 60) (at_start : ℕ → Option RouteOffer) where
   abbrev pub WantsOf : ℕ → Type 0
-  WantsOf router = Wants net laws is differ cheap few_routers up in_ports most_routes most_services room network router
+  WantsOf router = Wants net laws is differ cheap up in_ports most_routes most_services room network suffice router
 
   abbrev pub begins : Way → ℕ
-  begins = start net laws is differ cheap few_routers up in_ports most_routes most_services room network
+  begins = start net laws is differ cheap up in_ports most_routes most_services room network suffice
 
   abbrev pub Sources : ℕ → Way → ℕ → Place → Type 0
-  Sources = SourceOf net laws is differ cheap few_routers up in_ports most_routes most_services room network
+  Sources = SourceOf net laws is differ cheap up in_ports most_routes most_services room network suffice
 
   abbrev pub StateIn : List Step → List Delivery → (router : ℕ) → WantsOf router → List (Fact RouteOffer) → Type 0
-  StateIn = StateAt net laws is differ cheap few_routers up in_ports most_routes most_services room network before long clock few_seconds at_start
+  StateIn = StateAt net laws is differ cheap up in_ports most_routes most_services room network suffice before long clock few_seconds at_start
 
   abbrev pub SpeaksOf : Delivery → Type 0
-  SpeaksOf = Speaks net laws is differ cheap few_routers up in_ports most_routes most_services room network before long clock few_seconds at_start
+  SpeaksOf = Speaks net laws is differ cheap up in_ports most_routes most_services room network suffice before long clock few_seconds at_start
 
   abbrev pub PendingOf : ℕ → Place → Delivery → Type 0
-  PendingOf = Pending net laws is differ cheap few_routers up in_ports most_routes most_services room network before long clock few_seconds at_start
+  PendingOf = Pending net laws is differ cheap up in_ports most_routes most_services room network suffice before long clock few_seconds at_start
 
   abbrev pub SaidOf : Place → RipEntry → Type 0
-  SaidOf = Said net laws is differ cheap few_routers up in_ports most_routes most_services room network before long clock few_seconds at_start
+  SaidOf = Said net laws is differ cheap up in_ports most_routes most_services room network suffice before long clock few_seconds at_start
 
   abbrev pub KnowsOf : ℕ → List RouteOffer → Type 0
-  KnowsOf = AllKnow net laws is differ cheap few_routers up in_ports most_routes most_services room network before long clock few_seconds at_start
+  KnowsOf = AllKnow net laws is differ cheap up in_ports most_routes most_services room network suffice before long clock few_seconds at_start
 
   abbrev pub DueOf : List Step → List Delivery → ℕ → Way → Place → Type 0
-  DueOf = Due net laws is differ cheap few_routers up in_ports most_routes most_services room network before long clock few_seconds at_start
+  DueOf = Due net laws is differ cheap up in_ports most_routes most_services room network suffice before long clock few_seconds at_start
 
   abbrev pub Services : Service → Type 0
-  Services = AnyService net laws is differ cheap few_routers up in_ports most_routes most_services room network before long clock few_seconds at_start
+  Services = AnyService net laws is differ cheap up in_ports most_routes most_services room network suffice before long clock few_seconds at_start
 
   -- what is so while the tick goes on, with the steps that are left of it
   pub record Righted (left : List Step) (q : Queued) : Type 0 where
@@ -128,24 +128,24 @@ module _ (net : Internet) (laws : Layouts) (is : IsInternet net) (differ : Nodes
       routes : List RouteOffer
       routes = offers (routes_held (ports_of net router) most_routes history)
 
-      by : OnOrOff net up in_ports network router → Knows net laws is differ cheap few_routers up in_ports most_routes most_services room network before long clock few_seconds at_start
+      by : OnOrOff net up in_ports network router → Knows net laws is differ cheap up in_ports most_routes most_services room network suffice before long clock few_seconds at_start
           router u
           (offers (routes_held (ports_of net router) most_routes history))
       by (inl on) =
-          knows_on net laws is differ cheap few_routers up in_ports most_routes most_services room network before long clock few_seconds at_start router u
+          knows_on net laws is differ cheap up in_ports most_routes most_services room network suffice before long clock few_seconds at_start router u
           (offers (routes_held (ports_of net router) most_routes history)) on (all_real router had history enough endures)
       by (inr off) =
-          let w = wants net laws is differ cheap few_routers up in_ports most_routes most_services room network router u off is_u in
+          let w = wants net laws is differ cheap up in_ports most_routes most_services room network suffice router u off is_u in
           let same = same_some net up in_ports network (within net up in_ports network 15 router) w.v u w.least is_u in
           let hops = ap (λ (x : Way). x.hops) same in
           let sure = settled.long_enough in
-          let (h, from, some, right, keeps) = holds_right net laws is differ cheap few_routers up in_ports most_routes most_services room network
+          let (h, from, some, right, keeps) = holds_right net laws is differ cheap up in_ports most_routes most_services room network suffice
           before long clock few_seconds at_start
           left queue router w (route_facts (ports_of net router) history) (omega (arith, hops, sure)) (state w (omega (arith, hops, sure))) in
-          subst (λ (x : Way). Knows net laws is differ cheap few_routers up in_ports most_routes most_services room network before long clock few_seconds at_start
+          subst (λ (x : Way). Knows net laws is differ cheap up in_ports most_routes most_services room network suffice before long clock few_seconds at_start
           router x
           (offers (routes_held (ports_of net router) most_routes history))) same
-          (knows_off net laws is differ cheap few_routers up in_ports most_routes most_services room network before long clock few_seconds at_start
+          (knows_off net laws is differ cheap up in_ports most_routes most_services room network suffice before long clock few_seconds at_start
           router w history h from some right)
 
   -- ---- states, where more waits and fewer steps are left
@@ -245,14 +245,14 @@ module _ (net : Internet) (laws : Layouts) (is : IsInternet net) (differ : Nodes
     own_state : (w : WantsOf x) → begins w.v ≤ before → StateIn rest queue x w (route_facts ports now)
     own_state w sure =
         subst (λ (fs : List (Fact RouteOffer)). StateIn rest queue x w fs) (sym facts_now)
-        (second_keeps net is differ cheap few_routers up in_ports most_routes room network x w.v w.off w.least w.wanted before long
-        (Fresh net laws is differ cheap few_routers up in_ports most_routes most_services room network before long clock few_seconds at_start left queue x w.v)
-        (Fresh net laws is differ cheap few_routers up in_ports most_routes most_services room network before long clock few_seconds at_start rest queue x w.v)
-        (Late net laws is differ cheap few_routers up in_ports most_routes most_services room network before long clock few_seconds at_start left queue x w.v)
-        (Late net laws is differ cheap few_routers up in_ports most_routes most_services room network before long clock few_seconds at_start rest queue x w.v)
-        (Later net laws is differ cheap few_routers up in_ports most_routes most_services room network before long clock few_seconds at_start left queue x w.v)
-        (Later net laws is differ cheap few_routers up in_ports most_routes most_services room network before long clock few_seconds at_start rest queue x w.v)
-        (Same net laws is differ cheap few_routers up in_ports most_routes most_services room network before long clock few_seconds at_start rest queue x w.v)
+        (second_keeps net is differ cheap up in_ports most_routes room network suffice x w.v w.off w.least w.wanted before long
+        (Fresh net laws is differ cheap up in_ports most_routes most_services room network suffice before long clock few_seconds at_start left queue x w.v)
+        (Fresh net laws is differ cheap up in_ports most_routes most_services room network suffice before long clock few_seconds at_start rest queue x w.v)
+        (Late net laws is differ cheap up in_ports most_routes most_services room network suffice before long clock few_seconds at_start left queue x w.v)
+        (Late net laws is differ cheap up in_ports most_routes most_services room network suffice before long clock few_seconds at_start rest queue x w.v)
+        (Later net laws is differ cheap up in_ports most_routes most_services room network suffice before long clock few_seconds at_start left queue x w.v)
+        (Later net laws is differ cheap up in_ports most_routes most_services room network suffice before long clock few_seconds at_start rest queue x w.v)
+        (Same net laws is differ cheap up in_ports most_routes most_services room network suffice before long clock few_seconds at_start rest queue x w.v)
         (λ f age young. let here = second_here x rest in let y = young in omega (arith, here, y))
         (λ f h right late. elim late [
           | inl early ↦ inl early
@@ -309,24 +309,24 @@ module _ (net : Internet) (laws : Layouts) (is : IsInternet net) (differ : Nodes
     said_told : (j : ℕ) → AllByRecursion (SaidOf (place j)) (told ports (up x) routes j)
     said_told j =
         all_both (RouteSaid net up (suc before) (place j))
-        (Word net laws is differ cheap few_routers up in_ports most_routes most_services room network before long clock few_seconds at_start
+        (Word net laws is differ cheap up in_ports most_routes most_services room network suffice before long clock few_seconds at_start
         (place j)) (told ports (up x) routes j)
         (routes_said net up most_routes most_services x (suc before) (suc before) (omega arith) now endures_now j)
-        (all_words net laws is differ cheap few_routers up in_ports most_routes most_services room network before long clock few_seconds at_start
+        (all_words net laws is differ cheap up in_ports most_routes most_services room network suffice before long clock few_seconds at_start
         (place j) (told ports (up x) routes j)
-        (λ u is_u settled. words_told net laws is differ cheap few_routers up in_ports most_routes most_services room network before long clock few_seconds at_start
+        (λ u is_u settled. words_told net laws is differ cheap up in_ports most_routes most_services room network suffice before long clock few_seconds at_start
         x u is_u settled
         routes (knows_now u is_u settled) j))
 
     said_news : (j : ℕ) → AllByRecursion (SaidOf (place j)) (news ports old routes j)
     said_news j =
         all_both (RouteSaid net up (suc before) (place j))
-        (Word net laws is differ cheap few_routers up in_ports most_routes most_services room network before long clock few_seconds at_start
+        (Word net laws is differ cheap up in_ports most_routes most_services room network suffice before long clock few_seconds at_start
         (place j)) (news ports old routes j)
         (changes_said net up most_routes most_services x (suc before) (suc before) (omega arith) now endures_now old j)
-        (all_words net laws is differ cheap few_routers up in_ports most_routes most_services room network before long clock few_seconds at_start
+        (all_words net laws is differ cheap up in_ports most_routes most_services room network suffice before long clock few_seconds at_start
         (place j) (news ports old routes j)
-        (λ u is_u settled. words_news net laws is differ cheap few_routers up in_ports most_routes most_services room network before long clock few_seconds at_start
+        (λ u is_u settled. words_news net laws is differ cheap up in_ports most_routes most_services room network suffice before long clock few_seconds at_start
         x u is_u settled
         old routes (knows_now u is_u settled) (all_real x before past long endured) j))
 
@@ -380,7 +380,7 @@ module _ (net : Internet) (laws : Layouts) (is : IsInternet net) (differ : Nodes
     module _ (router : ℕ) (w : WantsOf router) (sure : begins w.v ≤ before) (at_zero : clock x ≡ 0) where
       pend_at : (port j : ℕ) → Sources router w.v port (place j) → AnyIs (PendingOf router (place j)) new
       pend_at port j source =
-          pends net laws is differ cheap few_routers up in_ports most_routes most_services room network before long clock few_seconds at_start
+          pends net laws is differ cheap up in_ports most_routes most_services room network suffice before long clock few_seconds at_start
           router w port (place j) source sent sent_bytes
           (subst (λ (ss : List Sent). AnyIs (Tells ports network source.way (SaidOf (place j)) j) ss) (sym (sends_all j source.neighbour.on_there at_zero))
           (second_tells ports network source.way laws.readings laws.again j (port-all _ ports j (ports_at net is x) source.neighbour.place) (SaidOf
@@ -406,18 +406,18 @@ module _ (net : Internet) (laws : Layouts) (is : IsInternet net) (differ : Nodes
 
           has : OnOrOff net up in_ports network x → AnyIs (λ e. e.network ≡ network) (told ports (up x) routes j)
           has (inl on) =
-              told_own net laws is differ cheap few_routers up in_ports most_routes most_services room network before long clock few_seconds at_start
+              told_own net laws is differ cheap up in_ports most_routes most_services room network suffice before long clock few_seconds at_start
               router w port (place j) source routes on
           has (inr off) =
-              let second = wants net laws is differ cheap few_routers up in_ports most_routes most_services room network x source.way off source.there in
+              let second = wants net laws is differ cheap up in_ports most_routes most_services room network suffice x source.way off source.there in
               let same = same_some net up in_ports network (within net up in_ports network 15 x) second.v source.way second.least source.there in
               let equal = ap (λ (y : Way). y.hops) same in
               let h = hops in
               let s = sure in
-              let (it, from, some, right, keeps) = holds_right net laws is differ cheap few_routers up in_ports most_routes most_services room network
+              let (it, from, some, right, keeps) = holds_right net laws is differ cheap up in_ports most_routes most_services room network suffice
               before long clock few_seconds at_start
               rest queue x second (route_facts ports now) (omega (arith, equal, h, s)) (own_state second (omega (arith, equal, h, s))) in
-              told_learned net laws is differ cheap few_routers up in_ports most_routes most_services room network before long clock few_seconds at_start
+              told_learned net laws is differ cheap up in_ports most_routes most_services room network suffice before long clock few_seconds at_start
               router w port (place j) source
               second now it from near some right
 

@@ -12,7 +12,7 @@ use Rattle.ipx_router.specs.declared.route_offer.RouteOffer.{RouteOffer}
 use Rattle.ipx_router.proofs.bounds.PacketsOfEachEvent.{network_total}
 use Rattle.ipx_router.proofs.port_values.PortOfEachNumber.{ports_up-within}
 use Rattle.ipx_internet.specs.Internet.{Internet, Place, port_of, IsInternet, NodesDiffer, ports_of}
-use Rattle.ipx_internet.specs.Least.{Way, is_on, way_of, least_route, AreCheap, HasRoom, ticks_right, most_ticks_right}
+use Rattle.ipx_internet.specs.Least.{Way, is_on, way_of, least_route, AreCheap, HasRoom, ticks_right, most_ticks_right, FifteenSuffice}
 use Rattle.ipx_internet.specs.Queue.{history_of}
 use Rattle.ipx_internet.specs.Real.{IsReal}
 use Rattle.ipx_internet.specs.Run.{Step, Run, run_of}
@@ -55,14 +55,14 @@ soon_enough net up in_ports router network = by (on_or_off net up in_ports netwo
         let most = few net up in_ports network 15 router v e in
         subst (λ (o : Option Way). ticks_right o ≤ most_ticks_right) (sym should) (omega (arith, most))
 
-module _ (net : Internet) (laws : Layouts) (is : IsInternet net) (differ : NodesDiffer net) (cheap : AreCheap net) (few_routers : length net ≤ 16) (up : ℕ → List ℕ)
+module _ (net : Internet) (laws : Layouts) (is : IsInternet net) (differ : NodesDiffer net) (cheap : AreCheap net) (up : ℕ → List ℕ)
     (in_ports : (router : ℕ) → AllByRecursion (λ j. j < length (ports_of net router)) (up router)) (most_routes most_services : ℕ) (room : HasRoom net most_routes)
-    (network : Network) where
+    (network : Network) (suffice : FifteenSuffice net up network) where
   abbrev RestsAt : ℕ → Run → Type 0
-  RestsAt = AtRest net laws is differ cheap few_routers up in_ports most_routes most_services room network
+  RestsAt = AtRest net laws is differ cheap up in_ports most_routes most_services room network suffice
 
   abbrev RouteOf : Run → ℕ → Option RouteOffer
-  RouteOf = route_of net laws is differ cheap few_routers up in_ports most_routes most_services room network
+  RouteOf = route_of net laws is differ cheap up in_ports most_routes most_services room network suffice
 
   -- ---- ticks, one after the other
 
@@ -81,8 +81,8 @@ module _ (net : Internet) (laws : Layouts) (is : IsInternet net) (differ : Nodes
       subst (λ (n : ℕ). RestsAt n (ticked net most_routes most_services next ticks)) same
       (climbs (suc so_far) next ticks later
       (λ enough. elim (cases_lt so_far most_ticks_gone) [
-        | inl early ↦ at_first net laws is differ cheap few_routers up in_ports most_routes most_services room network (suc so_far) next (omega (arith, early)) later
-        | inr sure ↦ tick_rests net laws is differ cheap few_routers up in_ports most_routes most_services room network so_far sure run steps (at sure) are.0
+        | inl early ↦ at_first net laws is differ cheap up in_ports most_routes most_services room network suffice (suc so_far) next (omega (arith, early)) later
+        | inr sure ↦ tick_rests net laws is differ cheap up in_ports most_routes most_services room network suffice so_far sure run steps (at sure) are.0
       ])
       are.1 (omega (arith, long)))
 
@@ -129,32 +129,32 @@ module _ (net : Internet) (laws : Layouts) (is : IsInternet net) (differ : Nodes
       pub held : RouteOf run router ≡ Some route
       pub way : way_of route ≡ v
       pub from : Place
-      pub source : SourceOf net laws is differ cheap few_routers up in_ports most_routes most_services room network router v route.port from
+      pub source : SourceOf net laws is differ cheap up in_ports most_routes most_services room network suffice router v route.port from
       pub node : route.node ≡ (port_of net from).node
 
     pub route_is : (v : Way) → is_on (ports_of net router) network ≡ false → within net up in_ports network 15 router ≡ Some v
         → most_ticks_gone + 60 * v.hops ≤ ticks
         → HasRoute v
     route_is v off is_v sure =
-        let w = wants net laws is differ cheap few_routers up in_ports most_routes most_services room network router v off is_v in
+        let w = wants net laws is differ cheap up in_ports most_routes most_services room network suffice router v off is_v in
         let same = same_some net up in_ports network (within net up in_ports network 15 router) w.v v w.least is_v in
         let state = rest.states router w in
         let hops = ap (λ (y : Way). y.hops) same in
         elim state.holds [
           | inl held ↦
               let (h, f, some, right, tt_is) = held in
-              let way = right_way net is differ cheap few_routers up in_ports most_routes room network router w.v w.off w.least f h.offer right in
+              let way = right_way net is differ cheap up in_ports most_routes room network suffice router w.v w.off w.least f h.offer right in
               record {
                 route = h.offer;
                 held =
-                    found_there net laws is differ cheap few_routers up in_ports most_routes most_services room network
+                    found_there net laws is differ cheap up in_ports most_routes most_services room network suffice
                     router w history h some (ap (λ (r : RouteOffer). r.network) right.same) way;
                 way = way ∙ same;
                 from = f;
                 source =
-                    subst (λ (y : Way). SourceOf net laws is differ cheap few_routers up in_ports most_routes most_services room network
+                    subst (λ (y : Way). SourceOf net laws is differ cheap up in_ports most_routes most_services room network suffice
                     router y h.offer.port f) same right.source;
-                node = right_node net is differ cheap few_routers up in_ports most_routes room network router w.v w.off w.least f h.offer right;
+                node = right_node net is differ cheap up in_ports most_routes room network suffice router w.v w.off w.least f h.offer right;
               }
           | inr late ↦
               let clock = mod_below (seconds_run (history_of run.histories late.1.router)) 60 (omega arith) in
@@ -181,16 +181,16 @@ module _ (net : Internet) (laws : Layouts) (is : IsInternet net) (differ : Nodes
   -- ---- it stays
 
   stays_by : (ticks : ℕ) (run : Run) (further : List (List Step)) → RestsAt ticks run → AreTicks net most_routes most_services run further
-      → (router : ℕ) (w : Wants net laws is differ cheap few_routers up in_ports most_routes most_services room network
+      → (router : ℕ) (w : Wants net laws is differ cheap up in_ports most_routes most_services room network suffice
       router) → most_ticks_gone + 60 * w.v.hops ≤ ticks
       → RouteOf (ticked net most_routes most_services run further) router ≡ RouteOf run router
   stays_by ticks run [] rest are router w sure = refl
   stays_by ticks run (steps ∷ further) rest are router w sure =
       let next = run_of net most_routes most_services run steps in
       let long : most_ticks_gone ≤ ticks = omega (arith, sure) in
-      stays_by (suc ticks) next further (tick_rests net laws is differ cheap few_routers up in_ports most_routes most_services room network
+      stays_by (suc ticks) next further (tick_rests net laws is differ cheap up in_ports most_routes most_services room network suffice
       ticks long run steps rest are.0) are.1 router w (omega (arith, sure))
-      ∙ route_stays net laws is differ cheap few_routers up in_ports most_routes most_services room network
+      ∙ route_stays net laws is differ cheap up in_ports most_routes most_services room network suffice
       ticks long run steps rest are.0 router w (omega (arith, sure))
 
   rests_after : (ticks : ℕ) (run : Run) (further : List (List Step)) → RestsAt ticks run → most_ticks_gone ≤ ticks
@@ -221,7 +221,7 @@ module _ (net : Internet) (laws : Layouts) (is : IsInternet net) (differ : Nodes
           ∙ sym (none_without ticks run rest long router inside e)
       by later longer long (inr off) (Some v) e =
           let should : least_route net up router network ≡ Some v = rw off e in
-          let w = wants net laws is differ cheap few_routers up in_ports most_routes most_services room network router v off e in
+          let w = wants net laws is differ cheap up in_ports most_routes most_services room network suffice router v off e in
           let same = same_some net up in_ports network (within net up in_ports network 15 router) w.v v w.least e in
           let hops = ap (λ (y : Way). y.hops) same in
           let enough : most_ticks_gone + 60 * v.hops ≤ ticks = subst (λ (o : Option Way). ticks_right o ≤ ticks) should sure in

@@ -12,7 +12,7 @@ use Rattle.ipx_router.specs.Port.{is_up}
 use Rattle.ipx_router.specs.Routes.{network_order}
 use Rattle.ipx_router.specs.declared.route_offer.RouteOffer.{RouteOffer}
 use Rattle.ipx_internet.specs.Internet.{Internet, Place, IsInternet, NodesDiffer, ports_of}
-use Rattle.ipx_internet.specs.Least.{Way, AreCheap, HasRoom}
+use Rattle.ipx_internet.specs.Least.{Way, AreCheap, HasRoom, FifteenSuffice}
 use Rattle.ipx_internet.specs.Queue.{Delivery, Queued, history_of, queued, settled_one}
 use Rattle.ipx_internet.specs.Run.{Step, Happens, Settles, Run, Waiting, forgotten, stepped, run_of}
 use Rattle.ipx_internet.specs.Ticks.{seconds_of, IsOfTick, IsTick, most_ticks_gone}
@@ -65,17 +65,17 @@ tied a b = elim (cases_eq a b) [
       | inr off ↦ ne_eqb a b off ∙ sym e
     ]
 
-module _ (net : Internet) (laws : Layouts) (is : IsInternet net) (differ : NodesDiffer net) (cheap : AreCheap net) (few_routers : length net ≤ 16) (up : ℕ → List ℕ)
+module _ (net : Internet) (laws : Layouts) (is : IsInternet net) (differ : NodesDiffer net) (cheap : AreCheap net) (up : ℕ → List ℕ)
     (in_ports : (router : ℕ) → AllByRecursion (λ j. j < length (ports_of net router)) (up router)) (most_routes most_services : ℕ) (room : HasRoom net most_routes)
-    (network : Network) where
+    (network : Network) (suffice : FifteenSuffice net up network) where
   abbrev Wanting : ℕ → Type 0
-  Wanting = Wants net laws is differ cheap few_routers up in_ports most_routes most_services room network
+  Wanting = Wants net laws is differ cheap up in_ports most_routes most_services room network suffice
 
   abbrev starts : Way → ℕ
-  starts = start net laws is differ cheap few_routers up in_ports most_routes most_services room network
+  starts = start net laws is differ cheap up in_ports most_routes most_services room network suffice
 
   abbrev KnownOf : (router : ℕ) → Wanting router → List (Fact RouteOffer) → Option (Held RouteOffer)
-  KnownOf = known_of net laws is differ cheap few_routers up in_ports most_routes most_services room network
+  KnownOf = known_of net laws is differ cheap up in_ports most_routes most_services room network suffice
 
   abbrev ClockOf : Run → ℕ → ℕ
   ClockOf run router = seconds_run (history_of run.histories router) % 60
@@ -89,7 +89,7 @@ module _ (net : Internet) (laws : Layouts) (is : IsInternet net) (differ : Nodes
 
   module _ (before : ℕ) (long : most_ticks_gone ≤ before) (clock : ℕ → ℕ) (few_seconds : (router : ℕ) → clock router < 60) (at_start : ℕ → Option RouteOffer) where
     abbrev RightedOf : List Step → Queued → Type 0
-    RightedOf = Righted net laws is differ cheap few_routers up in_ports most_routes most_services room network before long clock few_seconds at_start
+    RightedOf = Righted net laws is differ cheap up in_ports most_routes most_services room network suffice before long clock few_seconds at_start
 
     settles_rights : (rest : List Step) (histories : List History) (queue : List Delivery)
         → RightedOf (Settles ∷ rest) (record { histories = histories; queue = queue })
@@ -101,13 +101,13 @@ module _ (net : Internet) (laws : Layouts) (is : IsInternet net) (differ : Nodes
       speaks = tt;
     }
     settles_rights rest histories (d ∷ queue) righted =
-        delivery_rights net laws is differ cheap few_routers up in_ports most_routes most_services room network before long clock few_seconds at_start
+        delivery_rights net laws is differ cheap up in_ports most_routes most_services room network suffice before long clock few_seconds at_start
         rest histories queue d righted
 
     happens_rights : (rest : List Step) (q : Queued) (router : ℕ) (event : Event) → router < length net → is_second event ≡ true
         → RightedOf (Happens router event ∷ rest) q → RightedOf rest (queued net most_routes most_services q router event)
     happens_rights rest q router Second inside second righted =
-        second_rights net laws is differ cheap few_routers up in_ports most_routes most_services room network before long clock few_seconds at_start
+        second_rights net laws is differ cheap up in_ports most_routes most_services room network suffice before long clock few_seconds at_start
         rest q.histories q.queue router inside righted
     happens_rights rest q router Start inside second righted = absurd (true≢false (sym second))
     happens_rights rest q router Stop inside second righted = absurd (true≢false (sym second))
@@ -140,12 +140,12 @@ module _ (net : Internet) (laws : Layouts) (is : IsInternet net) (differ : Nodes
 
   abbrev EarlyFrom : ℕ → Run → ℕ → Way → Type 0
   EarlyFrom ticks run router v =
-      (port : ℕ) × (f : Place) × SourceOf net laws is differ cheap few_routers up in_ports most_routes most_services room network
+      (port : ℕ) × (f : Place) × SourceOf net laws is differ cheap up in_ports most_routes most_services room network suffice
       router v port f × (ticks ≤ starts v + ClockOf run f.router)
 
   abbrev StateAfter : ℕ → Run → (router : ℕ) → Wanting router → Type 0
   StateAfter ticks run router w =
-      StateFor net laws is differ cheap few_routers up in_ports most_routes most_services room network
+      StateFor net laws is differ cheap up in_ports most_routes most_services room network suffice
       router w (Young run) (Early ticks run w.v) (EarlyFrom ticks run router w.v) (λ o. Unit {0})
       (KnownOf router w (route_facts (ports_of net router) (history_of run.histories router)))
 
@@ -165,7 +165,7 @@ module _ (net : Internet) (laws : Layouts) (is : IsInternet net) (differ : Nodes
   soon ticks run router w early = record {
     aged = λ h f e right. inr (omega (arith, early));
     holds =
-        let (port, from, source) = a_source net is cheap up in_ports network few_routers router w.v w.off w.least in
+        let (port, from, source) = a_source net is cheap up in_ports network suffice router w.v w.off w.least in
         inr (port, from, source, omega (arith, early));
   }
 
@@ -214,7 +214,7 @@ module _ (net : Internet) (laws : Layouts) (is : IsInternet net) (differ : Nodes
     }
 
     -- when it begins
-    begins_right : (router : ℕ) (w : Wanting router) → StateIn net laws is differ cheap few_routers up in_ports most_routes most_services room network before long clock few_seconds at_start
+    begins_right : (router : ℕ) (w : Wanting router) → StateIn net laws is differ cheap up in_ports most_routes most_services room network suffice before long clock few_seconds at_start
         steps queue router w (route_facts (ports_of net router) (history_of run.histories router))
     begins_right router w = record {
       aged = λ h f e right. aged_by h f right (tick.each f.router (router_there net f.router f.port right.source.neighbour.place))
@@ -235,18 +235,18 @@ module _ (net : Internet) (laws : Layouts) (is : IsInternet net) (differ : Nodes
         here = tick.each router (is_there net up in_ports network 15 router w.v w.least)
 
         same_at_start : (h : Held RouteOffer) (f : Place) → KnownOf router w (route_facts (ports_of net router) (history_of run.histories router)) ≡ Some h
-            → RightFor net laws is differ cheap few_routers up in_ports most_routes most_services room network router w f h.offer → at_start router ≡ Some h.offer
+            → RightFor net laws is differ cheap up in_ports most_routes most_services room network suffice router w f h.offer → at_start router ≡ Some h.offer
         same_at_start h f some right =
-            found_there net laws is differ cheap few_routers up in_ports most_routes most_services room network
+            found_there net laws is differ cheap up in_ports most_routes most_services room network suffice
             router w (history_of run.histories router) h some (ap (λ (r : RouteOffer). r.network) right.same)
-            (right_way net is differ cheap few_routers up in_ports most_routes room network router w.v w.off w.least f h.offer right)
+            (right_way net is differ cheap up in_ports most_routes room network suffice router w.v w.off w.least f h.offer right)
 
-        aged_by : (h : Held RouteOffer) (f : Place) → RightFor net laws is differ cheap few_routers up in_ports most_routes most_services room network
+        aged_by : (h : Held RouteOffer) (f : Place) → RightFor net laws is differ cheap up in_ports most_routes most_services room network suffice
             router w f h.offer → seconds_of f.router steps ≡ 1
             → (clock f.router ≡ ClockOf run f.router + 1) ⊎ ((clock f.router ≡ 0) × (ClockOf run f.router ≡ 59))
             → Young run f h.age ⊎ Early before run w.v f h.age
-            → Fresh net laws is differ cheap few_routers up in_ports most_routes most_services room network before long clock few_seconds at_start
-            steps queue router w.v f h.age ⊎ Late net laws is differ cheap few_routers up in_ports most_routes most_services room network before long clock few_seconds at_start
+            → Fresh net laws is differ cheap up in_ports most_routes most_services room network suffice before long clock few_seconds at_start
+            steps queue router w.v f h.age ⊎ Late net laws is differ cheap up in_ports most_routes most_services room network suffice before long clock few_seconds at_start
             steps queue router w.v f h.age
         aged_by h f right due (inl next) (inl young) = inl (let s = here in omega (arith, s, next, young))
         aged_by h f right due (inl next) (inr early) = inr (inl (omega (arith, next, early)))
@@ -255,12 +255,12 @@ module _ (net : Internet) (laws : Layouts) (is : IsInternet net) (differ : Nodes
 
         late_by : (f : Place) → seconds_of f.router steps ≡ 1
             → (clock f.router ≡ ClockOf run f.router + 1) ⊎ ((clock f.router ≡ 0) × (ClockOf run f.router ≡ 59))
-            → before ≤ starts w.v + ClockOf run f.router → LateFrom net laws is differ cheap few_routers up in_ports most_routes most_services room network
+            → before ≤ starts w.v + ClockOf run f.router → LateFrom net laws is differ cheap up in_ports most_routes most_services room network suffice
             before long clock few_seconds at_start steps queue router w.v f
         late_by f due (inl next) early = inl (omega (arith, next, early))
         late_by f due (inr (at_zero, end)) early = inr (at_zero, inl due, omega (arith, end, early))
 
-    righted : Righted net laws is differ cheap few_routers up in_ports most_routes most_services room network before long clock few_seconds at_start
+    righted : Righted net laws is differ cheap up in_ports most_routes most_services room network suffice before long clock few_seconds at_start
         steps (forgotten run)
     righted = record {
       going = goes;
@@ -271,7 +271,7 @@ module _ (net : Internet) (laws : Layouts) (is : IsInternet net) (differ : Nodes
       speaks = none_waits _ run.waiting rest.rests.quiet;
     }
 
-    ended : Righted net laws is differ cheap few_routers up in_ports most_routes most_services room network before long clock few_seconds at_start
+    ended : Righted net laws is differ cheap up in_ports most_routes most_services room network suffice before long clock few_seconds at_start
         [] (forgotten last)
     ended = steps_right before long clock few_seconds at_start steps run tick.passes righted
 
@@ -288,15 +288,15 @@ module _ (net : Internet) (laws : Layouts) (is : IsInternet net) (differ : Nodes
             let sum : seconds_run (history_of last.histories router) + 0 ≡ seconds_run (history_of last.histories router) = omega arith in
             ap (λ n. n % 60) (sym sum) ∙ ended.clocks router port here
 
-        due_none : (router : ℕ) (v : Way) (f : Place) → Due net laws is differ cheap few_routers up in_ports most_routes most_services room network before long clock few_seconds at_start
+        due_none : (router : ℕ) (v : Way) (f : Place) → Due net laws is differ cheap up in_ports most_routes most_services room network suffice before long clock few_seconds at_start
             [] (map (λ w. w.delivery) last.waiting) router v f → ⊥
         due_none router v f (inl one) = omega (arith, one)
         due_none router v f (inr waits) = none_is _ last.waiting tick.quiet waits
 
-        aged_by : (router : ℕ) (w : Wanting router) (h : Held RouteOffer) (f : Place) → RightFor net laws is differ cheap few_routers up in_ports most_routes most_services room network
+        aged_by : (router : ℕ) (w : Wanting router) (h : Held RouteOffer) (f : Place) → RightFor net laws is differ cheap up in_ports most_routes most_services room network suffice
             router w f h.offer
-            → Fresh net laws is differ cheap few_routers up in_ports most_routes most_services room network before long clock few_seconds at_start
-            [] (map (λ w. w.delivery) last.waiting) router w.v f h.age ⊎ Late net laws is differ cheap few_routers up in_ports most_routes most_services room network
+            → Fresh net laws is differ cheap up in_ports most_routes most_services room network suffice before long clock few_seconds at_start
+            [] (map (λ w. w.delivery) last.waiting) router w.v f h.age ⊎ Late net laws is differ cheap up in_ports most_routes most_services room network suffice
             before long clock few_seconds at_start [] (map (λ w. w.delivery) last.waiting) router w.v f h.age
             → Young last f h.age ⊎ Early (suc before) last w.v f h.age
         aged_by router w h f right (inl young) =
@@ -326,10 +326,10 @@ module _ (net : Internet) (laws : Layouts) (is : IsInternet net) (differ : Nodes
     pub route_stays : (router : ℕ) (w : Wanting router) → starts w.v + 60 ≤ before → route_of last router ≡ route_of run router
     route_stays router w settled =
         let sure : starts w.v ≤ before = omega (arith, settled) in
-        let (h, f, some, right, same) = holds_right net laws is differ cheap few_routers up in_ports most_routes most_services room network before long clock few_seconds at_start
+        let (h, f, some, right, same) = holds_right net laws is differ cheap up in_ports most_routes most_services room network suffice before long clock few_seconds at_start
         [] (map (λ w. w.delivery) last.waiting) router w (route_facts (ports_of net router) (history_of last.histories router)) settled
         (ended.states router w sure) in
-        found_there net laws is differ cheap few_routers up in_ports most_routes most_services room network
+        found_there net laws is differ cheap up in_ports most_routes most_services room network suffice
         router w (history_of last.histories router) h some (ap (λ (r : RouteOffer). r.network) right.same)
-        (right_way net is differ cheap few_routers up in_ports most_routes room network router w.v w.off w.least f h.offer right)
+        (right_way net is differ cheap up in_ports most_routes room network suffice router w.v w.off w.least f h.offer right)
         ∙ sym (same settled)

@@ -25,7 +25,7 @@ use Rattle.ipx_router.proofs.changes.DiffersByOneFact.{found}
 use Rattle.ipx_router.proofs.tables.HeldWasOffered.{all_in_order, all_offers}
 use Rattle.ipx_internet.specs.Delivery.{receives, delivered}
 use Rattle.ipx_internet.specs.Internet.{Internet, Place, IsInternet, NodesDiffer, IsPlace, ports_of, port_of, network_of, places}
-use Rattle.ipx_internet.specs.Least.{Way, is_on, way_of, AreCheap, HasRoom}
+use Rattle.ipx_internet.specs.Least.{Way, is_on, way_of, AreCheap, HasRoom, FifteenSuffice}
 use Rattle.ipx_internet.specs.Queue.{Delivery, deliveries_of}
 use Rattle.ipx_internet.specs.Rounds.{IsDelivery}
 use Rattle.ipx_internet.specs.Run.{Step}
@@ -52,9 +52,9 @@ find_any test (y ∷ ys) x e = elim (cases_Bool (test y)) [
   | inr other ↦ inr (find_any test ys x (rw other at e))
 ]
 
-module _ (net : Internet) (laws : Layouts) (is : IsInternet net) (differ : NodesDiffer net) (cheap : AreCheap net) (few_routers : length net ≤ 16) (up : ℕ → List ℕ)
+module _ (net : Internet) (laws : Layouts) (is : IsInternet net) (differ : NodesDiffer net) (cheap : AreCheap net) (up : ℕ → List ℕ)
     (in_ports : (router : ℕ) → AllByRecursion (λ j. j < length (ports_of net router)) (up router)) (most_routes most_services : ℕ) (room : HasRoom net most_routes)
-    (network : Network) where
+    (network : Network) (suffice : FifteenSuffice net up network) where
   -- ---- a router that should have a route
 
   -- it isn't on the network, and there is a way
@@ -115,13 +115,13 @@ module _ (net : Internet) (laws : Layouts) (is : IsInternet net) (differ : Nodes
   -- the tables of a router
   abbrev pub StateFor : (router : ℕ) → Wants router → (Place → ℕ → Type 0) → (Place → ℕ → Type 0) → Type 0 → (RouteOffer → Type 0) → Option (Held RouteOffer)
       → Type 0
-  StateFor router w = StateOf net is differ cheap few_routers up in_ports most_routes room network router w.v w.off w.least w.wanted
+  StateFor router w = StateOf net is differ cheap up in_ports most_routes room network suffice router w.v w.off w.least w.wanted
 
   abbrev pub known_of : (router : ℕ) → Wants router → List (Fact RouteOffer) → Option (Held RouteOffer)
-  known_of router w = known net is differ cheap few_routers up in_ports most_routes room network router w.v w.off w.least w.wanted
+  known_of router w = known net is differ cheap up in_ports most_routes room network suffice router w.v w.off w.least w.wanted
 
   abbrev pub RightFor : (router : ℕ) → Wants router → Place → RouteOffer → Type 0
-  RightFor router w = Right net is differ cheap few_routers up in_ports most_routes room network router w.v w.off w.least
+  RightFor router w = Right net is differ cheap up in_ports most_routes room network suffice router w.v w.off w.least
 
   abbrev pub SourceOf : (router : ℕ) → Way → ℕ → Place → Type 0
   SourceOf = Source net is cheap up in_ports network
@@ -142,7 +142,7 @@ module _ (net : Internet) (laws : Layouts) (is : IsInternet net) (differ : Nodes
         found (λ o. is_eq (network_order o.network network)) (routes_held (ports_of net router) most_routes history)
         ∙ ap (option_map (λ x. x.offer))
         (record-in_order route_reading network_order network_total most_routes (map (λ p. p.route_share) (ports_of net router)) network
-        (records net is differ cheap few_routers up in_ports most_routes room network
+        (records net is differ cheap up in_ports most_routes room network suffice
         router w.v w.off w.least w.wanted (route_facts (ports_of net router) history)) ∙ some)
 
     pub in_held : AnyIs (λ r. r ≡ h.offer) all_held
@@ -327,17 +327,17 @@ module _ (net : Internet) (laws : Layouts) (is : IsInternet net) (differ : Nodes
         named = ap (λ (r : RouteOffer). r.network) right.same
 
         way : way_of h.offer ≡ w.v
-        way = right_way net is differ cheap few_routers up in_ports most_routes room network router w.v w.off w.least from h.offer right
+        way = right_way net is differ cheap up in_ports most_routes room network suffice router w.v w.off w.least from h.offer right
 
         there : find (λ o. is_eq (network_order o.network network)) (offers (routes_held (ports_of net router) most_routes history)) ≡ Some h.offer
         there = found_there router w history h some named way
 
         distinct : length (filter (λ x. is_eq (network_order x.offer.network network))
-            (records net is differ cheap few_routers up in_ports most_routes room network
+            (records net is differ cheap up in_ports most_routes room network suffice
             router w.v w.off w.least w.wanted (route_facts (ports_of net router) history))) ≤ 1
         distinct =
             subst (λ (n : Network). length (filter (λ x. is_eq (network_order x.offer.network n))
-            (records net is differ cheap few_routers up in_ports most_routes room network
+            (records net is differ cheap up in_ports most_routes room network suffice
             router w.v w.off w.least w.wanted (route_facts (ports_of net router) history))) ≤ 1) named
             ((kept (route_rules (ports_of net router) most_routes)
             (rules_total route_reading network_order network_total most_routes (map (λ p. p.route_share) (ports_of net router)))
@@ -347,15 +347,15 @@ module _ (net : Internet) (laws : Layouts) (is : IsInternet net) (differ : Nodes
         has =
             all_offers (HasWay (ports_of net router) network w.v) (routes_held (ports_of net router) most_routes history)
             (all_in_order (HasWay (ports_of net router) network w.v) (route_rules (ports_of net router) most_routes).by_key
-            (records net is differ cheap few_routers up in_ports most_routes room network
+            (records net is differ cheap up in_ports most_routes room network suffice
             router w.v w.off w.least w.wanted (route_facts (ports_of net router) history))
             (all_then (λ x. is_eq (network_order x.offer.network network) ≡ true → x ≡ h) (λ x. HasWay (ports_of net router) network w.v x.offer)
             (λ x one is_named.
             let equal = one (equal_where_same x.offer.network.0 network.0 (ap (λ (n : Network). n.0) is_named)) in
             ap (λ (y : Held RouteOffer). way_of y.offer) equal ∙ way)
-            (records net is differ cheap few_routers up in_ports most_routes room network
+            (records net is differ cheap up in_ports most_routes room network suffice
             router w.v w.off w.least w.wanted (route_facts (ports_of net router) history))
-            (only_one (records net is differ cheap few_routers up in_ports most_routes room network
+            (only_one (records net is differ cheap up in_ports most_routes room network suffice
             router w.v w.off w.least w.wanted (route_facts (ports_of net router) history))
             h distinct some)))
 
@@ -391,7 +391,7 @@ module _ (net : Internet) (laws : Layouts) (is : IsInternet net) (differ : Nodes
           let ports = ports_of net from.router in
           let same = same_some net up in_ports network (within net up in_ports network 15 from.router) second.v source.way second.least source.there in
           let named = ap (λ (r : RouteOffer). r.network) right.same in
-          let way = right_way net is differ cheap few_routers up in_ports most_routes room network
+          let way = right_way net is differ cheap up in_ports most_routes room network suffice
           from.router second.v second.off second.least place h.offer right in
           let hops = ap (λ (x : Way). x.hops) (way ∙ same) in
           let here : SourceOf from.router source.way h.offer.port place = subst (λ (x : Way). SourceOf from.router x h.offer.port place) same right.source in

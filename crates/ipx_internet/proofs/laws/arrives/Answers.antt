@@ -3,7 +3,7 @@ use Rattle.std.specs.List.{AllByRecursion}
 use Rattle.ipx_wire.specs.declared.network.Network.{Network}
 use Rattle.ipx_router.specs.History.{History}
 use Rattle.ipx_internet.specs.Internet.{Internet, IsInternet, NodesDiffer}
-use Rattle.ipx_internet.specs.Least.{AreCheap, HasRoom, ticks_right}
+use Rattle.ipx_internet.specs.Least.{AreCheap, HasRoom, ticks_right, FifteenSuffice}
 use Rattle.ipx_internet.specs.Rounds.{IsDelivery}
 use Rattle.ipx_internet.specs.Run.{Step, Run, AreHistories, begun, run_of}
 use Rattle.ipx_internet.specs.Ticks.{AreTicks, ticked, ups, most_ticks_gone}
@@ -41,59 +41,59 @@ layouts c = record {
 }
 
 module _ (c : goal.After-packets) (net : Internet) (most_routes most_services : ℕ) (histories : List History) (ticks : List (List Step)) (network : Network)
-    (is : IsInternet net) (differ : NodesDiffer net) (few_routers : length net ≤ 16) (cheap : AreCheap net) (room : HasRoom net most_routes)
+    (is : IsInternet net) (differ : NodesDiffer net) (suffice : FifteenSuffice net (ups net histories) network) (cheap : AreCheap net) (room : HasRoom net most_routes)
     (are : AreHistories net histories) (passes : AreTicks net most_routes most_services (begun histories) ticks)
     (long : most_ticks_gone ≤ length ticks) where
-  rests : AtRest net (layouts c) is differ cheap few_routers (ups net histories) (ups_within net histories) most_routes most_services room network (length ticks)
+  rests : AtRest net (layouts c) is differ cheap (ups net histories) (ups_within net histories) most_routes most_services room network suffice (length ticks)
       (ticked net most_routes most_services (begun histories) ticks)
   rests =
       let begins = quiet_rests net (layouts c) is most_routes most_services (ups net histories) (begun histories) are (λ router. refl) refl in
       let count : length ticks + 0 ≡ length ticks = omega arith in
-      subst (λ (n : ℕ). AtRest net (layouts c) is differ cheap few_routers (ups net histories) (ups_within net histories) most_routes most_services room network n
+      subst (λ (n : ℕ). AtRest net (layouts c) is differ cheap (ups net histories) (ups_within net histories) most_routes most_services room network suffice n
       (ticked net most_routes most_services (begun histories) ticks)) count
-      (climbs net (layouts c) is differ cheap few_routers (ups net histories) (ups_within net histories) most_routes most_services room network 0
+      (climbs net (layouts c) is differ cheap (ups net histories) (ups_within net histories) most_routes most_services room network suffice 0
       (begun histories) ticks begins
-      (λ enough. at_first net (layouts c) is differ cheap few_routers (ups net histories) (ups_within net histories) most_routes most_services room network 0
+      (λ enough. at_first net (layouts c) is differ cheap (ups net histories) (ups_within net histories) most_routes most_services room network suffice 0
       (begun histories)
       (omega arith) begins) passes (omega (arith, long)))
 
 pub returns-clause-goes : goal.returns-clause-goes
-returns-clause-goes c net most_routes most_services histories ticks place bytes p way is differ few_routers cheap room are passes there on are_bytes is_packet of_host away least sure short few_control =
+returns-clause-goes c net most_routes most_services histories ticks place bytes p way is differ suffice cheap room are passes there on are_bytes is_packet of_host away least sure short few_control =
     let to = p.header.destination in
     let long : most_ticks_gone ≤ length ticks = omega (arith, sure) in
-    goes net (layouts c) is differ cheap few_routers (ups net histories) (ups_within net histories) most_routes most_services room to (length ticks)
+    goes net (layouts c) is differ cheap (ups net histories) (ups_within net histories) most_routes most_services room to suffice (length ticks)
     (ticked net most_routes most_services (begun histories) ticks)
-    (rests c net most_routes most_services histories ticks to.network is differ few_routers cheap room are passes long) long way.hops place.router place.port 0 None bytes p way there on
+    (rests c net most_routes most_services histories ticks to.network is differ suffice cheap room are passes long) long way.hops place.router place.port 0 None bytes p way there on
     away are_bytes is_packet refl of_host short few_control least refl sure
 
 -- the first tick ends with nothing that waits
 module _ (c : goal.After-packets) (net : Internet) (most_routes most_services : ℕ) (run : Run) (first : List Step) (ticks : List (List Step)) (network : Network)
-    (is : IsInternet net) (differ : NodesDiffer net) (few_routers : length net ≤ 16) (cheap : AreCheap net) (room : HasRoom net most_routes)
+    (is : IsInternet net) (differ : NodesDiffer net) (suffice : FifteenSuffice net (ups net run.histories) network) (cheap : AreCheap net) (room : HasRoom net most_routes)
     (are : AreHistories net run.histories) (waits : AllByRecursion (λ w. IsDelivery net w.delivery) run.waiting)
     (passes : AreTicks net most_routes most_services run (first ∷ ticks)) (long : most_ticks_gone ≤ length ticks) where
-  rests_then : AtRest net (layouts c) is differ cheap few_routers (ups net run.histories) (ups_within net run.histories) most_routes most_services room network (length ticks)
+  rests_then : AtRest net (layouts c) is differ cheap (ups net run.histories) (ups_within net run.histories) most_routes most_services room network suffice (length ticks)
       (ticked net most_routes most_services (run_of net most_routes most_services run first) ticks)
   rests_then =
       let next = run_of net most_routes most_services run first in
       let begins = rests_from net (layouts c) is most_routes most_services run are waits first [] (passes.0, tt) in
       let count : length ticks + 0 ≡ length ticks = omega arith in
-      subst (λ (n : ℕ). AtRest net (layouts c) is differ cheap few_routers (ups net run.histories) (ups_within net run.histories) most_routes most_services room network n
+      subst (λ (n : ℕ). AtRest net (layouts c) is differ cheap (ups net run.histories) (ups_within net run.histories) most_routes most_services room network suffice n
       (ticked net most_routes most_services next ticks)) count
-      (climbs net (layouts c) is differ cheap few_routers (ups net run.histories) (ups_within net run.histories) most_routes most_services room network 0 next ticks begins
-      (λ none. at_first net (layouts c) is differ cheap few_routers (ups net run.histories) (ups_within net run.histories) most_routes most_services room network 0 next
+      (climbs net (layouts c) is differ cheap (ups net run.histories) (ups_within net run.histories) most_routes most_services room network suffice 0 next ticks begins
+      (λ none. at_first net (layouts c) is differ cheap (ups net run.histories) (ups_within net run.histories) most_routes most_services room network suffice 0 next
       (omega arith) begins) passes.1 (omega (arith, long)))
 
 pub returns-clause-whatever_waits : goal.returns-clause-whatever_waits
-returns-clause-whatever_waits c net most_routes most_services run [] place bytes p way is differ few_routers cheap room are waits passes there on are_bytes is_packet of_host away least sure short few_control =
+returns-clause-whatever_waits c net most_routes most_services run [] place bytes p way is differ suffice cheap room are waits passes there on are_bytes is_packet of_host away least sure short few_control =
     absurd (omega (arith, sure))
-returns-clause-whatever_waits c net most_routes most_services run (first ∷ ticks) place bytes p way is differ few_routers cheap room are waits passes there on are_bytes is_packet of_host away least sure short few_control =
+returns-clause-whatever_waits c net most_routes most_services run (first ∷ ticks) place bytes p way is differ suffice cheap room are waits passes there on are_bytes is_packet of_host away least sure short few_control =
     let next = run_of net most_routes most_services run first in
     let to = p.header.destination in
     let enough : ticks_right (Some way) ≤ length ticks = omega (arith, sure) in
     let long : most_ticks_gone ≤ length ticks = omega (arith, enough) in
-    goes net (layouts c) is differ cheap few_routers (ups net run.histories) (ups_within net run.histories) most_routes most_services room to (length ticks)
+    goes net (layouts c) is differ cheap (ups net run.histories) (ups_within net run.histories) most_routes most_services room to suffice (length ticks)
     (ticked net most_routes most_services next ticks)
-    (rests_then c net most_routes most_services run first ticks to.network is differ few_routers cheap room are waits passes long) long way.hops place.router place.port 0 None bytes p way there on
+    (rests_then c net most_routes most_services run first ticks to.network is differ suffice cheap room are waits passes long) long way.hops place.router place.port 0 None bytes p way there on
     away are_bytes is_packet refl of_host short few_control least refl enough
 
 pub returns-clause-one_each : goal.returns-clause-one_each
