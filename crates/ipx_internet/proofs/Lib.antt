@@ -1,6 +1,8 @@
 pub mod deliveries
 pub mod examples
+pub mod gains
 pub mod lists
+pub mod losses
 pub mod packets
 pub mod places
 pub mod records

@@ -1,6 +1,7 @@
 -- Worked examples: each is checked by computing it.
 pub mod Arrivals
 pub mod Branches
+pub mod Changes
 pub mod Directed
 pub mod Heavy
 pub mod Horizons

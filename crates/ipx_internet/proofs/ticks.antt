@@ -3,6 +3,7 @@ pub mod BusyTickAfterTick
 pub mod FineOrSoonEnded
 pub mod FirstTickClears
 pub mod GoneWhateverHappens
+pub mod LogsDontMatter
 pub mod OwnPagesSayFine
 pub mod RealFromTheFirst
 pub mod RealOrSoonEnded

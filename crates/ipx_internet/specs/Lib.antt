@@ -30,6 +30,11 @@ pub mod Announces
 pub mod Real
 -- Least
 pub mod Least
+-- Tables
+pub mod Tables
+-- Losses, Gains
+pub mod Losses
+pub mod Gains
 -- Arriving
 pub mod Arriving
 -- Moment, Settled, Refused

@@ -7,17 +7,19 @@
 //!   and which paths a packet takes through it (`Course`), what waits in an internet and what a run of it lists (`Queue`,
 //!   `Run`), what its routers send in it (`Departure`), the tree of a packet while nothing else happens (`Tree`, `Most`,
 //!   `Weight`), rounds of deliveries and what an internet weighs (`Rounds`, `InternetWeight`), time that passes, and routes of
-//!   real ways (`Ticks`, `Real`), least ways and packets that arrive (`Least`, `Arriving`); and what an `Internet` is to its
-//!   contracts (`Moment`, `Settled`, `Refused`, `Traced`).
+//!   real ways (`Ticks`, `Real`), least ways and packets that arrive (`Least`, `Arriving`), links that are lost and links that come
+//!   up (`Tables`, `Losses`, `Gains`); and what an `Internet` is to its contracts (`Moment`, `Settled`, `Refused`, `Traced`).
 //! - The laws hold of every internet, with any tables and any ports up at each reception: a packet for one network is
 //!   forwarded at most 16 times in all; a path of a propagated packet has at most eight forwards, and visits no network
 //!   twice; a packet causes a bounded number of receptions. Over every run, no route is advertised where it was learned.
 //!   Every internet settles, and each delivery makes it lighter; in time, what is gone is gone everywhere, and every route is
 //!   of a real way. Where there are at most 16 routers every table becomes right, and packets of hosts arrive.
+//!   What is lost is forgotten at once, everywhere, and what is gained is used at once.
 //! - It stands on `ipx_router`; who runs several routers stands on it.
 #![tactic(auto)]
 
 mod batch;
+pub mod changes;
 mod fault;
 mod internet;
 pub mod laws;

@@ -60,7 +60,7 @@ module _ {O K : Type 0} (reading : Reading O K) (order : K → K → Ordering) w
     offer_after key facts = offer_at reading.key order key (offers (held rules facts))
 
     -- it is found among the alive ones, in whatever order
-    among_alive : (key : K) (facts : List (Fact O))
+    pub among_alive : (key : K) (facts : List (Fact O))
         → offer_after key facts ≡ option_map (λ h. h.offer) (find (λ h. is_eq (order (reading.key h.offer) key)) (alive_after facts))
     among_alive key facts =
         found (λ o. is_eq (order (reading.key o) key)) (held rules facts)
@@ -101,7 +101,7 @@ module _ {O K : Type 0} (reading : Reading O K) (order : K → K → Ordering) w
     ]
 
     -- its own key
-    own : (facts : List (Fact O)) (offer : O)
+    pub own : (facts : List (Fact O)) (offer : O)
         → offer_after (reading.key offer) (facts ++ Offered offer ∷ [])
         ≡ offer_left (taken_over rules (λ a b. true) (alive_after facts) offer) (offer_after (reading.key offer) facts) offer
     own facts offer =

@@ -185,7 +185,7 @@ module _ (ports : List Port) (network : Network) (u : Way) where
     pub has : AnyIs IsOf page.page
 
   module _ (readings : Readings) (again : Rereadings) (j : ℕ) (is_port : IsPort (port_at ports j)) (P : RipEntry → Type 0) where
-    rip_tells : (entries : List RipEntry) → AllByRecursion (Writable P) entries → AnyIs IsOf entries → AnyIs (Tells P j) (rip_broadcast ports j entries)
+    pub rip_tells : (entries : List RipEntry) → AllByRecursion (Writable P) entries → AnyIs IsOf entries → AnyIs (Tells P j) (rip_broadcast ports j entries)
     rip_tells entries all any =
         any-map (λ page. AnyIs IsOf page × IsPage entries_a_page (Writable P) page) (Tells P j) (entries_sent ports j (everyone (port_at ports j)) Response)
         (λ page both.
