@@ -6,6 +6,7 @@ pub mod NothingGoesBack
 pub mod PagesAreHeard
 pub mod PagesReadAgain
 pub mod ResponsesAskNothing
+pub mod RoutesOrSilence
 pub mod SentOnIsBytes
 pub mod SentOnOrReply
 pub mod SentOnReadAgain

@@ -1,15 +1,20 @@
 -- Tables become right: each router comes to hold the route of its least way, and keeps it; so packets arrive.
+pub mod AnyTablesBecomeRight
+pub mod ChangeIsSaid
 pub mod ComputedIsLeast
+pub mod DeliveryKeepsRight
 pub mod FifteenHopsSuffice
 pub mod GoodRoutesStay
+pub mod LastWords
 pub mod LeastRouteSurvives
 pub mod LeastWays
 pub mod NoRouteIsBetter
 pub mod PacketsArrive
-pub mod RightAfterADelivery
-pub mod RightAfterASecond
-pub mod RightAndKept
-pub mod RightTickByTick
-pub mod RightWithinATick
+pub mod RightWithinAMinute
 pub mod RoomForEachNetwork
 pub mod SaysItsLeastWay
+pub mod SaysWhatItKnows
+pub mod SecondKeepsRight
+pub mod TablesAreRight
+pub mod TurnIsNews
+pub mod TurnsAreSaid

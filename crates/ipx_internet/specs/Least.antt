@@ -1,6 +1,6 @@
 -- The least way of a router to a network: of all ways that lead from router to router, by ports that are up, the one of the fewest
 -- ticks and then of the fewest hops.
-use Rattle.std.specs.Prelude.{ℕ, zero, suc, ◌+◌, ◌*◌, ◌==◌, ◌&&◌, ◌||◌, nat_lt, Bool, not, if◌then◌else◌, List, [], ◌∷◌, length, map, Option, None, Some, slice_index_or, ◌≡◌, ◌≢◌, ◌≤◌, ◌<◌, true, false}
+use Rattle.std.specs.Prelude.{ℕ, zero, suc, ◌+◌, ◌==◌, ◌&&◌, ◌||◌, nat_lt, Bool, not, if◌then◌else◌, List, [], ◌∷◌, length, map, Option, None, Some, slice_index_or, ◌≡◌, ◌≢◌, ◌≤◌, ◌<◌, true, false}
 use Rattle.std.specs.List.{AllByRecursion, filter, flat_map, list_any}
 use Rattle.std.specs.Option.{option_map}
 use Rattle.ipx_wire.specs.Crossed.{is_among}
@@ -141,12 +141,12 @@ pub record HasRoom (net : Internet) (most_routes : ℕ) : Type 0 where
   pub table : AllByRecursion (λ ports. length (others_of net ports) ≤ most_routes) net
   pub shares : AllByRecursion (λ ports. AllByRecursion (λ p. length (others_of net ports) ≤ p.route_share) ports) net
 
--- the ticks after which a router is right about a network: those after which every route is of a real way, and as many as there are from
--- one broadcast of all to the next for each hop
+-- the ticks after which a router is right about a network: those after which every route is of a real way, and, for any way of a hop or
+-- more, as many as there are from one broadcast of all to the next
 abbrev pub ticks_right : Option Way → ℕ
 ticks_right None = most_ticks_gone
-ticks_right (Some way) = most_ticks_gone + period * way.hops
+ticks_right (Some way) = if way.hops == 0 then most_ticks_gone else most_ticks_gone + period
 
--- about every network: that many for fifteen hops
+-- about every network
 abbrev pub most_ticks_right : ℕ
-most_ticks_right = 3780
+most_ticks_right = 2940

@@ -9,7 +9,7 @@ use Rattle.ipx_wire.specs.declared.rip.Operation.TheVariants.{Request, Response}
 use Rattle.ipx_wire.specs.declared.rip.RipEntry.{RipEntry}
 use Rattle.ipx_wire.specs.declared.sap.Sap.TheVariants.{Query, Response as SapResponse}
 use Rattle.ipx_router.specs.Heard.{Heard, HeardRip, HeardSap, heard_in}
-use Rattle.ipx_router.specs.History.{Event, Packet}
+use Rattle.ipx_router.specs.History.{Event, Packet, Second}
 use Rattle.ipx_router.specs.Numbers.{rip_socket, sap_socket, unreachable}
 use Rattle.ipx_router.specs.Why.{is_propagated, is_for_rip, is_for_sap}
 use Rattle.ipx_internet.specs.Internet.{Internet}
@@ -49,6 +49,23 @@ IsWithoutService key (HeardRip source rip) = AsksElsewhere source rip.operation
 IsWithoutService key (HeardSap source (Query nearest kind)) = Unit
 IsWithoutService key (HeardSap source (SapResponse nearest entries)) =
     AllByRecursion (λ e. e.hops < unreachable → (name : List ℕ) → e.name ≡ Some name → (e.kind, name) ≢ key) entries
+
+-- ---- packets of hosts that leave all tables as they are
+
+-- it is no response of routing information, nor a query that is answered to the socket of RIP, where its answer would be heard as one
+abbrev pub TellsNoRoute : Heard → Type 0
+TellsNoRoute (HeardRip source rip) = rip.operation ≡ Request
+TellsNoRoute (HeardSap source (Query nearest kind)) = source.socket.0 ≢ rip_socket
+TellsNoRoute (HeardSap source (SapResponse nearest entries)) = Unit
+
+-- ports stay as they are, and routers run on: packets come, time passes, deliveries happen
+abbrev pub LeavesPorts : Step → Type 0
+LeavesPorts (Happens router (Packet number bytes)) = Unit
+LeavesPorts (Happens router Second) = Unit
+LeavesPorts (Happens router event) = ⊥
+LeavesPorts Settles = Unit
+
+-- ---- what is said from outside
 
 -- what may be heard of a packet from outside is such; any other event says nothing
 abbrev pub IsWith : (Heard → Type 0) → Event → Type 0

@@ -1,4 +1,7 @@
 //! What holds of every internet, whatever its routers' tables.
+pub mod changes;
+pub mod hosts;
+
 ghost use Rattle.std.specs.Prelude.{◌≡◌, ◌≢◌, ◌↔◌, ℕ, ◌+◌, ◌-◌, ◌*◌, ◌<◌, ◌≤◌, true, false, List, [], ◌∷◌, ◌++◌, length, map, flat_map, replicate, Option, Some, slice_get};
 ghost use Rattle.std.specs.List.{AllByRecursion};
 ghost use Rattle.std.specs.Option.{option_map};
@@ -454,11 +457,11 @@ pub fn least_ways()
         → (best : Way) × (least net (ups net histories) router network ≡ Some best) × (is_better way best ≡ false) }
 {}
 
-/// Fifteen hops suffice wherever no way of sixteen hops is better than all that have fewer: so in any internet of at most 16 routers, and in one
-/// of any number of routers where every port costs the same.
+/// Fifteen hops suffice wherever no way of sixteen hops is better than all that have fewer: so in any internet of at most 16 routers, and in
+/// one of any number of routers where every port costs the same.
 ///
-/// `FifteenSuffice` says it of one network and of the ports that are up. The best that a router is told of is the best of its neighbours' least
-/// ways, gone on. It is the router's least way, or it has more than fifteen hops, and then the router has none.
+/// `FifteenSuffice` says it of one network and of the ports that are up. The best that a router is told of is the best of its neighbours'
+/// least ways, gone on. It is the router's least way, or it has more than fifteen hops, and then the router has none.
 pub fn fifteen_suffice()
     ensures few_routers { (net : Internet) (histories : List History) (network : Network) → IsInternet net → length net ≤ most_routers
         → FifteenSuffice net (ups net histories) network }
@@ -466,17 +469,18 @@ pub fn fifteen_suffice()
         → FifteenSuffice net (ups net histories) network }
 {}
 
-/// Every table becomes right and stays so, whatever was in it before: after 2,880 ticks and 60 for each hop every router has the route of
-/// the least way to a network, and where there is no way it has none (`tables`). From then on it is the same route at the end
-/// of each tick, with hops, ticks, port and neighbour (`stay`). No network takes longer than 3,780 ticks (`soon`). That is said of ticks that
-/// begin with nothing that waits; whatever waits, forged packets too, one tick more is enough, 3,781 at most (`whatever_waits`), and from then
-/// on too it is the same route (`whatever_waits_stay`). Where every route is of a real way from the first, there is no service and nothing
-/// waits, the 60 ticks for each hop alone are enough (`sooner`, `sooner_stay`).
+/// Every table becomes right and stays so, whatever was in it before: after 2,940 ticks every router has the route of the least way to a
+/// network, however many hops that has, and where there is no way it has none, after 2,880 (`tables`). From then on it is the same route at
+/// the end of each tick, with hops, ticks, port and neighbour (`stay`). No network takes longer (`soon`). That is said of ticks that begin with
+/// nothing that waits; whatever waits, forged packets too, one tick more is enough, 2,941 at most (`whatever_waits`), and from then on too it
+/// is the same route (`whatever_waits_stay`). Where every route is of a real way from the first and nothing waits, 60 ticks are enough, the
+/// time from one broadcast of all to the next (`sooner`, `sooner_stay`).
 ///
-/// Ways lead over the ports that are up, of routers that run, whichever these are. Fifteen hops suffice for that network, as they do where there
-/// are at most 16 routers (`fifteen_suffice`), no port costs more than 4,095 ticks, and the ports of two routers on one network have different
-/// nodes. Every table has room for all networks that its router has
-/// no port on, and so has the share of every port. Nothing but ticks happens, so ports stay as they are.
+/// Ways lead over the ports that are up, of routers that run, whichever these are. Fifteen hops suffice for that network, as they do where
+/// there are at most 16 routers (`fifteen_suffice`), no port costs more than 4,095 ticks, and the ports of two routers on one network have
+/// different nodes. Every table has room for all networks that its router has
+/// no port on, and so has the share of every port. Nothing but ticks happens, so ports stay as they are
+/// (`hosts::right_meanwhile` says it of hosts that speak).
 pub fn right()
     ensures tables { (net : Internet) (most_routes most_services : ℕ) (histories : List History) (ticks : List (List Step)) (router : ℕ) (network : Network)
         → IsInternet net → NodesDiffer net → FifteenSuffice net (ups net histories) network → AreCheap net → HasRoom net most_routes → AreHistories net histories
@@ -514,7 +518,6 @@ pub fn right()
         → IsInternet net → NodesDiffer net → FifteenSuffice net (ups net histories) network → AreCheap net → HasRoom net most_routes → AreHistories net histories
         → ((other : ℕ) → other < length net
         → AllByRecursion (IsReal net (ups net histories) other) (offers (routes_held (ports_of net other) most_routes (history_of histories other))))
-        → ((other : ℕ) → other < length net → services_held (ports_of net other) most_services (history_of histories other) ≡ [])
         → AreTicks net most_routes most_services (begun histories) ticks → router < length net
         → ticks_right (least_route net (ups net histories) router network) ≤ most_ticks_gone + length ticks
         → option_map way_of
@@ -524,7 +527,6 @@ pub fn right()
         → IsInternet net → NodesDiffer net → FifteenSuffice net (ups net histories) network → AreCheap net → HasRoom net most_routes → AreHistories net histories
         → ((other : ℕ) → other < length net
         → AllByRecursion (IsReal net (ups net histories) other) (offers (routes_held (ports_of net other) most_routes (history_of histories other))))
-        → ((other : ℕ) → other < length net → services_held (ports_of net other) most_services (history_of histories other) ≡ [])
         → AreTicks net most_routes most_services (begun histories) (ticks ++ further) → router < length net
         → ticks_right (least_route net (ups net histories) router network) ≤ most_ticks_gone + length ticks
         → route_to (offers (routes_held (ports_of net router) most_routes
@@ -540,11 +542,11 @@ pub fn right()
 }
 
 /// So packets arrive. A packet of a host comes to a port that is up, of a router that has a way to the packet's network; the port isn't on
-/// that network. After 2,880 ticks and 60 for each hop of the router's least way it goes through as many routers more as that way has hops,
-/// one at a time, and the last one sends it out on that network, for the node that it is for (`goes`). Where the router has a port on that
-/// network itself, the way has no hops, and the packet leaves there at once. So the first levels of its tree, one for each hop and a last one,
-/// have as many receptions together (`one_each`). Each of these is of a packet whose transport control is one more than before, and stays
-/// below 16.
+/// that network. After 2,940 ticks, or 2,880 where the router's least way has no hop, it goes through as many routers more as that way has
+/// hops, one at a time, and the last one sends it out on that network, for the node that it is for (`goes`). Where the router has a port on
+/// that network itself, the way has no hops, and the packet leaves there at once. So the first levels of its tree, one for each hop and a last
+/// one, have as many receptions together (`one_each`). Each of these is of a packet whose transport control is one more than before, and
+/// stays below 16.
 ///
 /// Where such a packet's destination has another node than the broadcast, these receptions are its whole tree (`ends`). The last one is at a
 /// router with a port that is up on that network, and no router receives what leaves there.

@@ -19,7 +19,6 @@
 #![tactic(auto)]
 
 mod batch;
-pub mod changes;
 mod fault;
 mod internet;
 pub mod laws;

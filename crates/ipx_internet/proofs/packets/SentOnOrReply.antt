@@ -32,6 +32,7 @@ use Rattle.ipx_router.proofs.bytes.FieldsAreBytes.{IsPlace as IsPlaced, IsTellab
 use Rattle.ipx_router.proofs.lists.EachElement.{all_both}
 use Rattle.ipx_router.proofs.tables.HeldFitsFields.{held_routes_fit, held_services_fit}
 use Rattle.ipx_router.proofs.verdicts.HeardIsAsLayoutsAllow.{heard_is}
+use Rattle.ipx_router.proofs.verdicts.HeardPassesAllChecks.{heard_passes}
 use Rattle.ipx_router.proofs.histories.OneEventMore.{ports_stay}
 use Rattle.ipx_router.proofs.changes.ChangesFitFields.{news_fit, news_services_fit}
 use Rattle.ipx_router.proofs.sending.OwnPacketsAreValid.{Writable, reply_is}
@@ -188,7 +189,7 @@ module _ (laws : Layouts) (ports : List Port) (are : AllByRecursion IsPort ports
 
   -- ---- the nearest service
 
-  nearest_fits : (services : List Service) → AllByRecursion IsTellable services → AllByRecursion IsTellable (nearest_of services)
+  pub nearest_fits : (services : List Service) → AllByRecursion IsTellable services → AllByRecursion IsTellable (nearest_of services)
   nearest_fits [] all = tt
   nearest_fits (service ∷ services) all = nearer (nearest_of services) (nearest_fits services all.1)
     where
@@ -202,7 +203,7 @@ module _ (laws : Layouts) (ports : List Port) (are : AllByRecursion IsPort ports
         | inr e ↦ rw e (all.0, tt)
       ]
 
-  either_fits : (c : Bool) (xs ys : List Service) → AllByRecursion IsTellable xs → AllByRecursion IsTellable ys → AllByRecursion IsTellable (if c then xs else ys)
+  pub either_fits : (c : Bool) (xs ys : List Service) → AllByRecursion IsTellable xs → AllByRecursion IsTellable ys → AllByRecursion IsTellable (if c then xs else ys)
   either_fits true xs ys one two = one
   either_fits false xs ys one two = two
 
@@ -281,6 +282,22 @@ module _ (laws : Layouts) (ports : List Port) (are : AllByRecursion IsPort ports
         by : (o : Option Why) → why ports before.up before.routes (running history) number bytes ≡ o → (sent ≡ []) ⊎ (sent ≡ heard_sends ports before after number m)
         by (Some reason) w = inl (ap judged w)
         by None w = inr (ap judged w ∙ ap for e)
+
+    -- and something was
+    pub said_so : (m : Heard) → heard_now ≡ Some m → sent ≡ heard_sends ports before after number m
+    said_so m e = ap judged passes ∙ ap for e
+      where
+        passes : why ports before.up before.routes (running history) number bytes ≡ None
+        passes = heard_passes ports before.up before.routes number bytes (running history) m e
+
+        relays : List Sent
+        relays = elim (packet_of bytes) [ Ok p ↦ relayed ports before.up before.routes number p | Err fault ↦ [] ]
+
+        for : Option Heard → List Sent
+        for o = elim o [ Some message ↦ heard_sends ports before after number message | None ↦ relays ]
+
+        judged : Option Why → List Sent
+        judged o = elim o [ Some reason ↦ [] | None ↦ for heard_now ]
 
     said_all : (P : Sent → Type 0) (m : Heard) → heard_now ≡ Some m → AllByRecursion P (heard_sends ports before after number m) → AllByRecursion P sent
     said_all P m e all = elim (said m e) [

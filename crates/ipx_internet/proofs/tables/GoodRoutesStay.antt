@@ -1,6 +1,6 @@
 -- What a table keeps of the routes that neighbours offer for a network: a route as good as the least way stays, but for another one as good,
 -- and comes where a neighbour offers it whose least way, gone on, it is.
-use Rattle.std.proofs.Common.{◌≡◌, ◌≢◌, refl, sym, ap, ap₂, ◌∙◌, subst, ◌⊎◌, ℕ, ◌<◌, ◌≤◌, ◌==◌, nat_eq, nat_le, true, false, List, [], ◌∷◌, length, map, find, Option, None, Some, inl, inr, true≢false, is_eq}
+use Rattle.std.proofs.Common.{◌≡◌, ◌≢◌, refl, sym, ap, ap₂, ◌∙◌, subst, ◌⊎◌, ℕ, ◌<◌, ◌==◌, nat_eq, nat_le, true, false, List, [], ◌∷◌, length, map, find, Option, None, Some, inl, inr, true≢false, is_eq}
 use Rattle.std.specs.List.{AllByRecursion}
 use Rattle.std.specs.Cmp.Lexicographic.{pointwise}
 use Rattle.std.specs.Cmp.{IsTotalOrder}
@@ -280,6 +280,14 @@ module _ (net : Internet) (is : IsInternet net) (differ : NodesDiffer net) (chea
                     | inr better ↦ stays h some other better (sym (of_offer after) ∙ not_replaced rules total records o distinct h is_known near other better)
                   ]
                 ]
+
+      -- whatever is offered, a route as good is one that was there, or just came
+      pub still_aged : (h : Held RouteOffer) (f : Place) → known after ≡ Some h → Right f h.offer → Fresh f h.age ⊎ Late f h.age
+      still_aged h f e right = elim (left_with rules total records o distinct) [
+        | inl same ↦ state.aged h f (sym (sym (of_offer after) ∙ same ∙ of_offer records) ∙ e) right
+        | inr (inl none) ↦ nothing (sym (sym (of_offer after) ∙ none) ∙ e)
+        | inr (inr new) ↦ inl (it_is (λ (x : Held RouteOffer). Fresh f x.age) h (fresh o) (sym (sym (of_offer after) ∙ new.0) ∙ e) (now f))
+      ]
 
       -- where it is no such one
       module _ (no_source : IsSource o.port from → ⊥) where

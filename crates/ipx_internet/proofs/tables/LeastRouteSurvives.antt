@@ -31,7 +31,7 @@ use Rattle.ipx_internet.proofs.lists.SomeElement.{AnyIs, found_with}
 use Rattle.ipx_internet.proofs.places.OneReceiverOfANode.{same_number}
 use Rattle.ipx_internet.proofs.records.OneFactOnARecord.{found_older, none_older_found}
 use Rattle.ipx_internet.proofs.records.RecordsGrowOld.{Aged, IsOld, IsNear, near_young, after_offers}
-use Rattle.ipx_internet.proofs.tables.GoodRoutesStay.{State, Right, right_offer, decide, comes_right, nothing_comes}
+use Rattle.ipx_internet.proofs.tables.GoodRoutesStay.{State, Right, right_offer, decide, comes_right, nothing_comes, still_aged}
 use Rattle.ipx_internet.proofs.tables.LeastWays.{IsNeighbour, within, few}
 use Rattle.ipx_internet.proofs.tables.NoRouteIsBetter.{Source}
 use Rattle.ipx_internet.proofs.tables.RoomForEachNetwork.{same_where_equal}
@@ -97,14 +97,18 @@ module _ (net : Internet) (is : IsInternet net) (differ : NodesDiffer net) (chea
           → offer_of e ≡ right_offer net is differ cheap up in_ports most_routes room network suffice router v off least j from
       pub real : takes_no_route ports e.network ≡ false → e.hops < unreachable → IsReal net up router (offer_of e)
 
-    next_aged : (facts : List (Fact RouteOffer)) (e : RipEntry) → EntryIs e → takes_no_route ports e.network ≡ false → RoutesAged had facts
+    -- what is offered is real
+    abbrev pub IsOfReal : RipEntry → Type 0
+    IsOfReal e = takes_no_route ports e.network ≡ false → e.hops < unreachable → IsReal net up router (offer_of e)
+
+    next_aged : (facts : List (Fact RouteOffer)) (e : RipEntry) → IsOfReal e → takes_no_route ports e.network ≡ false → RoutesAged had facts
         → RoutesAged had (facts ++ Offered (offer_of e) ∷ [])
     next_aged facts e is_e taken aged =
         after_offers route_reading network_order network_total most_routes (map (λ p. p.route_share) ports) (λ r. r.hops) (λ r. refl) (IsReal net up router) had
-        (Offered (offer_of e) ∷ []) facts ((λ near. inl (is_e.real taken near)), tt) aged
+        (Offered (offer_of e) ∷ []) facts ((λ near. inl (is_e taken near)), tt) aged
 
-    near_if : (e : RipEntry) → EntryIs e → takes_no_route ports e.network ≡ false → nat_le unreachable e.hops ≡ false → IsReal net up router (offer_of e)
-    near_if e is_e taken near = is_e.real taken (leb-false unreachable e.hops near)
+    near_if : (e : RipEntry) → IsOfReal e → takes_no_route ports e.network ≡ false → nat_le unreachable e.hops ≡ false → IsReal net up router (offer_of e)
+    near_if e is_e taken near = is_e taken (leb-false unreachable e.hops near)
 
     other_key : (facts : List (Fact RouteOffer)) (o : RouteOffer) → is_eq (network_order o.network network) ≡ false → known (facts ++ Offered o ∷ []) ≡ known facts
     other_key facts o apart =
@@ -139,7 +143,7 @@ module _ (net : Internet) (is : IsInternet net) (differ : NodesDiffer net) (chea
             (all_then (λ h. IsReal net up router h.offer × (h.age < lifetime)) (λ h. IsReal net up router h.offer) (λ h both. both.0) (records facts)
             (all_real had long facts aged))
             (λ h found. let known_h = known_is had long facts aged h found in (known_h.0.0, known_h.1))
-            (offer_of e) named from neighbour refl (near_if e is_e taken) Fresh now Late Later Same free state source (is_e.right named source) near)
+            (offer_of e) named from neighbour refl (near_if e is_e.real taken) Fresh now Late Later Same free state source (is_e.right named source) near)
           where
             taken : takes_no_route ports e.network ≡ false
             taken = subst (λ (n : Network). takes_no_route ports n ≡ false) (sym named) wanted
@@ -169,8 +173,46 @@ module _ (net : Internet) (is : IsInternet net) (differ : NodesDiffer net) (chea
                     (all_then (λ h. IsReal net up router h.offer × (h.age < lifetime)) (λ h. IsReal net up router h.offer) (λ h both. both.0) (records facts)
                     (all_real had long facts aged))
                     (λ h found. let known_h = known_is had long facts aged h found in (known_h.0.0, known_h.1))
-                    (offer_of e) named from neighbour refl (near_if e is_e taken) Fresh now Late Later Same free state no_source)
+                    (offer_of e) named from neighbour refl (near_if e is_e.real taken) Fresh now Late Later Same free state no_source)
               ]
+        ]
+
+        -- whatever they say
+        abbrev pub Loose : Option (Held RouteOffer) → Type 0
+        Loose k = StateOf Fresh Late (Unit {0}) (λ r. Unit {0}) k
+
+        pub loosen : (k : Option (Held RouteOffer)) → Now k → Loose k
+        loosen k state = record { aged = state.aged; holds = inr tt }
+
+        one_any : (facts : List (Fact RouteOffer)) (e : RipEntry) → IsOfReal e → RoutesAged had facts → takes_no_route ports e.network ≡ false → Loose (known facts)
+            → Loose (known (facts ++ Offered (offer_of e) ∷ []))
+        one_any facts e is_e aged taken state = elim (cases_Bool (is_eq (network_order e.network network))) [
+          | inr apart ↦ subst (λ (k : Option (Held RouteOffer)). Loose k) (sym (other_key facts (offer_of e) apart)) state
+          | inl same ↦
+              let named = same_number e.network network (same_where_equal e.network.0 network.0 same) in
+              subst (λ (k : Option (Held RouteOffer)). Loose k) (sym (own_key facts (offer_of e)))
+              (record {
+                aged = still_aged net is differ cheap up in_ports most_routes room network suffice router v off least (records facts)
+                    (kept rules (rules_total route_reading network_order network_total most_routes (map (λ p. p.route_share) ports)) facts).distinct
+                    (all_then (λ h. IsReal net up router h.offer × (h.age < lifetime)) (λ h. IsReal net up router h.offer) (λ h both. both.0) (records facts)
+                    (all_real had long facts aged))
+                    (λ h found. let known_h = known_is had long facts aged h found in (known_h.0.0, known_h.1))
+                    (offer_of e) named from neighbour refl (near_if e is_e taken) Fresh now Late (Unit {0}) (λ r. Unit {0}) (λ any r. tt) state;
+                holds = inr tt;
+              })
+        ]
+
+        pub entries_any : (es : List RipEntry) (facts : List (Fact RouteOffer)) → AllByRecursion IsOfReal es → RoutesAged had facts → Loose (known facts)
+            → Loose (known (facts ++ routes_offered ports j (port_of net from).node es))
+        entries_any [] facts all aged state = subst (λ (fs : List (Fact RouteOffer)). Loose (known fs)) (sym (append-nil facts)) state
+        entries_any (e ∷ es) facts all aged state = elim (cases_Bool (takes_no_route ports e.network)) [
+          | inl none ↦ rw none (entries_any es facts all.1 aged state)
+          | inr taken ↦
+              let o = Offered (offer_of e) in
+              let rest = routes_offered ports j (port_of net from).node es in
+              let done : Loose (known ((facts ++ o ∷ []) ++ rest)) =
+              entries_any es (facts ++ o ∷ []) all.1 (next_aged facts e all.0 taken aged) (one_any facts e all.0 aged taken state) in
+              rw taken (subst (λ (fs : List (Fact RouteOffer)). Loose (known fs)) (append_assoc facts (o ∷ []) rest) done)
         ]
 
         -- several entries
@@ -183,7 +225,7 @@ module _ (net : Internet) (is : IsInternet net) (differ : NodesDiffer net) (chea
               let o = Offered (offer_of e) in
               let rest = routes_offered ports j (port_of net from).node es in
               let done : Now (known ((facts ++ o ∷ []) ++ rest)) =
-              entries_keep es (facts ++ o ∷ []) all.1 (next_aged facts e all.0 taken aged) (one_keeps facts e all.0 aged taken state) in
+              entries_keep es (facts ++ o ∷ []) all.1 (next_aged facts e all.0.real taken aged) (one_keeps facts e all.0 aged taken state) in
               rw taken (subst (λ (fs : List (Fact RouteOffer)). Now (known fs)) (append_assoc facts (o ∷ []) rest) done)
         ]
 
@@ -199,14 +241,14 @@ module _ (net : Internet) (is : IsInternet net) (differ : NodesDiffer net) (chea
           let taken : takes_no_route ports e.network ≡ false = subst (λ (n : Network). takes_no_route ports n ≡ false) (sym named) wanted in
           let next = one_right Late Later free facts e all.0 aged named source state in
           let done = entries_keep (λ f age. Late f age × (f ≢ from)) ⊥ (λ none r. absurd none) es (facts ++ o ∷ []) all.1
-          (next_aged facts e all.0 taken aged) next in
+          (next_aged facts e all.0.real taken aged) next in
           rw taken (subst (λ (fs : List (Fact RouteOffer)). Then Late Later free (known fs)) (append_assoc facts (o ∷ []) rest) done)
       entries_come Late Later free source (e ∷ es) facts all (inr behind) aged state = elim (cases_Bool (takes_no_route ports e.network)) [
         | inl none ↦ rw none (entries_come Late Later free source es facts all.1 behind aged state)
         | inr taken ↦
             let o = Offered (offer_of e) in
             let rest = routes_offered ports j (port_of net from).node es in
-            let done = entries_come Late Later free source es (facts ++ o ∷ []) all.1 behind (next_aged facts e all.0 taken aged)
+            let done = entries_come Late Later free source es (facts ++ o ∷ []) all.1 behind (next_aged facts e all.0.real taken aged)
             (one_keeps Late Later free facts e all.0 aged taken state) in
             rw taken (subst (λ (fs : List (Fact RouteOffer)). Then Late Later free (known fs)) (append_assoc facts (o ∷ []) rest) done)
       ]

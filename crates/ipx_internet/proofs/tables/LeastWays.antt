@@ -4,10 +4,13 @@ use Rattle.std.specs.List.{AllByRecursion}
 use Rattle.std.proofs.lemmas.Bool.{cases_Bool, and_parts, or_cases, or_parts, ltb-true, ltb-false, eqb-true, eqb-false, eq-eqb, ne_eqb, cases_eq, cases_lt, not-true, both_ways}
 use Rattle.std.proofs.lemmas.List.{get_or_append_left, get_or-append-add, get_or_past, length-map, map-append}
 use Rattle.ipx_wire.specs.declared.network.Network.{Network}
+use Rattle.ipx_router.specs.History.{History}
 use Rattle.ipx_router.specs.Port.{Port, port_at, numbers, is_up}
-use Rattle.ipx_router.proofs.port_values.PortOfEachNumber.{members, one_up}
+use Rattle.ipx_router.proofs.port_values.PortOfEachNumber.{members, one_up, ports_up-within}
 use Rattle.ipx_internet.specs.Internet.{Internet, Place, IsPlace, ports_of, port_of, network_of, places}
 use Rattle.ipx_internet.specs.Least.{Way, is_better, better_of, best, is_on, is_up_on, own_way, neighbours, by_port, way_by, nearest, ways_within}
+use Rattle.ipx_internet.specs.Queue.{history_of}
+use Rattle.ipx_internet.specs.Ticks.{ups}
 use Rattle.ipx_internet.proofs.lists.EachElement.{all_passed}
 use Rattle.ipx_internet.proofs.lists.FoundInAList.{nothing, it_is}
 use Rattle.ipx_internet.proofs.lists.HowManyPass.{length-numbers}
@@ -468,3 +471,7 @@ module _ (net : Internet) (up : ℕ → List ℕ) (in_ports : (router : ℕ) →
 
     pub enough : (hops router : ℕ) (v : Way) → within (suc hops) router ≡ Some v → v.hops ≤ hops → within hops router ≡ Some v
     enough hops router v e least = enough_by hops router v e least (on_or_off router)
+
+-- the ports that are up are ports
+pub ups_within : (net : Internet) (histories : List History) (router : ℕ) → AllByRecursion (λ j. j < length (ports_of net router)) (ups net histories router)
+ups_within net histories router = ports_up-within (ports_of net router) (history_of histories router)

@@ -1,5 +1,5 @@
 -- A packet of a host, once the tables are right: from router to router by their least ways, and out on its network.
-use Rattle.std.proofs.Common.{◌≡◌, ◌≢◌, refl, sym, ap, ap₂, ◌∙◌, subst, ℕ, zero, suc, ◌+◌, ◌*◌, ◌<◌, ◌≤◌, ◌==◌, ◌&&◌, ◌||◌, Bool, true, false, List, [], ◌∷◌, ◌++◌, length, map, filter, flat_map, Option, None, Some, option_map, Result, Ok, Err, inl, inr, arith, append-nil, if◌then◌else◌}
+use Rattle.std.proofs.Common.{◌≡◌, ◌≢◌, refl, sym, ap, ap₂, ◌∙◌, subst, ℕ, zero, suc, ◌+◌, ◌<◌, ◌≤◌, ◌==◌, ◌&&◌, ◌||◌, Bool, true, false, List, [], ◌∷◌, ◌++◌, length, map, filter, flat_map, Option, None, Some, option_map, Result, Ok, Err, inl, inr, arith, append-nil, if◌then◌else◌}
 use Rattle.std.specs.List.{AllByRecursion}
 use Rattle.std.proofs.lemmas.Bool.{cases_Bool, cases_eq, or_cases, ne_eqb, eq-eqb, eqb-true, both_ways}
 use Rattle.ipx_wire.specs.Forward.{forwarded}
@@ -26,7 +26,7 @@ use Rattle.ipx_internet.specs.Arriving.{IsOfHost, IsAllowed, IsShort, Arrives, E
 use Rattle.ipx_internet.specs.Delivery.{receives, delivered}
 use Rattle.ipx_internet.specs.Different.{AreDifferent}
 use Rattle.ipx_internet.specs.Internet.{Internet, Place, IsInternet, NodesDiffer, IsPlace, ports_of, port_of, network_of, places}
-use Rattle.ipx_internet.specs.Least.{Way, is_on, is_up_on, by_port, way_by, ways_within, least as least_of, neighbours, AreCheap, HasRoom, FifteenSuffice}
+use Rattle.ipx_internet.specs.Least.{Way, is_on, is_up_on, by_port, way_by, ways_within, least as least_of, neighbours, AreCheap, HasRoom, FifteenSuffice, most_ticks_right}
 use Rattle.ipx_internet.specs.Queue.{history_of}
 use Rattle.ipx_internet.specs.Run.{Run}
 use Rattle.ipx_internet.specs.Ticks.{most_ticks_gone}
@@ -41,11 +41,10 @@ use Rattle.ipx_internet.proofs.places.OneReceiverOfANode.{port_is, same_number, 
 use Rattle.ipx_internet.proofs.tables.GoodRoutesStay.{same_bytes, bytes_same}
 use Rattle.ipx_internet.proofs.tables.LeastWays.{IsNeighbour, within, own, own_is, on_or_off, OnOrOff, came, is_there, at_numbers, port_on, port_up, all_places, in_neighbours}
 use Rattle.ipx_internet.proofs.tables.NoRouteIsBetter.{Source}
-use Rattle.ipx_internet.proofs.tables.RightAfterASecond.{runs_where}
-use Rattle.ipx_internet.proofs.tables.RightAndKept.{route_is, by_number}
-use Rattle.ipx_internet.proofs.tables.RightTickByTick.{AtRest, find_none}
-use Rattle.ipx_internet.proofs.tables.RightWithinATick.{some_port}
-use Rattle.ipx_internet.proofs.ticks.RealOrSoonEnded.{Endures}
+use Rattle.ipx_internet.proofs.tables.RightWithinAMinute.{AtRest, find_none}
+use Rattle.ipx_internet.proofs.tables.SaysWhatItKnows.{some_port}
+use Rattle.ipx_internet.proofs.tables.TablesAreRight.{route_is, by_number}
+use Rattle.ipx_internet.proofs.ticks.RealOrSoonEnded.{Endures, runs_where}
 use Rattle.ipx_internet.proofs.trees.PropagatedIsBounded.{ports_same}
 use Rattle.ipx_internet.proofs.trees.RoutersAsTreesSee.{numbers_front, joint}
 use Rattle.ipx_internet.proofs.trees.RunIsALog.{router_there}
@@ -166,7 +165,7 @@ module _ (net : Internet) (laws : Layouts) (is : IsInternet net) (differ : Nodes
     abbrev routes : List RouteOffer
     routes = offers (routes_held ports most_routes history)
 
-    endures : Endures net up most_routes most_services q ticks history
+    endures : Endures net up most_routes q ticks history
     endures = rest.rests.routers q inside
 
     ups_in : AllByRecursion (λ j. j < length ports) ups
@@ -228,8 +227,7 @@ module _ (net : Internet) (laws : Layouts) (is : IsInternet net) (differ : Nodes
 
         runs : running history ≡ true
         runs =
-            runs_where net laws is differ cheap up in_ports most_routes most_services room to.network suffice
-            ticks long (λ r. 0) (λ r. omega arith) (λ r. None) q number ticks history on endures
+            runs_where net up most_routes q number ticks history on endures
 
         pub sends_one : (c : Copy) → c.to ≡ record { router = q; port = number } → c.bytes ≡ bytes → forwards routers c ≡ it ∷ []
         unfolding sent_by
@@ -343,7 +341,7 @@ module _ (net : Internet) (laws : Layouts) (is : IsInternet net) (differ : Nodes
   pub goes : (hops q port number : ℕ) (parent : Option ℕ) (bytes : List ℕ) (p : Parts) (v : Way) → port < length (ports_of net q) → is_up (up q) port ≡ true
       → (port_at (ports_of net q) port).network ≢ to.network → IsBytes bytes → IsPacket bytes p → p.header.destination ≡ to → IsOfHost net p
       → IsShort net up p.header.length to.network hops q → p.header.control + hops < 16 → within net up in_ports to.network 15 q ≡ Some v → v.hops ≡ hops
-      → most_ticks_gone + 60 * hops ≤ ticks
+      → (1 ≤ hops → most_ticks_right ≤ ticks)
       → Arrives routers to p.header.control hops number (record { parent = parent; to = record { router = q; port = port }; bytes = bytes })
   goes zero q port number parent bytes p v here on_port_here away are_bytes is_packet same of_host short few_control least none sure =
       by (on_or_off net up in_ports to.network q)
@@ -372,7 +370,7 @@ module _ (net : Internet) (laws : Layouts) (is : IsInternet net) (differ : Nodes
       (λ f u neighbour on_f elsewhere written read_again short_on is_u hops_u. goes hops f.router f.port (number + 1) (Some number) (packet_bytes (forwarded p))
       (forwarded p) u neighbour on_f elsewhere written
       read_again same (record { for_one = of_host.for_one; source = of_host.source; no_echo = of_host.no_echo; elsewhere = of_host.elsewhere })
-      short_on (omega (arith, few_control)) is_u hops_u (omega (arith, sure)))
+      short_on (omega (arith, few_control)) is_u hops_u (λ some_hop. sure (omega arith)))
     where
       by : OnOrOff net up in_ports to.network q
           → ((f : Place) (u : Way) → IsPlace net f → is_up (up f.router) f.port ≡ true → network_of net f ≢ to.network → IsBytes (packet_bytes (forwarded p))
@@ -385,7 +383,7 @@ module _ (net : Internet) (laws : Layouts) (is : IsInternet net) (differ : Nodes
           absurd (omega (arith, none, some))
       by (inr off) deeper =
           let inside = router_there net q port here in
-          let enough : most_ticks_gone + 60 * v.hops ≤ ticks = omega (arith, some, sure) in
+          let enough : most_ticks_right ≤ ticks = sure (omega arith) in
           let has = route_is net laws is differ cheap up in_ports most_routes most_services room to.network suffice
           ticks run rest long q inside v off least enough in
           let held = by_number net laws is differ cheap up in_ports most_routes most_services room to.network suffice ticks run rest long q inside ∙ has.held in

@@ -1,5 +1,5 @@
 -- What a router says of a network of which it has the least way: that way, gone on; and it says so in each periodic broadcast.
-use Rattle.std.proofs.Common.{◌≡◌, ◌≢◌, refl, sym, ap, ◌∙◌, subst, ◌⊎◌, ℕ, ◌+◌, ◌<◌, ◌≤◌, ◌==◌, nat_lt, true, not, List, [], ◌∷◌, ◌++◌, length, map, filter, flat_map, find, Option, Some, None, IfSome, inl, inr, arith, is_eq}
+use Rattle.std.proofs.Common.{◌≡◌, ◌≢◌, refl, sym, ap, ◌∙◌, subst, ◌⊎◌, ℕ, ◌+◌, ◌<◌, ◌≤◌, ◌==◌, nat_lt, Bool, true, false, not, List, [], ◌∷◌, ◌++◌, length, map, filter, flat_map, find, Option, Some, None, IfSome, inl, inr, arith, is_eq}
 use Rattle.std.specs.List.{AllByRecursion}
 use Rattle.std.proofs.lemmas.Bool.{cases_Bool, ltb-false}
 use Rattle.ipx_wire.specs.declared.network.Network.{Network}
@@ -12,7 +12,7 @@ use Rattle.ipx_router.specs.Pages.{pages_from, pages}
 use Rattle.ipx_router.specs.Port.{Port, IsPort, broadcast, port_at, is_up, own_address, everyone}
 use Rattle.ipx_router.specs.Relays.{Sent}
 use Rattle.ipx_router.specs.Routes.{network_order}
-use Rattle.ipx_router.specs.Sends.{Holding, second_on, rip_broadcast, sap_broadcast, entries_sent}
+use Rattle.ipx_router.specs.Sends.{Holding, second_on, news_on, rip_broadcast, sap_broadcast, entries_sent}
 use Rattle.ipx_router.specs.Told.{network_before, by_network, by_name, is_reached_on, told_at, dead, direct_entry, direct, entry_of, is_route_told, learned, told, told_services}
 use Rattle.ipx_router.specs.News.{news_services}
 use Rattle.ipx_router.specs.declared.route_offer.RouteOffer.{RouteOffer}
@@ -200,24 +200,37 @@ module _ (ports : List Port) (network : Network) (u : Way) where
         (any_and_all (λ page. AnyIs IsOf page) (IsPage entries_a_page (Writable P)) (pages entries_a_page entries) (any-pages IsOf entries_a_page entries any)
         (all_pages (Writable P) entries_a_page (omega arith) entries all))
 
-    -- on one port that is up
-    pub second_tells : (before after : Holding) → AnyIs (λ k. k ≡ j) after.up → AnyIs IsOf (told ports after.up after.routes j)
-        → AllByRecursion (Writable P) (told ports after.up after.routes j) → AllByRecursion (Writable P) (news ports before.routes after.routes j)
-        → AnyIs (Tells P j) (flat_map (second_on ports before after true) after.up)
-    second_tells before after on any all all_gone =
-        any-flat_map (λ k. k ≡ j) (Tells P j) (second_on ports before after true)
-        (λ k same. subst (λ (i : ℕ). AnyIs (Tells P j) (second_on ports before after true i)) (sym same) here) after.up on
-      where
-        rest : List RipEntry
-        rest = told ports after.up after.routes j
+    -- on one port that is up, of all that is advertised or of what changed
+    at_port : (f : ℕ → List Sent) (up : List ℕ) → AnyIs (λ k. k ≡ j) up → AnyIs (Tells P j) (f j) → AnyIs (Tells P j) (flat_map f up)
+    at_port f up on here = any-flat_map (λ k. k ≡ j) (Tells P j) f (λ k same. subst (λ (i : ℕ). AnyIs (Tells P j) (f i)) (sym same) here) up on
 
-        gone : List RipEntry
-        gone = news ports before.routes after.routes j
+    module _ (before after : Holding) (on : AnyIs (λ k. k ≡ j) after.up) (changed : AllByRecursion (Writable P) (news ports before.routes after.routes j)) where
+      abbrev rest : List RipEntry
+      rest = told ports after.up after.routes j
 
-        here : AnyIs (Tells P j) (second_on ports before after true j)
-        here =
+      abbrev gone : List RipEntry
+      gone = news ports before.routes after.routes j
+
+      pub news_tell : AnyIs IsOf gone → AnyIs (Tells P j) (flat_map (news_on ports before after) after.up)
+      news_tell any =
+          at_port (news_on ports before after) after.up on
+          (any_in_front (Tells P j) (rip_broadcast ports j gone) (sap_broadcast ports j (news_services before.services after.services j)) (rip_tells gone changed any))
+
+      module _ (all : AllByRecursion (Writable P) rest) where
+        periodic_tells : AnyIs IsOf rest ⊎ AnyIs IsOf gone → AnyIs (Tells P j) (second_on ports before after true j)
+        periodic_tells any =
             any_in_front (Tells P j) (rip_broadcast ports j (by_network (rest ++ gone)))
             (sap_broadcast ports j (by_name (told_services after.services j ++ news_services before.services after.services j)))
             (rip_tells (by_network (rest ++ gone))
-            (all_sorted (Writable P) network_before (rest ++ gone) (all-append (Writable P) rest gone all all_gone))
-            (any-sorted IsOf network_before (rest ++ gone) (any_in_front IsOf rest gone any)))
+            (all_sorted (Writable P) network_before (rest ++ gone) (all-append (Writable P) rest gone all changed))
+            (any-sorted IsOf network_before (rest ++ gone) (elim any [
+              | inl here ↦ any_in_front IsOf rest gone here
+              | inr here ↦ any_behind IsOf rest gone here
+            ])))
+
+        pub second_tells : AnyIs IsOf rest → AnyIs (Tells P j) (flat_map (second_on ports before after true) after.up)
+        second_tells any = at_port (second_on ports before after true) after.up on (periodic_tells (inl any))
+
+        pub change_tells : (periodic : Bool) → AnyIs IsOf gone → AnyIs (Tells P j) (flat_map (second_on ports before after periodic) after.up)
+        change_tells true any = at_port (second_on ports before after true) after.up on (periodic_tells (inr any))
+        change_tells false any = news_tell any

@@ -1,7 +1,8 @@
 -- Whatever else happens meanwhile, after 2,880 ticks there is no route to a network that is gone, and no service that nobody announces.
-use Rattle.std.proofs.Common.{◌≡◌, ◌≢◌, refl, subst, ℕ, ◌+◌, ◌<◌, ◌≤◌, true, List, [], ◌∷◌, length, map, inl, inr, arith}
+use Rattle.std.proofs.Common.{◌≡◌, ◌≢◌, refl, ap, subst, ℕ, suc, ◌+◌, ◌<◌, ◌≤◌, true, List, [], ◌∷◌, length, map, inl, inr, arith}
 use Rattle.std.specs.List.{AllByRecursion}
 use Rattle.std.proofs.lemmas.Bool.{both_ways}
+use Rattle.ipx_table.specs.declared.held.Held.{Held}
 use Rattle.ipx_wire.specs.Crossed.{is_among}
 use Rattle.ipx_wire.specs.declared.address.Address.{Address}
 use Rattle.ipx_wire.specs.declared.network.Network.{Network}
@@ -16,6 +17,7 @@ use Rattle.ipx_router.specs.History.{History}
 use Rattle.ipx_router.specs.Port.{Port}
 use Rattle.ipx_router.specs.Routes.{route_reading, network_order}
 use Rattle.ipx_router.specs.Services.{service_reading, service_order}
+use Rattle.ipx_router.specs.declared.service_offer.ServiceOffer.{ServiceOffer}
 use Rattle.ipx_router.proofs.bounds.PacketsOfEachEvent.{network_total, service_total}
 use Rattle.ipx_internet.specs.Internet.{Internet, IsInternet, ports_of}
 use Rattle.ipx_internet.specs.Meanwhile.{AreWithout, IsWithoutRoute, AsksElsewhere, IsWithoutService, SaysOnly, IsBusyTick, StaysGone, EachTick}
@@ -126,3 +128,14 @@ module _ (net : Internet) (laws : Layouts) (is : IsInternet net) (most_routes mo
         (at_last service_reading service_order service_total most_services (map (λ p. p.service_share) ports) (λ s. s.service.hops) (λ s. refl)
         (λ s. IsFineService EveryNetwork IsOtherKey s.service)
         (length ticks + 0) (service_facts ports past) (omega (arith, long)) (rests.routers router within).services)
+
+-- where nobody announces any service, none is left
+pub none_left : (services : List ServiceOffer) → ((key : ℕ × List ℕ) → AllByRecursion (λ s. (s.service.kind, s.service.name) ≢ key) services) → services ≡ []
+none_left [] none = refl
+none_left (s ∷ services) none = absurd ((none (s.service.kind, s.service.name)).0 refl)
+
+pub no_records : {O : Type 0} (records : List (Held O)) → offers records ≡ [] → records ≡ []
+no_records [] e = refl
+no_records (h ∷ records) e =
+    let more : suc (length (offers records)) ≡ 0 = ap length e in
+    absurd (omega (arith, more))

@@ -1,15 +1,13 @@
--- Where every route is of a real way from the first, and there is no service, a router is as after the ticks after which all routes are.
-use Rattle.std.proofs.Common.{◌≡◌, refl, sym, subst, ◌⊎◌, ℕ, ◌+◌, ◌*◌, ◌<◌, ◌≤◌, List, [], ◌∷◌, length, map, inl}
+-- Where every route is of a real way from the first, a router is as after the ticks after which all routes are.
+use Rattle.std.proofs.Common.{refl, ◌⊎◌, ℕ, ◌+◌, ◌*◌, ◌<◌, ◌≤◌, List, [], ◌∷◌, length, map, inl}
 use Rattle.std.specs.List.{AllByRecursion}
 use Rattle.ipx_table.specs.declared.held.Held.{Held}
 use Rattle.ipx_table.proofs.Order.{all-from_order}
 use Rattle.ipx_table.proofs.Standing.{rules_total}
-use Rattle.ipx_router.specs.Facts.{service_facts, routes_held, services_held, offers}
+use Rattle.ipx_router.specs.Facts.{routes_held, offers}
 use Rattle.ipx_router.specs.History.{History}
 use Rattle.ipx_router.specs.Routes.{route_rules, route_reading, network_order}
-use Rattle.ipx_router.specs.Services.{service_reading, service_order}
-use Rattle.ipx_router.specs.declared.service_offer.ServiceOffer.{ServiceOffer}
-use Rattle.ipx_router.proofs.bounds.PacketsOfEachEvent.{network_total, service_total}
+use Rattle.ipx_router.proofs.bounds.PacketsOfEachEvent.{network_total}
 use Rattle.ipx_internet.specs.Internet.{Internet, IsInternet, ports_of}
 use Rattle.ipx_internet.specs.Queue.{history_of}
 use Rattle.ipx_internet.specs.Real.{IsReal}
@@ -17,7 +15,6 @@ use Rattle.ipx_internet.specs.Run.{AreHistories, begun}
 use Rattle.ipx_internet.specs.Ticks.{most_ticks_gone, ups}
 use Rattle.ipx_internet.proofs.lists.EachElement.{all_then}
 use Rattle.ipx_internet.proofs.packets.SentOnOrReply.{Layouts}
-use Rattle.ipx_internet.proofs.records.RecordsGrowOld.{where_none}
 use Rattle.ipx_internet.proofs.ticks.RealOrSoonEnded.{Endures}
 use Rattle.ipx_internet.proofs.ticks.TickAfterTick.{Rests}
 
@@ -28,9 +25,8 @@ of_offers P (x ∷ xs) all = (all.0, of_offers P xs all.1)
 
 module _ (net : Internet) (laws : Layouts) (is : IsInternet net) (most_routes most_services : ℕ) (histories : List History) (are : AreHistories net histories)
     (real : (router : ℕ) → router < length net
-    → AllByRecursion (IsReal net (ups net histories) router) (offers (routes_held (ports_of net router) most_routes (history_of histories router))))
-    (no_service : (router : ℕ) → router < length net → services_held (ports_of net router) most_services (history_of histories router) ≡ []) where
-  endures : (router : ℕ) → router < length net → Endures net (ups net histories) most_routes most_services router most_ticks_gone (history_of histories router)
+    → AllByRecursion (IsReal net (ups net histories) router) (offers (routes_held (ports_of net router) most_routes (history_of histories router)))) where
+  endures : (router : ℕ) → router < length net → Endures net (ups net histories) most_routes router most_ticks_gone (history_of histories router)
   endures router inside = record {
     routes =
         all_then (λ h. IsReal net (ups net histories) router h.offer)
@@ -39,10 +35,6 @@ module _ (net : Internet) (laws : Layouts) (is : IsInternet net) (most_routes mo
         (rules_total route_reading network_order network_total most_routes (map (λ p. p.route_share) (ports_of net router)))
         (λ h. IsReal net (ups net histories) router h.offer) _
         (of_offers (IsReal net (ups net histories) router) (routes_held (ports_of net router) most_routes (history_of histories router)) (real router inside)));
-    services =
-        where_none service_reading service_order service_total most_services (map (λ p. p.service_share) (ports_of net router)) (λ s. s.service.hops) (λ s. refl) (λ s. ⊥)
-        most_ticks_gone (service_facts (ports_of net router) (history_of histories router))
-        (subst (λ (hs : List (Held ServiceOffer)). AllByRecursion (λ o. ⊥) (offers hs)) (sym (no_service router inside)) tt);
     ups = refl;
   }
 

@@ -1,43 +1,39 @@
--- What a router has and says while time passes: records are of real ways, or so old that they soon end, and what it says of them too.
+-- What a router has and says while time passes and packets come: routes are of real ways, or so old that they soon end, and what it says of
+-- them too.
 use Rattle.std.proofs.Common.{◌≡◌, ◌≢◌, refl, sym, ◌∙◌, subst, ◌⊎◌, ℕ, suc, ◌+◌, ◌*◌, ◌<◌, ◌≤◌, ◌==◌, true, false, List, [], ◌∷◌, ◌++◌, map, Option, Some, None, Ok, inl, inr, arith, append-nil, true≢false}
 use Rattle.std.specs.List.{AllByRecursion}
 use Rattle.std.proofs.lemmas.Bool.{cases_Bool, eqb-false}
 use Rattle.ipx_table.specs.Facts.{Fact}
 use Rattle.ipx_wire.specs.Packet.{Parts, packet_of}
-use Rattle.ipx_wire.specs.WriteServices.{entry_of as sap_entry}
 use Rattle.ipx_wire.specs.declared.rip.Operation.TheVariants.{Response}
 use Rattle.ipx_wire.specs.declared.rip.RipEntry.{RipEntry}
-use Rattle.ipx_wire.specs.declared.sap.Sap.TheVariants.{Response as SapResponse}
-use Rattle.ipx_wire.specs.declared.service.Service.{Service}
-use Rattle.ipx_router.specs.Facts.{route_offer, routes_offered, routes_heard, services_offered, services_heard, heard_after, route_facts, service_facts, route_facts_of, service_facts_of, routes_held, services_held, offers}
-use Rattle.ipx_router.specs.Heard.{Heard, HeardRip, HeardSap, heard_in, heard_near}
+use Rattle.ipx_router.specs.Facts.{route_offer, routes_offered, routes_heard, heard_after, route_facts, route_facts_of, routes_held, offers}
+use Rattle.ipx_router.specs.Heard.{Heard, HeardRip, heard_in}
 use Rattle.ipx_router.specs.History.{History, Second, Packet, running, ports_up}
-use Rattle.ipx_router.specs.News.{news, news_services}
+use Rattle.ipx_router.specs.News.{news}
 use Rattle.ipx_router.specs.Numbers.{unreachable}
-use Rattle.ipx_router.specs.Port.{Port, port_at, is_up, takes_no_route, own_address, everyone, own_services, every_server}
+use Rattle.ipx_router.specs.Port.{Port, port_at, is_up, takes_no_route, own_address}
 use Rattle.ipx_router.specs.Routes.{route_reading, network_order}
-use Rattle.ipx_router.specs.Services.{service_reading, service_order}
-use Rattle.ipx_router.specs.Told.{told, told_services, told_at, direct_entry, entry_of, dead, farther as one_farther, dead_service}
-use Rattle.ipx_router.specs.Why.{is_near}
+use Rattle.ipx_router.specs.Told.{told, told_at, direct_entry, entry_of, dead}
 use Rattle.ipx_router.specs.declared.route_offer.RouteOffer.{RouteOffer}
-use Rattle.ipx_router.specs.declared.service_offer.ServiceOffer.{ServiceOffer}
-use Rattle.ipx_router.proofs.bounds.PacketsOfEachEvent.{network_total, service_total}
+use Rattle.ipx_router.proofs.bounds.PacketsOfEachEvent.{network_total}
 use Rattle.ipx_router.proofs.lists.EachElement.{all_both}
 use Rattle.ipx_router.proofs.histories.OneEventMore.{ports_stay, none_up}
 use Rattle.ipx_router.proofs.tables.OffersOfAMessage.{facts_from-more}
 use Rattle.ipx_router.proofs.tables.HeldWasOffered.{came_in, heard_up}
-use Rattle.ipx_router.proofs.tables.HeldCameByPortsUp.{held_routes_up, held_services_up}
+use Rattle.ipx_router.proofs.tables.HeldCameByPortsUp.{held_routes_up}
 use Rattle.ipx_internet.specs.Internet.{Internet, Place, ports_of, port_of, network_of}
+use Rattle.ipx_internet.specs.Meanwhile.{message_of, TellsNoRoute}
 use Rattle.ipx_internet.specs.Queue.{Delivery}
 use Rattle.ipx_internet.specs.Real.{IsReal, next, farther}
 use Rattle.ipx_internet.specs.Rounds.{IsDelivery}
 use Rattle.ipx_internet.proofs.lists.EachElement.{all_then}
-use Rattle.ipx_internet.proofs.lists.FoundInAList.{nothing, it_is}
-use Rattle.ipx_internet.proofs.packets.AdvertisedIsHeld.{told_all, news_told, told_services_all, news_services_told}
-use Rattle.ipx_internet.proofs.packets.SentOnOrReply.{IsNewsSent}
+use Rattle.ipx_internet.proofs.lists.FoundInAList.{it_is}
+use Rattle.ipx_internet.proofs.packets.AdvertisedIsHeld.{told_all, news_told}
+use Rattle.ipx_internet.proofs.packets.RoutesOrSilence.{Silent, IsOwnPage, own_heard, near_in, silent_offers}
+use Rattle.ipx_internet.proofs.packets.SentOnSaysTheSame.{heard_message}
 use Rattle.ipx_internet.proofs.records.KeptOrOffered.{OffersOf}
 use Rattle.ipx_internet.proofs.records.RecordsGrowOld.{Aged, IsOldOffer, IsOldHeld, at_first, where_none, after_second, after_offers, old_held}
-use Rattle.ipx_internet.proofs.rounds.RepliesTellChanges.{page_heard, services_heard_of}
 
 module _ (net : Internet) (up : ℕ → List ℕ) where
   -- ---- what is said
@@ -60,30 +56,25 @@ module _ (net : Internet) (up : ℕ → List ℕ) where
       e.hops < unreachable
       → ((to : Place) → Reaches from to → Hears to e → IsReal net up to.router (route_offer to.port (port_of net from).node e)) ⊎ (begun ≤ 180 * e.hops)
 
-  abbrev pub ServiceSaid : ℕ → Service → Type 0
-  ServiceSaid begun s = s.hops < unreachable → begun ≤ 180 * s.hops
+  -- what a port says that reaches another one: a page of such entries, or what tells of no route
+  abbrev pub Comes : (Place → RipEntry → Type 0) → Place → List ℕ → Type 0
+  Comes P to bytes = ((from : Place) × Reaches from to × IsOwnPage (P from) (port_of net from) bytes) ⊎ Silent bytes
 
   -- what waits for a port
   pub record Arrives (begun : ℕ) (d : Delivery) : Type 0 where
     pub delivery : IsDelivery net d
-    pub from : Place
-    pub reaches : Reaches from d.to
-    pub news : IsNewsSent (RouteSaid begun from) (ServiceSaid begun) (port_of net from) d.bytes
+    pub says : Comes (RouteSaid begun) d.to d.bytes
 
-  module _ (most_routes most_services router : ℕ) where
+  module _ (most_routes router : ℕ) where
     abbrev pub ports : List Port
     ports = ports_of net router
 
     abbrev RoutesAged : ℕ → List (Fact RouteOffer) → Type 0
     RoutesAged = Aged route_reading network_order network_total most_routes (map (λ p. p.route_share) ports) (λ r. r.hops) (λ r. refl) (IsReal net up router)
 
-    abbrev ServicesAged : ℕ → List (Fact ServiceOffer) → Type 0
-    ServicesAged = Aged service_reading service_order service_total most_services (map (λ p. p.service_share) ports) (λ s. s.service.hops) (λ s. refl) (λ s. ⊥)
-
     -- what a router has that had so many seconds
     pub record Endures (had : ℕ) (history : History) : Type 0 where
       pub routes : RoutesAged had (route_facts ports history)
-      pub services : ServicesAged had (service_facts ports history)
       pub ups : ports_up ports history ≡ up router
 
     pub at_begin : (history : History) → ports_up ports history ≡ up router → Endures 0 history
@@ -91,9 +82,6 @@ module _ (net : Internet) (up : ℕ → List ℕ) where
       routes =
           at_first route_reading network_order network_total most_routes (map (λ p. p.route_share) ports) (λ r. r.hops) (λ r. refl) (IsReal net up router)
           (route_facts ports history);
-      services =
-          at_first service_reading service_order service_total most_services (map (λ p. p.service_share) ports) (λ s. s.service.hops) (λ s. refl) (λ s. ⊥)
-          (service_facts ports history);
       ups = same;
     }
 
@@ -123,48 +111,32 @@ module _ (net : Internet) (up : ℕ → List ℕ) where
                 (offers (routes_held ports most_routes history)) (held_routes_up ports most_routes history))))
           ])
 
-      second_services : ServicesAged (suc had) (service_facts ports (history ++ Second ∷ []))
-      second_services =
-          let facts = service_facts ports history in
-          subst (λ (fs : List (Fact ServiceOffer)). ServicesAged (suc had) fs) (sym (facts_from-more (service_facts_of ports) [] history Second))
-          (elim (cases_Bool (running history)) [
-            | inl runs ↦
-                rw runs (after_second service_reading service_order service_total most_services (map (λ p. p.service_share) ports) (λ s. s.service.hops) (λ s. refl)
-                (λ s. ⊥) had facts endures.services)
-            | inr stopped ↦
-                let none = none_up ports history stopped in
-                rw stopped (subst (λ (fs : List (Fact ServiceOffer)). ServicesAged (suc had) fs) (sym (append-nil facts))
-                (where_none service_reading service_order service_total most_services (map (λ p. p.service_share) ports) (λ s. s.service.hops) (λ s. refl) (λ s. ⊥)
-                (suc had) facts
-                (all_then (λ s. is_up (ports_up ports history) s.port ≡ true) (λ s. ⊥) (λ s on. no_port (ports_up ports history) s.port none on)
-                (offers (services_held ports most_services history)) (held_services_up ports most_services history))))
-          ])
-
       pub second_endures : Endures (suc had) (history ++ Second ∷ [])
       second_endures = record {
         routes = second_routes;
-        services = second_services;
         ups = ports_stay ports history Second refl refl (λ port. refl) (λ port. refl) ∙ endures.ups;
       }
 
+    -- a router with a port up runs
+    pub runs_where : (port had : ℕ) (history : History) → is_up (up router) port ≡ true → Endures had history → running history ≡ true
+    runs_where port had history here endures = elim (cases_Bool (running history)) [
+      | inl runs ↦ runs
+      | inr stopped ↦ absurd (no_port had history endures (up router) port (sym endures.ups ∙ none_up ports history stopped) here)
+    ]
+
     -- ---- a packet
 
-    module _ (had begun : ℕ) (number : ℕ) (bytes : List ℕ) (late : had ≤ begun) (from : Place) (reaches : Reaches from (record { router = router; port = number }))
-        (news : IsNewsSent (RouteSaid begun from) (ServiceSaid begun) (port_of net from) bytes) where
+    module _ (had begun : ℕ) (number : ℕ) (bytes : List ℕ) (late : had ≤ begun) (says : Comes (RouteSaid begun) (record { router = router; port = number }) bytes) where
       abbrev RouteOld : RouteOffer → Type 0
       RouteOld =
           IsOldOffer route_reading network_order network_total most_routes (map (λ p. p.route_share) ports) (λ r. r.hops) (λ r. refl) (IsReal net up router) had
 
-      abbrev ServiceOld : ServiceOffer → Type 0
-      ServiceOld =
-          IsOldOffer service_reading service_order service_total most_services (map (λ p. p.service_share) ports) (λ s. s.service.hops) (λ s. refl) (λ s. ⊥) had
-
-      routes_old : is_up (up router) number ≡ true → (entries : List RipEntry) → AllByRecursion (RouteSaid begun from) entries
-          → AllByRecursion (OffersOf RouteOld) (routes_offered ports number (port_of net from).node entries)
-      routes_old on [] all = tt
-      routes_old on (e ∷ entries) all = elim (cases_Bool (takes_no_route ports e.network)) [
-        | inl none ↦ rw none (routes_old on entries all.1)
-        | inr taken ↦ rw taken ((λ near. one taken (all.0 near)), routes_old on entries all.1)
+      routes_old : (from : Place) → Reaches from (record { router = router; port = number }) → is_up (up router) number ≡ true → (entries : List RipEntry)
+          → AllByRecursion (RouteSaid begun from) entries → AllByRecursion (OffersOf RouteOld) (routes_offered ports number (port_of net from).node entries)
+      routes_old from reaches on [] all = tt
+      routes_old from reaches on (e ∷ entries) all = elim (cases_Bool (takes_no_route ports e.network)) [
+        | inl none ↦ rw none (routes_old from reaches on entries all.1)
+        | inr taken ↦ rw taken ((λ near. one taken (all.0 near)), routes_old from reaches on entries all.1)
       ]
         where
           one : takes_no_route ports e.network ≡ false
@@ -173,57 +145,43 @@ module _ (net : Internet) (up : ℕ → List ℕ) where
           one wanted (inl real) = inl (real (record { router = router; port = number }) reaches (record { up_here = on; wanted = wanted }))
           one wanted (inr soon) = inr (omega (arith, soon, late))
 
-      services_old : (services : List Service) → AllByRecursion (ServiceSaid begun) services
-          → AllByRecursion (OffersOf ServiceOld) (services_offered number (port_of net from).node (map sap_entry services))
-      services_old [] all = tt
-      services_old (s ∷ services) all = ((λ near. inr (let soon = all.0 near in omega (arith, soon, late))), services_old services all.1)
-
       abbrev OldHeard : Heard → Type 0
-      OldHeard m = AllByRecursion (OffersOf RouteOld) (routes_heard ports number (Some m)) × AllByRecursion (OffersOf ServiceOld) (services_heard number (Some m))
+      OldHeard m = AllByRecursion (OffersOf RouteOld) (routes_heard ports number (Some m))
 
-      page_old : is_up (up router) number ≡ true → (p : Parts) (m : Heard) → packet_of bytes ≡ Ok p → heard_in p ≡ Some m → IsNewsSent (RouteSaid begun from) (ServiceSaid begun) (port_of net from) bytes
-          → OldHeard m
-      page_old on p m read e (inl page) =
+      silent_old : (m : Heard) → TellsNoRoute m → OldHeard m
+      silent_old m silent = subst (λ (fs : List (Fact RouteOffer)). AllByRecursion (OffersOf RouteOld) fs) (sym (silent_offers ports number m silent)) tt
+
+      page_old : is_up (up router) number ≡ true → (p : Parts) (m : Heard) → packet_of bytes ≡ Ok p → heard_in p ≡ Some m → message_of bytes ≡ Some m
+          → Comes (RouteSaid begun) (record { router = router; port = number }) bytes → OldHeard m
+      page_old on p m read e message (inr silent) = silent_old m (silent m message)
+      page_old on p m read e message (inl (from, reaches, own)) =
           let port = port_of net from in
-          it_is OldHeard m (HeardRip (own_address port) (record { operation = Response; entries = page.page }))
-          (page_heard (RouteSaid begun from) (own_address port) (everyone port) bytes refl page p m read e) (routes_old on page.page page.each, tt)
-      page_old on p m read e (inr page) =
-          let port = port_of net from in
-          it_is OldHeard m (HeardSap (own_services port) (SapResponse false (map sap_entry page.page)))
-          (services_heard_of (ServiceSaid begun) (own_services port) (every_server port) false bytes refl page p m read e) (tt, services_old page.page page.each)
+          elim (own_heard (RouteSaid begun from) port bytes own p m read e) [
+            | inl page ↦
+                it_is OldHeard m (HeardRip (own_address port) (record { operation = Response; entries = own.page.page })) page
+                (routes_old from reaches on own.page.page own.page.each)
+            | inr silent ↦ silent_old m silent
+          ]
 
       module _ (history : History) (endures : Endures had history) where
         abbrev heard_now : Option Heard
         heard_now = heard_after ports history number bytes
 
-        near : (p : Parts) (m : Heard) → heard_near (port_at ports number) p ≡ Some m → heard_in p ≡ Some m
-        near p m e = elim (cases_Bool (is_near (port_at ports number) p.header)) [
-          | inl here ↦ rw here at e
-          | inr far ↦ nothing (rw far at e)
-        ]
-
-        old_heard : (o : Option Heard) → heard_now ≡ o
-            → AllByRecursion (OffersOf RouteOld) (routes_heard ports number o) × AllByRecursion (OffersOf ServiceOld) (services_heard number o)
-        old_heard None e = (tt, tt)
+        old_heard : (o : Option Heard) → heard_now ≡ o → AllByRecursion (OffersOf RouteOld) (routes_heard ports number o)
+        old_heard None e = tt
         old_heard (Some m) e =
             let came = came_in ports (ports_up ports history) number (running history) bytes m e in
             let on = subst (λ (us : List ℕ). is_up us number ≡ true) endures.ups (heard_up ports (ports_up ports history) number (running history) bytes m e) in
-            page_old on came.packet m came.read (near came.packet m came.near) news
+            page_old on came.packet m came.read (near_in (port_at ports number) came.packet m came.near) (heard_message ports history number bytes m e) says
 
         pub packet_endures : Endures had (history ++ Packet number bytes ∷ [])
-        packet_endures =
-            let old = old_heard heard_now refl in
-            record {
-              routes =
-                  subst (λ (fs : List (Fact RouteOffer)). RoutesAged had fs) (sym (facts_from-more (route_facts_of ports) [] history (Packet number bytes)))
-                  (after_offers route_reading network_order network_total most_routes (map (λ p. p.route_share) ports) (λ r. r.hops) (λ r. refl) (IsReal net up router)
-                  had (routes_heard ports number heard_now) (route_facts ports history) old.0 endures.routes);
-              services =
-                  subst (λ (fs : List (Fact ServiceOffer)). ServicesAged had fs) (sym (facts_from-more (service_facts_of ports) [] history (Packet number bytes)))
-                  (after_offers service_reading service_order service_total most_services (map (λ p. p.service_share) ports) (λ s. s.service.hops) (λ s. refl) (λ s. ⊥)
-                  had (services_heard number heard_now) (service_facts ports history) old.1 endures.services);
-              ups = ports_stay ports history (Packet number bytes) refl refl (λ port. refl) (λ port. refl) ∙ endures.ups;
-            }
+        packet_endures = record {
+          routes =
+              subst (λ (fs : List (Fact RouteOffer)). RoutesAged had fs) (sym (facts_from-more (route_facts_of ports) [] history (Packet number bytes)))
+              (after_offers route_reading network_order network_total most_routes (map (λ p. p.route_share) ports) (λ r. r.hops) (λ r. refl) (IsReal net up router)
+              had (routes_heard ports number heard_now) (route_facts ports history) (old_heard heard_now refl) endures.routes);
+          ups = ports_stay ports history (Packet number bytes) refl refl (λ port. refl) (λ port. refl) ∙ endures.ups;
+        }
 
     -- ---- what it says
 
@@ -278,31 +236,3 @@ module _ (net : Internet) (up : ℕ → List ℕ) where
       changes_said before j =
           news_told ports (up router) (λ j. RouteSaid begun (place j)) RouteHeld beside learned_said ended_said before (offers (routes_held ports most_routes history))
           routes_are j
-
-      abbrev ServiceHeld : ServiceOffer → Type 0
-      ServiceHeld =
-          IsOldHeld service_reading service_order service_total most_services (map (λ p. p.service_share) ports) (λ s. s.service.hops) (λ s. refl) (λ s. ⊥) had
-
-      services_are : AllByRecursion ServiceHeld (offers (services_held ports most_services history))
-      services_are =
-          old_held service_reading service_order service_total most_services (map (λ p. p.service_share) ports) (λ s. s.service.hops) (λ s. refl) (λ s. ⊥) had
-          (service_facts ports history) endures.services
-
-      service_said : (s : ServiceOffer) → ServiceHeld s → ServiceSaid begun (one_farther s.service)
-      service_said s held near = by held.0
-        where
-          by : ⊥ ⊎ (had ≤ 180 * s.service.hops + 179) → begun ≤ 180 * (s.service.hops + 1)
-          by (inl never) = absurd never
-          by (inr old) = omega (arith, old, soon)
-
-      lost_said : (s : Service) → ServiceSaid begun (dead_service s)
-      lost_said s near = absurd (omega (arith, near))
-
-      pub services_said : (j : ℕ) → AllByRecursion (ServiceSaid begun) (told_services (offers (services_held ports most_services history)) j)
-      services_said j =
-          told_services_all (ServiceSaid begun) ServiceHeld service_said lost_said (offers (services_held ports most_services history)) services_are j
-
-      pub service_changes_said : (before : List ServiceOffer) (j : ℕ)
-          → AllByRecursion (ServiceSaid begun) (news_services before (offers (services_held ports most_services history)) j)
-      service_changes_said before j =
-          news_services_told (ServiceSaid begun) ServiceHeld service_said lost_said before (offers (services_held ports most_services history)) services_are j

@@ -1,17 +1,15 @@
--- After 2,880 ticks each route is of a real way, so that none is to a network that is gone, and no service is left.
+-- After 2,880 ticks each route is of a real way, so that none is to a network that is gone.
 use Rattle.std.proofs.Common.{◌≡◌, ◌≢◌, refl, sym, ap, ◌∙◌, subst, ℕ, ◌≤◌, ◌<◌, ◌==◌, true, false, List, [], ◌∷◌, length, map, inl, inr}
 use Rattle.std.specs.List.{AllByRecursion}
 use Rattle.std.proofs.lemmas.Bool.{both_ways, eq-eqb, eqb-true, or_cases, or_left, or_right}
-use Rattle.ipx_table.specs.declared.held.Held.{Held}
 use Rattle.ipx_wire.specs.declared.network.Network.{Network}
 use Rattle.ipx_wire.specs.Crossed.{is_among}
-use Rattle.ipx_router.specs.Facts.{route_facts, service_facts, routes_held, services_held, offers}
+use Rattle.ipx_router.specs.Facts.{route_facts, routes_held, offers}
 use Rattle.ipx_router.specs.History.{History}
 use Rattle.ipx_router.specs.Port.{Port, port_at, is_up}
 use Rattle.ipx_router.specs.Routes.{route_reading, network_order}
-use Rattle.ipx_router.specs.Services.{service_reading, service_order}
 use Rattle.ipx_router.specs.declared.route_offer.RouteOffer.{RouteOffer}
-use Rattle.ipx_router.proofs.bounds.PacketsOfEachEvent.{network_total, service_total}
+use Rattle.ipx_router.proofs.bounds.PacketsOfEachEvent.{network_total}
 use Rattle.ipx_router.proofs.tables.HeldCameByPortsUp.{held_routes_up}
 use Rattle.ipx_internet.specs.Internet.{Internet, Place, IsInternet, ports_of}
 use Rattle.ipx_internet.specs.Queue.{history_of}
@@ -62,11 +60,6 @@ module _ (net : Internet) (up : ℕ → List ℕ) (place : Place) (down : is_up 
   not_over router r (farther from s apart taken near real) =
       (off (record { router = router; port = r.port }) taken.here, (off from taken.there, not_over from.router s real))
 
--- nothing is left where nothing may be
-none_left : {O : Type 0} (records : List (Held O)) → AllByRecursion (λ o. ⊥) (offers records) → records ≡ []
-none_left [] none = refl
-none_left (h ∷ records) none = absurd none.0
-
 -- a run in which so many ticks passed since the ports were as they were after these histories
 module _ (net : Internet) (laws : Layouts) (is : IsInternet net) (most_routes most_services : ℕ) (histories : List History) (count : ℕ) (last : Run)
     (rests : Rests net laws is most_routes most_services (ups net histories) count last) (router : ℕ) (within : router < length net) where
@@ -99,9 +92,3 @@ module _ (net : Internet) (laws : Layouts) (is : IsInternet net) (most_routes mo
     no_network network gone =
         all_then (IsReal net (ups net histories) router) (λ r. r.network ≢ network) (λ r real. nowhere net histories network gone real)
         (offers (routes_held ports most_routes past)) all_real
-
-    pub no_service : services_held ports most_services past ≡ []
-    no_service =
-        none_left (services_held ports most_services past)
-        (at_last service_reading service_order service_total most_services (map (λ p. p.service_share) ports) (λ s. s.service.hops) (λ s. refl) (λ s. ⊥)
-        count (service_facts ports past) long (rests.routers router within).services)

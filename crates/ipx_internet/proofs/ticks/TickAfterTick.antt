@@ -1,32 +1,37 @@
--- Ticks, one after the other: each router's records are older by as many seconds as it had, and what waits was said in this tick.
-use Rattle.std.proofs.Common.{◌≡◌, ◌≢◌, refl, sym, subst, ℕ, suc, ◌+◌, ◌-◌, ◌<◌, ◌≤◌, ◌==◌, true, false, List, [], ◌∷◌, ◌++◌, length, map, flat_map, Option, Some, None, inl, inr, arith, true≢false, get_or-set_same, get_or-set_other}
+-- Ticks, one after the other, in which hosts speak and ports stay as they are: each router's routes are older by as many seconds as it had,
+-- and what waits was said in this tick, or tells of no route.
+use Rattle.std.proofs.Common.{◌≡◌, ◌≢◌, refl, sym, ◌∙◌, subst, ◌⊎◌, ℕ, suc, ◌+◌, ◌-◌, ◌<◌, ◌≤◌, ◌==◌, true, false, List, [], ◌∷◌, ◌++◌, length, map, flat_map, Option, Some, None, IfSome, inl, inr, arith, get_or-set_same, get_or-set_other, true≢false}
 use Rattle.std.specs.List.{AllByRecursion}
-use Rattle.std.proofs.lemmas.Bool.{cases_Bool, cases_eq, eq-eqb, ne_eqb}
+use Rattle.std.proofs.lemmas.Bool.{cases_eq, eq-eqb, ne_eqb}
 use Rattle.ipx_wire.specs.Piece.{IsBytes}
 use Rattle.ipx_wire.specs.declared.rip.RipEntry.{RipEntry}
 use Rattle.ipx_wire.specs.declared.service.Service.{Service}
-use Rattle.ipx_router.specs.Facts.{heard_after, routes_held, services_held, offers}
+use Rattle.ipx_router.specs.Facts.{heard_after, routes_held, offers}
 use Rattle.ipx_router.specs.Heard.{Heard}
-use Rattle.ipx_router.specs.History.{Event, History, Start, Stop, Second, Packet, PortDown, PortUp, IsOnPort, IsOfBytes, is_second}
-use Rattle.ipx_router.specs.Port.{Port, port_at}
-use Rattle.ipx_router.specs.Relays.{Sent}
+use Rattle.ipx_router.specs.History.{Event, History, Start, Stop, Second, Packet, PortDown, PortUp, IsOnPort, IsOfBytes, running, ports_up}
+use Rattle.ipx_router.specs.News.{news}
+use Rattle.ipx_router.specs.Port.{Port, is_up}
+use Rattle.ipx_router.specs.Sends.{Holding, holding}
 use Rattle.ipx_router.specs.Told.{told}
 use Rattle.ipx_router.proofs.lists.EachElement.{all_both}
+use Rattle.ipx_router.proofs.tables.HeldWasOffered.{heard_up}
 use Rattle.ipx_internet.specs.Internet.{Internet, Place, IsInternet, ports_of, port_of}
+use Rattle.ipx_internet.specs.Meanwhile.{TellsNoRoute, LeavesPorts, SaysOnly, IsBusyTick, EachTick}
 use Rattle.ipx_internet.specs.Queue.{Delivery, Queued, deliveries_of, history_of, with_event, sends_at, queued, settled_one}
-use Rattle.ipx_internet.specs.Run.{Step, Happens, Settles, AreHistories, Run, Waiting, forgotten, stepped, run_of}
-use Rattle.ipx_internet.specs.Ticks.{is_second_of, seconds_of, IsOfTick, IsTick, ticked, AreTicks, ups}
+use Rattle.ipx_internet.specs.Rounds.{IsDelivery}
+use Rattle.ipx_internet.specs.Run.{Step, Happens, Settles, IsStep, AreHistories, Run, Waiting, forgotten, stepped, run_of}
+use Rattle.ipx_internet.specs.Ticks.{seconds_of, IsOfTick, IsTick, ticked, AreTicks, ups}
 use Rattle.ipx_internet.proofs.deliveries.QueueOfARun.{events, deliveries}
 use Rattle.ipx_internet.proofs.deliveries.WaitsAfterDelivery.{there}
-use Rattle.ipx_internet.proofs.lists.EachElement.{all_then, all-append}
+use Rattle.ipx_internet.proofs.lists.EachElement.{all_of, all_then, all-append}
 use Rattle.ipx_internet.proofs.packets.BroadcastEachSecond.{all_cast}
-use Rattle.ipx_internet.proofs.packets.ResponsesAskNothing.{answering}
-use Rattle.ipx_internet.proofs.packets.SentOnOrReply.{Layouts, IsReply, IsCast, IsOnward, news_reply, no_reply, unsaid, answered}
+use Rattle.ipx_internet.proofs.packets.RoutesOrSilence.{Silent, IsSpoken, cast_spoken, of_silent, of_own}
+use Rattle.ipx_internet.proofs.packets.SentOnOrReply.{Layouts, IsCast}
 use Rattle.ipx_internet.proofs.places.OneReceiverOfANode.{ports_at, receives_is}
-use Rattle.ipx_internet.proofs.rounds.OneRound.{sents, sent_for, each_delivery}
-use Rattle.ipx_internet.proofs.rounds.RepliesTellChanges.{heard_from}
-use Rattle.ipx_internet.proofs.rounds.SentOnRunsOut.{Calm, reply_moves}
-use Rattle.ipx_internet.proofs.ticks.RealOrSoonEnded.{RouteSaid, ServiceSaid, Arrives, Endures, at_begin, second_endures, packet_endures, routes_said, changes_said, services_said, service_changes_said}
+use Rattle.ipx_internet.proofs.records.RecordsGrowOld.{passed}
+use Rattle.ipx_internet.proofs.rounds.OneRound.{each_delivery}
+use Rattle.ipx_internet.proofs.ticks.RealOrSoonEnded.{RouteSaid, Comes, Arrives, Endures, at_begin, second_endures, packet_endures, routes_said, changes_said}
+use Rattle.ipx_internet.proofs.ticks.TickCanBeHad.{of_tick}
 use Rattle.ipx_internet.proofs.trees.RunIsALog.{histories_more}
 
 -- ---- seconds that are left
@@ -37,265 +42,409 @@ second_here router rest = let same = eq-eqb router router refl in rw same refl
 pub second_there : (router other : ℕ) (event : Event) (rest : List Step) → other ≢ router → seconds_of other (Happens router event ∷ rest) ≡ seconds_of other rest
 second_there router other event rest off = let apart : (router == other) ≡ false = ne_eqb router other (λ e. off (sym e)) in rw apart refl
 
-fewer_left : (router : ℕ) (step : Step) (rest : List Step) → seconds_of router rest ≤ seconds_of router (step ∷ rest)
-fewer_left router step rest = elim (cases_Bool (is_second_of router step)) [
-  | inl e ↦ rw e (omega arith)
-  | inr e ↦ rw e (omega arith)
-]
+-- a packet is no second
+packet_here : (router number : ℕ) (bytes : List ℕ) (rest : List Step) → seconds_of router (Happens router (Packet number bytes) ∷ rest) ≡ seconds_of router rest
+packet_here router number bytes rest = let same = eq-eqb router router refl in rw same refl
+
+-- ---- such ticks
+
+-- no port changes in it, and what hosts say tells of no route
+pub record IsCalmTick (net : Internet) (most_routes most_services : ℕ) (run : Run) (steps : List Step) : Type 0 where
+  pub busy : IsBusyTick net most_routes most_services run steps
+  pub leaves : AllByRecursion LeavesPorts steps
+  pub says : AllByRecursion (SaysOnly TellsNoRoute) steps
+
+abbrev pub CalmTicks : Internet → ℕ → ℕ → Run → List (List Step) → Type 0
+CalmTicks net most_routes most_services = EachTick net most_routes most_services (IsCalmTick net most_routes most_services)
+
+module _ (net : Internet) (most_routes most_services : ℕ) where
+  pub calm_ticks : (run : Run) (ticks : List (List Step)) → EachTick net most_routes most_services (IsBusyTick net most_routes most_services) run ticks
+      → AllByRecursion (AllByRecursion LeavesPorts) ticks → AllByRecursion (AllByRecursion (SaysOnly TellsNoRoute)) ticks
+      → CalmTicks net most_routes most_services run ticks
+  calm_ticks run [] busy leave says = tt
+  calm_ticks run (steps ∷ ticks) busy leave says = (
+    record { busy = busy.0; leaves = leave.0; says = says.0 },
+    calm_ticks (run_of net most_routes most_services run steps) ticks busy.1 leave.1 says.1,
+  )
+
+  -- a step of a tick in which nothing else happens says nothing
+  pub says_nothing : (Says : Heard → Type 0) (step : Step) → IsOfTick net step → SaysOnly Says step
+  says_nothing Says (Happens router Second) is = tt
+  says_nothing Says (Happens router Start) is = tt
+  says_nothing Says (Happens router Stop) is = tt
+  says_nothing Says (Happens router (Packet number bytes)) is = absurd (true≢false (sym is.1))
+  says_nothing Says (Happens router (PortDown number)) is = tt
+  says_nothing Says (Happens router (PortUp number)) is = tt
+  says_nothing Says Settles is = tt
+
+  leaves_ports : (step : Step) → IsOfTick net step → LeavesPorts step
+  leaves_ports (Happens router Second) is = tt
+  leaves_ports (Happens router Start) is = absurd (true≢false (sym is.1))
+  leaves_ports (Happens router Stop) is = absurd (true≢false (sym is.1))
+  leaves_ports (Happens router (Packet number bytes)) is = tt
+  leaves_ports (Happens router (PortDown number)) is = absurd (true≢false (sym is.1))
+  leaves_ports (Happens router (PortUp number)) is = absurd (true≢false (sym is.1))
+  leaves_ports Settles is = tt
+
+  module _ (laws : Layouts) (is : IsInternet net) where
+    pub busy_tick : (run : Run) (steps : List Step) → IsTick net most_routes most_services run steps → IsBusyTick net most_routes most_services run steps
+    busy_tick run steps tick = record {
+      happens = all_then (IsOfTick net) (IsStep net) (of_tick net laws is most_routes most_services) steps tick.passes;
+      each = tick.each;
+      quiet = tick.quiet;
+    }
+
+    pub quiet_tick : (run : Run) (steps : List Step) → IsTick net most_routes most_services run steps → IsCalmTick net most_routes most_services run steps
+    quiet_tick run steps tick = record {
+      busy = busy_tick run steps tick;
+      leaves = all_then (IsOfTick net) LeavesPorts leaves_ports steps tick.passes;
+      says = all_then (IsOfTick net) (SaysOnly TellsNoRoute) (says_nothing TellsNoRoute) steps tick.passes;
+    }
+
+    pub quiet_ticks : (run : Run) (ticks : List (List Step)) → AreTicks net most_routes most_services run ticks → CalmTicks net most_routes most_services run ticks
+    quiet_ticks run [] are = tt
+    quiet_ticks run (steps ∷ ticks) are =
+        (quiet_tick run steps are.0, quiet_ticks (run_of net most_routes most_services run steps) ticks are.1)
+
+    pub busy_ticks : (run : Run) (ticks : List (List Step)) → AreTicks net most_routes most_services run ticks
+        → EachTick net most_routes most_services (IsBusyTick net most_routes most_services) run ticks
+    busy_ticks run [] are = tt
+    busy_ticks run (steps ∷ ticks) are =
+        (busy_tick run steps are.0, busy_ticks (run_of net most_routes most_services run steps) ticks are.1)
+
+    pub all_say_nothing : (Says : Heard → Type 0) (run : Run) (ticks : List (List Step)) → AreTicks net most_routes most_services run ticks
+        → AllByRecursion (AllByRecursion (SaysOnly Says)) ticks
+    all_say_nothing Says run [] are = tt
+    all_say_nothing Says run (steps ∷ ticks) are = (
+      all_then (IsOfTick net) (SaysOnly Says) (says_nothing Says) steps are.0.passes,
+      all_say_nothing Says (run_of net most_routes most_services run steps) ticks are.1,
+    )
 
 module _ (net : Internet) (laws : Layouts) (is : IsInternet net) (most_routes most_services : ℕ) (up : ℕ → List ℕ) where
-  -- what a router sends on a port, when so many ticks have begun
-  abbrev RoutesFrom : ℕ → ℕ → ℕ → RipEntry → Type 0
-  RoutesFrom ticks router j = RouteSaid net up ticks (record { router = router; port = j })
+  abbrev pub at : ℕ → ℕ → Place
+  at router j = record { router = router; port = j }
 
-  abbrev ServicesFrom : ℕ → ℕ → Service → Type 0
-  ServicesFrom ticks j = ServiceSaid net up ticks
-
-  abbrev IsSaid : ℕ → ℕ → Sent → Type 0
-  IsSaid ticks router s = IsCast (up router) (RoutesFrom ticks router) (ServicesFrom ticks) (ports_of net router) s
-
-  all_arrive : (ticks : ℕ) (histories : List History) → AreHistories net histories → (router : ℕ) (event : Event)
+  -- what a router says waits for those that it reaches
+  pub all_come : (P : Place → RipEntry → Type 0) (histories : List History) → AreHistories net histories → (router : ℕ) (event : Event)
       → IsOnPort (ports_of net router) event → IsOfBytes event
-      → AllByRecursion (IsSaid ticks router) (sends_at net most_routes most_services histories router event)
-      → AllByRecursion (Arrives net up ticks) (flat_map (deliveries_of net router) (sends_at net most_routes most_services histories router event))
-  all_arrive ticks histories are router event on of_bytes casts =
+      → AllByRecursion (IsSpoken (up router) (λ j. P (at router j)) (ports_of net router)) (sends_at net most_routes most_services histories router event)
+      → AllByRecursion (λ d. IsDelivery net d × Comes net up P d.to d.bytes)
+      (flat_map (deliveries_of net router) (sends_at net most_routes most_services histories router event))
+  all_come P histories are router event on of_bytes spoken =
       let ports = ports_of net router in
       let history = history_of histories router in
       let sent = sends_at net most_routes most_services histories router event in
       let bytes = laws.bytes ports most_routes most_services history event (ports_at net is router)
       (all-append (IsOnPort ports) history (event ∷ []) (are.on_ports router) (on, tt))
       (all-append IsOfBytes history (event ∷ []) (are.of_bytes router) (of_bytes, tt)) in
-      each_delivery net most_routes most_services (Arrives net up ticks) (λ s. IsBytes s.bytes × IsSaid ticks router s) router
+      each_delivery net most_routes most_services (λ d. IsDelivery net d × Comes net up P d.to d.bytes)
+      (λ s. IsBytes s.bytes × IsSpoken (up router) (λ j. P (at router j)) ports s) router
       (λ s to both place received.
-      let from : Place = record { router = router; port = s.port } in
-      let got = receives_is net from s.link to received in
-      record {
-        delivery = record { place = place; bytes = both.0 };
-        from = from;
-        reaches = record { other = got.other; network = got.network; on = both.1.on };
-        news = both.1.news;
-      })
-      sent (all_both (λ s. IsBytes s.bytes) (IsSaid ticks router) sent bytes casts)
+      let got = receives_is net (at router s.port) s.link to received in (
+        record { place = place; bytes = both.0 },
+        elim both.1 [
+          | inl own ↦ inl (at router s.port, record { other = got.other; network = got.network; on = own.0 }, own.1)
+          | inr silent ↦ inr silent
+        ],
+      ))
+      sent (all_both (λ s. IsBytes s.bytes) (IsSpoken (up router) (λ j. P (at router j)) ports) sent bytes spoken)
 
-  abbrev Lasts : ℕ → ℕ → History → Type 0
-  Lasts router had history = Endures net up most_routes most_services router had history
+  abbrev pub Lasts : ℕ → ℕ → History → Type 0
+  Lasts router had history = Endures net up most_routes router had history
 
-  -- what is so while a tick goes on, with the steps that are left of it
-  pub record Going (ticks : ℕ) (left : List Step) (q : Queued) : Type 0 where
+  -- what is so while a tick goes on, with the seconds that are left of each router
+  pub record Going (ticks : ℕ) (left : ℕ → ℕ) (q : Queued) : Type 0 where
     pub are : AreHistories net q.histories
-    pub routers : (router had : ℕ) → router < length net → had + seconds_of router left ≡ ticks → Lasts router had (history_of q.histories router)
-    pub few : (router : ℕ) → router < length net → (seconds_of router left ≤ 1) × (seconds_of router left ≤ ticks)
+    pub routers : (router had : ℕ) → router < length net → had + left router ≡ ticks → Lasts router had (history_of q.histories router)
+    pub few : (router : ℕ) → router < length net → (left router ≤ 1) × (left router ≤ ticks)
     pub waiting : AllByRecursion (Arrives net up ticks) q.queue
 
   -- ---- one event of a router
 
-  -- the histories of all routers, where one had an event
-  each_lasts : (histories : List History) (router : ℕ) (event : Event) → router < length histories → (other had : ℕ)
-      → (other ≡ router → Lasts router had (history_of histories router ++ event ∷ [])) → (other ≢ router → Lasts other had (history_of histories other))
-      → Lasts other had (history_of (with_event histories router event) other)
-  each_lasts histories router event listed other had here elsewhere = elim (cases_eq other router) [
-    | inl same ↦
-        let now = get_or-set_same histories router (history_of histories router ++ event ∷ []) [] listed in
-        let P : ℕ → Type 0 = λ k. Lasts k had (history_of (with_event histories router event) k) in
-        subst P (sym same) (subst (λ (h : History). Lasts router had h) (sym now) (here same))
-    | inr off ↦
-        let stays = get_or-set_other histories router other (history_of histories router ++ event ∷ []) [] off in
-        subst (λ (h : History). Lasts other had h) (sym stays) (elsewhere off)
-  ]
+  module _ (ticks : ℕ) (histories : List History) (queue : List Delivery) (router : ℕ) (event : Event) (left rest : ℕ → ℕ)
+      (within : router < length net) (on : IsOnPort (ports_of net router) event) (of_bytes : IsOfBytes event)
+      (others : (other : ℕ) → other ≢ router → left other ≡ rest other)
+      (going : Going ticks left (record { histories = histories; queue = queue })) where
+    abbrev pub ports : List Port
+    ports = ports_of net router
 
-  module _ (ticks : ℕ) (rest : List Step) (histories : List History) (queue : List Delivery) where
-    abbrev q : Queued
-    q = record { histories = histories; queue = queue }
+    abbrev pub past : History
+    past = history_of histories router
 
-    -- ---- a second
+    abbrev pub now : History
+    now = past ++ event ∷ []
 
-    module _ (router : ℕ) (within : router < length net) (going : Going ticks (Happens router Second ∷ rest) q) where
-      abbrev past : History
-      past = history_of histories router
+    abbrev pub had : ℕ
+    had = ticks - left router
 
-      abbrev had : ℕ
-      had = ticks - 1
+    abbrev pub before : Holding
+    before = holding ports most_routes most_services past
 
+    abbrev pub after : Holding
+    after = holding ports most_routes most_services now
+
+    abbrev pub Told : ℕ → RipEntry → Type 0
+    Told j = RouteSaid net up ticks (at router j)
+
+    pub lasted : Lasts router had past
+    lasted =
+        let some = (going.few router within).1 in
+        going.routers router had within (omega (arith, some))
+
+    pub soon : ticks ≤ had + 1
+    soon =
+        let few = (going.few router within).0 in
+        omega (arith, few)
+
+    module _ (own : left router ≡ passed event 0 + rest router) (more : passed event had ≡ passed event 0 + had) (lasts : Lasts router (passed event had) now)
+        (spoken : AllByRecursion (IsSpoken (up router) Told ports) (sends_at net most_routes most_services histories router event)) where
       listed : router < length histories
       listed =
           let each = going.are.each in
           omega (arith, each, within)
 
-      lasted : Lasts router had past
-      lasted =
-          let few = going.few router within in
-          let one = few.0 in
-          let some = few.1 in
-          let here = second_here router rest in
-          going.routers router had within (omega (arith, one, some, here))
+      lasts_as : (count : ℕ) → count + rest router ≡ ticks → Lasts router count now
+      lasts_as count e =
+          let some = (going.few router within).1 in
+          let all : count ≡ passed event had = omega (arith, own, e, some, more) in
+          subst (λ (n : ℕ). Lasts router n now) (sym all) lasts
 
-      lasts : Lasts router (suc had) (past ++ Second ∷ [])
-      lasts = second_endures net up most_routes most_services router had past lasted
+      each_lasts : (other count : ℕ) → other < length net → count + rest other ≡ ticks → Lasts other count (history_of (with_event histories router event) other)
+      each_lasts other count inside e = elim (cases_eq other router) [
+        | inl same ↦
+            let is_now = get_or-set_same histories router now [] listed in
+            let P : ℕ → Type 0 = λ k. Lasts k count (history_of (with_event histories router event) k) in
+            subst P (sym same) (subst (λ (h : History). Lasts router count h) (sym is_now)
+            (lasts_as count (subst (λ (k : ℕ). count + rest k ≡ ticks) same e)))
+        | inr off ↦
+            let stays = get_or-set_other histories router other now [] off in
+            let alike = others other off in
+            subst (λ (h : History). Lasts other count h) (sym stays) (going.routers other count inside (omega (arith, e, alike)))
+      ]
 
-      casts : AllByRecursion (IsSaid ticks router) (sends_at net most_routes most_services histories router Second)
-      casts =
-          let ports = ports_of net router in
-          let now = past ++ Second ∷ [] in
-          let routes = offers (routes_held ports most_routes past) in
-          let services = offers (services_held ports most_services past) in
-          let P = RoutesFrom ticks router in
-          let soon : ticks ≤ suc had + 1 = omega arith in
-          subst (λ (us : List ℕ). AllByRecursion (IsCast us P (ServicesFrom ticks) ports) (sends_at net most_routes most_services histories router Second)) lasts.ups
-          (all_cast laws ports (ports_at net is router) most_routes most_services past (going.are.of_bytes router) P (ServicesFrom ticks)
-          (λ j. subst (λ (us : List ℕ). AllByRecursion (P j) (told ports us (offers (routes_held ports most_routes now)) j)) (sym lasts.ups)
-          (routes_said net up most_routes most_services router (suc had) ticks soon now lasts j))
-          (changes_said net up most_routes most_services router (suc had) ticks soon now lasts routes)
-          (services_said net up most_routes most_services router (suc had) ticks soon now lasts)
-          (service_changes_said net up most_routes most_services router (suc had) ticks soon now lasts services))
+      fewer : (other : ℕ) → (left other ≤ 1) × (left other ≤ ticks) → (other ≡ router) ⊎ (other ≢ router) → (rest other ≤ 1) × (rest other ≤ ticks)
+      fewer other (one, some) (inl same) =
+          let own_other : left other ≡ passed event 0 + rest other = subst (λ (k : ℕ). left k ≡ passed event 0 + rest k) (sym same) own in
+          (omega (arith, own_other, one), omega (arith, own_other, some))
+      fewer other (one, some) (inr off) = let same = others other off in (omega (arith, same, one), omega (arith, same, some))
 
-      pub second_goes : Going ticks rest (queued net most_routes most_services q router Second)
-      second_goes = record {
-        are = histories_more net histories router Second going.are within tt tt;
-        routers = λ other count there e. each_lasts histories router Second listed other count
-            (λ same.
-            let few = (going.few router within).0 in
-            let some = (going.few router within).1 in
-            let here = second_here router rest in
-            let e_here : count + seconds_of router rest ≡ ticks = subst (λ (k : ℕ). count + seconds_of k rest ≡ ticks) same e in
-            let all : count ≡ suc had = omega (arith, few, some, here, e_here) in
-            subst (λ (n : ℕ). Lasts router n (past ++ Second ∷ [])) (sym all) lasts)
-            (λ off.
-            let same = second_there router other Second rest off in
-            going.routers other count there (omega (arith, e, same)));
-        few = λ other there.
-            let fewer = fewer_left other (Happens router Second) rest in
-            let few = going.few other there in
-            let one = few.0 in
-            let some = few.1 in
-            (omega (arith, fewer, one), omega (arith, fewer, some));
+      pub event_goes : Going ticks rest (queued net most_routes most_services (record { histories = histories; queue = queue }) router event)
+      event_goes = record {
+        are = histories_more net histories router event going.are within on of_bytes;
+        routers = each_lasts;
+        few = λ other inside. fewer other (going.few other inside) (cases_eq other router);
         waiting =
-            all-append (Arrives net up ticks) queue (flat_map (deliveries_of net router) (sends_at net most_routes most_services histories router Second)) going.waiting
-            (all_arrive ticks histories going.are router Second tt tt casts);
+            all-append (Arrives net up ticks) queue (flat_map (deliveries_of net router) (sends_at net most_routes most_services histories router event)) going.waiting
+            (all_then (λ d. IsDelivery net d × Comes net up (RouteSaid net up ticks) d.to d.bytes) (Arrives net up ticks)
+            (λ d both. record { delivery = both.0; says = both.1 }) _
+            (all_come (RouteSaid net up ticks) histories going.are router event on of_bytes spoken));
       }
 
-    -- ---- a delivery
+  -- ---- a second
 
-    module _ (d : Delivery) (going : Going ticks (Settles ∷ rest) (record { histories = histories; queue = d ∷ queue })) where
-      abbrev first : Arrives net up ticks d
-      first = going.waiting.0
+  -- all services
+  abbrev AnyOne : ℕ → Service → Type 0
+  AnyOne j s = Unit {0}
 
-      abbrev router : ℕ
-      router = d.to.router
+  -- what is said of all routes and of changes is all that is said
+  pub second_spoken : (P : ℕ → RipEntry → Type 0) (histories : List History) (router : ℕ) → AreHistories net histories
+      → let past = history_of histories router in
+      let now = past ++ Second ∷ [] in
+      ports_up (ports_of net router) now ≡ up router
+      → ((j : ℕ) → AllByRecursion (P j) (told (ports_of net router) (up router) (offers (routes_held (ports_of net router) most_routes now)) j))
+      → ((j : ℕ) → AllByRecursion (P j) (news (ports_of net router) (offers (routes_held (ports_of net router) most_routes past))
+      (offers (routes_held (ports_of net router) most_routes now)) j))
+      → AllByRecursion (IsSpoken (up router) P (ports_of net router)) (sends_at net most_routes most_services histories router Second)
+  second_spoken P histories router are same all changed =
+      let ports = ports_of net router in
+      let past = history_of histories router in
+      let now = past ++ Second ∷ [] in
+      let sent = sends_at net most_routes most_services histories router Second in
+      subst (λ (us : List ℕ). AllByRecursion (IsSpoken us P ports) sent) same
+      (all_then (IsCast (ports_up ports now) P AnyOne ports) (IsSpoken (ports_up ports now) P ports) (cast_spoken (ports_up ports now) P AnyOne ports) sent
+      (all_cast laws ports (ports_at net is router) most_routes most_services past (are.of_bytes router) P AnyOne
+      (λ j. subst (λ (us : List ℕ). AllByRecursion (P j) (told ports us (offers (routes_held ports most_routes now)) j)) (sym same) (all j)) changed
+      (λ j. all_of (AnyOne j) (λ s. tt) _) (λ j. all_of (AnyOne j) (λ s. tt) _)))
 
-      abbrev event : Event
-      event = Packet d.to.port d.bytes
+  module _ (ticks : ℕ) (histories : List History) (queue : List Delivery) (router : ℕ) (left rest : ℕ → ℕ) (within : router < length net)
+      (own : left router ≡ suc (rest router)) (others : (other : ℕ) → other ≢ router → left other ≡ rest other)
+      (going : Going ticks left (record { histories = histories; queue = queue })) where
+    pub second_lasts : Lasts router (suc (ticks - left router)) (history_of histories router ++ Second ∷ [])
+    second_lasts =
+        second_endures net up most_routes router (ticks - left router) (history_of histories router)
+        (lasted ticks histories queue router Second left rest within tt tt others going)
 
-      abbrev ports : List Port
-      ports = ports_of net router
+    pub second_goes : Going ticks rest (queued net most_routes most_services (record { histories = histories; queue = queue }) router Second)
+    second_goes =
+        let before_it = history_of histories router in
+        let count = suc (ticks - left router) in
+        let soon_enough : ticks ≤ count + 1 = let s = soon ticks histories queue router Second left rest within tt tt others going in omega (arith, s) in
+        event_goes ticks histories queue router Second left rest within tt tt others going (omega (arith, own)) (omega arith) second_lasts
+        (second_spoken (λ j. RouteSaid net up ticks (at router j)) histories router going.are second_lasts.ups
+        (routes_said net up most_routes router count ticks soon_enough (before_it ++ Second ∷ []) second_lasts)
+        (changes_said net up most_routes router count ticks soon_enough (before_it ++ Second ∷ []) second_lasts
+        (offers (routes_held (ports_of net router) most_routes before_it))))
 
-      abbrev before : History
-      before = history_of histories router
+  -- ---- a delivery
 
-      abbrev now : History
-      now = before ++ event ∷ []
+  -- what is said of all routes, of changes and for an answer is all that is said, where a packet of the other routers comes, or one that
+  -- tells of no route
+  pub packet_spoken : (P : ℕ → RipEntry → Type 0) (R : Place → RipEntry → Type 0) (histories : List History) → AreHistories net histories → (d : Delivery)
+      → IsDelivery net d → Comes net up R d.to d.bytes
+      → let router = d.to.router in
+      let ports = ports_of net router in
+      let past = history_of histories router in
+      let now = past ++ Packet d.to.port d.bytes ∷ [] in
+      ports_up ports past ≡ up router → ports_up ports now ≡ up router
+      → ((m : Heard) → heard_after ports past d.to.port d.bytes ≡ Some m → TellsNoRoute m
+      → AllByRecursion (P d.to.port) (told ports (up router) (offers (routes_held ports most_routes past)) d.to.port))
+      → ((j : ℕ) → AllByRecursion (P j) (news ports (offers (routes_held ports most_routes past)) (offers (routes_held ports most_routes now)) j))
+      → AllByRecursion (IsSpoken (up router) P ports) (sends_at net most_routes most_services histories router (Packet d.to.port d.bytes))
+  packet_spoken P R histories are d delivery comes same_before same all changed =
+      let router = d.to.router in
+      let ports = ports_of net router in
+      let past = history_of histories router in
+      let now = past ++ Packet d.to.port d.bytes ∷ [] in
+      let sent = sends_at net most_routes most_services histories router (Packet d.to.port d.bytes) in
+      let advertised : (m : Heard) → heard_after ports past d.to.port d.bytes ≡ Some m → TellsNoRoute m
+      → AllByRecursion (P d.to.port) (told ports (ports_up ports past) (offers (routes_held ports most_routes past)) d.to.port) =
+      λ m e silent. subst (λ (us : List ℕ). AllByRecursion (P d.to.port) (told ports us (offers (routes_held ports most_routes past)) d.to.port)) (sym same_before)
+      (all m e silent) in
+      let heard_here : (m : Heard) → heard_after ports past d.to.port d.bytes ≡ Some m → is_up (ports_up ports now) d.to.port ≡ true =
+      λ m e. subst (λ (us : List ℕ). is_up us d.to.port ≡ true) (same_before ∙ sym same)
+      (heard_up ports (ports_up ports past) d.to.port (running past) d.bytes m e) in
+      subst (λ (us : List ℕ). AllByRecursion (IsSpoken us P ports) sent) same (elim comes [
+        | inl own ↦
+            of_own laws ports (ports_at net is router) most_routes most_services past (are.on_ports router) (are.of_bytes router) d.to.port d.bytes delivery.place
+            delivery.bytes P changed advertised heard_here (R own.0) (port_of net own.0) own.1.network own.2
+        | inr silent ↦
+            of_silent laws ports (ports_at net is router) most_routes most_services past (are.on_ports router) (are.of_bytes router) d.to.port d.bytes delivery.place
+            delivery.bytes P changed advertised heard_here silent
+      ])
 
-      abbrev count : ℕ
-      count = ticks - seconds_of router rest
+  module _ (ticks : ℕ) (histories : List History) (queue : List Delivery) (d : Delivery) (left : ℕ → ℕ)
+      (going : Going ticks left (record { histories = histories; queue = d ∷ queue })) where
+    abbrev first : Arrives net up ticks d
+    first = going.waiting.0
 
-      inside : router < length net
-      inside = there net laws is most_routes most_services histories going.are d first.delivery
+    pub inside : d.to.router < length net
+    inside = there net laws is most_routes most_services histories going.are d first.delivery
 
-      among : router < length histories
-      among =
-          let each = going.are.each in
-          let within = inside in
-          omega (arith, each, within)
+    going_on : Going ticks left (record { histories = histories; queue = queue })
+    going_on = record { are = going.are; routers = going.routers; few = going.few; waiting = going.waiting.1 }
 
-      lasted_so : Lasts router count before
-      lasted_so =
-          let some = (going.few router inside).1 in
-          going.routers router count inside (omega (arith, some))
+    pub packet_lasted : Lasts d.to.router (ticks - left d.to.router) (history_of histories d.to.router)
+    packet_lasted =
+        lasted ticks histories queue d.to.router (Packet d.to.port d.bytes) left left inside first.delivery.place first.delivery.bytes (λ other off. refl) going_on
 
-      lasts_now : Lasts router count now
-      lasts_now =
-          packet_endures net up most_routes most_services router count ticks d.to.port d.bytes (omega arith) first.from first.reaches first.news before lasted_so
+    pub packet_lasts : Lasts d.to.router (ticks - left d.to.router) (history_of histories d.to.router ++ Packet d.to.port d.bytes ∷ [])
+    packet_lasts =
+        packet_endures net up most_routes d.to.router (ticks - left d.to.router) ticks d.to.port d.bytes (omega arith) first.says (history_of histories d.to.router) packet_lasted
 
-      reply : IsReply (port_of net d.to) d.bytes
-      reply =
-          let from = port_of net first.from in
-          reply_moves from (port_of net d.to) d.bytes first.reaches.network
-          (news_reply (RouteSaid net up ticks first.from) (ServiceSaid net up ticks) from d.bytes first.news)
-
-      calm : Calm net laws is most_routes most_services d
-      calm = (first.delivery, reply)
-
-      answers : AllByRecursion (IsSaid ticks router) (sents net most_routes most_services histories d)
-      answers = by (heard_after ports before d.to.port d.bytes) refl
-        where
-          these : List Sent
-          these = sents net most_routes most_services histories d
-
-          soon : ticks ≤ count + 1
-          soon =
-              let one = (going.few router inside).0 in
-              omega (arith, one)
-
-          by : (o : Option Heard) → heard_after ports before d.to.port d.bytes ≡ o → AllByRecursion (IsSaid ticks router) these
-          by None e =
-              all_then (λ s. IsOnward (port_at ports d.to.port) d.bytes s.bytes) (IsSaid ticks router)
-              (λ s on. absurd (no_reply (port_at ports d.to.port) d.bytes s.bytes reply on)) these
-              (unsaid laws ports (ports_at net is router) most_routes most_services before (going.are.on_ports router) (going.are.of_bytes router)
-              d.to.port d.bytes first.delivery.place first.delivery.bytes e)
-          by (Some m) e =
-              subst (λ (us : List ℕ). AllByRecursion (IsCast us (RoutesFrom ticks router) (ServicesFrom ticks) ports) these) lasts_now.ups
-              (answered laws ports (ports_at net is router) most_routes most_services before (going.are.on_ports router) (going.are.of_bytes router)
-              d.to.port d.bytes first.delivery.place first.delivery.bytes (RoutesFrom ticks router) (ServicesFrom ticks)
-              (changes_said net up most_routes most_services router count ticks soon now lasts_now (offers (routes_held ports most_routes before)))
-              (service_changes_said net up most_routes most_services router count ticks soon now lasts_now (offers (services_held ports most_services before)))
-              m e (answering calm.1.packet calm.1.answers m (heard_from net laws is most_routes most_services histories going.are d calm m e)))
-
-      pub delivery_goes : Going ticks rest (queued net most_routes most_services q router event)
-      delivery_goes = record {
-        are = histories_more net histories router event going.are inside first.delivery.place first.delivery.bytes;
-        routers = λ other had within e. each_lasts histories router event among other had
-            (λ same.
-            let some = (going.few router inside).1 in
-            let e_here : had + seconds_of router rest ≡ ticks = subst (λ (k : ℕ). had + seconds_of k rest ≡ ticks) same e in
-            let all : had ≡ count = omega (arith, some, e_here) in
-            subst (λ (n : ℕ). Lasts router n now) (sym all) lasts_now)
-            (λ off. going.routers other had within e);
-        few = λ other within. going.few other within;
-        waiting =
-            all-append (Arrives net up ticks) queue (sent_for net most_routes most_services histories d) going.waiting.1
-            (all_arrive ticks histories going.are router event first.delivery.place first.delivery.bytes answers);
-      }
+    pub delivery_goes : Going ticks left
+        (queued net most_routes most_services (record { histories = histories; queue = queue }) d.to.router (Packet d.to.port d.bytes))
+    delivery_goes =
+        let router = d.to.router in
+        let before_it = history_of histories router in
+        let count = ticks - left router in
+        let soon_enough = soon ticks histories queue router (Packet d.to.port d.bytes) left left inside first.delivery.place first.delivery.bytes (λ other off. refl) going_on in
+        event_goes ticks histories queue router (Packet d.to.port d.bytes) left left inside first.delivery.place first.delivery.bytes (λ other off. refl) going_on
+        (omega arith) (omega arith) packet_lasts
+        (packet_spoken (λ j. RouteSaid net up ticks (at router j)) (RouteSaid net up ticks) histories going.are d first.delivery first.says packet_lasted.ups packet_lasts.ups
+        (λ m e silent. routes_said net up most_routes router count ticks soon_enough before_it packet_lasted d.to.port)
+        (changes_said net up most_routes router count ticks soon_enough (before_it ++ Packet d.to.port d.bytes ∷ []) packet_lasts
+        (offers (routes_held (ports_of net router) most_routes before_it))))
 
   -- ---- steps
 
-  settles_goes : (ticks : ℕ) (rest : List Step) (histories : List History) (queue : List Delivery)
-      → Going ticks (Settles ∷ rest) (record { histories = histories; queue = queue })
-      → Going ticks rest (settled_one net most_routes most_services (record { histories = histories; queue = queue }))
-  settles_goes ticks rest histories [] going = record { are = going.are; routers = going.routers; few = going.few; waiting = tt }
-  settles_goes ticks rest histories (d ∷ queue) going = delivery_goes ticks rest histories queue d going
+  -- a packet from outside is as one that waits first
+  pub silent_comes : (router number : ℕ) (bytes : List ℕ) → IsOnPort (ports_of net router) (Packet number bytes) → IsOfBytes (Packet number bytes) → Silent bytes → (ticks : ℕ)
+      → Arrives net up ticks (record { to = at router number; bytes = bytes })
+  silent_comes router number bytes on of_bytes silent ticks = record { delivery = record { place = on; bytes = of_bytes }; says = inr silent }
 
-  happens_goes : (ticks : ℕ) (rest : List Step) (q : Queued) (router : ℕ) (event : Event) → router < length net → is_second event ≡ true
-      → Going ticks (Happens router event ∷ rest) q → Going ticks rest (queued net most_routes most_services q router event)
-  happens_goes ticks rest q other Second within second going = second_goes ticks rest q.histories q.queue other within going
-  happens_goes ticks rest q other Start within second going = absurd (true≢false (sym second))
-  happens_goes ticks rest q other Stop within second going = absurd (true≢false (sym second))
-  happens_goes ticks rest q other (Packet number bytes) within second going = absurd (true≢false (sym second))
-  happens_goes ticks rest q other (PortDown number) within second going = absurd (true≢false (sym second))
-  happens_goes ticks rest q other (PortUp number) within second going = absurd (true≢false (sym second))
+  -- what a packet from outside says
+  pub is_silent : (bytes : List ℕ) → SaysOnly TellsNoRoute (Happens 0 (Packet 0 bytes)) → Silent bytes
+  is_silent bytes says m e = subst (λ (o : Option Heard). IfSome o TellsNoRoute) e says
 
-  step_goes : (ticks : ℕ) (step : Step) (rest : List Step) (run : Run) → IsOfTick net step → Going ticks (step ∷ rest) (forgotten run)
-      → Going ticks rest (forgotten (stepped net most_routes most_services run step))
-  step_goes ticks (Happens router event) rest run of_tick going =
-      subst (λ (q : Queued). Going ticks rest q) (sym (events net most_routes most_services run router event None))
-      (happens_goes ticks rest (forgotten run) router event of_tick.0 of_tick.1 going)
-  step_goes ticks Settles rest run of_tick going =
-      subst (λ (q : Queued). Going ticks rest q) (sym (deliveries net most_routes most_services run))
-      (settles_goes ticks rest run.histories (map (λ w. w.delivery) run.waiting) going)
+  abbrev pub left_of : List Step → ℕ → ℕ
+  left_of steps router = seconds_of router steps
 
-  steps_go : (ticks : ℕ) (steps : List Step) (run : Run) → AllByRecursion (IsOfTick net) steps → Going ticks steps (forgotten run)
-      → Going ticks [] (forgotten (run_of net most_routes most_services run steps))
-  steps_go ticks [] run all going = going
-  steps_go ticks (step ∷ steps) run all going =
-      steps_go ticks steps (stepped net most_routes most_services run step) all.1 (step_goes ticks step steps run all.0 going)
+  -- any property of such a run, with the seconds that are left, that seconds and deliveries keep
+  pub record IsKept (Goes : (ℕ → ℕ) → Queued → Type 0) : Type 0 where
+    pub same : (left rest : ℕ → ℕ) (q : Queued) → ((router : ℕ) → left router ≡ rest router) → Goes left q → Goes rest q
+    pub second : (histories : List History) (queue : List Delivery) (router : ℕ) (left rest : ℕ → ℕ) → router < length net
+        → left router ≡ suc (rest router) → ((other : ℕ) → other ≢ router → left other ≡ rest other)
+        → Goes left (record { histories = histories; queue = queue })
+        → Goes rest (queued net most_routes most_services (record { histories = histories; queue = queue }) router Second)
+    pub delivery : (histories : List History) (queue : List Delivery) (d : Delivery) (left : ℕ → ℕ)
+        → Goes left (record { histories = histories; queue = d ∷ queue })
+        → Goes left (queued net most_routes most_services (record { histories = histories; queue = queue }) d.to.router (Packet d.to.port d.bytes))
+    pub comes : (histories : List History) (queue : List Delivery) (d : Delivery) (left : ℕ → ℕ) → IsDelivery net d → Silent d.bytes
+        → Goes left (record { histories = histories; queue = queue }) → Goes left (record { histories = histories; queue = d ∷ queue })
+
+  module _ (Goes : (ℕ → ℕ) → Queued → Type 0) (kept : IsKept Goes) where
+    settles : (left : ℕ → ℕ) (histories : List History) (queue : List Delivery) → Goes left (record { histories = histories; queue = queue })
+        → Goes left (settled_one net most_routes most_services (record { histories = histories; queue = queue }))
+    settles left histories [] goes = goes
+    settles left histories (d ∷ queue) goes = kept.delivery histories queue d left goes
+
+    happens_so : (rest : List Step) (q : Queued) (router : ℕ) (event : Event) → IsStep net (Happens router event) → LeavesPorts (Happens router event)
+        → SaysOnly TellsNoRoute (Happens router event) → Goes (left_of (Happens router event ∷ rest)) q
+        → Goes (left_of rest) (queued net most_routes most_services q router event)
+    happens_so rest q router Second is_step leaves says goes =
+        kept.second q.histories q.queue router (left_of (Happens router Second ∷ rest)) (left_of rest) is_step.0 (second_here router rest)
+        (λ other off. second_there router other Second rest off) goes
+    happens_so rest q router (Packet number bytes) is_step leaves says goes =
+        let d : Delivery = record { to = at router number; bytes = bytes } in
+        kept.delivery q.histories q.queue d (left_of rest)
+        (kept.comes q.histories q.queue d (left_of rest) (record { place = is_step.1; bytes = is_step.2 }) (is_silent bytes says)
+        (kept.same (left_of (Happens router (Packet number bytes) ∷ rest)) (left_of rest) q (λ other. elim (cases_eq other router) [
+          | inl same ↦ subst (λ (k : ℕ). left_of (Happens router (Packet number bytes) ∷ rest) k ≡ left_of rest k) (sym same) (packet_here router number bytes rest)
+          | inr off ↦ second_there router other (Packet number bytes) rest off
+        ]) goes))
+    happens_so rest q router Start is_step leaves says goes = absurd leaves
+    happens_so rest q router Stop is_step leaves says goes = absurd leaves
+    happens_so rest q router (PortDown number) is_step leaves says goes = absurd leaves
+    happens_so rest q router (PortUp number) is_step leaves says goes = absurd leaves
+
+    step_so : (step : Step) (rest : List Step) (run : Run) → IsStep net step → LeavesPorts step → SaysOnly TellsNoRoute step
+        → Goes (left_of (step ∷ rest)) (forgotten run) → Goes (left_of rest) (forgotten (stepped net most_routes most_services run step))
+    step_so (Happens router event) rest run is_step leaves says goes =
+        subst (λ (q : Queued). Goes (left_of rest) q) (sym (events net most_routes most_services run router event None))
+        (happens_so rest (forgotten run) router event is_step leaves says goes)
+    step_so Settles rest run is_step leaves says goes =
+        subst (λ (q : Queued). Goes (left_of rest) q) (sym (deliveries net most_routes most_services run))
+        (settles (left_of rest) run.histories (map (λ w. w.delivery) run.waiting) goes)
+
+    pub steps_so : (steps : List Step) (run : Run) → AllByRecursion (IsStep net) steps → AllByRecursion LeavesPorts steps
+        → AllByRecursion (SaysOnly TellsNoRoute) steps → Goes (left_of steps) (forgotten run)
+        → Goes (left_of []) (forgotten (run_of net most_routes most_services run steps))
+    steps_so [] run all leave say goes = goes
+    steps_so (step ∷ steps) run all leave say goes =
+        steps_so steps (stepped net most_routes most_services run step) all.1 leave.1 say.1 (step_so step steps run all.0 leave.0 say.0 goes)
+
+  pub going_kept : (ticks : ℕ) → IsKept (Going ticks)
+  going_kept ticks = record {
+    same = λ left rest q alike going. record {
+      are = going.are;
+      routers = λ router had within e. let a = alike router in going.routers router had within (omega (arith, a, e));
+      few = λ router within.
+          let a = alike router in
+          let few = going.few router within in
+          let one = few.0 in
+          let some = few.1 in
+          (omega (arith, a, one), omega (arith, a, some));
+      waiting = going.waiting;
+    };
+    second = second_goes ticks;
+    delivery = delivery_goes ticks;
+    comes = λ histories queue d left delivery silent going. record {
+      are = going.are;
+      routers = going.routers;
+      few = going.few;
+      waiting = (record { delivery = delivery; says = inr silent }, going.waiting);
+    };
+  }
 
   -- ---- ticks
 
@@ -308,25 +457,33 @@ module _ (net : Internet) (laws : Layouts) (is : IsInternet net) (most_routes mo
   none_waits : (ticks : ℕ) (waiting : List Waiting) → waiting ≡ [] → AllByRecursion (Arrives net up ticks) (map (λ w. w.delivery) waiting)
   none_waits ticks waiting none = subst (λ (ws : List Waiting). AllByRecursion (Arrives net up ticks) (map (λ w. w.delivery) ws)) (sym none) tt
 
-  tick_rests : (ticks : ℕ) (run : Run) (steps : List Step) → Rests ticks run → IsTick net most_routes most_services run steps
+  -- when a tick begins, and when it is over
+  pub begins : (ticks : ℕ) (run : Run) (steps : List Step) → Rests ticks run → IsBusyTick net most_routes most_services run steps
+      → Going (suc ticks) (left_of steps) (forgotten run)
+  begins ticks run steps rests tick = record {
+    are = rests.are;
+    routers = λ router had within e.
+        let one = tick.each router within in
+        let all : had ≡ ticks = omega (arith, one, e) in
+        subst (λ (n : ℕ). Lasts router n (history_of run.histories router)) (sym all) (rests.routers router within);
+    few = λ router within. let one = tick.each router within in (omega (arith, one), omega (arith, one));
+    waiting = none_waits (suc ticks) run.waiting rests.quiet;
+  }
+
+  pub ends : (ticks : ℕ) (run : Run) → Going ticks (left_of []) (forgotten run) → run.waiting ≡ [] → Rests ticks run
+  ends ticks run going quiet = record {
+    are = going.are;
+    routers = λ router within. going.routers router ticks within (omega arith);
+    quiet = quiet;
+  }
+
+  pub tick_rests : (ticks : ℕ) (run : Run) (steps : List Step) → Rests ticks run → IsCalmTick net most_routes most_services run steps
       → Rests (suc ticks) (run_of net most_routes most_services run steps)
   tick_rests ticks run steps rests tick =
-      let after = steps_go (suc ticks) steps run tick.passes (record {
-        are = rests.are;
-        routers = λ router had within e.
-            let one = tick.each router within in
-            let all : had ≡ ticks = omega (arith, one, e) in
-            subst (λ (n : ℕ). Lasts router n (history_of run.histories router)) (sym all) (rests.routers router within);
-        few = λ router within. let one = tick.each router within in (omega (arith, one), omega (arith, one));
-        waiting = none_waits (suc ticks) run.waiting rests.quiet;
-      }) in
-      record {
-        are = after.are;
-        routers = λ router within. after.routers router (suc ticks) within (omega arith);
-        quiet = tick.quiet;
-      }
+      ends (suc ticks) (run_of net most_routes most_services run steps)
+      (steps_so (Going (suc ticks)) (going_kept (suc ticks)) steps run tick.busy.happens tick.leaves tick.says (begins ticks run steps rests tick.busy)) tick.busy.quiet
 
-  pub ticks_rest : (so_far : ℕ) (run : Run) (ticks : List (List Step)) → Rests so_far run → AreTicks net most_routes most_services run ticks
+  pub ticks_rest : (so_far : ℕ) (run : Run) (ticks : List (List Step)) → Rests so_far run → CalmTicks net most_routes most_services run ticks
       → Rests (length ticks + so_far) (ticked net most_routes most_services run ticks)
   ticks_rest so_far run [] rests are =
       let same : so_far ≡ 0 + so_far = omega arith in
@@ -340,13 +497,13 @@ module _ (net : Internet) (laws : Layouts) (is : IsInternet net) (most_routes mo
   pub quiet_rests : (run : Run) → AreHistories net run.histories → ((router : ℕ) → ups net run.histories router ≡ up router) → run.waiting ≡ [] → Rests 0 run
   quiet_rests run are same quiet = record {
     are = are;
-    routers = λ router within. at_begin net up most_routes most_services router (history_of run.histories router) (same router);
+    routers = λ router within. at_begin net up most_routes router (history_of run.histories router) (same router);
     quiet = quiet;
   }
 
   -- after ticks from there
   pub rested : (run : Run) (ticks : List (List Step)) → AreHistories net run.histories → ((router : ℕ) → ups net run.histories router ≡ up router)
-      → run.waiting ≡ [] → AreTicks net most_routes most_services run ticks → Rests (length ticks) (ticked net most_routes most_services run ticks)
+      → run.waiting ≡ [] → CalmTicks net most_routes most_services run ticks → Rests (length ticks) (ticked net most_routes most_services run ticks)
   rested run ticks are same quiet passes =
       let count : length ticks + 0 ≡ length ticks = omega arith in
       subst (λ (n : ℕ). Rests n (ticked net most_routes most_services run ticks)) count (ticks_rest 0 run ticks (quiet_rests run are same quiet) passes)

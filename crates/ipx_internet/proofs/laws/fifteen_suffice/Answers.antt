@@ -1,7 +1,7 @@
 use Rattle.ipx_internet.specs.Ticks.{ups}
 use Rattle.ipx_internet.proofs.laws.fifteen_suffice.Goals as goal
 use Rattle.ipx_internet.proofs.tables.FifteenHopsSuffice.{of_few_routers, of_equal_costs}
-use Rattle.ipx_internet.proofs.tables.RightAndKept.{ups_within}
+use Rattle.ipx_internet.proofs.tables.LeastWays.{ups_within}
 
 pub returns-clause-few_routers : goal.returns-clause-few_routers
 returns-clause-few_routers c net histories network is few_routers = of_few_routers net (ups net histories) (ups_within net histories) is network few_routers

@@ -1,12 +1,16 @@
 use Rattle.std.proofs.Common.{refl, ℕ, List, length}
+use Rattle.ipx_router.specs.Facts.{services_held, offers}
 use Rattle.ipx_router.specs.History.{History}
-use Rattle.ipx_internet.specs.Internet.{Internet, IsInternet}
+use Rattle.ipx_internet.specs.Internet.{Internet, IsInternet, ports_of}
+use Rattle.ipx_internet.specs.Meanwhile.{IsWithoutService}
+use Rattle.ipx_internet.specs.Queue.{history_of}
 use Rattle.ipx_internet.specs.Run.{Step, AreHistories, begun}
 use Rattle.ipx_internet.specs.Ticks.{AreTicks, ticked, ups}
 use Rattle.ipx_internet.proofs.laws.gone.Goals as goal
 use Rattle.ipx_internet.proofs.packets.SentOnOrReply.{Layouts}
-use Rattle.ipx_internet.proofs.ticks.RoutesBecomeReal.{no_network, no_service}
-use Rattle.ipx_internet.proofs.ticks.TickAfterTick.{Rests, rested}
+use Rattle.ipx_internet.proofs.ticks.GoneWhateverHappens.{no_such_service, none_left, no_records}
+use Rattle.ipx_internet.proofs.ticks.RoutesBecomeReal.{no_network}
+use Rattle.ipx_internet.proofs.ticks.TickAfterTick.{Rests, rested, quiet_ticks, busy_ticks, all_say_nothing}
 
 -- the laws of packets and routers
 layouts : goal.After-packets → Layouts
@@ -34,7 +38,9 @@ layouts c = record {
 module _ (c : goal.After-packets) (net : Internet) (most_routes most_services : ℕ) (histories : List History) (ticks : List (List Step)) (is : IsInternet net)
     (are : AreHistories net histories) (passes : AreTicks net most_routes most_services (begun histories) ticks) where
   rests : Rests net (layouts c) is most_routes most_services (ups net histories) (length ticks) (ticked net most_routes most_services (begun histories) ticks)
-  rests = rested net (layouts c) is most_routes most_services (ups net histories) (begun histories) ticks are (λ router. refl) refl passes
+  rests =
+      rested net (layouts c) is most_routes most_services (ups net histories) (begun histories) ticks are (λ router. refl) refl
+      (quiet_ticks net most_routes most_services (layouts c) is (begun histories) ticks passes)
 
 pub returns-clause-networks : goal.returns-clause-networks
 returns-clause-networks c net most_routes most_services histories ticks router network is are passes long within =
@@ -43,5 +49,9 @@ returns-clause-networks c net most_routes most_services histories ticks router n
 
 pub returns-clause-services : goal.returns-clause-services
 returns-clause-services c net most_routes most_services histories ticks router is are passes long within =
-    no_service net (layouts c) is most_routes most_services histories (length ticks) (ticked net most_routes most_services (begun histories) ticks)
-    (rests c net most_routes most_services histories ticks is are passes) router within long
+    let last = ticked net most_routes most_services (begun histories) ticks in
+    let held = services_held (ports_of net router) most_services (history_of last.histories router) in
+    no_records held (none_left (offers held) (λ key.
+    no_such_service net (layouts c) is most_routes most_services (begun histories) are refl ticks
+    (busy_ticks net most_routes most_services (layouts c) is (begun histories) ticks passes) long router within key
+    (all_say_nothing net most_routes most_services (layouts c) is (IsWithoutService key) (begun histories) ticks passes)))

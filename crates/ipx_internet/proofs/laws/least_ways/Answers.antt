@@ -1,7 +1,7 @@
 use Rattle.ipx_internet.specs.Ticks.{ups}
 use Rattle.ipx_internet.proofs.laws.least_ways.Goals as goal
 use Rattle.ipx_internet.proofs.tables.ComputedIsLeast.{least_is, none_beats_least}
-use Rattle.ipx_internet.proofs.tables.RightAndKept.{ups_within}
+use Rattle.ipx_internet.proofs.tables.LeastWays.{ups_within}
 
 pub returns-clause-way : goal.returns-clause-way
 returns-clause-way c net histories router network way e = least_is net (ups net histories) (ups_within net histories) network router way e

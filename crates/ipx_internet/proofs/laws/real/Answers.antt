@@ -6,7 +6,7 @@ use Rattle.ipx_internet.specs.Ticks.{AreTicks, ticked, ups}
 use Rattle.ipx_internet.proofs.laws.real.Goals as goal
 use Rattle.ipx_internet.proofs.packets.SentOnOrReply.{Layouts}
 use Rattle.ipx_internet.proofs.ticks.RoutesBecomeReal.{all_real, all_on, none_over}
-use Rattle.ipx_internet.proofs.ticks.TickAfterTick.{Rests, rested}
+use Rattle.ipx_internet.proofs.ticks.TickAfterTick.{Rests, rested, quiet_ticks}
 
 -- the laws of packets and routers
 layouts : goal.After-packets → Layouts
@@ -34,7 +34,9 @@ layouts c = record {
 module _ (c : goal.After-packets) (net : Internet) (most_routes most_services : ℕ) (histories : List History) (ticks : List (List Step)) (is : IsInternet net)
     (are : AreHistories net histories) (passes : AreTicks net most_routes most_services (begun histories) ticks) where
   rests : Rests net (layouts c) is most_routes most_services (ups net histories) (length ticks) (ticked net most_routes most_services (begun histories) ticks)
-  rests = rested net (layouts c) is most_routes most_services (ups net histories) (begun histories) ticks are (λ router. refl) refl passes
+  rests =
+      rested net (layouts c) is most_routes most_services (ups net histories) (begun histories) ticks are (λ router. refl) refl
+      (quiet_ticks net most_routes most_services (layouts c) is (begun histories) ticks passes)
 
 pub returns-clause-routes : goal.returns-clause-routes
 returns-clause-routes c net most_routes most_services histories ticks router is are passes long within =

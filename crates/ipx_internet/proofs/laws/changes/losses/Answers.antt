@@ -9,7 +9,7 @@ use Rattle.ipx_internet.specs.Queue.{Queued}
 use Rattle.ipx_internet.specs.Run.{Step, Run, Waiting, AreHistories, begun, forgotten, run_of}
 use Rattle.ipx_internet.specs.Tables.{AreReal, AreRight, routes_of}
 use Rattle.ipx_internet.specs.Ticks.{ups}
-use Rattle.ipx_internet.proofs.changes.losses.Goals as goal
+use Rattle.ipx_internet.proofs.laws.changes.losses.Goals as goal
 use Rattle.ipx_internet.proofs.losses.LossesGoOn.{Losing, steps_lose}
 use Rattle.ipx_internet.proofs.losses.RealAfterLosses.{all_real}
 use Rattle.ipx_internet.proofs.losses.TableIsAdvertised.{at_first}
@@ -66,7 +66,7 @@ returns-clause-real c net most_routes most_services histories steps is differ su
     real_then c net most_routes most_services histories steps is differ suffice cheap are real right losses
 
 pub returns-clause-right : goal.returns-clause-right
-returns-clause-right c net most_routes most_services histories steps ticks is differ suffice cheap room are real right losses suffice_last no_service passes enough router network
+returns-clause-right c net most_routes most_services histories steps ticks is differ suffice cheap room are real right losses suffice_last enough passes router network
     inside =
     let then_run = after c net most_routes most_services histories steps is differ suffice cheap are real right losses in
     let last = then_run.histories in
@@ -76,5 +76,5 @@ returns-clause-right c net most_routes most_services histories steps ticks is di
     subst (λ (hs : List History). option_map way_of (route_to (routes_of net most_routes hs router) network.0) ≡ least_route net (ups net last) router network)
     (sym (ap (λ (q : Queued). q.histories) (same_ticked net most_routes most_services then_run (begun last) ticks equal)))
     (c.right.ensures.sooner net most_routes most_services last ticks router network is differ (suffice_last network) cheap room lost.are
-    (real_then c net most_routes most_services histories steps is differ suffice cheap are real right losses) no_service
+    (real_then c net most_routes most_services histories steps is differ suffice cheap are real right losses)
     (same_ticks net most_routes most_services then_run (begun last) ticks equal passes) inside (omega (arith, soon, enough)))

@@ -1,9 +1,8 @@
--- A tick in which tables become right: what is asked of each router, and of what waits, while it goes on.
-use Rattle.std.proofs.Common.{◌≡◌, ◌≢◌, refl, sym, ap, ◌∙◌, subst, ◌⊎◌, ℕ, zero, suc, ◌+◌, ◌*◌, ◌<◌, ◌≤◌, ◌==◌, ◌||◌, nat_lt, Bool, true, false, not, List, [], ◌∷◌, length, map, filter, flat_map, find, Option, None, Some, option_map, inl, inr, arith, is_eq}
+-- A router that holds a route of its least way: what it says of the network to its neighbours, and what waits for them.
+use Rattle.std.proofs.Common.{◌≡◌, ◌≢◌, refl, sym, ap, ◌∙◌, subst, ℕ, zero, suc, ◌+◌, ◌*◌, ◌<◌, ◌≤◌, ◌==◌, ◌||◌, nat_lt, Bool, true, false, not, List, [], ◌∷◌, length, map, filter, flat_map, find, Option, None, Some, option_map, inl, inr, arith, is_eq}
 use Rattle.std.specs.List.{AllByRecursion}
 use Rattle.std.proofs.lemmas.Bool.{eqb-true, cases_Bool, ne_eqb, eq-eqb, lt-ltb, both_ways, or_right}
 use Rattle.ipx_table.specs.Facts.{Fact}
-use Rattle.ipx_table.specs.Stands.{held}
 use Rattle.ipx_table.specs.declared.held.Held.{Held}
 use Rattle.ipx_table.proofs.Living.{kept}
 use Rattle.ipx_table.proofs.Standing.{record-in_order, rules_total}
@@ -11,7 +10,6 @@ use Rattle.ipx_wire.specs.Piece.{IsBytes}
 use Rattle.ipx_wire.specs.declared.network.Network.{Network}
 use Rattle.ipx_wire.specs.declared.node.Node.{Node}
 use Rattle.ipx_wire.specs.declared.rip.RipEntry.{RipEntry}
-use Rattle.ipx_wire.specs.declared.service.Service.{Service}
 use Rattle.ipx_router.specs.Facts.{route_facts, routes_held, offers}
 use Rattle.ipx_router.specs.History.{History}
 use Rattle.ipx_router.specs.Port.{Port, broadcast, port_at, is_up, takes_no_route, same_node, own_address, everyone}
@@ -28,13 +26,11 @@ use Rattle.ipx_internet.specs.Internet.{Internet, Place, IsInternet, NodesDiffer
 use Rattle.ipx_internet.specs.Least.{Way, is_on, way_of, AreCheap, HasRoom, FifteenSuffice}
 use Rattle.ipx_internet.specs.Queue.{Delivery, deliveries_of}
 use Rattle.ipx_internet.specs.Rounds.{IsDelivery}
-use Rattle.ipx_internet.specs.Run.{Step}
-use Rattle.ipx_internet.specs.Ticks.{seconds_of, most_ticks_gone}
 use Rattle.ipx_internet.proofs.lists.EachElement.{all_or, all_then, all_of}
 use Rattle.ipx_internet.proofs.lists.FoundInAList.{nothing, it_is}
 use Rattle.ipx_internet.proofs.lists.SomeElement.{any_passes, AnyIs, any_then, any_and_all, any-map, any-filter, any-flat_map}
 use Rattle.ipx_internet.proofs.packets.PagesReadAgain.{IsRipPage}
-use Rattle.ipx_internet.proofs.packets.SentOnOrReply.{Layouts, IsNewsSent}
+use Rattle.ipx_internet.proofs.packets.SentOnOrReply.{Layouts}
 use Rattle.ipx_internet.proofs.places.OneReceiverOfANode.{one_port, apart_at, port_is}
 use Rattle.ipx_internet.proofs.tables.GoodRoutesStay.{Right, right_way}
 use Rattle.ipx_internet.proofs.tables.LeastRouteSurvives.{StateOf, known, records}
@@ -126,11 +122,17 @@ module _ (net : Internet) (laws : Layouts) (is : IsInternet net) (differ : Nodes
   abbrev pub SourceOf : (router : ℕ) → Way → ℕ → Place → Type 0
   SourceOf = Source net is cheap up in_ports network
 
-  -- the tick from which on a router of a way may be right
-  abbrev pub start : Way → ℕ
-  start v = 2820 + 60 * v.hops
-
   -- ---- what is held, as a list of offers
+
+  -- it is the offer of the record of the network, if there is one
+  pub found_so : (router : ℕ) (w : Wants router) (history : History) → find (λ o. is_eq (network_order o.network network)) (offers (routes_held (ports_of net router) most_routes history))
+      ≡ option_map (λ x. x.offer) (known_of router w (route_facts (ports_of net router) history))
+  found_so router w history =
+      found (λ o. is_eq (network_order o.network network)) (routes_held (ports_of net router) most_routes history)
+      ∙ ap (option_map (λ x. x.offer))
+      (record-in_order route_reading network_order network_total most_routes (map (λ p. p.route_share) (ports_of net router)) network
+      (records net is differ cheap up in_ports most_routes room network suffice
+      router w.v w.off w.least w.wanted (route_facts (ports_of net router) history)))
 
   module _ (router : ℕ) (w : Wants router) (history : History) (h : Held RouteOffer) (some : known_of router w (route_facts (ports_of net router) history) ≡ Some h)
       (named : h.offer.network ≡ network) (way : way_of h.offer ≡ w.v) where
@@ -138,40 +140,20 @@ module _ (net : Internet) (laws : Layouts) (is : IsInternet net) (differ : Nodes
     all_held = offers (routes_held (ports_of net router) most_routes history)
 
     pub found_there : find (λ o. is_eq (network_order o.network network)) all_held ≡ Some h.offer
-    found_there =
-        found (λ o. is_eq (network_order o.network network)) (routes_held (ports_of net router) most_routes history)
-        ∙ ap (option_map (λ x. x.offer))
-        (record-in_order route_reading network_order network_total most_routes (map (λ p. p.route_share) (ports_of net router)) network
-        (records net is differ cheap up in_ports most_routes room network suffice
-        router w.v w.off w.least w.wanted (route_facts (ports_of net router) history)) ∙ some)
+    found_there = found_so router w history ∙ ap (option_map (λ x. x.offer)) some
 
     pub in_held : AnyIs (λ r. r ≡ h.offer) all_held
     in_held = find_any (λ o. is_eq (network_order o.network network)) all_held h.offer found_there
 
-  -- ---- one tick
+  -- ---- what is said of it, when so many ticks have begun
 
-  module _ (before : ℕ) (long : most_ticks_gone ≤ before) (clock : ℕ → ℕ) (few_seconds : (router : ℕ) → clock router < 60) (at_start : ℕ → Option RouteOffer) where
-    -- a router with such a way has been right long enough for others to rest on it
-    pub record Settled (u : Way) : Type 0 where
-      pub hops : u.hops ≤ 14
-      pub long_enough : 2880 + 60 * u.hops ≤ before
-
+  module _ (begun : ℕ) where
     -- what a port sends of the network is the least way of its router, gone on
     abbrev pub Word : Place → RipEntry → Type 0
-    Word from e = (u : Way) → within net up in_ports network 15 from.router ≡ Some u → Settled u → IsWord (ports_of net from.router) network u from.port e
+    Word from e = (u : Way) → within net up in_ports network 15 from.router ≡ Some u → u.hops ≤ 14 → IsWord (ports_of net from.router) network u from.port e
 
     abbrev pub Said : Place → RipEntry → Type 0
-    Said from e = RouteSaid net up (suc before) from e × Word from e
-
-    abbrev pub AnyService : Service → Type 0
-    AnyService s = Unit
-
-    -- what waits for a port
-    pub record Speaks (d : Delivery) : Type 0 where
-      pub from : Place
-      pub delivery : IsDelivery net d
-      pub reaches : Reaches net up from d.to
-      pub news : IsNewsSent (Said from) AnyService (port_of net from) d.bytes
+    Said from e = RouteSaid net up begun from e × Word from e
 
     -- a delivery for a router tells of the network, from a port
     pub record Pending (router : ℕ) (from : Place) (d : Delivery) : Type 0 where
@@ -181,52 +163,6 @@ module _ (net : Internet) (laws : Layouts) (is : IsInternet net) (differ : Nodes
       pub page : IsRipPage (Said from) (own_address (port_of net from)) (everyone (port_of net from)) d.bytes
       pub has : AnyIs (λ e. e.network ≡ network) page.page
 
-    module _ (left : List Step) (queue : List Delivery) (router : ℕ) (v : Way) where
-      -- such a port will tell of it yet
-      abbrev pub Due : Place → Type 0
-      Due from = (seconds_of from.router left ≡ 1) ⊎ AnyIs (Pending router from) queue
-
-      abbrev pub Fresh : Place → ℕ → Type 0
-      Fresh from age = age + seconds_of router left ≤ clock from.router + 1
-
-      abbrev pub Late : Place → ℕ → Type 0
-      Late from age =
-          (suc before ≤ start v + clock from.router)
-          ⊎ ((clock from.router ≡ 0) × Due from × ((age + seconds_of router left ≤ 61) ⊎ (before ≤ start v + 59)))
-
-      abbrev pub LateFrom : Place → Type 0
-      LateFrom from = (suc before ≤ start v + clock from.router) ⊎ ((clock from.router ≡ 0) × Due from × (before ≤ start v + 59))
-
-      abbrev pub Later : Type 0
-      Later = (port : ℕ) × (from : Place) × SourceOf router v port from × LateFrom from
-
-      abbrev pub Same : RouteOffer → Type 0
-      Same o = start v + 60 ≤ before → at_start router ≡ Some o
-
-      -- no router that has been right long enough is late
-      pub not_later : start v + 60 ≤ before → Later → ⊥
-      not_later right later = elim later.3 [
-        | inl late ↦ let c = few_seconds later.1.router in omega (arith, late, c, right)
-        | inr late ↦ let some = late.2 in omega (arith, some, right)
-      ]
-
-      pub free : Later → (o : RouteOffer) → Same o
-      free later o right = absurd (not_later right later)
-
-    abbrev pub StateAt : List Step → List Delivery → (router : ℕ) → Wants router → List (Fact RouteOffer) → Type 0
-    StateAt left queue router w facts =
-        StateFor router w (Fresh left queue router w.v) (Late left queue router w.v) (Later left queue router w.v) (Same left queue router w.v)
-        (known_of router w facts)
-
-    -- a router that has been right long enough holds a route of the least way
-    pub holds_right : (left : List Step) (queue : List Delivery) (router : ℕ) (w : Wants router) (facts : List (Fact RouteOffer)) → start w.v + 60 ≤ before
-        → StateAt left queue router w facts → (h : Held RouteOffer) × (from : Place) × (known_of router w facts ≡ Some h) × RightFor router w from h.offer
-        × Same left queue router w.v h.offer
-    holds_right left queue router w facts right state = elim state.holds [
-      | inl held ↦ held
-      | inr later ↦ absurd (not_later left queue router w.v right later)
-    ]
-
     -- ---- what a router says
 
     -- all that a router holds for the network is of that way, and where it isn't on it, something is
@@ -235,19 +171,19 @@ module _ (net : Internet) (laws : Layouts) (is : IsInternet net) (differ : Nodes
       pub there : is_on (ports_of net router) network ≡ false → find (λ o. is_eq (network_order o.network network)) routes ≡ None → ⊥
 
     abbrev pub AllKnow : ℕ → List RouteOffer → Type 0
-    AllKnow router routes = (u : Way) → within net up in_ports network 15 router ≡ Some u → Settled u → Knows router u routes
+    AllKnow router routes = (u : Way) → within net up in_ports network 15 router ≡ Some u → u.hops ≤ 14 → Knows router u routes
 
     abbrev pub AllReal : ℕ → List RouteOffer → Type 0
     AllReal router routes = AllByRecursion (λ r. is_on (ports_of net router) r.network ≡ false) routes
 
     pub all_words : (from : Place) (entries : List RipEntry)
-        → ((u : Way) → within net up in_ports network 15 from.router ≡ Some u → Settled u → AllByRecursion (IsWord
+        → ((u : Way) → within net up in_ports network 15 from.router ≡ Some u → u.hops ≤ 14 → AllByRecursion (IsWord
         (ports_of net from.router) network u from.port) entries)
         → AllByRecursion (Word from) entries
     all_words from [] all = tt
-    all_words from (e ∷ entries) all = ((λ u is_u settled. (all u is_u settled).0), all_words from entries (λ u is_u settled. (all u is_u settled).1))
+    all_words from (e ∷ entries) all = ((λ u is_u near. (all u is_u near).0), all_words from entries (λ u is_u near. (all u is_u near).1))
 
-    module _ (router : ℕ) (u : Way) (least : within net up in_ports network 15 router ≡ Some u) (settled : Settled u) where
+    module _ (router : ℕ) (u : Way) (least : within net up in_ports network 15 router ≡ Some u) (near : u.hops ≤ 14) where
       abbrev ports : List Port
       ports = ports_of net router
 
@@ -255,7 +191,7 @@ module _ (net : Internet) (laws : Layouts) (is : IsInternet net) (differ : Nodes
       few_for j =
           let some = few_ticks 15 router u least (on_or_off net up in_ports network router) in
           let cost = cost_few router j in
-          let hops = settled.hops in
+          let hops = near in
           omega (arith, some, cost, hops)
 
       own_way_is : (other : ℕ) → is_up (up router) other ≡ true → (port_at ports other).network ≡ network → (u.hops ≡ 0) × (u.ticks ≡ (port_at ports other).cost)
@@ -273,7 +209,7 @@ module _ (net : Internet) (laws : Layouts) (is : IsInternet net) (differ : Nodes
       pub words_news : (old routes : List RouteOffer) → Knows router u routes → AllReal router old → (j : ℕ)
           → AllByRecursion (IsWord ports network u j) (news ports old routes j)
       words_news old routes knows real j =
-          news_words ports network u few_for settled.hops old routes knows.has (lasting (on_or_off net up in_ports network router)) j
+          news_words ports network u few_for near old routes knows.has (lasting (on_or_off net up in_ports network router)) j
         where
           lasting : OnOrOff net up in_ports network router
               → AllByRecursion (λ r. r.network ≡ network → find (λ o. is_eq (network_order o.network network)) routes ≡ None → ⊥) old
@@ -315,19 +251,13 @@ module _ (net : Internet) (laws : Layouts) (is : IsInternet net) (differ : Nodes
           | inr other ↦ ((λ again. absurd (both_ways (is_eq (network_order y.offer.network network)) other again)), none_pass ys (rw other at none))
         ]
 
-    pub knows_off : (router : ℕ) (w : Wants router) (history : History) (h : Held RouteOffer) (from : Place)
-        → known_of router w (route_facts (ports_of net router) history) ≡ Some h → RightFor router w from h.offer
+    pub knows_off : (router : ℕ) (w : Wants router) (history : History) (h : Held RouteOffer)
+        → known_of router w (route_facts (ports_of net router) history) ≡ Some h → h.offer.network ≡ network → way_of h.offer ≡ w.v
         → Knows router w.v (offers (routes_held (ports_of net router) most_routes history))
-    knows_off router w history h from some right = record { has = has; there = λ off none. nothing (sym none ∙ there) }
+    knows_off router w history h some named way = record { has = has; there = λ off none. nothing (sym none ∙ there) }
       where
         facts : List (Fact RouteOffer)
         facts = route_facts (ports_of net router) history
-
-        named : h.offer.network ≡ network
-        named = ap (λ (r : RouteOffer). r.network) right.same
-
-        way : way_of h.offer ≡ w.v
-        way = right_way net is differ cheap up in_ports most_routes room network suffice router w.v w.off w.least from h.offer right
 
         there : find (λ o. is_eq (network_order o.network network)) (offers (routes_held (ports_of net router) most_routes history)) ≡ Some h.offer
         there = found_there router w history h some named way
@@ -382,6 +312,13 @@ module _ (net : Internet) (laws : Layouts) (is : IsInternet net) (differ : Nodes
           (ap (λ k. (port_at ports k).network) equal ∙ same, ap (λ k. not (k == from.port)) equal ∙ ap not apart)) (up from.router)
           (any_passes (λ k. k == j) (up from.router) on_j))
 
+      -- its own way didn't come by that port
+      pub learned_elsewhere : (second : Wants from.router) (r : RouteOffer) (place : Place) → RightFor from.router second place r → (r.port == from.port) ≡ false
+      learned_elsewhere second r place right =
+          let same = same_some net up in_ports network (within net up in_ports network 15 from.router) second.v source.way second.least source.there in
+          let here : SourceOf from.router source.way r.port place = subst (λ (x : Way). SourceOf from.router x r.port place) same right.source in
+          ne_eqb r.port from.port (elsewhere net is cheap up in_ports network router w.v port from r.port place w.off w.least source here)
+
       -- by its route
       pub told_learned : (second : Wants from.router) (history : History) (h : Held RouteOffer) (place : Place) → source.way.hops ≤ 14
           → known_of from.router second (route_facts (ports_of net from.router) history) ≡ Some h → RightFor from.router second place h.offer
@@ -394,9 +331,7 @@ module _ (net : Internet) (laws : Layouts) (is : IsInternet net) (differ : Nodes
           let way = right_way net is differ cheap up in_ports most_routes room network suffice
           from.router second.v second.off second.least place h.offer right in
           let hops = ap (λ (x : Way). x.hops) (way ∙ same) in
-          let here : SourceOf from.router source.way h.offer.port place = subst (λ (x : Way). SourceOf from.router x h.offer.port place) same right.source in
-          let apart : (h.offer.port == from.port) ≡ false =
-          ne_eqb h.offer.port from.port (elsewhere net is cheap up in_ports network router w.v port from h.offer.port place w.off w.least source here) in
+          let apart = learned_elsewhere second h.offer place right in
           let reached : nat_lt h.offer.hops 15 ≡ true = lt-ltb h.offer.hops 15 (omega (arith, hops, near)) in
           let told_here : is_route_told from.port h.offer ≡ true = rw (apart, reached) refl in
           told_route ports network source.way (up from.router) (offers (routes_held ports most_routes history)) from.port

@@ -6,7 +6,7 @@ use Rattle.ipx_internet.specs.Queue.{Queued}
 use Rattle.ipx_internet.specs.Run.{Waiting, begun, forgotten, run_of}
 use Rattle.ipx_internet.specs.Tables.{routes_of}
 use Rattle.ipx_internet.specs.Ticks.{ups}
-use Rattle.ipx_internet.proofs.changes.gains.Goals as goal
+use Rattle.ipx_internet.proofs.laws.changes.gains.Goals as goal
 use Rattle.ipx_internet.proofs.gains.RealWhileGaining.{gained, all_real}
 use Rattle.ipx_internet.proofs.packets.SentOnOrReply.{Layouts}
 use Rattle.ipx_internet.proofs.ticks.LogsDontMatter.{same_ticks, same_ticked}
@@ -39,7 +39,7 @@ returns-clause-real c net most_routes most_services histories steps is are real 
     all_real net (layouts c) is most_routes most_services histories steps are real gains
 
 pub returns-clause-right : goal.returns-clause-right
-returns-clause-right c net most_routes most_services histories steps ticks is differ cheap room are real gains quiet suffice no_service passes enough router network inside =
+returns-clause-right c net most_routes most_services histories steps ticks is differ cheap room are real gains quiet enough suffice passes router network inside =
     let then_run = run_of net most_routes most_services (begun histories) steps in
     let last = then_run.histories in
     let equal : forgotten then_run ≡ forgotten (begun last) = ap (λ (ws : List Waiting). record { histories = last; queue = map (λ w. w.delivery) ws }) quiet in
@@ -48,5 +48,5 @@ returns-clause-right c net most_routes most_services histories steps ticks is di
     (sym (ap (λ (q : Queued). q.histories) (same_ticked net most_routes most_services then_run (begun last) ticks equal)))
     (c.right.ensures.sooner net most_routes most_services last ticks router network is differ (suffice network) cheap room
     (gained net (layouts c) is most_routes most_services histories steps are real gains).are
-    (all_real net (layouts c) is most_routes most_services histories steps are real gains) no_service
+    (all_real net (layouts c) is most_routes most_services histories steps are real gains)
     (same_ticks net most_routes most_services then_run (begun last) ticks equal passes) inside (omega (arith, soon, enough)))

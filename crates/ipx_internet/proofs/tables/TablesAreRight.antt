@@ -1,7 +1,7 @@
--- After 3,780 ticks every router holds the route of its least way to each network, and keeps it.
-use Rattle.std.proofs.Common.{◌≡◌, refl, sym, ap, ◌∙◌, subst, ◌⊎◌, ℕ, suc, ◌+◌, ◌*◌, ◌<◌, ◌≤◌, ◌==◌, true, false, List, [], ◌∷◌, ◌++◌, length, map, Option, None, Some, option_map, inl, inr, arith, is_eq}
+-- What a table has for a network once every route is of a real way, and once all are right: the route of the least way, for good.
+use Rattle.std.proofs.Common.{◌≡◌, refl, sym, ap, ◌∙◌, subst, ◌⊎◌, ℕ, suc, ◌+◌, ◌<◌, ◌≤◌, ◌==◌, true, false, List, [], ◌∷◌, ◌++◌, length, map, Option, None, Some, option_map, inl, inr, arith, is_eq}
 use Rattle.std.specs.List.{AllByRecursion}
-use Rattle.std.proofs.lemmas.Bool.{cases_Bool, cases_lt, both_ways}
+use Rattle.std.proofs.lemmas.Bool.{cases_Bool, ne_eqb, both_ways}
 use Rattle.std.proofs.lemmas.Nat.{mod_below}
 use Rattle.ipx_wire.specs.declared.network.Network.{Network}
 use Rattle.ipx_router.specs.Facts.{route_facts, routes_held, offers}
@@ -10,85 +10,68 @@ use Rattle.ipx_router.specs.Outgoing.{route_to}
 use Rattle.ipx_router.specs.Routes.{route_reading, network_order}
 use Rattle.ipx_router.specs.declared.route_offer.RouteOffer.{RouteOffer}
 use Rattle.ipx_router.proofs.bounds.PacketsOfEachEvent.{network_total}
-use Rattle.ipx_router.proofs.port_values.PortOfEachNumber.{ports_up-within}
-use Rattle.ipx_internet.specs.Internet.{Internet, Place, port_of, IsInternet, NodesDiffer, ports_of}
-use Rattle.ipx_internet.specs.Least.{Way, is_on, way_of, least_route, AreCheap, HasRoom, ticks_right, most_ticks_right, FifteenSuffice}
+use Rattle.ipx_internet.specs.Internet.{Internet, Place, IsInternet, NodesDiffer, ports_of, port_of}
+use Rattle.ipx_internet.specs.Least.{Way, is_on, least_route, way_of, AreCheap, HasRoom, FifteenSuffice, ticks_right, most_ticks_right}
+use Rattle.ipx_internet.specs.Meanwhile.{EachTick}
 use Rattle.ipx_internet.specs.Queue.{history_of}
 use Rattle.ipx_internet.specs.Real.{IsReal}
 use Rattle.ipx_internet.specs.Run.{Step, Run, run_of}
-use Rattle.ipx_internet.specs.Ticks.{AreTicks, ticked, ups, most_ticks_gone}
+use Rattle.ipx_internet.specs.Ticks.{ticked, most_ticks_gone}
 use Rattle.ipx_internet.proofs.lists.EachElement.{all_then}
 use Rattle.ipx_internet.proofs.lists.FoundInAList.{nothing}
 use Rattle.ipx_internet.proofs.packets.SentOnOrReply.{Layouts}
 use Rattle.ipx_internet.proofs.places.OneReceiverOfANode.{same_number}
 use Rattle.ipx_internet.proofs.records.RecordsGrowOld.{at_last}
 use Rattle.ipx_internet.proofs.tables.GoodRoutesStay.{right_way, right_node}
-use Rattle.ipx_internet.proofs.tables.LeastWays.{within, on_or_off, OnOrOff, same_some, few}
+use Rattle.ipx_internet.proofs.tables.LeastWays.{within, on_or_off, OnOrOff, came, same_some}
 use Rattle.ipx_internet.proofs.tables.NoRouteIsBetter.{there_where_up, real_way, none_beats}
-use Rattle.ipx_internet.proofs.tables.RightTickByTick.{AtRest, at_first, tick_rests, route_of, route_stays, find_same, find_none, tied}
-use Rattle.ipx_internet.proofs.tables.RightWithinATick.{SourceOf, Wants, wants, found_there}
+use Rattle.ipx_internet.proofs.tables.RightWithinAMinute.{find_same, find_none, tied, route_of, AtRest, good_then, tick_rests, route_stays, ticks_rest_right}
 use Rattle.ipx_internet.proofs.tables.RoomForEachNetwork.{real_wanted, same_where_equal}
-use Rattle.ipx_internet.proofs.ticks.TickAfterTick.{Rests, ticks_rest}
-
--- the ports that are up are ports
-pub ups_within : (net : Internet) (histories : List History) (router : ℕ) → AllByRecursion (λ j. j < length (ports_of net router)) (ups net histories router)
-ups_within net histories router = ports_up-within (ports_of net router) (history_of histories router)
+use Rattle.ipx_internet.proofs.tables.SaysWhatItKnows.{Wants, wants, SourceOf, found_there}
+use Rattle.ipx_internet.proofs.ticks.TickAfterTick.{CalmTicks}
 
 -- they are at least those after which every route is of a real way, and no more than stated
 pub some_ticks : (o : Option Way) (ticks : ℕ) → ticks_right o ≤ ticks → most_ticks_gone ≤ ticks
 some_ticks None ticks sure = sure
-some_ticks (Some way) ticks sure = omega (arith, sure)
+some_ticks (Some way) ticks sure = elim (cases_Bool (way.hops == 0)) [
+  | inl none ↦ rw none at sure
+  | inr some ↦
+      let more : most_ticks_gone + 60 ≤ ticks = rw some at sure in
+      omega (arith, more)
+]
 
-pub soon_enough : (net : Internet) (up : ℕ → List ℕ) → ((router : ℕ) → AllByRecursion (λ j. j < length (ports_of net router)) (up router)) → (router : ℕ)
-    (network : Network)
-    → ticks_right (least_route net up router network) ≤ most_ticks_right
-soon_enough net up in_ports router network = by (on_or_off net up in_ports network router) (within net up in_ports network 15 router) refl
-  where
-    by : OnOrOff net up in_ports network router → (o : Option Way) → within net up in_ports network 15 router ≡ o → ticks_right
-        (least_route net up router network) ≤ most_ticks_right
-    by (inl on) o e = rw on (omega arith)
-    by (inr off) None e =
-        let none : least_route net up router network ≡ None = rw off e in
-        subst (λ (o : Option Way). ticks_right o ≤ most_ticks_right) (sym none) (omega arith)
-    by (inr off) (Some v) e =
-        let should : least_route net up router network ≡ Some v = rw off e in
-        let most = few net up in_ports network 15 router v e in
-        subst (λ (o : Option Way). ticks_right o ≤ most_ticks_right) (sym should) (omega (arith, most))
+pub soon_enough : (o : Option Way) → ticks_right o ≤ most_ticks_right
+soon_enough None = omega arith
+soon_enough (Some way) = elim (cases_Bool (way.hops == 0)) [
+  | inl none ↦ rw none (omega arith)
+  | inr some ↦ rw some (omega arith)
+]
+
+-- for a way of a hop or more they are all
+pub all_ticks : (way : Way) (ticks : ℕ) → ticks_right (Some way) ≤ ticks → 1 ≤ way.hops → most_ticks_right ≤ ticks
+all_ticks way ticks sure some =
+    let off : (way.hops == 0) ≡ false = ne_eqb way.hops 0 (λ none. omega (arith, none, some)) in
+    let more : most_ticks_gone + 60 ≤ ticks = rw off at sure in
+    omega (arith, more)
 
 module _ (net : Internet) (laws : Layouts) (is : IsInternet net) (differ : NodesDiffer net) (cheap : AreCheap net) (up : ℕ → List ℕ)
     (in_ports : (router : ℕ) → AllByRecursion (λ j. j < length (ports_of net router)) (up router)) (most_routes most_services : ℕ) (room : HasRoom net most_routes)
     (network : Network) (suffice : FifteenSuffice net up network) where
-  abbrev RestsAt : ℕ → Run → Type 0
-  RestsAt = AtRest net laws is differ cheap up in_ports most_routes most_services room network suffice
+  abbrev Rest : ℕ → Run → Type 0
+  Rest = AtRest net laws is differ cheap up in_ports most_routes most_services room network suffice
 
   abbrev RouteOf : Run → ℕ → Option RouteOffer
   RouteOf = route_of net laws is differ cheap up in_ports most_routes most_services room network suffice
 
-  -- ---- ticks, one after the other
-
-  pub climbs : (so_far : ℕ) (run : Run) (ticks : List (List Step)) → Rests net laws is most_routes most_services up so_far run
-      → (most_ticks_gone ≤ so_far → RestsAt so_far run) → AreTicks net most_routes most_services run ticks → most_ticks_gone ≤ length ticks + so_far
-      → RestsAt (length ticks + so_far) (ticked net most_routes most_services run ticks)
-  climbs so_far run [] rests at are long =
-      let same : so_far ≡ 0 + so_far = omega arith in
-      subst (λ (n : ℕ). RestsAt n run) same (at (omega (arith, long)))
-  climbs so_far run (steps ∷ ticks) rests at are long =
-      let next = run_of net most_routes most_services run steps in
-      let later : Rests net laws is most_routes most_services up (suc so_far) next =
-      subst (λ (n : ℕ). Rests net laws is most_routes most_services up n next) (omega arith)
-      (ticks_rest net laws is most_routes most_services up so_far run (steps ∷ []) rests (are.0, tt)) in
-      let same : length ticks + suc so_far ≡ length (steps ∷ ticks) + so_far = omega arith in
-      subst (λ (n : ℕ). RestsAt n (ticked net most_routes most_services next ticks)) same
-      (climbs (suc so_far) next ticks later
-      (λ enough. elim (cases_lt so_far most_ticks_gone) [
-        | inl early ↦ at_first net laws is differ cheap up in_ports most_routes most_services room network suffice (suc so_far) next (omega (arith, early)) later
-        | inr sure ↦ tick_rests net laws is differ cheap up in_ports most_routes most_services room network suffice so_far sure run steps (at sure) are.0
-      ])
-      are.1 (omega (arith, long)))
+  a_hop : (router : ℕ) (v : Way) → is_on (ports_of net router) network ≡ false → within net up in_ports network 15 router ≡ Some v → 1 ≤ v.hops
+  a_hop router v off e =
+      let c = came net up in_ports network 14 router v off e in
+      let h = ap (λ (y : Way). y.hops) c.by in
+      omega (arith, h)
 
   -- ---- what a router holds then
 
-  module _ (ticks : ℕ) (run : Run) (rest : RestsAt ticks run) (long : most_ticks_gone ≤ ticks) (router : ℕ) (inside : router < length net) where
+  module _ (ticks : ℕ) (run : Run) (rest : Rest ticks run) (long : most_ticks_gone ≤ ticks) (router : ℕ) (inside : router < length net) where
     abbrev history : History
     history = history_of run.histories router
 
@@ -132,17 +115,13 @@ module _ (net : Internet) (laws : Layouts) (is : IsInternet net) (differ : Nodes
       pub source : SourceOf net laws is differ cheap up in_ports most_routes most_services room network suffice router v route.port from
       pub node : route.node ≡ (port_of net from).node
 
-    pub route_is : (v : Way) → is_on (ports_of net router) network ≡ false → within net up in_ports network 15 router ≡ Some v
-        → most_ticks_gone + 60 * v.hops ≤ ticks
-        → HasRoute v
+    pub route_is : (v : Way) → is_on (ports_of net router) network ≡ false → within net up in_ports network 15 router ≡ Some v → most_ticks_right ≤ ticks → HasRoute v
     route_is v off is_v sure =
         let w = wants net laws is differ cheap up in_ports most_routes most_services room network suffice router v off is_v in
         let same = same_some net up in_ports network (within net up in_ports network 15 router) w.v v w.least is_v in
-        let state = rest.states router w in
-        let hops = ap (λ (y : Way). y.hops) same in
-        elim state.holds [
+        elim (rest.holds router w) [
           | inl held ↦
-              let (h, f, some, right, tt_is) = held in
+              let (h, f, some, right) = held in
               let way = right_way net is differ cheap up in_ports most_routes room network suffice router w.v w.off w.least f h.offer right in
               record {
                 route = h.offer;
@@ -156,10 +135,11 @@ module _ (net : Internet) (laws : Layouts) (is : IsInternet net) (differ : Nodes
                     router y h.offer.port f) same right.source;
                 node = right_node net is differ cheap up in_ports most_routes room network suffice router w.v w.off w.least f h.offer right;
               }
-          | inr late ↦
-              let clock = mod_below (seconds_run (history_of run.histories late.1.router)) 60 (omega arith) in
-              let early = late.3 in
-              absurd (omega (arith, early, clock, hops, sure))
+          | inr (port, f, source, inl early) ↦
+              let clock = mod_below (seconds_run (history_of run.histories f.router)) 60 (omega arith) in
+              absurd (omega (arith, early, clock, sure))
+          | inr (port, f, source, inr bad) ↦
+              absurd (bad (good_then net laws is differ cheap up in_ports most_routes most_services room network suffice ticks run rest sure f.router))
         ]
 
     -- by its number
@@ -175,42 +155,36 @@ module _ (net : Internet) (laws : Layouts) (is : IsInternet net) (differ : Nodes
         by (inr off) None e = ap (option_map way_of) (none_without e) ∙ rw off (sym e)
         by (inr off) (Some v) e =
             let should : least_route net up router network ≡ Some v = rw off e in
-            let has = route_is v off e (subst (λ (o : Option Way). ticks_right o ≤ ticks) should sure) in
+            let enough = all_ticks v ticks (subst (λ (o : Option Way). ticks_right o ≤ ticks) should sure) (a_hop router v off e) in
+            let has = route_is v off e enough in
             ap (option_map way_of) has.held ∙ ap Some has.way ∙ rw off (sym e)
 
   -- ---- it stays
 
-  stays_by : (ticks : ℕ) (run : Run) (further : List (List Step)) → RestsAt ticks run → AreTicks net most_routes most_services run further
-      → (router : ℕ) (w : Wants net laws is differ cheap up in_ports most_routes most_services room network suffice
-      router) → most_ticks_gone + 60 * w.v.hops ≤ ticks
+  stays_by : (ticks : ℕ) (run : Run) (further : List (List Step)) → Rest ticks run → CalmTicks net most_routes most_services run further
+      → (router : ℕ) (w : Wants net laws is differ cheap up in_ports most_routes most_services room network suffice router) → most_ticks_right ≤ ticks
       → RouteOf (ticked net most_routes most_services run further) router ≡ RouteOf run router
   stays_by ticks run [] rest are router w sure = refl
   stays_by ticks run (steps ∷ further) rest are router w sure =
       let next = run_of net most_routes most_services run steps in
       let long : most_ticks_gone ≤ ticks = omega (arith, sure) in
-      stays_by (suc ticks) next further (tick_rests net laws is differ cheap up in_ports most_routes most_services room network suffice
-      ticks long run steps rest are.0) are.1 router w (omega (arith, sure))
-      ∙ route_stays net laws is differ cheap up in_ports most_routes most_services room network suffice
-      ticks long run steps rest are.0 router w (omega (arith, sure))
+      stays_by (suc ticks) next further (tick_rests net laws is differ cheap up in_ports most_routes most_services room network suffice ticks long run steps rest are.0) are.1 router w
+      (omega (arith, sure))
+      ∙ route_stays net laws is differ cheap up in_ports most_routes most_services room network suffice ticks long run steps rest are.0 router w sure
 
-  rests_after : (ticks : ℕ) (run : Run) (further : List (List Step)) → RestsAt ticks run → most_ticks_gone ≤ ticks
-      → AreTicks net most_routes most_services run further
-      → RestsAt (length further + ticks) (ticked net most_routes most_services run further)
-  rests_after ticks run further rest long are = climbs ticks run further rest.rests (λ enough. rest) are (omega (arith, long))
-
-  pub stays : (ticks : ℕ) (run : Run) (further : List (List Step)) → RestsAt ticks run → AreTicks net most_routes most_services run further
+  pub stays : (ticks : ℕ) (run : Run) (further : List (List Step)) → Rest ticks run → CalmTicks net most_routes most_services run further
       → (router : ℕ) → router < length net → ticks_right (least_route net up router network) ≤ ticks
       → route_to (offers (routes_held (ports_of net router) most_routes (history_of (ticked net most_routes most_services run further).histories router))) network.0
       ≡ route_to (offers (routes_held (ports_of net router) most_routes (history_of run.histories router))) network.0
   stays ticks run further rest are router inside sure =
       let long = some_ticks (least_route net up router network) ticks sure in
-      let later = rests_after ticks run further rest long are in
+      let later = ticks_rest_right net laws is differ cheap up in_ports most_routes most_services room network suffice ticks long run further rest are in
       let longer : most_ticks_gone ≤ length further + ticks = omega (arith, long) in
       by_number (length further + ticks) (ticked net most_routes most_services run further) later longer router inside
       ∙ by later longer long (on_or_off net up in_ports network router) (within net up in_ports network 15 router) refl
       ∙ sym (by_number ticks run rest long router inside)
     where
-      by : RestsAt (length further + ticks) (ticked net most_routes most_services run further) → most_ticks_gone ≤ length further + ticks → most_ticks_gone ≤ ticks
+      by : Rest (length further + ticks) (ticked net most_routes most_services run further) → most_ticks_gone ≤ length further + ticks → most_ticks_gone ≤ ticks
           → OnOrOff net up in_ports network router → (o : Option Way) → within net up in_ports network 15 router ≡ o
           → RouteOf (ticked net most_routes most_services run further) router ≡ RouteOf run router
       by later longer long (inl on) o e =
@@ -222,20 +196,17 @@ module _ (net : Internet) (laws : Layouts) (is : IsInternet net) (differ : Nodes
       by later longer long (inr off) (Some v) e =
           let should : least_route net up router network ≡ Some v = rw off e in
           let w = wants net laws is differ cheap up in_ports most_routes most_services room network suffice router v off e in
-          let same = same_some net up in_ports network (within net up in_ports network 15 router) w.v v w.least e in
-          let hops = ap (λ (y : Way). y.hops) same in
-          let enough : most_ticks_gone + 60 * v.hops ≤ ticks = subst (λ (o : Option Way). ticks_right o ≤ ticks) should sure in
-          stays_by ticks run further rest are router w (omega (arith, enough, hops))
+          stays_by ticks run further rest are router w (all_ticks v ticks (subst (λ (o : Option Way). ticks_right o ≤ ticks) should sure) (a_hop router v off e))
 
 -- ---- ticks in two parts
 
 module _ (net : Internet) (most_routes most_services : ℕ) where
-  pub first_ticks : (run : Run) (ticks further : List (List Step)) → AreTicks net most_routes most_services run (ticks ++ further)
-      → AreTicks net most_routes most_services run ticks
-      × AreTicks net most_routes most_services (ticked net most_routes most_services run ticks) further
-  first_ticks run [] further are = (tt, are)
-  first_ticks run (steps ∷ ticks) further are =
-      let rest = first_ticks (run_of net most_routes most_services run steps) ticks further are.1 in
+  pub parts_of : (Is : Run → List Step → Type 0) (run : Run) (ticks further : List (List Step)) → EachTick net most_routes most_services Is run (ticks ++ further)
+      → EachTick net most_routes most_services Is run ticks
+      × EachTick net most_routes most_services Is (ticked net most_routes most_services run ticks) further
+  parts_of Is run [] further are = (tt, are)
+  parts_of Is run (steps ∷ ticks) further are =
+      let rest = parts_of Is (run_of net most_routes most_services run steps) ticks further are.1 in
       ((are.0, rest.0), rest.1)
 
   pub ticked_on : (run : Run) (ticks further : List (List Step)) → ticked net most_routes most_services run (ticks ++ further)
