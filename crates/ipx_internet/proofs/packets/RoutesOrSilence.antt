@@ -43,7 +43,7 @@ use Rattle.ipx_internet.proofs.lists.EachElement.{all_of, all_then, all-filter}
 use Rattle.ipx_internet.proofs.lists.FoundInAList.{nothing, it_is}
 use Rattle.ipx_internet.proofs.packets.PagesReadAgain.{IsRipPage, IsSapPage, rip_pages, sap_pages}
 use Rattle.ipx_internet.proofs.packets.ResponsesAskNothing.{IsAnswering, rip_answers, answering}
-use Rattle.ipx_internet.proofs.packets.SentOnOrReply.{Layouts, IsNewsSent, IsCast, IsOnward, rip_reply, no_reply, unsaid, said, answered, nearest_fits, either_fits}
+use Rattle.ipx_internet.proofs.packets.SentOnOrReply.{Layouts, IsNewsSent, IsCast, IsOnward, rip_reply, no_reply, unsaid, said_so, answered, nearest_fits, either_fits}
 use Rattle.ipx_internet.proofs.packets.SentOnSaysTheSame.{heard_message, of_packet, message_heard, sent_on_message}
 use Rattle.ipx_internet.proofs.rounds.RepliesTellChanges.{page_heard, services_heard_of}
 use Rattle.ipx_internet.proofs.rounds.SentOnRunsOut.{reply_moves}
@@ -204,32 +204,17 @@ module _ (laws : Layouts) (ports : List Port) (are : AllByRecursion IsPort ports
         → AllByRecursion Spoken sent
     silent_spoken up_here (HeardSap source (SapResponse nearest entries)) e from silent = changes_spoken (HeardSap source (SapResponse nearest entries)) e tt
     silent_spoken up_here (HeardRip source rip) e from silent =
-        either_way (said laws ports are most_routes most_services history on of_bytes number bytes within are_bytes (HeardRip source rip) e)
+        subst (λ (ss : List Sent). AllByRecursion Spoken ss)
+        (sym (said_so laws ports are most_routes most_services history on of_bytes number bytes within are_bytes (HeardRip source rip) e))
         (asked_spoken up_here (advertised (HeardRip source rip) e silent) source from rip.entries rip.operation silent)
-      where
-        either_way : {these : List Sent} → (sent ≡ []) ⊎ (sent ≡ these) → AllByRecursion Spoken these → AllByRecursion Spoken sent
-        either_way (inl none) all = subst (λ (ss : List Sent). AllByRecursion Spoken ss) (sym none) tt
-        either_way (inr same) all = subst (λ (ss : List Sent). AllByRecursion Spoken ss) (sym same) all
     silent_spoken up_here (HeardSap source (Query nearest kind)) e from silent =
-        either_way (said laws ports are most_routes most_services history on of_bytes number bytes within are_bytes (HeardSap source (Query nearest kind)) e)
-        (services_spoken source from silent nearest answer
+        let services = of_kind kind (told_services before.services number) in
+        let fits = all-filter IsTellable _ (told_services before.services number)
+        (told_services_fit before.services number (held_services_fit laws.readings ports most_services history of_bytes)) in
+        subst (λ (ss : List Sent). AllByRecursion Spoken ss)
+        (sym (said_so laws ports are most_routes most_services history on of_bytes number bytes within are_bytes (HeardSap source (Query nearest kind)) e))
+        (services_spoken source from silent nearest (if nearest then nearest_of services else services)
         (either_fits laws ports are nearest (nearest_of services) services (nearest_fits laws ports are services fits) fits))
-      where
-        all : List Service
-        all = told_services before.services number
-
-        services : List Service
-        services = of_kind kind all
-
-        answer : List Service
-        answer = if nearest then nearest_of services else services
-
-        fits : AllByRecursion IsTellable services
-        fits = all-filter IsTellable _ all (told_services_fit before.services number (held_services_fit laws.readings ports most_services history of_bytes))
-
-        either_way : {these : List Sent} → (sent ≡ []) ⊎ (sent ≡ these) → AllByRecursion Spoken these → AllByRecursion Spoken sent
-        either_way (inl none) every = subst (λ (ss : List Sent). AllByRecursion Spoken ss) (sym none) tt
-        either_way (inr same) every = subst (λ (ss : List Sent). AllByRecursion Spoken ss) (sym same) every
 
     -- for any packet of which that much waits
     module _ (up_here : (m : Heard) → heard_after ports history number bytes ≡ Some m → is_up after.up number ≡ true) where

@@ -42,7 +42,7 @@ use Rattle.ipx_internet.proofs.packets.SentOnSaysTheSame.{heard_message}
 use Rattle.ipx_internet.proofs.packets.PagesAreHeard.{heard_page}
 use Rattle.ipx_internet.proofs.places.OneReceiverOfANode.{ports_at, port_is, one_port, apart_at}
 use Rattle.ipx_internet.proofs.tables.GoodRoutesStay.{right_offer, same_offer, decide}
-use Rattle.ipx_internet.proofs.tables.LastWords.{WantsOf, Sources, known_by, GoodBy, IsGood, facts_of, good_or_not, WordOf, PendingFor, Fine, comes_fine, Calm, Waits, Fresh, Late, Later, Same, free, StateWith, Righted, good_state}
+use Rattle.ipx_internet.proofs.tables.LastWords.{WantsOf, Sources, known_by, GoodBy, IsGood, facts_of, good_or_not, WordOf, PendingFor, Fine, comes_fine, Calm, Waits, Fresh, Late, Later, Same, free, StateWith, Righted, good_state, popped, calm_popped, elsewhere}
 use Rattle.ipx_internet.proofs.tables.LeastRouteSurvives.{EntryIs, entries_keep, entries_come, entries_any}
 use Rattle.ipx_internet.proofs.tables.LeastWays.{IsNeighbour, few}
 use Rattle.ipx_internet.proofs.tables.NoRouteIsBetter.{there_where_up}
@@ -154,24 +154,9 @@ module _ (net : Internet) (laws : Layouts) (is : IsInternet net) (differ : Nodes
       | inr steady ↦ absurd (bad (steady_before steady k))
     ]
 
-    -- ---- the delivery is taken from the queue
-
-    popped : (y : ℕ) (f : Place) (S : Type 0) → Waits_by left histories (d ∷ queue) y f S → Waits_by left histories queue y f S ⊎ Pends y f d
-    popped y f S (inl early) = inl (inl early)
-    popped y f S (inr (inl due)) = inl (inr (inl due))
-    popped y f S (inr (inr (inl bad))) = inl (inr (inr (inl bad)))
-    popped y f S (inr (inr (inr (s, inl ends)))) = inl (inr (inr (inr (s, ends))))
-    popped y f S (inr (inr (inr (s, inr last)))) = inr last.0
-
-    calm_popped : (y port : ℕ) (f : Place) (w : Wanting y) → Source_of y w.v port f → Good_of histories f.router
-        → Calm net laws is differ cheap up in_ports most_routes most_services room network suffice before y f queue
-    calm_popped y port f w source good = by (righted.calm y port f w source good)
-      where
-        by : Calm net laws is differ cheap up in_ports most_routes most_services room network suffice before y f (d ∷ queue)
-            → Calm net laws is differ cheap up in_ports most_routes most_services room network suffice before y f queue
-        by (inl all) = inl all.1
-        by (inr (unsteady, inl ends)) = inr (unsteady, ends)
-        by (inr (unsteady, inr last)) = inl last.1
+    -- the delivery is taken from the queue
+    taken : (f : Place) (S : Type 0) → Waits_by left histories (d ∷ queue) x f S → Waits_by left histories queue x f S ⊎ Pends x f d
+    taken = popped net laws is differ cheap up in_ports most_routes most_services room network suffice before clock few_seconds at_start left histories d queue x
 
     -- ---- the router's own state
 
@@ -283,7 +268,7 @@ module _ (net : Internet) (laws : Layouts) (is : IsInternet net) (differ : Nodes
           → RightFor net laws is differ cheap up in_ports most_routes most_services room network suffice x w f h.offer → Fresh_by f h.age ⊎ Late_by f h.age
           → Fresh_by f h.age ⊎ Late net laws is differ cheap up in_ports most_routes most_services room network suffice before clock few_seconds at_start (left x) left histories queue x f h.age
       aged_by h f e right (inl young) = inl young
-      aged_by h f e right (inr late) = elim (popped x f ((h.age + left x ≤ 61) ⊎ (before < most_ticks_right)) late) [
+      aged_by h f e right (inr late) = elim (taken f ((h.age + left x ≤ 61) ⊎ (before < most_ticks_right)) late) [
         | inl still ↦ inr still
         | inr pending ↦ elim ((comes f h.offer.port right.source pending).aged h f e right) [
           | inl young ↦ inl young
@@ -297,7 +282,7 @@ module _ (net : Internet) (laws : Layouts) (is : IsInternet net) (differ : Nodes
         aged = λ h f e right. aged_by h f e right (state.aged h f e right);
         holds = elim state.holds [
           | inl held ↦ inl held
-          | inr (port, f, source, waits) ↦ elim (popped x f (before < most_ticks_right) waits) [
+          | inr (port, f, source, waits) ↦ elim (taken f (before < most_ticks_right) waits) [
             | inl still ↦ inr (port, f, source, still)
             | inr pending ↦ elim (comes f port source pending).holds [
               | inl held ↦ inl held
@@ -564,26 +549,6 @@ module _ (net : Internet) (laws : Layouts) (is : IsInternet net) (differ : Nodes
     state_now : (k : ℕ) (w : Wanting k) → State_of (left k) left after_it (queue ++ new) k w (route_facts (ports_of net k) (history_of after_it k))
     state_now k w = by (cases_eq k x)
       where
-        -- the delivery is for another router
-        others_wait : (k ≢ x) → (f : Place) (S : Type 0) → Waits_by left histories (d ∷ queue) k f S → Waits_by left histories queue k f S
-        others_wait off f S waits = elim (popped k f S waits) [
-          | inl still_waits ↦ still_waits
-          | inr pending ↦ absurd (off (sym pending.to))
-        ]
-
-        elsewhere : (k ≢ x) → State_of (left k) left histories (d ∷ queue) k w (route_facts (ports_of net k) (history_of histories k))
-            → State_of (left k) left histories queue k w (route_facts (ports_of net k) (history_of histories k))
-        elsewhere off state = record {
-          aged = λ h f e right. elim (state.aged h f e right) [
-            | inl young ↦ inl young
-            | inr late ↦ inr (others_wait off f ((h.age + left k ≤ 61) ⊎ (before < most_ticks_right)) late)
-          ];
-          holds = elim state.holds [
-            | inl held ↦ inl held
-            | inr later ↦ inr (later.0, later.1, later.2, others_wait off later.1 (before < most_ticks_right) later.3)
-          ];
-        }
-
         by : (k ≡ x) ⊎ (k ≢ x) → State_of (left k) left after_it (queue ++ new) k w (route_facts (ports_of net k) (history_of after_it k))
         by (inl same) = moved same w
           where
@@ -596,7 +561,9 @@ module _ (net : Internet) (laws : Layouts) (is : IsInternet net) (differ : Nodes
                 (then_so (left x) x v (route_facts ports now) (own_state v)))
         by (inr off) =
             subst (λ (h : History). State_of (left k) left after_it (queue ++ new) k w (route_facts (ports_of net k) h)) (sym (same_history k off))
-            (then_so (left k) k w (route_facts (ports_of net k) (history_of histories k)) (elsewhere off (righted.states k w)))
+            (then_so (left k) k w (route_facts (ports_of net k) (history_of histories k))
+            (elsewhere net laws is differ cheap up in_ports most_routes most_services room network suffice before clock few_seconds at_start
+            (left k) left histories d queue k off w (route_facts (ports_of net k) (history_of histories k)) (righted.states k w)))
 
     clock_now : (router port : ℕ) → is_up (up router) port ≡ true → (seconds_run (history_of after_it router) + left router) % 60 ≡ clock router
     clock_now router port here = by (cases_eq router x)
@@ -622,6 +589,8 @@ module _ (net : Internet) (laws : Layouts) (is : IsInternet net) (differ : Nodes
       calm =
           calm_then net laws is differ cheap up in_ports most_routes most_services room network suffice before clock few_seconds at_start
           left left histories after_it queue new x (λ k off. refl) same_history steady_before steady_now fine turned
-          (λ y port f w source here at_zero due. inl due) calm_popped;
+          (λ y port f w source here at_zero due. inl due)
+          (λ y port f w source good. calm_popped net laws is differ cheap up in_ports most_routes most_services room network suffice before clock few_seconds at_start
+          d queue y f (righted.calm y port f w source good));
       clocks = clock_now;
     }

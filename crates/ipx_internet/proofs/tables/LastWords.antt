@@ -1,7 +1,7 @@
 -- How tables become right: what is so of each router, and of what waits, while a tick goes on. A router is right, or by one of the neighbours
 -- from which its least way comes it is this: the neighbour hasn't broadcast all since the first tick, or isn't right itself now, or the last
 -- that it said for the router waits, and is right.
-use Rattle.std.proofs.Common.{◌≡◌, refl, sym, ap, ◌∙◌, subst, ◌⊎◌, ℕ, suc, ◌+◌, ◌%◌, ◌<◌, ◌≤◌, true, false, List, [], ◌∷◌, ◌++◌, length, Option, None, Some, inl, inr, arith, true≢false}
+use Rattle.std.proofs.Common.{◌≡◌, ◌≢◌, refl, sym, ap, ◌∙◌, subst, ◌⊎◌, ℕ, suc, ◌+◌, ◌%◌, ◌<◌, ◌≤◌, true, false, List, [], ◌∷◌, ◌++◌, length, Option, None, Some, inl, inr, arith, true≢false}
 use Rattle.std.specs.List.{AllByRecursion}
 use Rattle.std.proofs.lemmas.Bool.{cases_eq, both_ways}
 use Rattle.ipx_table.specs.Facts.{Fact}
@@ -221,6 +221,38 @@ module _ (net : Internet) (laws : Layouts) (is : IsInternet net) (differ : Nodes
       StateWith mine left histories queue x w facts =
           StateFor net laws is differ cheap up in_ports most_routes most_services room network suffice
           x w (Fresh mine) (Late mine left histories queue x) (Later left histories queue x w) (Same x) (known_by x w facts)
+
+      -- ---- the first that waits is handed out
+
+      pub popped : (left : ℕ → ℕ) (histories : List History) (d : Delivery) (queue : List Delivery) (x : ℕ) (f : Place) (S : Type 0)
+          → Waits left histories (d ∷ queue) x f S → Waits left histories queue x f S ⊎ PendingFor x f d
+      popped left histories d queue x f S (inl early) = inl (inl early)
+      popped left histories d queue x f S (inr (inl due)) = inl (inr (inl due))
+      popped left histories d queue x f S (inr (inr (inl bad))) = inl (inr (inr (inl bad)))
+      popped left histories d queue x f S (inr (inr (inr (s, inl ends)))) = inl (inr (inr (inr (s, ends))))
+      popped left histories d queue x f S (inr (inr (inr (s, inr last)))) = inr last.0
+
+      pub calm_popped : (d : Delivery) (queue : List Delivery) (x : ℕ) (f : Place) → Calm x f (d ∷ queue) → Calm x f queue
+      calm_popped d queue x f (inl all) = inl all.1
+      calm_popped d queue x f (inr (unsteady, inl ends)) = inr (unsteady, ends)
+      calm_popped d queue x f (inr (unsteady, inr last)) = inl last.1
+
+      -- for another router nothing changes by that
+      pub elsewhere : (mine : ℕ) (left : ℕ → ℕ) (histories : List History) (d : Delivery) (queue : List Delivery) (x : ℕ) → x ≢ d.to.router
+          → (w : WantsOf x) (facts : List (Fact RouteOffer)) → StateWith mine left histories (d ∷ queue) x w facts → StateWith mine left histories queue x w facts
+      elsewhere mine left histories d queue x off w facts state = record {
+        aged = λ h f e right. elim (state.aged h f e right) [ inl young ↦ inl young | inr late ↦ inr (waits f (Aging mine h.age) late) ];
+        holds = elim state.holds [
+          | inl held ↦ inl held
+          | inr later ↦ inr (later.0, later.1, later.2, waits later.1 Unsteady later.3)
+        ];
+      }
+        where
+          waits : (f : Place) (S : Type 0) → Waits left histories (d ∷ queue) x f S → Waits left histories queue x f S
+          waits f S waiting = elim (popped left histories d queue x f S waiting) [
+            | inl still ↦ still
+            | inr pending ↦ absurd (off (sym pending.to))
+          ]
 
       -- ---- while a tick goes on
 
