@@ -38,6 +38,6 @@ pub struct OwnRecord {
 #[derive(Clone, Copy)]
 pub struct ClientRecord {
     pub place: [u8; 6],
-    /// How many seconds longer it stays, unless it is heard.
+    /// How many seconds longer it stays if it isn't heard.
     pub seconds_left: u8,
 }

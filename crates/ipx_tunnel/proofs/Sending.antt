@@ -17,7 +17,7 @@ use Rattle.ipx_tunnel.specs.Says.{said}
 use Rattle.ipx_tunnel.specs.Clients.{is_open, cookie, clients}
 use Rattle.ipx_tunnel.specs.Own.{answer_to, ping_to, own_for, own, is_ping, is_silent}
 use Rattle.ipx_tunnel.specs.Receivers.{is_for, to_for, receivers, is_heard_of, is_for_router}
-use Rattle.ipx_tunnel.specs.Laws.{copies, is_client, own_to, came_from, sent_to_stranger, came_in_all}
+use Rattle.ipx_tunnel.specs.Laws.{copies, is_client, own_to, came_from, sent_to_stranger, came_from_stranger}
 use Rattle.ipx_tunnel.proofs.Lists.{filter-map}
 use Rattle.ipx_tunnel.proofs.Members.{count-filter, count_few, no_copies, others_fewer}
 
@@ -176,7 +176,7 @@ module _ (setting : Setting) where
   own_few Second earlier place none = omega (arith, pings_none earlier place none)
   own_few (Send to bytes) earlier place none = omega arith
 
-  pub sent_few : (history : History) (place : Node) → sent_to_stranger setting place history ≤ 2 * came_in_all place history
+  pub sent_few : (history : History) (place : Node) → sent_to_stranger setting place history ≤ 2 * came_from_stranger setting place history
   sent_few [] place = omega arith
   sent_few (event ∷ earlier) place =
       let rest = sent_few earlier place in

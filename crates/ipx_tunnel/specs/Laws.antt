@@ -122,7 +122,7 @@ came_from place Second = 0
 came_from place (Send to bytes) = 0
 
 module _ (setting : Setting) where
-  -- all datagrams that went there while no client was there, and all that came from there
+  -- all datagrams that went there while no client was there
   abbrev pub sent_to_stranger : Node → History → ℕ
   sent_to_stranger place [] = 0
   sent_to_stranger place (event ∷ earlier) =
@@ -130,9 +130,11 @@ module _ (setting : Setting) where
       else own_to place (own setting (event ∷ earlier)) + copies place (receivers setting (event ∷ earlier)))
       + sent_to_stranger place earlier
 
-abbrev pub came_in_all : Node → History → ℕ
-came_in_all place [] = 0
-came_in_all place (event ∷ earlier) = came_from place event + came_in_all place earlier
+  -- all datagrams that came from there while no client was there; the one by which it came in isn't among them
+  abbrev pub came_from_stranger : Node → History → ℕ
+  came_from_stranger place [] = 0
+  came_from_stranger place (event ∷ earlier) =
+      (if is_client setting place (event ∷ earlier) then 0 else came_from place event) + came_from_stranger place earlier
 
 -- ---- copies for another network
 

@@ -11,6 +11,6 @@ pub struct Client {
     pub place: Node,
     /// The source node of its pings.
     pub cookie: Node,
-    /// How many seconds longer it stays, unless it is heard.
+    /// How many seconds longer it stays if it isn't heard.
     pub seconds_left: u8,
 }

@@ -17,7 +17,7 @@ ghost use Rattle.ipx_tunnel.specs.Clients.{seconds_left, is_there, is_open, cook
 ghost use Rattle.ipx_tunnel.specs.Own.{header_of, answer_to, ping_to, is_ping, own};
 ghost use Rattle.ipx_tunnel.specs.Receivers.{receivers, is_heard, carried};
 ghost use Rattle.ipx_tunnel.specs.Extend.{is_extended, extended, with_network};
-ghost use Rattle.ipx_tunnel.specs.Laws.{copies, Answered, Trusted, is_client, IsThereThrough, AnswersThrough, SpeaksThrough, IsAlwaysTrusted, concerns, IsHonest, IsOrdinary, LastHeard, seconds, own_to, came_from, sent_to_stranger, came_in_all};
+ghost use Rattle.ipx_tunnel.specs.Laws.{copies, Answered, Trusted, is_client, IsThereThrough, AnswersThrough, SpeaksThrough, IsAlwaysTrusted, concerns, IsHonest, IsOrdinary, LastHeard, seconds, own_to, came_from, sent_to_stranger, came_from_stranger};
 
 /// Each client answered its cookie less than 30 seconds ago, or is trusted and said something less than 180 seconds ago.
 pub fn proof()
@@ -122,13 +122,14 @@ pub fn pings()
 {}
 
 /// A place without a client gets no packet, and at most two of the tunnel's own datagrams for each that came from there: in one event, and in a
-/// whole history.
+/// whole history. What it said while it was a client doesn't count.
 pub fn no_reflection()
     ensures carried { (setting : Setting) (history : History) (place : Node) → is_client setting place history ≡ false
         → copies place (receivers setting history) ≡ 0 }
     ensures event { (setting : Setting) (event : Event) (history : History) (place : Node) → is_client setting place (event ∷ history) ≡ false
         → own_to place (own setting (event ∷ history)) ≤ 2 * came_from place event }
-    ensures in_all { (setting : Setting) (history : History) (place : Node) → sent_to_stranger setting place history ≤ 2 * came_in_all place history }
+    ensures in_all { (setting : Setting) (history : History) (place : Node) → sent_to_stranger setting place history
+        ≤ 2 * came_from_stranger setting place history }
 {}
 
 /// An event sends at most as many datagrams as there are clients, or two; and a packet that is carried is no longer than the datagram that came.
