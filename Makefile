@@ -1,5 +1,5 @@
-# Needs the Rattle toolchain (its command rt, and the Python that it runs on) and nothing else. README.md says where that comes from, and how
-# many minutes, how much disk and how much memory a build takes.
+# Needs the Rattle toolchain (its command rt, and the Python that it runs on) and nothing else. README.md says where that comes from, and
+# docs/LIBRARY.md how many minutes, how much disk and how much memory a build takes.
 PREFIX ?= /usr/local
 PROGRAM = crates/ipxr/out/ipxr
 MINUTES ?= 60
