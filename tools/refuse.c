@@ -1,6 +1,7 @@
 /* Preloaded into a program, it stands between the program and the C library: one request for memory is refused, one read or
- * one write fails, or every read and write moves one byte. The variable REFUSE says which, as "memory 3", "read 3",
- * "interrupted 3", "write 3", "nothing-taken 3" or "bytes 0"; REFUSE_TELL names a file that is made where a refusal came. */
+ * one write fails, or every read and write moves one byte; or each request for more memory than so many bytes is refused. The variable
+ * REFUSE says which, such as "memory 3", "large 1048576", "read 3", "interrupted 3", "write 3", "nothing-taken 3" or "bytes 0"; REFUSE_TELL
+ * names a file that is made where a refusal came. */
 #define _GNU_SOURCE
 #include <dlfcn.h>
 #include <errno.h>
@@ -14,6 +15,8 @@
 static char what[16];
 /* How many calls of that kind go before the one that is refused; none is where it is below zero. */
 static long before = -1;
+/* The most bytes that one request may be for, where large ones are refused. */
+static size_t most;
 static const char *tell;
 
 static void *(*real_malloc)(size_t);
@@ -26,8 +29,15 @@ __attribute__((constructor)) static void begin(void)
     const char *said = getenv("REFUSE");
     long number;
     tell = getenv("REFUSE_TELL");
-    if (tell && said && sscanf(said, "%15s %ld", what, &number) == 2)
-        before = number - 1;
+    if (!tell || !said || sscanf(said, "%15s %ld", what, &number) != 2)
+        return;
+    before = number - 1;
+    most = (size_t)number;
+}
+
+static void tell_it(void)
+{
+    syscall(SYS_close, syscall(SYS_openat, AT_FDCWD, tell, O_WRONLY | O_CREAT, 0600));
 }
 
 /* Whether this call of that kind is the one that is refused. */
@@ -37,7 +47,18 @@ static int refused(const char *kind)
         return 0;
     if (before-- > 0)
         return 0;
-    syscall(SYS_close, syscall(SYS_openat, AT_FDCWD, tell, O_WRONLY | O_CREAT, 0600));
+    tell_it();
+    return 1;
+}
+
+/* Whether this request for memory is refused. */
+static int refused_memory(size_t size)
+{
+    if (strcmp(what, "large") != 0)
+        return refused("memory");
+    if (size <= most)
+        return 0;
+    tell_it();
     return 1;
 }
 
@@ -45,7 +66,7 @@ void *malloc(size_t size)
 {
     if (!real_malloc)
         *(void **)&real_malloc = dlsym(RTLD_NEXT, "malloc");
-    if (refused("memory")) {
+    if (refused_memory(size)) {
         errno = ENOMEM;
         return NULL;
     }
@@ -56,7 +77,7 @@ void *realloc(void *block, size_t size)
 {
     if (!real_realloc)
         *(void **)&real_realloc = dlsym(RTLD_NEXT, "realloc");
-    if (refused("memory")) {
+    if (refused_memory(size)) {
         errno = ENOMEM;
         return NULL;
     }

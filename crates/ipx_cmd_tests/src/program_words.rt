@@ -28,7 +28,7 @@ fn runs_on_standard_input_or_a_file(rt: HostRuntime) {
 
 #[test]
 fn refuses_all_other_words(rt: HostRuntime) {
-    let table: [&[&str]; 18] = [
+    let table: [&[&str]; 19] = [
         &[],
         &[""],
         &["x"],
@@ -46,6 +46,7 @@ fn refuses_all_other_words(rt: HostRuntime) {
         &["help"],
         &["help", "replay"],
         &["internets"],
+        &["internet", "a", "b"],
         &["decode", "a", "b"],
     ];
     for words in table {

@@ -167,6 +167,26 @@ fn receptions_come_one_by_one(rt: HostRuntime) -> Result<(), Fail> {
 }
 
 #[test]
+fn the_longest_packet_is_traced(rt: HostRuntime) -> Result<(), Fail> {
+    let internet = looped(rt.alloc())?;
+    let mut bytes = [0u8; 65_535];
+    bytes[..FAR.len()].copy_from_slice(&FAR);
+    bytes[2] = 0xFF;
+    bytes[3] = 0xFF;
+    let trace = internet.trace(0, 0, &bytes, 17)?;
+    same(&rt, trace.len(), 1);
+    Ok(())
+}
+
+#[test]
+fn a_high_limit_takes_no_memory(rt: HostRuntime) -> Result<(), Fail> {
+    let internet = looped(rt.alloc())?;
+    let trace = internet.trace(0, 0, &FAR, usize::MAX)?;
+    same(&rt, trace.len(), 17);
+    Ok(())
+}
+
+#[test]
 fn routers_come_one_by_one(rt: HostRuntime) -> Result<(), Fail> {
     let internet = looped(rt.alloc())?;
     let mut routes = 0usize;

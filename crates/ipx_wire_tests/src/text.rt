@@ -19,6 +19,17 @@ fn shows_upper_case_digits(rt: HostRuntime) -> Result<(), Fail> {
 }
 
 #[test]
+fn shows_as_many_bytes_as_a_packet_has(rt: HostRuntime) -> Result<(), Fail> {
+    let alloc = rt.alloc();
+    let table: [&[u8]; 5] = [&[], &[0xA5; 64], &[0xA5; 65], &[0xA5; 101], &[0xA5; 65_535]];
+    for bytes in table {
+        let text = format!(in alloc; "{}", Hex(bytes))?;
+        same(&rt, text.len(), 2 * bytes.len());
+    }
+    Ok(())
+}
+
+#[test]
 fn reads_the_digits_of_a_network(rt: HostRuntime) {
     let network = Some(Network(0x0123_ABCD));
     same(&rt, Network::from_hex("0123ABCD"), network);
