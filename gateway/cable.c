@@ -191,19 +191,20 @@ static ssize_t receive_stream(cable *it, uint8_t *bytes, size_t room)
     return length;
 }
 
-ssize_t cable_receive(cable *it, uint8_t *bytes, size_t room, address *from)
+/* The one frame that came, if one did. */
+static bool receive_frame(cable *it, arrivals *in)
 {
-    switch (it->set->type) {
-    case LINK_DOSBOX:
-        return datagram_receive(it->fd, bytes, room, from);
-    case LINK_QEMU_LISTEN:
-    case LINK_QEMU_CONNECT:
-        return receive_stream(it, bytes, room);
-    case LINK_TAP:
-        return tap_receive(it->fd, bytes, room);
-    default:
-        return datagram_receive(it->fd, bytes, room, NULL);
-    }
+    arrival *first = &in->list[0];
+    ssize_t length = it->set->type == LINK_TAP ? tap_receive(it->fd, first->bytes, sizeof first->bytes)
+                                               : receive_stream(it, first->bytes, sizeof first->bytes);
+    first->length = length > 0 ? (size_t)length : 0;
+    in->count = 1;
+    return length >= 0;
+}
+
+bool cable_receive(cable *it, arrivals *in)
+{
+    return is_connection(it) || it->set->type == LINK_TAP ? receive_frame(it, in) : datagrams_receive(it->fd, in);
 }
 
 bool cable_send(cable *it, const uint8_t *bytes, size_t length)
@@ -215,7 +216,12 @@ bool cable_send(cable *it, const uint8_t *bytes, size_t length)
     return it->set->type == LINK_TAP ? tap_send(it->fd, bytes, length) : datagram_send(it->fd, bytes, length);
 }
 
-bool cable_send_to(cable *it, const address *to, const uint8_t *bytes, size_t length, bool is_there)
+bool cable_send_to(cable *it, const departure *what)
 {
-    return datagram_send_to(it->fd, to, bytes, length, is_there);
+    return datagram_send_to(it->fd, what);
+}
+
+size_t cable_send_all(cable *it, const departure *list, size_t count)
+{
+    return datagrams_send(it->fd, list, count);
 }

@@ -5,12 +5,10 @@
 #include <stdbool.h>
 #include <sys/types.h>
 
+#include "datagram.h"
 #include "settings.h"
 #include "stream.h"
 #include "watch.h"
-
-/* Room for what comes in one piece. What is longer is told by its length. */
-#define MOST_RECEIVED 2048
 
 typedef struct cable {
     const network_setting *set; /* of its first network */
@@ -41,13 +39,16 @@ size_t cable_waits(const cable *it, watch list[2]);
 /* Whether something has come that isn't waited for. */
 bool cable_has_more(const cable *it);
 
-/* The next frame or datagram, and for a datagram who sent it. Returns its length, which may be more than the room (what is beyond is
- * lost), or -1 where there is none now. */
-ssize_t cable_receive(cable *it, uint8_t *bytes, size_t room, address *from);
+/* The next frames or datagrams. Returns false where there is none now. */
+bool cable_receive(cable *it, arrivals *in);
 
-/* Sends a frame; a datagram to someone, who has answered lately or may not be there. Returns whether it is on its way. */
+/* Sends a frame; a datagram to someone who may not be there. Returns whether it is on its way. */
 bool cable_send(cable *it, const uint8_t *bytes, size_t length);
-bool cable_send_to(cable *it, const address *to, const uint8_t *bytes, size_t length, bool is_there);
+bool cable_send_to(cable *it, const departure *what);
+
+/* Sends datagrams, at least one and at most MOST_TOGETHER, to places that have answered lately. Returns how many of the first are on their
+ * way: 0 where the system refused the very first. */
+size_t cable_send_all(cable *it, const departure *list, size_t count);
 
 /* Whether it can carry something now; where it can't, `lacks` and `fault` tell why. What isn't open is tried again, once a second, and
  * interfaces are looked for. */

@@ -13,11 +13,13 @@ static bool names(const network_setting *it, uint16_t socket)
 }
 
 /* Sends the copy for another network, where the library makes one. */
-static void hand_to(network *to, const network_setting *from, const uint8_t *packet, size_t length)
+static void hand_to(gateway *it, network *to, const network_setting *from, const uint8_t *packet, size_t length)
 {
-    uint8_t copy[LONGEST];
+    if (!to->is_up)
+        return;
+    uint8_t *copy = gateway_room(it);
     memcpy(copy, packet, length);
-    if (!to->is_up || ipxr_tunnel_extend(from->network, from->sockets, from->socket_count, to->set->network, copy, length) != 1)
+    if (ipxr_tunnel_extend(from->network, from->sockets, from->socket_count, to->set->network, copy, length) != 1)
         return;
     if (length > to->set->longest) {
         gateway_lose(to, NOT_EXTENDED);
@@ -38,5 +40,5 @@ void extend(gateway *it, network *on, const uint8_t *packet, size_t length)
     }
     for (size_t k = 0; k < it->count; k++)
         if (&it->networks[k] != on && names(it->networks[k].set, socket))
-            hand_to(&it->networks[k], on->set, packet, length);
+            hand_to(it, &it->networks[k], on->set, packet, length);
 }

@@ -11,7 +11,7 @@
 #include "note.h"
 #include "tunnel.h"
 
-/* Frames and datagrams that one cable gives before the next has its turn. */
+/* Frames and datagrams of one cable, after which the next has its turn. */
 enum { MOST_AT_ONCE = 64 };
 
 /* ---- Packets ---- */
@@ -44,13 +44,27 @@ void gateway_send(network *on, const uint8_t *node, const uint8_t *packet, size_
     }
 }
 
+void gateway_flush(gateway *it)
+{
+    for (size_t k = 0; k < it->count; k++)
+        outgoing_send(&it->networks[k]);
+    it->room_count = 0;
+}
+
+uint8_t *gateway_room(gateway *it)
+{
+    if (it->room_count == MOST_TOGETHER)
+        gateway_flush(it);
+    return it->rooms[it->room_count++];
+}
+
 void gateway_send_all(gateway *it)
 {
     size_t count = ipxr_sent(&it->router);
     for (size_t k = 0; k < count; k++) {
         ipxr_packet_sent sent;
-        uint8_t packet[LONGEST];
-        if (ipxr_get(&it->router, k, &sent, packet, sizeof packet) == 0)
+        uint8_t *packet = gateway_room(it);
+        if (ipxr_get(&it->router, k, &sent, packet, LONGEST) == 0)
             gateway_send(&it->networks[sent.port], sent.node, packet, sent.length);
     }
     ipxr_clear(&it->router);
@@ -92,22 +106,30 @@ static network *first_on(gateway *it, const cable *at)
     return &it->networks[k];
 }
 
+/* Hears what came on a cable, and sends what is to be sent for it. */
+static void hear_all(gateway *it, cable *at, arrivals *in)
+{
+    for (size_t k = 0; k < in->count; k++) {
+        arrival *next = &in->list[k];
+        if (at->set->type == LINK_DOSBOX)
+            tunnel_hear(it, first_on(it, at), next->bytes, next->length, &next->from);
+        else
+            ether_hear(it, at, next->bytes, next->length);
+    }
+    gateway_flush(it);
+}
+
 /* What came on a cable, as far as it is its turn. */
 static void receive(gateway *it, cable *at)
 {
-    uint8_t bytes[MOST_RECEIVED];
-    address from = {.port = 0};
-    for (int k = 0; k < MOST_AT_ONCE && at->fd >= 0; k++) {
-        ssize_t length = cable_receive(at, bytes, sizeof bytes, &from);
-        if (length < 0) {
+    arrivals *in = &it->arrivals;
+    for (size_t heard = 0; heard < MOST_AT_ONCE && at->fd >= 0; heard += in->count) {
+        if (!cable_receive(at, in)) {
             if (errno != EAGAIN)
                 links_look(it, at);
             return;
         }
-        if (at->set->type == LINK_DOSBOX)
-            tunnel_hear(it, first_on(it, at), bytes, (size_t)length, &from);
-        else
-            ether_hear(it, at, bytes, (size_t)length);
+        hear_all(it, at, in);
     }
 }
 
@@ -175,4 +197,5 @@ void gateway_turn(gateway *it, bool waits)
         for (size_t k = 0; k < it->cable_count; k++)
             attend(it, &it->cables[k], list + first[k], first[k + 1] - first[k]);
     let_seconds_pass(it);
+    gateway_flush(it);
 }

@@ -6,8 +6,10 @@
 
 #include "cable.h"
 #include "counts.h"
+#include "ipx.h"
 #include "ipxr.h"
 #include "ipxr_tunnel.h"
+#include "outgoing.h"
 #include "roster.h"
 #include "settings.h"
 #include "siphash.h"
@@ -23,6 +25,7 @@ typedef struct network {
     counts counts;
     ipxr_tunnel tunnel; /* of DOSBox', where it is one */
     roster roster;      /* and its clients */
+    outgoing outgoing;  /* what waits to be sent to them */
 } network;
 
 typedef struct gateway {
@@ -36,6 +39,9 @@ typedef struct gateway {
     uint8_t key[SIPHASH_KEY]; /* of the cookies */
     uint64_t seconds; /* that the tunnels have heard of */
     uint64_t looked;  /* the second since the start in which they heard of the last */
+    arrivals arrivals; /* what came last */
+    uint8_t rooms[MOST_TOGETHER][LONGEST]; /* packets of the router's that wait to be sent, and how many; */
+    size_t room_count;                     /* from gateway_flush on there is room again */
 } gateway;
 
 /* Opens the links of all networks; what isn't there yet is waited for. Returns false where one can't be opened, which is told on
@@ -65,7 +71,13 @@ void gateway_hear(gateway *it, network *on, const uint8_t *packet, size_t length
 /* Sends what the router has to send. */
 void gateway_send_all(gateway *it);
 
-/* Sends a packet on a network, to a node there or to all. */
+/* Room for a packet that is to be sent. Its bytes stay there until gateway_flush. */
+uint8_t *gateway_room(gateway *it);
+
+/* Sends what waits to go out together. */
+void gateway_flush(gateway *it);
+
+/* Sends a packet on a network, to a node there or to all. Its bytes stay where they are until gateway_flush. */
 void gateway_send(network *on, const uint8_t *node, const uint8_t *packet, size_t length);
 
 /* A packet that goes no further, and why. */

@@ -8,20 +8,23 @@
 #include <stdint.h>
 #include <sys/types.h>
 
-#include "address.h"
+#include "datagram.h"
 
 /* A socket for datagrams at an address; `local` is told the port that it took. With a remote address it hears that one alone.
  * Returns the socket, or -1. */
 int datagram_open(address *local, const address *remote);
 
-/* The next datagram of a socket, or the next frame of an interface's, and where it is asked for, who sent it. Returns its length,
- * which may be more than the room (what is beyond is lost), or -1. */
-ssize_t datagram_receive(int fd, uint8_t *bytes, size_t room, address *from);
+/* The next datagrams of a socket, or the next frames of an interface's. Returns false where there is none. */
+bool datagrams_receive(int fd, arrivals *in);
 
-/* Sends a datagram, or a frame, to where the socket is bound to send; to someone, who has answered lately or may not be there. Returns
- * whether it is on its way. */
+/* Sends a datagram, or a frame, to where the socket is bound to send; a datagram to someone who may not be there. Returns whether it is on
+ * its way. */
 bool datagram_send(int fd, const uint8_t *bytes, size_t length);
-bool datagram_send_to(int fd, const address *to, const uint8_t *bytes, size_t length, bool is_there);
+bool datagram_send_to(int fd, const departure *what);
+
+/* Sends datagrams, at least one and at most MOST_TOGETHER, to places that have answered lately. Returns how many of the first are on their
+ * way: 0 where the system refused the very first. */
+size_t datagrams_send(int fd, const departure *list, size_t count);
 
 /* Waits at an address for connections; `local` is told the port. Returns the socket, or -1. */
 int listener_open(address *local);

@@ -150,6 +150,7 @@ void gateway_stop(gateway *it)
 {
     ipxr_stop(&it->router);
     gateway_send_all(it);
+    gateway_flush(it);
     ipxr_free(&it->router);
     for (size_t k = 0; k < it->count; k++)
         tunnel_close(&it->networks[k]);

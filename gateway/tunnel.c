@@ -11,20 +11,13 @@
 #include "ipx.h"
 #include "note.h"
 #include "output.h"
+#include "place.h"
 
 /* Seconds with which a client is kept: from its answer on, and from each word of one that is trusted. */
 enum { ANSWER_LASTS = 30, TRUST_LASTS = 180 };
 
 /* Seconds for which a cookie is a place's own. The one before counts too. */
 enum { MINUTE = 60 };
-
-static address address_of(const uint8_t place[NODE])
-{
-    address at;
-    memcpy(at.host, place, sizeof at.host);
-    at.port = get16(place + sizeof at.host);
-    return at;
-}
 
 /* ---- Beginning and end ---- */
 
@@ -42,25 +35,12 @@ void tunnel_close(network *on)
 
 /* ---- Sending ---- */
 
-/* Sends a datagram to a place. What the system refuses is counted, to its client too. Returns whether it is on its way. */
-static bool send_to(network *on, const uint8_t place[NODE], const uint8_t *bytes, size_t length, bool is_client)
-{
-    address to = address_of(place);
-    if (cable_send_to(on->cable, &to, bytes, length, is_client))
-        return true;
-    member *client = roster_find(&on->roster, place);
-    on->counts.lost[NOT_SENT]++;
-    if (client != NULL)
-        client->refused++;
-    return false;
-}
-
 /* Sends the answers and pings that the tunnel gave. */
 static void send_own(network *on, bool are_clients)
 {
     ipxr_own own;
     for (size_t k = 0; ipxr_tunnel_own(&on->tunnel, k, &own) == 0; k++) {
-        on->counts.out += send_to(on, own.place, own.bytes, sizeof own.bytes, are_clients);
+        outgoing_own(on, own.place, own.bytes, sizeof own.bytes, are_clients);
         capture_packet(own.bytes, sizeof own.bytes, on->node);
     }
 }
@@ -69,10 +49,9 @@ static void send_own(network *on, bool are_clients)
 static void send_carried(network *on, const uint8_t *packet, size_t length)
 {
     uint8_t place[NODE];
-    size_t sent = 0;
+    outgoing_begin(on, packet, length);
     for (size_t k = 0; ipxr_tunnel_receiver(&on->tunnel, k, place) == 0; k++)
-        sent += send_to(on, place, packet, length, true);
-    on->counts.out += sent > 0;
+        outgoing_copy(on, place);
 }
 
 void tunnel_send(network *on, const uint8_t *node, const uint8_t *packet, size_t length)
@@ -120,8 +99,7 @@ static ipxr_sender sender_at(const gateway *it, const network *on, const address
 {
     ipxr_sender sender = {.is_trusted = ranges_have(&on->set->trusted, from)};
     uint64_t minute = it->seconds / MINUTE;
-    memcpy(sender.place, from->host, sizeof from->host);
-    put16(sender.place + sizeof from->host, from->port);
+    place_of(from, sender.place);
     cookie_make(it->key, sender.place, minute, sender.current);
     cookie_make(it->key, sender.place, minute - 1, sender.previous);
     return sender;

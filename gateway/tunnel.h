@@ -8,13 +8,13 @@
 int32_t tunnel_open(network *on);
 void tunnel_close(network *on);
 
-/* A datagram came on a network of the tunnel. */
+/* A datagram came on a network of the tunnel. Its bytes stay where they are until gateway_flush. */
 void tunnel_hear(gateway *it, network *on, uint8_t *bytes, size_t length, const address *from);
 
 /* A second passed: who doesn't answer leaves, and who is silent is asked. */
 void tunnel_second(network *on);
 
-/* Sends a packet of the router's to the client that has a node, or to all. */
+/* Sends a packet of the router's to the client that has a node, or to all. Its bytes stay where they are until gateway_flush. */
 void tunnel_send(network *on, const uint8_t *node, const uint8_t *packet, size_t length);
 
 /* Says a line for each client. */

@@ -1,5 +1,5 @@
-/* (for what the system knows of a connection) */
-#define _DEFAULT_SOURCE
+/* (for several datagrams at a time, and what the system knows of a connection) */
+#define _GNU_SOURCE
 #include "../sockets.h"
 
 #include <errno.h>
@@ -196,15 +196,42 @@ bool connection_has_more(int fd)
 
 /* ---- Sending and receiving ---- */
 
-ssize_t datagram_receive(int fd, uint8_t *bytes, size_t room, address *from)
+/* Datagrams as the system takes them: each with its place, and with its bytes in one piece. */
+typedef struct batch {
+    struct mmsghdr list[MOST_TOGETHER];
+    struct iovec pieces[MOST_TOGETHER];
+    struct sockaddr_in places[MOST_TOGETHER];
+} batch;
+
+static void set_piece(batch *it, size_t k, uint8_t *bytes, size_t length)
 {
-    struct sockaddr_in at = {0};
-    socklen_t size = sizeof at;
-    if (from == NULL)
-        return recv(fd, bytes, room, MSG_TRUNC);
-    ssize_t length = recvfrom(fd, bytes, room, MSG_TRUNC, (struct sockaddr *)&at, &size);
-    *from = of_system(&at);
-    return length;
+    it->pieces[k] = (struct iovec){bytes, length};
+    it->list[k].msg_hdr = (struct msghdr){
+        .msg_name = &it->places[k], .msg_namelen = sizeof it->places[k], .msg_iov = &it->pieces[k], .msg_iovlen = 1};
+}
+
+/* The rooms of what comes, as the system takes them. They are the same each time, and are set where they aren't. */
+static batch *rooms_of(arrivals *in)
+{
+    static batch rooms;
+    static const arrivals *whose;
+    for (size_t k = 0; whose != in && k < MOST_TOGETHER; k++)
+        set_piece(&rooms, k, in->list[k].bytes, sizeof in->list[k].bytes);
+    whose = in;
+    return &rooms;
+}
+
+bool datagrams_receive(int fd, arrivals *in)
+{
+    batch *all = rooms_of(in);
+    int count = recvmmsg(fd, all->list, MOST_TOGETHER, MSG_TRUNC, NULL);
+    for (int k = 0; k < count; k++) {
+        in->list[k].length = all->list[k].msg_len;
+        in->list[k].from = of_system(&all->places[k]);
+        all->list[k].msg_hdr.msg_namelen = sizeof all->places[k];
+    }
+    in->count = count > 0 ? (size_t)count : 0;
+    return count > 0;
 }
 
 bool datagram_send(int fd, const uint8_t *bytes, size_t length)
@@ -221,16 +248,32 @@ static bool has_room_for_stranger(int fd)
     return ioctl(fd, SIOCOUTQ, &kept) != 0 || getsockopt(fd, SOL_SOCKET, SO_SNDBUF, &room, &size) != 0 || kept < room / STRANGERS_PART;
 }
 
-/* (of one who is known to be there Linux doesn't ask. Else it would, a while after he was switched off, and keep what goes to him) */
-bool datagram_send_to(int fd, const address *to, const uint8_t *bytes, size_t length, bool is_there)
+static bool is_sent(int fd, const departure *what, int how)
 {
-    struct sockaddr_in at = to_system(to);
-    int how = is_there ? MSG_CONFIRM : 0;
-    if (!is_there && !has_room_for_stranger(fd)) {
-        errno = EAGAIN;
-        return false;
+    struct sockaddr_in at = to_system(&what->to);
+    return sendto(fd, what->bytes, what->length, how, (const struct sockaddr *)&at, sizeof at) == (ssize_t)what->length;
+}
+
+bool datagram_send_to(int fd, const departure *what)
+{
+    if (has_room_for_stranger(fd))
+        return is_sent(fd, what, 0);
+    errno = EAGAIN;
+    return false;
+}
+
+/* (of one who is known to be there Linux doesn't ask. Else it would, a while after he was switched off, and keep what goes to him) */
+size_t datagrams_send(int fd, const departure *list, size_t count)
+{
+    batch all;
+    if (count == 1) /* (a call for one is the faster) */
+        return is_sent(fd, list, MSG_CONFIRM);
+    for (size_t k = 0; k < count; k++) {
+        all.places[k] = to_system(&list[k].to);
+        set_piece(&all, k, (uint8_t *)list[k].bytes, list[k].length);
     }
-    return sendto(fd, bytes, length, how, (const struct sockaddr *)&at, sizeof at) == (ssize_t)length;
+    int sent = sendmmsg(fd, all.list, (unsigned)count, MSG_CONFIRM);
+    return sent > 0 ? (size_t)sent : 0;
 }
 
 ssize_t connection_receive(int fd, uint8_t *bytes, size_t room)

@@ -203,14 +203,17 @@ static ssize_t received(int length, size_t room)
     return answered(length);
 }
 
-ssize_t datagram_receive(int fd, uint8_t *bytes, size_t room, address *from)
+/* (one at a time: Windows has no call for several) */
+bool datagrams_receive(int fd, arrivals *in)
 {
+    arrival *first = &in->list[0];
     struct sockaddr_in at = {.sin_port = 0};
-    int size = sizeof at;
-    ssize_t length = received(recvfrom((SOCKET)fd, (char *)bytes, (int)room, 0, (struct sockaddr *)&at, &size), room);
-    if (from != NULL)
-        *from = of_system(&at);
-    return length;
+    int size = sizeof at, room = sizeof first->bytes;
+    ssize_t length = received(recvfrom((SOCKET)fd, (char *)first->bytes, room, 0, (struct sockaddr *)&at, &size), (size_t)room);
+    first->length = length > 0 ? (size_t)length : 0;
+    first->from = of_system(&at);
+    in->count = 1;
+    return length >= 0;
 }
 
 bool datagram_send(int fd, const uint8_t *bytes, size_t length)
@@ -219,11 +222,19 @@ bool datagram_send(int fd, const uint8_t *bytes, size_t length)
 }
 
 /* (Windows keeps one datagram for a machine that doesn't answer, and no others wait for it) */
-bool datagram_send_to(int fd, const address *to, const uint8_t *bytes, size_t length, bool is_there)
+bool datagram_send_to(int fd, const departure *what)
 {
-    (void)is_there;
-    struct sockaddr_in at = to_system(to);
-    return answered(sendto((SOCKET)fd, (const char *)bytes, (int)length, 0, (const struct sockaddr *)&at, sizeof at)) == (int)length;
+    struct sockaddr_in at = to_system(&what->to);
+    int length = (int)what->length;
+    return answered(sendto((SOCKET)fd, (const char *)what->bytes, length, 0, (const struct sockaddr *)&at, sizeof at)) == length;
+}
+
+size_t datagrams_send(int fd, const departure *list, size_t count)
+{
+    size_t sent = 0;
+    while (sent < count && datagram_send_to(fd, &list[sent]))
+        sent++;
+    return sent;
 }
 
 ssize_t connection_receive(int fd, uint8_t *bytes, size_t room)

@@ -4,7 +4,7 @@
  *     TROUBLE_CALL=NAME TROUBLE_AT=N TROUBLE_ERRNO=E   the Nth call of that name fails, once, with that errno
  *     TROUBLE_CLOCK=FILE                               the monotonic clock stands at the second that the file says
  *     TROUBLE_HASTE=N                                  a connection is known to be dead N times as soon */
-#define _DEFAULT_SOURCE
+#define _GNU_SOURCE
 #include <errno.h>
 #include <fcntl.h>
 #include <net/if.h>
@@ -53,7 +53,6 @@ TROUBLED(int, connect, -1, (int a, const struct sockaddr *b, socklen_t c), (a, b
 TROUBLED(int, listen, -1, (int a, int b), (a, b))
 TROUBLED(int, accept, -1, (int a, struct sockaddr *b, socklen_t *c), (a, b, c))
 TROUBLED(ssize_t, recv, -1, (int a, void *b, size_t c, int d), (a, b, c, d))
-TROUBLED(ssize_t, recvfrom, -1, (int a, void *b, size_t c, int d, struct sockaddr *e, socklen_t *f), (a, b, c, d, e, f))
 TROUBLED(ssize_t, send, -1, (int a, const void *b, size_t c, int d), (a, b, c, d))
 TROUBLED(ssize_t, sendto, -1, (int a, const void *b, size_t c, int d, const struct sockaddr *e, socklen_t f), (a, b, c, d, e, f))
 TROUBLED(int, poll, -1, (struct pollfd *a, nfds_t b, int c), (a, b, c))
@@ -67,6 +66,22 @@ TROUBLED(ssize_t, getline, -1, (char **a, size_t *b, FILE *c), (a, b, c))
 TROUBLED(ssize_t, getrandom, -1, (void *a, size_t b, unsigned c), (a, b, c))
 TROUBLED(void *, malloc, NULL, (size_t a), (a))
 TROUBLED(void *, realloc, NULL, (void *a, size_t b), (a, b))
+
+TROUBLED(int, recvmmsg, -1, (int a, struct mmsghdr *b, unsigned c, int d, struct timespec *e), (a, b, c, d, e))
+
+/* Of datagrams that are sent together the Nth fails, and when those behind the ones before it are tried again, again. */
+int __real_sendmmsg(int a, struct mmsghdr *b, unsigned c, int d);
+int __wrap_sendmmsg(int a, struct mmsghdr *b, unsigned c, int d);
+int __wrap_sendmmsg(int a, struct mmsghdr *b, unsigned c, int d)
+{
+    static bool is_refused;
+    unsigned before = 0;
+    while (!is_refused && before < c && !fails("sendmmsg"))
+        before++;
+    bool fails_now = before == 0;
+    is_refused = before > 0 && before < c;
+    return fails_now ? -1 : __real_sendmmsg(a, b, before, d);
+}
 
 static int haste(void)
 {

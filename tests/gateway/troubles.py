@@ -23,8 +23,8 @@ CALLS = [
     ("listen", errno.EADDRINUSE, 1),
     ("accept", errno.EMFILE, 2),
     ("recv", errno.ENETDOWN, 3),
-    ("recvfrom", errno.ENETDOWN, 4),
-    ("recvfrom", errno.EINTR, 2),
+    ("recvmmsg", errno.ENETDOWN, 4),
+    ("recvmmsg", errno.EINTR, 2),
     ("send", errno.ENETDOWN, 3),
     ("sendto", errno.ENOBUFS, 4),
     ("poll", errno.ENOMEM, 4),
@@ -263,17 +263,21 @@ def late_answers():
 
 
 def one_is_refused():
-    """What the system doesn't send to a client is counted, to this client too; the others get it."""
+    """What the system doesn't send to a client is counted, to this client too; the others get it, those behind it too."""
     clock = Clock()
-    # (before that, each of three has an answer, a ping, and what it says to itself)
-    trouble = {"TROUBLE_CALL": "sendto", "TROUBLE_AT": "10", "TROUBLE_ERRNO": str(errno.ENOBUFS)}
-    with Gateway(tunnels(1), SYSTEM.troubled, environment={**clock.environment(), **trouble}) as gate:
-        a, b, c = (Client(gate.ports[0x10]) for _ in range(3))
-        a.say(address(0, EVERYONE, GAME), b"all")
-        assert c.hear()[30:] == b"all" and comes_next(a, b)
-        report = gate.report()
-        assert f"{b.node.hex().upper()}, answered 0 s ago, 1 not sent\n" in report, report
-        assert gate.counted(0x10, "lost: not sent", report) == 1
+    # (a broadcast to four is the first that goes out together; the last of them would be tried again alone)
+    for which in range(3):
+        trouble = {"TROUBLE_CALL": "sendmmsg", "TROUBLE_AT": str(which + 1), "TROUBLE_ERRNO": str(errno.ENOBUFS)}
+        with Gateway(tunnels(1), SYSTEM.troubled, environment={**clock.environment(), **trouble}) as gate:
+            speaker, *others = (Client(gate.ports[0x10]) for _ in range(5))
+            out = gate.counted(0x10, "out")
+            speaker.say(address(0, EVERYONE, GAME), b"all")
+            refused = others.pop(which)
+            assert all(other.hear()[30:] == b"all" for other in others) and comes_next(speaker, refused)
+            report = gate.report()
+            assert f"{refused.node.hex().upper()}, answered 0 s ago, 1 not sent\n" in report, report
+            assert gate.counted(0x10, "lost: not sent", report) == 1
+            assert gate.counted(0x10, "out", report) == out + 2, report
 
 
 def main():

@@ -301,7 +301,7 @@ CALLS = [
     ("if_nametoindex", errno.ENODEV, 6),
     ("read", errno.EIO, 3),
     ("write", errno.EIO, 3),
-    ("recv", errno.ENETDOWN, 3),
+    ("recvmmsg", errno.ENETDOWN, 3),
     ("send", errno.ENETDOWN, 3),
     ("close", errno.EIO, 3),
 ]
