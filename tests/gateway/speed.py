@@ -11,8 +11,9 @@ def main():
     program = os.path.join(BUILD, "speed")
     source = os.path.join(TOP, "tests", "gateway", "speed.c")
     subprocess.run(["cc", "-std=c99", "-O2", "-Wall", "-Wextra", "-pedantic", source, "-o", program], check=True)
-    with Gateway(tunnels(2), SYSTEM.delivered) as gate:
-        return subprocess.run([program, str(gate.ports[0x10]), str(gate.ports[0x20])], check=False).returncode
+    with Gateway(tunnels(3), SYSTEM.delivered) as gate:
+        ports = [str(gate.ports[it]) for it in sorted(gate.ports)]
+        return subprocess.run([program, str(gate.run.pid), *ports], check=False).returncode
 
 
 if __name__ == "__main__":
