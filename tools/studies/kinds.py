@@ -4,7 +4,7 @@ import collections
 from . import forging
 from .chance import Chance
 from .played import Broken
-from .stories import AT_ONCE, GONE, RIGHT, Case
+from .stories import AT_ONCE, GONE, PERIOD, RIGHT, Case
 
 # What a study says of itself, the fewest and the most routers, and what it does with a case.
 Study = collections.namedtuple("Study", "says least most measure")
@@ -74,8 +74,7 @@ def many_routers(case):
 def real_tables(case):
     case.begun()
     forging.other_real_words(case.chance, case.played)
-    if not case.real().are_good(case.played.tables()):
-        raise Broken("a route that isn't of a real way was made up")
+    case.check(case.real(), "a route that isn't of a real way was made up")
     return case.until({"right": (case.right(), AT_ONCE)})
 
 
@@ -89,8 +88,7 @@ def cold_start(case):
 def link_lost(case):
     case.begun()
     case.happen(case.losses())
-    if not case.real().are_good(case.played.tables()):
-        raise Broken("a route isn't of a real way after the loss")
+    case.check(case.real(), "a route isn't of a real way after the loss")
     return case.until({"right": (case.right(), AT_ONCE)})
 
 
@@ -120,7 +118,7 @@ def at_once(case):
     for router in range(len(case.internet.routers)):
         case.played.start(router)
     case.played.quiet()
-    case.until({"right": (case.right(), AT_ONCE)})
+    case.pass_seconds(PERIOD)
     case.one_end()
     return case.until({"gone": (case.reached(), GONE), "right": (case.right(), RIGHT)})
 
@@ -134,6 +132,15 @@ def service(case):
     forging.anything(case.chance, case.played)
     case.announced()
     return case.until({"known": (case.known(), RIGHT + FIRST)})
+
+
+@study("service-new", "the server announces itself for the first time: seconds until all know it")
+def service_new(case):
+    case.begun()
+    case.announced()
+    case.played.tell(*case.announcement())
+    case.played.quiet()
+    return case.until({"known": (case.known(), RIGHT)})
 
 
 @study("service-link-lost", "the server is known: networks lose all their ports, or routers stop: seconds until it is known again")

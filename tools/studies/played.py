@@ -46,13 +46,15 @@ class Played:
         """What is answered to lines that end so many parts with what waits: each part, and how much waits then."""
         self.tell(*lines)
         self.run.stdin.flush()
-        text, ends = b"", []
-        while len(ends) < parts:
+        text, ended, seen = b"", 0, 0
+        while ended < parts:
             more = os.read(self.run.stdout.fileno(), PIECE)
             if not more:
                 raise Broken("the program ends early")
             text += more
-            ends = [*WAITS.finditer(text)] if text.endswith(b"\n") else ends
+            whole = text.rfind(b"\n") + 1
+            ended, seen = ended + len(WAITS.findall(text, seen, whole)), whole
+        ends = [*WAITS.finditer(text)]
         begins = [0, *(it.end() for it in ends)]
         return [(text[begin : end.start()], int(end[1] or 0)) for begin, end in zip(begins, ends)]
 

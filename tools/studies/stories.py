@@ -58,17 +58,18 @@ class Case:
     # ---- what happens
 
     def announced(self):
-        """A server that says once a minute, at a second of its own, that it is there: the lines of each second."""
-        network = self.chance.one_of(sorted(self.internet.on))
-        self.server, first = Server(network, 1), self.chance.below(PERIOD)
+        """A server that says once a minute, at a second of its own, that it is there."""
+        self.server, first = Server(self.chance.one_of(sorted(self.internet.on)), 1), self.chance.below(PERIOD)
 
         def lines():
             self.second += 1
-            if self.second % PERIOD == first:
-                return [f"in {it.router} {it.port} {self.server.word()}" for it in self.internet.on[network] if it in self.played.up]
-            return ()
+            return self.announcement() if self.second % PERIOD == first else ()
 
         self.meanwhile = lines
+
+    def announcement(self):
+        """The lines by which all routers of its network hear the server."""
+        return [f"in {it.router} {it.port} {self.server.word()}" for it in self.internet.on[self.server.network] if it in self.played.up]
 
     def started(self):
         """Starts all routers, within a minute or at once, in any order."""
@@ -85,10 +86,10 @@ class Case:
             self.played.pass_seconds(count, meanwhile=self.meanwhile)
 
     def begun(self):
-        """Starts all, and lets some seconds pass until all tables have been right for a while."""
+        """Starts all, and lets so many seconds pass that all have advertised; then the tables are right."""
         self.started()
-        self.until({"right": (self.right(), AT_ONCE)})
-        self.pass_seconds(self.chance.below(PERIOD))
+        self.pass_seconds(PERIOD + self.chance.below(PERIOD))
+        self.check(self.right(), "not right a minute after the start")
 
     def in_part(self):
         """Starts all, then takes down some ports and stops some routers, until all tables are right again."""
@@ -130,6 +131,11 @@ class Case:
         beside = self.played.ways().beside
         if ends := [it for it in self.internet.places if it in self.played.up and beside(it)]:
             self.happen([(self.played.port_down, self.chance.one_of(ends))])
+
+    def check(self, judge, why):
+        """A law that is said of the tables as they are."""
+        if not judge.are_good(self.played.tables(judge.asked)):
+            raise Broken(why)
 
     # ---- what is measured
 
