@@ -113,7 +113,7 @@ def one_end(case):
     return case.until({"gone": (case.reached(), GONE), "right": (case.right(), RIGHT)})
 
 
-@study("at-once", "the same where all routers tell the same seconds, of few routers with many links: seconds until all are right again", 3, 5)
+@study("at-once", "the same, just after all have advertised in one second; 3 to 5 routers: seconds until all tables are right again", 3, 5)
 def at_once(case):
     for router in range(len(case.internet.routers)):
         case.played.start(router)

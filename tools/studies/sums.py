@@ -57,8 +57,9 @@ def curve(values):
 
 
 def plot(results, file):
-    """Plots how many per cent of the internets were right after how many seconds."""
-    curves = [(f"{name}, {measure}", values) for name, of in results.items() for measure, values in of.items() if measure in IN_SECONDS]
+    """Plots how many per cent of the internets were right after how many seconds: the last measure of each study."""
+    last = {name: [*of.items()][-1] for name, of in results.items()}
+    curves = [(name, values) for name, (measure, values) in last.items() if measure in IN_SECONDS]
     if not curves:
         sys.exit("tools/study: nothing that could be plotted")
     most = max(values[-1][0] for _, values in curves)
