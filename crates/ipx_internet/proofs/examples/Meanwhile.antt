@@ -1,6 +1,7 @@
 -- The two routers of `Ticks`, which have routes to 99h, where nobody has a port. In the next tick the second router's port on 30h goes
 -- down too, and a host on 10h says that it knows a way to 77h. Then neither has a route to 99h, and both have one to 77h.
 use Rattle.std.proofs.Common.{◌≡◌, refl, ap, ℕ, zero, suc, ◌<◌, ◌&&◌, nat_lt, Bool, true, false, List, [], ◌∷◌, replicate, take, Some, None, arith, true≢false}
+use Rattle.std.specs.List.{AllByRecursion}
 use Rattle.std.proofs.lemmas.Bool.{and_parts, ltb-true}
 use Rattle.ipx_wire.specs.Address.{address_bytes, address_at}
 use Rattle.ipx_wire.specs.Crossed.{network_bytes, network_at, is_among}
@@ -11,12 +12,13 @@ use Rattle.ipx_wire.specs.Piece.{IsBytes}
 use Rattle.ipx_wire.specs.Rip.{entry_bytes, entry_at, rip_of}
 use Rattle.ipx_wire.specs.Sap.{sap_of}
 use Rattle.ipx_wire.specs.declared.network.Network.{Network}
-use Rattle.ipx_wire.specs.declared.rip.Operation.TheVariants.{Response}
+use Rattle.ipx_wire.specs.declared.rip.Operation.{Operation}
+use Rattle.ipx_wire.specs.declared.rip.Operation.TheVariants.{Request, Response}
 use Rattle.ipx_wire.specs.declared.rip.RipEntry.{RipEntry}
 use Rattle.ipx_router.specs.Heard.{HeardRip}
 use Rattle.ipx_router.specs.History.{History, Second, Packet, PortDown}
 use Rattle.ipx_router.specs.Port.{own_address}
-use Rattle.ipx_internet.specs.Meanwhile.{message_of, IsWithoutRoute, SaysOnly, IsBusyTick, StaysGone}
+use Rattle.ipx_internet.specs.Meanwhile.{message_of, IsWithoutRoute, SaysOnly, IsBusyTick, StaysGone, TellsNoRoute, LeavesPorts}
 use Rattle.ipx_internet.specs.Run.{Step, Happens, Settles, begun, run_of}
 use Rattle.ipx_internet.specs.Ticks.{seconds_of, networks_up, IsGone}
 use Rattle.ipx_internet.proofs.examples.Ticks.{said, before, networks}
@@ -104,3 +106,43 @@ was_there gone = true≢false (gone.0 1)
 pub have_now : networks (after 8) 0 ∷ networks (after 8) 1 ∷ [] ≡ (0x77 ∷ []) ∷ (0x10 ∷ 0x77 ∷ []) ∷ []
 unfolding header_bytes address_bytes network_bytes packet_of header_at address_at items network_at entry_bytes entry_at rip_of sap_of
 have_now = refl
+
+-- ---- a tick that leaves ports as they are, in which a host sends to another one
+
+abbrev talk : List ℕ
+talk = plain 0 0x30 (node 0xCC)
+
+abbrev calm : List Step
+calm = Happens 0 (Packet 0 talk) ∷ Happens 0 Second ∷ Happens 1 Second ∷ replicate 4 Settles
+
+talk_bytes : IsBytes talk
+unfolding header_bytes address_bytes network_bytes
+talk_bytes = are_bytes talk refl
+
+pub is_calm : IsBusyTick segment 8 8 (begun before) calm
+unfolding header_bytes address_bytes network_bytes packet_of header_at address_at items network_at entry_bytes entry_at rip_of sap_of
+is_calm = record {
+  happens = ((omega arith, omega arith, talk_bytes), ((omega arith, tt, tt), ((omega arith, tt, tt), (tt, (tt, (tt, (tt, tt)))))));
+  each = each;
+  quiet = refl;
+}
+  where
+    each : (router : ℕ) → router < 2 → seconds_of router calm ≡ 1
+    each zero within = refl
+    each (suc zero) within = refl
+    each (suc (suc router)) within = absurd (omega (arith, within))
+
+pub leaves : AllByRecursion LeavesPorts calm
+leaves = (tt, (tt, (tt, (tt, (tt, (tt, (tt, tt)))))))
+
+pub tells_none : AllByRecursion (SaysOnly TellsNoRoute) calm
+unfolding header_bytes address_bytes network_bytes packet_of header_at address_at items network_at entry_bytes entry_at rip_of sap_of
+tells_none = (tt, (tt, (tt, (tt, (tt, (tt, (tt, tt)))))))
+
+-- in the other tick a port goes down, and what the host says is a response of routing information
+pub leaves_not : AllByRecursion LeavesPorts busy → ⊥
+leaves_not all = all.0
+
+pub tells_some : SaysOnly TellsNoRoute (Happens 0 (Packet 0 news)) → ⊥
+unfolding header_bytes address_bytes network_bytes packet_of header_at address_at items network_at entry_bytes entry_at rip_of sap_of
+tells_some says = true≢false (ap (λ (o : Operation). elim o [ Response ↦ true | Request ↦ false ]) says)

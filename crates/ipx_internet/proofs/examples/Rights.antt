@@ -1,7 +1,7 @@
 -- Two routers on one segment, as of `Waiting`: what the law of right tables asks for holds, and once they were started and what they sent
 -- was handed out, both tables have the least ways; where it was lost, after 60 ticks, and not after 59. And an internet of seventeen routers of
 -- which the law wouldn't be true.
-use Rattle.std.proofs.Common.{◌≡◌, ◌≢◌, refl, ap, get_or, lit<, ℕ, zero, suc, length, ◌+◌, ◌*◌, ◌<◌, ◌==◌, if◌then◌else◌, List, [], ◌∷◌, ◌++◌, replicate, map, None, Option, option_map, arith}
+use Rattle.std.proofs.Common.{◌≡◌, ◌≢◌, refl, sym, ap, get_or, lit<, ℕ, zero, suc, length, ◌+◌, ◌*◌, ◌<◌, ◌==◌, if◌then◌else◌, List, [], ◌∷◌, ◌++◌, replicate, map, None, Option, option_map, arith}
 use Rattle.ipx_wire.specs.Address.{address_bytes, address_at}
 use Rattle.ipx_wire.specs.Crossed.{network_bytes, network_at}
 use Rattle.ipx_wire.specs.Items.{items}
@@ -16,13 +16,14 @@ use Rattle.ipx_router.specs.History.{Start}
 use Rattle.ipx_router.specs.Outgoing.{route_to}
 use Rattle.ipx_router.specs.Port.{Port, IsPort, numbers}
 use Rattle.ipx_internet.specs.Internet.{Internet, IsInternet, NodesDiffer, ports_of, port_of}
-use Rattle.ipx_internet.specs.Least.{Way, least, least_route, way_of, ticks_right, AreCheap, HasRoom}
+use Rattle.ipx_internet.specs.Least.{Way, least, least_route, way_of, ticks_right, AreCheap, HasRoom, FifteenSuffice}
 use Rattle.ipx_internet.specs.Queue.{history_of}
 use Rattle.ipx_internet.specs.Run.{Step, Run, begun}
 use Rattle.ipx_internet.specs.Ticks.{a_tick, ticked, ups}
 use Rattle.ipx_internet.proofs.examples.Leasts.{all, costly, way}
 use Rattle.ipx_internet.proofs.examples.Waiting.{segment, after}
 use Rattle.ipx_internet.proofs.examples.Words.{network, port_on}
+use Rattle.ipx_internet.proofs.lists.FoundInAList.{nothing}
 
 -- ---- two routers
 
@@ -165,3 +166,7 @@ chain = map link (numbers 17)
 -- whose best way of at most 15 hops is the dear one, never hears of any
 pub hidden : map (λ router. least chain (all chain) router (network 17)) (0 ∷ 1 ∷ 2 ∷ []) ≡ way 2 1002 ∷ way 15 16 ∷ way 14 15 ∷ []
 hidden = refl
+
+-- so fifteen hops don't suffice there: the best that router 0 is told of has sixteen hops, and it has a way of two
+pub not_enough : FifteenSuffice chain (all chain) (network 17) → ⊥
+not_enough suffice = nothing (sym (suffice.each 0 (lit< tt) refl))
