@@ -4,7 +4,7 @@ use Rattle.std.specs.List.{AllByRecursion}
 use Rattle.ipx_router.specs.History.{Event, History, Stop, PortDown}
 use Rattle.ipx_router.specs.Port.{port_at}
 use Rattle.ipx_internet.specs.Internet.{Internet, ports_of}
-use Rattle.ipx_internet.specs.Run.{Step, Happens, Settles, Run, begun, run_of}
+use Rattle.ipx_internet.specs.Run.{Step, Happens, Settles, begun, run_of}
 use Rattle.ipx_internet.specs.Ticks.{IsGone}
 
 module _ (net : Internet) (last : List History) where

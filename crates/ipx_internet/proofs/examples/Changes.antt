@@ -1,6 +1,6 @@
 -- The two routers on one segment of `Waiting`, each with a route to the other's network: the segment is lost at both ends, and both routes are gone
 -- at once; it comes up again at both ends, and when what they sent was handed out both routes are there again.
-use Rattle.std.proofs.Common.{◌≡◌, refl, lit<, ℕ, zero, suc, true, List, [], ◌∷◌, replicate, None, Option, option_map}
+use Rattle.std.proofs.Common.{◌≡◌, refl, lit<, zero, suc, true, List, [], ◌∷◌, replicate, None, Option, option_map, arith}
 use Rattle.std.specs.List.{AllByRecursion}
 use Rattle.ipx_wire.specs.Address.{address_bytes, address_at}
 use Rattle.ipx_wire.specs.Crossed.{network_bytes, network_at, is_among}
@@ -14,12 +14,13 @@ use Rattle.ipx_router.specs.Outgoing.{route_to}
 use Rattle.ipx_internet.specs.Gains.{IsOfGains}
 use Rattle.ipx_internet.specs.Least.{Way, least_route, way_of}
 use Rattle.ipx_internet.specs.Losses.{AreLosses}
+use Rattle.ipx_internet.specs.Real.{next}
 use Rattle.ipx_internet.specs.Run.{Step, Happens, Settles, Run, begun, run_of}
-use Rattle.ipx_internet.specs.Tables.{routes_of}
+use Rattle.ipx_internet.specs.Tables.{routes_of, AreReal}
 use Rattle.ipx_internet.specs.Ticks.{ups, networks_up, IsGone}
 use Rattle.ipx_internet.proofs.examples.Leasts.{way}
 use Rattle.ipx_internet.proofs.examples.Waiting.{segment, after}
-use Rattle.ipx_internet.proofs.examples.Words.{network}
+use Rattle.ipx_internet.proofs.examples.Words.{network, at}
 
 -- hops and ticks of each router's route to the other's network
 abbrev known : Run → List (Option Way)
@@ -28,6 +29,23 @@ known run =
 
 abbrev should : Run → List (Option Way)
 should run = least_route segment (ups segment run.histories) 0 (network 0x30) ∷ least_route segment (ups segment run.histories) 1 (network 0x10) ∷ []
+
+-- ---- before
+
+-- both routes are of real ways: each neighbour has the network on its other port
+pub both_real : AreReal segment 8 (after 8).histories (ups segment (after 8).histories)
+unfolding header_bytes address_bytes network_bytes packet_of header_at address_at items network_at entry_bytes entry_at rip_of sap_of
+both_real zero inside = (
+  next (at 1 0) 1 refl (λ (e : 1 ≡ 0). omega (arith, e))
+      (record { other = λ (e : 0 ≡ 1). omega (arith, e); here = refl; there = refl; network = refl; wanted = refl; offer = refl }),
+  tt,
+)
+both_real (suc zero) inside = (
+  next (at 0 1) 0 refl (λ (e : 0 ≡ 1). omega (arith, e))
+      (record { other = λ (e : 1 ≡ 0). omega (arith, e); here = refl; there = refl; network = refl; wanted = refl; offer = refl }),
+  tt,
+)
+both_real (suc (suc router)) inside = absurd (omega (arith, inside))
 
 -- ---- the segment is lost
 

@@ -1,6 +1,6 @@
 -- What a router loses it says: at a stop, where a port of it goes down, and where it hears of losses. What it advertised is advertised still, or
 -- it says that it isn't reached, or the network on which it would say so is lost.
-use Rattle.std.proofs.Common.{◌≡◌, ◌≢◌, refl, sym, ap, ◌∙◌, subst, ◌⊎◌, ℕ, ◌+◌, ◌-◌, ◌<◌, ◌==◌, ◌&&◌, nat_lt, nat_le, Bool, true, false, not, List, [], ◌∷◌, ◌++◌, if◌then◌else◌, length, map, flat_map, find, Option, None, Some, Ok, Err, IfSome, inl, inr, arith, append-nil, true≢false, is_eq}
+use Rattle.std.proofs.Common.{◌≡◌, ◌≢◌, refl, sym, ap, ◌∙◌, subst, ◌⊎◌, ℕ, ◌+◌, ◌<◌, ◌==◌, ◌&&◌, nat_lt, nat_le, Bool, true, false, not, List, [], ◌∷◌, ◌++◌, if◌then◌else◌, length, map, flat_map, find, Option, None, Some, Ok, Err, IfSome, inl, inr, arith, append-nil, true≢false, is_eq}
 use Rattle.std.specs.List.{AllByRecursion}
 use Rattle.std.proofs.lemmas.Bool.{cases_Bool, and_from, both_ways, eqb-true, ne_eqb, lt-ltb, le-leb}
 use Rattle.ipx_table.specs.Facts.{Fact, PortEnd, End}
