@@ -1,0 +1,11 @@
+pub mod Coming
+pub mod Filling
+pub mod Finding
+pub mod Lists
+pub mod Nodes
+pub mod Own
+pub mod Shares
+pub mod Standing
+pub mod Staying
+pub mod Ways
+pub mod examples
