@@ -13,6 +13,7 @@ mod packets;
 mod routers;
 mod routes;
 mod runs;
+mod segments;
 mod services;
 mod tunnels;
 
@@ -234,7 +235,7 @@ fn port(network: u32, node: u8) -> Result<Port, PortFault> {
     Port::new(Network(network), Node([0, 0, 0, 0, 0, node]), 1, 576)
 }
 
-/// The example of a tunnel.
+/// The examples of a tunnel and of a segment.
 fn serve(rt: &HostRuntime) -> Result<()> {
     let cookies = Cookies {
         current: Node([2, 0x11, 0x22, 0x33, 0x44, 0x55]),
@@ -245,5 +246,6 @@ fn serve(rt: &HostRuntime) -> Result<()> {
         cookies,
         is_trusted: false,
     };
-    tunnels::tunnel(rt, from, &REGISTRATION, &ANSWER)
+    tunnels::tunnel(rt, from, &REGISTRATION, &ANSWER)?;
+    segments::segment(rt, Node([0, 0, 0, 0, 0, 2]), Node([0, 0, 0, 0, 0, 0xAA]))
 }

@@ -35,7 +35,8 @@ use std::marker::Model;
 /// println!(rt; "a call goes to {} links, and to the router: {is_heard}", to.len())?;
 /// segment.hear(2, player, pc, &mut to);
 /// for link in to.iter() {
-///     println!(rt; "the answer goes to link {link}")?;
+///     let number = *link;
+///     println!(rt; "the answer goes to link {number}")?;
 /// }
 /// for station in segment.stations() {
 ///     println!(rt; "{} is at link {}", station.node, station.link)?;
