@@ -10,4 +10,5 @@ pub mod rounds
 pub mod tables
 pub mod ticks
 pub mod trees
+pub mod upkeep
 pub mod weights

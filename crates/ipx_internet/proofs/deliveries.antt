@@ -3,6 +3,7 @@ pub mod AllThatWaitsStands
 pub mod BatchPacketByPacket
 pub mod FewDeliveriesAnEvent
 pub mod FirstIsHandedOut
+pub mod HistoriesOfRouters
 pub mod OtherRoutersStay
 pub mod PortsAtANumber
 pub mod QueueOfARun

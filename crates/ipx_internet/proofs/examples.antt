@@ -17,6 +17,7 @@ pub mod Segments
 pub mod Servers
 pub mod Settled
 pub mod Ticks
+pub mod Upkeep
 pub mod Waiting
 pub mod Weights
 pub mod Words

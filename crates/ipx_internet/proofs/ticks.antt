@@ -9,6 +9,7 @@ pub mod RealFromTheFirst
 pub mod RealOrSoonEnded
 pub mod RoutesBecomeReal
 pub mod SaysFineOrSoonEnded
+pub mod SecondIsATick
 pub mod ServicesWereAnnounced
 pub mod TickAfterTick
 pub mod TickCanBeHad

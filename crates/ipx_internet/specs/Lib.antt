@@ -26,6 +26,8 @@ pub mod Ticks
 pub mod Meanwhile
 -- Announces
 pub mod Announces
+-- Upkeep
+pub mod Upkeep
 -- Real
 pub mod Real
 -- Least
@@ -41,6 +43,7 @@ pub mod Arriving
 pub mod Batches
 pub mod Moment
 pub mod Settled
+pub mod Passed
 pub mod Refused
 -- Traced
 pub mod Traced

@@ -7,9 +7,10 @@ ghost use Rattle.std.specs.Vec.{vec_len, vec_capacity};
 ghost use Rattle.ipx_router.specs.Happened.{happened};
 ghost use Rattle.ipx_router.specs.History.{IsOnPort};
 ghost use Rattle.ipx_router.specs.Outcomes.{outcome};
-ghost use Rattle.ipx_internet.specs.Internet.{IsInternet, NodesDiffer, ports_of};
+ghost use Rattle.ipx_internet.specs.Internet.{IsInternet, NodesDiffer, IsPlace, ports_of};
 ghost use Rattle.ipx_internet.specs.InternetWeight.{internet_weight};
 ghost use Rattle.ipx_internet.specs.Moment.{StandsFor, IsThere, SharesNode, net_at};
+ghost use Rattle.ipx_internet.specs.Passed.{HasHistories};
 ghost use Rattle.ipx_internet.specs.Queue.{Delivery, Queued, queued, history_of};
 ghost use Rattle.ipx_internet.specs.Refused.{IsNotAdded, IsNoEvent};
 ghost use Rattle.ipx_internet.specs.inside.Simulated.{AreRouters, IsComing, moment, net_among};
@@ -144,6 +145,8 @@ impl<const P: usize, const R: usize, const S: usize> Internet<P, R, S> {
         ensures internet { IsInternet (net_at self.now) }
         ensures nodes { NodesDiffer (net_at self.now) }
         ensures tables { AllByRecursion IsRouter (routers_of self.now.routers) }
+        ensures past { HasHistories R S self.now }
+        ensures waits { AllByRecursion (λ d. IsPlace (net_at self.now) d.to) self.now.queue }
     {
         crate::laws::trees();
         self.routers.len()

@@ -44,6 +44,12 @@ ghost use Rattle.ipx_internet.specs.Traced.{tree, routers_of, routers_after};
 ghost use Rattle.ipx_internet.specs.Tree.{Router, router_now, IsRouter, Copy, root, net_of, sent_on, children, tree_to, IsTree};
 ghost use Rattle.ipx_internet.specs.Weight.{weight, weights, CanCome, IsBounded};
 
+mod costs;
+mod passing;
+
+pub use crate::laws::costs::upkeep;
+pub use crate::laws::passing::seconds_pass;
+
 /// How far a packet goes, in any internet and any log: with any tables and any ports up, also such as change on the way.
 ///
 /// A packet for one network has at most 16 forwards in its whole course, fewer by its transport control. Every path of a

@@ -1,5 +1,5 @@
 -- What holds of the element that a search finds.
-use Rattle.std.proofs.Common.{◌≡◌, sym, ap, subst, Bool, true, false, List, [], ◌∷◌, Option, None, Some, find, inl, inr, true≢false, is_some}
+use Rattle.std.proofs.Common.{◌≡◌, sym, ap, subst, Bool, true, List, [], ◌∷◌, Option, None, Some, find, inl, inr, true≢false, is_some}
 use Rattle.std.specs.List.{AllByRecursion}
 use Rattle.std.proofs.lemmas.Bool.{cases_Bool}
 

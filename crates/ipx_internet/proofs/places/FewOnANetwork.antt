@@ -5,7 +5,7 @@ use Rattle.ipx_wire.specs.declared.node.Node.{Node}
 use Rattle.ipx_router.specs.Port.{numbers}
 use Rattle.ipx_internet.specs.Delivery.{receives, delivered}
 use Rattle.ipx_internet.specs.Internet.{Internet, Place, ports_of, network_of, IsPlace, places}
-use Rattle.ipx_internet.specs.Most.{greatest, most_ports, on_network, most_on_network}
+use Rattle.ipx_internet.specs.Most.{most_ports, on_network, most_on_network}
 use Rattle.ipx_internet.proofs.lists.HowManyPass.{IsIn, in_front, behind, in_image, fewer_by_one, number_in, at_most_greatest}
 use Rattle.ipx_internet.proofs.places.OneReceiverOfANode.{receives_is}
 

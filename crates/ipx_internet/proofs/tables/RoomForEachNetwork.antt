@@ -163,7 +163,7 @@ share_of_all n capacity (s ∷ shares) (suc port) most all = share_of_all n capa
 -- ---- routes of real ways are to such networks
 
 module _ (net : Internet) (up : ℕ → List ℕ) (there_where_up : (router port : ℕ) → is_up (up router) port ≡ true → port < length (ports_of net router)) where
-  real_named : {router : ℕ} {r : RouteOffer} → IsReal net up router r → is_among r.network (networks_of net) ≡ true
+  pub real_named : {router : ℕ} {r : RouteOffer} → IsReal net up router r → is_among r.network (networks_of net) ≡ true
   real_named (next from beside on apart taken) =
       subst (λ (n : Network). is_among n (networks_of net) ≡ true) (sym (ap (λ (x : RouteOffer). x.network) taken.offer))
       (named net (record { router = from.router; port = beside }) (there_where_up from.router beside on))

@@ -26,7 +26,7 @@ abbrev second : ℕ → Step
 second router = Happens router Second
 
 -- as often as it is in the order
-seconds_by : (router : ℕ) (order : List ℕ) → seconds_of router (map second order) ≡ length (filter (λ other. other == router) order)
+pub seconds_by : (router : ℕ) (order : List ℕ) → seconds_of router (map second order) ≡ length (filter (λ other. other == router) order)
 seconds_by router [] = refl
 seconds_by router (other ∷ order) =
     let rest = seconds_by router order in
@@ -44,7 +44,7 @@ none_settles router zero = refl
 none_settles router (suc n) = none_settles router n
 
 -- deliveries behind add none
-seconds_then : (router : ℕ) (steps : List Step) (n : ℕ) → seconds_of router steps ≡ 1 → seconds_of router (steps ++ replicate n Settles) ≡ 1
+pub seconds_then : (router : ℕ) (steps : List Step) (n : ℕ) → seconds_of router steps ≡ 1 → seconds_of router (steps ++ replicate n Settles) ≡ 1
 seconds_then router steps n one =
     let sum = seconds_more router steps (replicate n Settles) in
     let none = none_settles router n in
@@ -67,7 +67,7 @@ none_of router (suc n) few =
     let sum = occurs_more router (numbers n) (n ∷ []) in
     omega (arith, before, last, sum)
 
-one_of : (router n : ℕ) → router < n → length (filter (λ other. other == router) (numbers n)) ≡ 1
+pub one_of : (router n : ℕ) → router < n → length (filter (λ other. other == router) (numbers n)) ≡ 1
 one_of router zero there = absurd (omega (arith, there))
 one_of router (suc n) there =
     let sum = occurs_more router (numbers n) (n ∷ []) in
@@ -85,7 +85,7 @@ one_of router (suc n) there =
     ]
 
 -- nothing waits where there is no delivery
-none_waits : (waiting : List Waiting) → map (λ w. w.delivery) waiting ≡ [] → waiting ≡ []
+pub none_waits : (waiting : List Waiting) → map (λ w. w.delivery) waiting ≡ [] → waiting ≡ []
 none_waits [] e = refl
 none_waits (w ∷ waiting) e =
     let no : suc (length (map (λ (w : Waiting). w.delivery) waiting)) ≡ 0 = ap length e in

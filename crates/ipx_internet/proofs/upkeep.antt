@@ -1,0 +1,5 @@
+-- What routers send while their tables stay as they are.
+pub mod FewNetworks
+pub mod NothingNewIsSent
+pub mod OnceInAPeriod
+pub mod SizeOfPages
