@@ -10,6 +10,7 @@ pub mod Links
 pub mod Logs
 pub mod Loops
 pub mod Meanwhile
+pub mod Premises
 pub mod Rights
 pub mod Rings
 pub mod Running

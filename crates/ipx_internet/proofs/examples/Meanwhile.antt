@@ -61,11 +61,11 @@ may_not says = says.0 (omega arith) refl
 -- ---- the tick
 
 -- numbers that are all small are bytes
-abbrev all_small : List ℕ → Bool
+abbrev pub all_small : List ℕ → Bool
 all_small [] = true
 all_small (x ∷ xs) = nat_lt x 256 && all_small xs
 
-are_bytes : (xs : List ℕ) → all_small xs ≡ true → IsBytes xs
+pub are_bytes : (xs : List ℕ) → all_small xs ≡ true → IsBytes xs
 are_bytes [] small i = omega arith
 are_bytes (x ∷ xs) small zero = ltb-true x 256 (and_parts (nat_lt x 256) (all_small xs) small).0
 are_bytes (x ∷ xs) small (suc i) = are_bytes xs (and_parts (nat_lt x 256) (all_small xs) small).1 i

@@ -33,10 +33,10 @@ server hops = record {
   hops = hops;
 }
 
-abbrev announcement : List ℕ
+abbrev pub announcement : List ℕ
 announcement = sap_packet (own_services (port_on 0x10 0xAA)) (every_server (port_on 0x10 0xAA)) false (server 1 ∷ [])
 
-abbrev tick : List Step
+abbrev pub tick : List Step
 tick = Happens 0 Second ∷ Happens 0 (Packet 0 announcement) ∷ Happens 1 Second ∷ Settles ∷ []
 
 abbrev after : Run
