@@ -3,7 +3,7 @@ use Rattle.std.specs.Prelude.{◌≡◌, ℤ, [], ◌∷◌, ◌++◌, Option, N
 use Rattle.ipx_router.specs.Bounds.{most_length}
 use Rattle.ipx_router.specs.History.{Event, History, IsOnPort}
 use Rattle.ipx_router.specs.Needs.{HasRoomFor, TakesRoomFor, packets_needed}
-use Rattle.ipx_router.specs.Outbox.{AppendsAtMost, KeepsMemory}
+use Rattle.ipx_router.specs.Outbox.{AppendsAtMost, KeepsMemory, KeepsRoom, LeavesRoom}
 use Rattle.ipx_router.specs.Outcomes.{outcome}
 use Rattle.ipx_router.specs.Sends.{sends}
 use Rattle.ipx_router.specs.Shares.{IsWithinCapacity, WithinRouteShares, WithinServiceShares}
@@ -20,12 +20,15 @@ abbrev pub Stands : Machine → History → Type 0
 Stands machine history = StandsFor most_routes most_services machine.router history
 
 -- the router took the event: whatever history it stood for, it stands for that history with the event, what the event sends is
--- appended to what is to be sent, and the outcome is the event's. Its ports are the same. Whatever the history, the event sends at
--- most the stated number of packets, none longer than stated, and the tables stay within their sizes and the ports' shares
+-- appended to what is to be sent and takes only the room that it needs, and the outcome is the event's. Its ports are the same.
+-- Whatever the history, the event sends at most the stated number of packets, none longer than stated, and the tables stay within
+-- their sizes and the ports' shares
 pub record Took (m n : Machine) (event : Event) (became : Outcome) : Type 0 where
   pub on_port : IsOnPort m.router.ports event
   pub ports : n.router.ports ≡ m.router.ports
   pub stands : (history : History) → Stands m history → Stands n (history ++ event ∷ [])
+  pub room : (history : History) → Stands m history
+      → LeavesRoom m.outbox n.outbox (sends m.router.ports most_routes most_services history event)
   pub sends : (history : History) → Stands m history
       → n.outbox.sent ≡ m.outbox.sent ++ sends m.router.ports most_routes most_services history event
   pub outcome : (history : History) → Stands m history → became ≡ outcome m.router.ports most_routes history event
@@ -34,10 +37,11 @@ pub record Took (m n : Machine) (event : Event) (became : Outcome) : Type 0 wher
   pub route_shares : WithinRouteShares n.router.ports n.router.routes
   pub service_shares : WithinServiceShares n.router.ports n.router.services
 
--- the router and what is to be sent are as they were
+-- the router and what is to be sent are as they were, and the room that was there is there still
 pub record IsSame (m n : Machine) : Type 0 where
   pub router : n.router ≡ m.router
   pub sent : n.outbox.sent ≡ m.outbox.sent
+  pub room : KeepsRoom m.outbox n.outbox
 
 -- why the router didn't take the event: it names a port that there is not, or the room for what it may send was missing
 -- and memory for it was refused

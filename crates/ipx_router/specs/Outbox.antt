@@ -35,6 +35,15 @@ pub record Fits (o : Contents) (packets : List Sent) : Type 0 where
   pub places : length packets ≤ o.places
   pub spare : total packets ≤ o.spare
 
+-- the room that was there is there still
+abbrev pub KeepsRoom : Contents → Contents → Type 0
+KeepsRoom old new = (packets bytes : ℕ) → HasRoom old packets bytes → HasRoom new packets bytes
+
+-- these packets took no more of the room than they need: where there was room for them and for some more, there is room for these now
+abbrev pub LeavesRoom : Contents → Contents → List Sent → Type 0
+LeavesRoom old new sent =
+    (packets bytes : ℕ) → HasRoom old (length sent + packets) (total sent + bytes) → HasRoom new packets bytes
+
 -- no memory was taken, and none given back
 abbrev pub KeepsMemory : Contents → Contents → Type 0
 KeepsMemory old new = new.memory ≡ old.memory

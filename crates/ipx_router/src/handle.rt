@@ -7,7 +7,7 @@ ghost use Rattle.ipx_router.specs.Happened.{happened};
 ghost use Rattle.ipx_router.specs.History.{Event as Happening, Packet, History, IsOnPort, IsOfBytes};
 ghost use Rattle.ipx_router.specs.inside.Following.{Follows, sends_between, outcome_at};
 ghost use Rattle.ipx_router.specs.Needs.{HasRoomFor, TakesRoomFor, IsUpTo, packets_needed, bytes_needed, packets_ever, bytes_ever};
-ghost use Rattle.ipx_router.specs.Outbox.{Contents, HasRoom, Appends, AppendsAtMost, KeepsMemory};
+ghost use Rattle.ipx_router.specs.Outbox.{Contents, HasRoom, Appends, AppendsAtMost, KeepsMemory, KeepsRoom, LeavesRoom};
 ghost use Rattle.ipx_router.specs.Outcomes.{outcome};
 ghost use Rattle.ipx_router.specs.Routes.{route_rules};
 ghost use Rattle.ipx_router.specs.Sends.{sends};
@@ -109,14 +109,15 @@ impl<const P: usize, const R: usize, const S: usize> Router<P, R, S> {
         }
     }
 
-    /// Makes the room that the event needs, where it is missing, then handles it. Where that room can't be made, the router and what the outbox
-    /// has stay as they were.
+    /// Makes the room that the event needs, where it is missing, then handles it. What is sent takes only the room that it needs. Where room
+    /// can't be made, the router and what the outbox has stay as they were, and so does the room that was there.
     pub fn step(&mut self, event: Event<'_>, outbox: &mut Outbox) -> Result<Outcome, OutOfMemory>
         requires port { IsOnPort self.old.ports (happened event) }
         ensures ports { self.new.ports ≡ self.old.ports }
         ensures there { HasRoomFor self.old (happened event.entry) outbox.old → IsOk result }
         ensures stands { OnOk result ((h : History) → StandsFor R S self.old h → StandsFor R S self.new (h ++ happened event.entry ∷ [])) }
         ensures sends { OnOk result ((h : History) → StandsFor R S self.old h → outbox.new.sent ≡ outbox.old.sent ++ sends self.old.ports R S h (happened event.entry)) }
+        ensures room { OnOk result ((h : History) → StandsFor R S self.old h → LeavesRoom outbox.old outbox.new (sends self.old.ports R S h (happened event.entry))) }
         ensures outcome { IfOk result (λ o. (h : History) → StandsFor R S self.old h → o ≡ outcome self.old.ports R h (happened event.entry)) }
         ensures bounds { OnOk result (AppendsAtMost (packets_needed self.old (happened event.entry)) (most_length (happened event.entry)) outbox.old.sent outbox.new.sent) }
         ensures capacity { OnOk result (IsWithinCapacity R S self.new) }
@@ -130,6 +131,7 @@ impl<const P: usize, const R: usize, const S: usize> Router<P, R, S> {
             → KeepsNew (service_rules self.old.ports S) (service_facts self.old.ports h) (service_facts_of self.old.ports h (happened event.entry)) self.new.services) }
         ensures router { OnErr result (self.new ≡ self.old) }
         ensures outbox { OnErr result (outbox.new.sent ≡ outbox.old.sent) }
+        ensures kept { OnErr result (KeepsRoom outbox.old outbox.new) }
         ensures still { HasRoomFor self.old (happened event.entry) outbox.old → KeepsMemory outbox.old outbox.new }
         ensures takes { TakesRoomFor self.old (happened event.entry) outbox.old outbox.new }
     {

@@ -6,7 +6,7 @@ ghost use Rattle.ipx_wire.specs.Numbers.{crossed_bytes, crossed_places, most_ent
 ghost use Rattle.ipx_wire.specs.Write.{packet_bytes, rip_packet, query_packet};
 ghost use Rattle.ipx_wire.specs.WriteServices.{sap_packet};
 ghost use Rattle.ipx_wire.specs.declared.network.Network.{Network};
-ghost use Rattle.ipx_router.specs.Outbox.{Memory, HasRoom, Fits, Appends, KeepsMemory, TakesRoom, total};
+ghost use Rattle.ipx_router.specs.Outbox.{Memory, HasRoom, Fits, Appends, KeepsMemory, KeepsRoom, TakesRoom, total};
 ghost use Rattle.ipx_router.specs.Port.{broadcast};
 ghost use Rattle.ipx_router.specs.Relays.{Sent};
 
@@ -107,7 +107,7 @@ impl Outbox {
         ensures there { HasRoom self.old need.packets need.bytes → IsOk result }
         ensures refused { OnErr result (HasRoom self.old need.packets need.bytes → ⊥) }
         ensures sent { self.new.sent ≡ self.old.sent }
-        ensures kept { (packets bytes : ℕ) → HasRoom self.old packets bytes → HasRoom self.new packets bytes }
+        ensures kept { KeepsRoom self.old self.new }
         ensures still { HasRoom self.old need.packets need.bytes → KeepsMemory self.old self.new }
         ensures takes { TakesRoom self.old self.new need.packets need.bytes }
     {

@@ -1,4 +1,4 @@
-use Rattle.std.proofs.Common.{refl, ◌∙◌, sym, ap, subst, ℕ, List, ◌++◌, ◌+◌, ◌*◌, ◌≤◌, length, max}
+use Rattle.std.proofs.Common.{refl, ◌∙◌, sym, ap, subst, arith, ℕ, List, ◌++◌, ◌+◌, ◌*◌, ◌≤◌, length, max}
 use Rattle.std.proofs.lemmas.Result.{err_from_is_err_and}
 use Rattle.ipx_router.specs.Happened.{happened}
 use Rattle.ipx_router.specs.Needs.{packets_needed, bytes_needed}
@@ -12,6 +12,22 @@ returns-clause-sends g c = λ h stands.
     let event = happened c.args.event in
     (c.handle.ensures.sends h stands).sent
     ∙ ap (λ (before : List Sent). before ++ sends c.args.self.now.ports g.row.R g.row.S h event) c.reserve.ensures.sent
+
+pub returns-clause-room : goal.returns-clause-room
+returns-clause-room g c = λ h stands packets bytes fits.
+    let appends = c.handle.ensures.sends h stands in
+    let sent = sends c.args.self.now.ports g.row.R g.row.S h (happened c.args.event) in
+    let before = c.reserve.ensures.kept (length sent + packets) (total sent + bytes) fits in
+    record { places = omega (arith, appends.places, before.places); spare = omega (arith, appends.spare, before.spare) }
+
+pub returns-clause-kept : goal.returns-clause-kept
+returns-clause-kept g c = tt
+
+pub returns-in_err-reserve-clause-room : goal.returns-in_err-reserve-clause-room
+returns-in_err-reserve-clause-room g c = rw (err_from_is_err_and c.from_residual.result c.from_residual.ensures.1).1 tt
+
+pub returns-in_err-reserve-clause-kept : goal.returns-in_err-reserve-clause-kept
+returns-in_err-reserve-clause-kept g c = rw (err_from_is_err_and c.from_residual.result c.from_residual.ensures.1).1 c.reserve.ensures.kept
 
 pub returns-clause-still : goal.returns-clause-still
 returns-clause-still g c = λ room.
