@@ -1,7 +1,9 @@
 -- A packet that arrives: it comes through one router after the other, a stated number of them, and leaves on the network that it is for.
 use Rattle.std.specs.Prelude.{◌≡◌, ℕ, zero, suc, ◌+◌, ◌<◌, ◌≤◌, true, false, List, [], ◌∷◌, ◌++◌, length}
 use Rattle.std.specs.List.{AllByRecursion}
+use Rattle.ipx_wire.specs.Forward.{forwarded}
 use Rattle.ipx_wire.specs.Packet.{Parts, IsPacket}
+use Rattle.ipx_wire.specs.Write.{packet_bytes}
 use Rattle.ipx_wire.specs.declared.address.Address.{Address}
 use Rattle.ipx_wire.specs.declared.network.Network.{Network}
 use Rattle.ipx_router.specs.Numbers.{most_routers}
@@ -35,20 +37,22 @@ module _ (net : Internet) (up : ℕ → List ℕ) (size : ℕ) where
       AllByRecursion (λ from. way_by net (ways_within net up most_hops network) from ≡ least net up router network
       → IsAllowed router (network_of net from) × IsShort network hops from.router) (neighbours net up router)
 
--- bytes of a packet that came through that many routers, as its transport control says, and these are fewer than 16
-abbrev pub CameThrough : ℕ → List ℕ → Type 0
-CameThrough control bytes = (p : Parts) × IsPacket bytes p × (p.header.control ≡ control) × (control < most_routers)
+-- bytes of a packet that came through that many routers, as its transport control says, and these are fewer than 16; and what is sent on of
+-- it: the same packet but for its transport control, which is one more
+abbrev pub IsSentOn : ℕ → List ℕ → List ℕ → Type 0
+IsSentOn control came sent =
+    (p : Parts) × IsPacket came p × (p.header.control ≡ control) × (control < most_routers) × (sent ≡ packet_bytes (forwarded p))
 
 module _ (routers : List Router) (to : Address) where
-  -- a reception with that number in the tree, of a packet that came through so many routers, sends one packet on, and one router receives
-  -- it, which is then one router more; and so on for that many hops; then it leaves by a port that is up on the destination's network, for
-  -- its node
+  -- a reception with that number in the tree, of a packet that came through so many routers, sends it on once, otherwise unchanged, and one
+  -- router receives that, which is then one router more; and so on for that many hops; then it leaves, unchanged too, by a port that is up
+  -- on the destination's network, for its node
   abbrev pub Arrives : ℕ → ℕ → ℕ → Copy → Type 0
   Arrives control zero number c =
-      (s : Sent) × CameThrough control c.bytes × (forwards routers c ≡ s ∷ []) × (is_up (router_at routers c.to.router).up s.port ≡ true)
+      (s : Sent) × IsSentOn control c.bytes s.bytes × (forwards routers c ≡ s ∷ []) × (is_up (router_at routers c.to.router).up s.port ≡ true)
       × ((port_at (router_at routers c.to.router).ports s.port).network ≡ to.network) × (s.link ≡ to.node)
   Arrives control (suc hops) number c =
-      (next : Copy) × CameThrough control c.bytes × (children routers number c ≡ next ∷ []) × Arrives (control + 1) hops (number + 1) next
+      (next : Copy) × IsSentOn control c.bytes next.bytes × (children routers number c ≡ next ∷ []) × Arrives (control + 1) hops (number + 1) next
 
 -- the whole tree of a reception is that many receptions and a last one, at a router with a port that is up on a network
 pub record EndsOn (routers : List Router) (network : Network) (hops : ℕ) (c : Copy) : Type 0 where

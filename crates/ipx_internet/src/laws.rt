@@ -551,8 +551,8 @@ pub fn right()
 /// that network. After 2,940 ticks, or 2,880 where the router's least way has no hop, it goes through as many routers more as that way has
 /// hops, one at a time, and the last one sends it out on that network, for the node that it is for (`goes`). Where the router has a port on
 /// that network itself, the way has no hops, and the packet leaves there at once. So the first levels of its tree, one for each hop and a last
-/// one, have as many receptions together (`one_each`). Each of these is of a packet whose transport control is one more than before, and
-/// stays below 16.
+/// one, have as many receptions together (`one_each`). What each of these routers sends on, and so what leaves at last, is the packet that it
+/// received, unchanged but for the transport control: that is one more each time, and below 16 where the packet is received.
 ///
 /// Where such a packet's destination has another node than the broadcast, these receptions are its whole tree (`ends`). The last one is at a
 /// router with a port that is up on that network, and no router receives what leaves there.

@@ -1,6 +1,6 @@
 -- Two routers on one segment, as of `Segments`: packets that arrive, and one that a router leaves to the network on which it came. And in an
 -- internet whose least way leads round, how long a packet may be: a narrow port off the way counts for nothing.
-use Rattle.std.proofs.Common.{◌≡◌, refl, ap, lit<, ℕ, ◌<◌, ◌≤◌, List, [], ◌∷◌, Option, None, Some, arith}
+use Rattle.std.proofs.Common.{◌≡◌, refl, ap, lit<, ℕ, ◌+◌, ◌<◌, ◌≤◌, List, [], ◌∷◌, Option, None, Some, arith}
 use Rattle.ipx_wire.specs.Address.{address_bytes, address_at}
 use Rattle.ipx_wire.specs.Crossed.{network_bytes, network_at}
 use Rattle.ipx_wire.specs.Items.{items}
@@ -11,7 +11,7 @@ use Rattle.ipx_wire.specs.Sap.{sap_of}
 use Rattle.ipx_wire.specs.declared.address.Address.{Address}
 use Rattle.ipx_wire.specs.declared.network.Network.{Network}
 use Rattle.ipx_router.specs.Port.{Port}
-use Rattle.ipx_internet.specs.Arriving.{IsShort, CameThrough, Arrives, EndsOn}
+use Rattle.ipx_internet.specs.Arriving.{IsShort, IsSentOn, Arrives, EndsOn}
 use Rattle.ipx_internet.specs.Internet.{Internet}
 use Rattle.ipx_internet.specs.Least.{Way}
 use Rattle.ipx_internet.specs.Tree.{Router, Copy, root, forwards}
@@ -29,10 +29,10 @@ to n = record { network = network n; node = node 0xCC; socket = record { 0 = 0x4
 abbrev received : ℕ → Copy
 received n = root (at 0 0) (plain 0 n (node 0xCC))
 
--- it came through as many routers as its transport control says
-came : (control n : ℕ) → control < 16 → n < 256 → CameThrough control (plain control n (node 0xCC))
+-- it came through as many routers as its transport control says, and is sent on with one more, otherwise unchanged
+goes_on : (control n : ℕ) → control < 16 → n < 256 → IsSentOn control (plain control n (node 0xCC)) (plain (control + 1) n (node 0xCC))
 unfolding header_bytes address_bytes
-came control n few small = (
+goes_on control n few small = (
   plain_parts control n (node 0xCC),
   record {
     header = record {
@@ -49,21 +49,22 @@ came control n few small = (
   },
   refl,
   few,
+  refl,
 )
 
 -- the router has a port on 20h: the packet leaves there
 pub at_once : Arrives segment (to 0x20) 0 0 0 (received 0x20)
 unfolding header_bytes address_bytes network_bytes packet_of header_at address_at items network_at rip_of sap_of
-at_once = (record { port = 1; link = node 0xCC; bytes = plain 1 0x20 (node 0xCC) }, came 0 0x20 (lit< tt) (lit< tt), refl, refl, refl, refl)
+at_once = (record { port = 1; link = node 0xCC; bytes = plain 1 0x20 (node 0xCC) }, goes_on 0 0x20 (lit< tt) (lit< tt), refl, refl, refl, refl)
 
 -- to 30h it goes by the second router
 pub by_one_more : Arrives segment (to 0x30) 0 1 0 (received 0x30)
 unfolding header_bytes address_bytes network_bytes packet_of header_at address_at items network_at rip_of sap_of
 by_one_more = (
   copy 0 (at 1 0) (plain 1 0x30 (node 0xCC)),
-  came 0 0x30 (lit< tt) (lit< tt),
+  goes_on 0 0x30 (lit< tt) (lit< tt),
   refl,
-  (record { port = 1; link = node 0xCC; bytes = plain 2 0x30 (node 0xCC) }, came 1 0x30 (lit< tt) (lit< tt), refl, refl, refl, refl),
+  (record { port = 1; link = node 0xCC; bytes = plain 2 0x30 (node 0xCC) }, goes_on 1 0x30 (lit< tt) (lit< tt), refl, refl, refl, refl),
 )
 
 -- and these two receptions are its whole tree; the second router has a port on 30h

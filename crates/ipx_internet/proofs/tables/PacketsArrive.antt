@@ -357,7 +357,7 @@ module _ (net : Internet) (laws : Layouts) (is : IsInternet net) (differ : Nodes
           let out : Outway = record { port = j; link = to.node } in
           let now = at_numbers (λ k. router_now (ports_of net k) most_routes (history_of run.histories k)) (length net) q (router_at [] 0) inside in (
             record { port = j; link = to.node; bytes = packet_bytes (forwarded p) },
-            (p, is_packet, refl, omega (arith, few_control)),
+            (p, is_packet, refl, omega (arith, few_control), refl),
             sends_one q inside port here on_port_here away v least bytes are_bytes p is_packet same of_host (omega (arith, few_control)) out routed (one_up
                 (λ k. k < length (ports_of net q)) (up q) j (in_ports q) on_j) on_j
                 (allowed_at p.header.length q j to.network short on_j named) (record { parent = parent; to = record { router = q; port = port }; bytes = bytes }) refl refl,
@@ -400,7 +400,7 @@ module _ (net : Internet) (laws : Layouts) (is : IsInternet net) (differ : Nodes
           let next : Copy = record { parent = Some number; to = has.from; bytes = packet_bytes (forwarded p) } in
           let hops_by = ap (λ (w : Way). w.hops) has.source.by in (
             next,
-            (p, is_packet, refl, few_now),
+            (p, is_packet, refl, few_now, refl),
             ap (flat_map (receivers routers number c)) one ∙ append-nil (receivers routers number c it)
                 ∙ ap (λ (n : Internet). map (λ x. record { parent = Some number; to = x; bytes = packet_bytes (forwarded p) })
                 (delivered n (record { router = q; port = has.route.port }) has.route.node)) (net_after net most_routes run.histories)
