@@ -356,7 +356,8 @@ pub fn gone_meanwhile()
 }
 
 /// Every service that a router has was announced by a host: after 2,880 ticks it is one that a packet of a host said in them, with type, name
-/// and address as it said, and with no fewer hops, whatever was in the tables before and whatever else happens meanwhile.
+/// and address as it said, and with no fewer hops, whatever was in the tables before and whatever else happens meanwhile. The router to which
+/// that packet came heard it or sent it on: a packet that is dropped there announces nothing.
 ///
 /// So a server that is switched off is forgotten everywhere, and one that moves is no longer looked for where it was. Nothing waits when the
 /// ticks begin; where anything does, forged packets too, it is so of the ticks after one more (`whatever_waits`). In a tick each router has one
@@ -367,13 +368,13 @@ pub fn announced()
         → IsInternet net → AreHistories net histories
         → EachTick net most_routes most_services (IsBusyTick net most_routes most_services) (begun histories) ticks → most_ticks_gone ≤ length ticks
         → router < length net → AllByRecursion (AllByRecursion (SaysOnly AsksApart)) ticks
-        → AllByRecursion (λ s. IsAnnounced ticks s.service)
+        → AllByRecursion (λ s. IsAnnounced net most_routes most_services (begun histories) ticks s.service)
         (offers (services_held (ports_of net router) most_services (history_of (ticked net most_routes most_services (begun histories) ticks).histories router))) }
     ensures whatever_waits { (net : Internet) (most_routes most_services : ℕ) (run : Run) (first : List Step) (ticks : List (List Step)) (router : ℕ)
         → IsInternet net → AreHistories net run.histories → AllByRecursion (λ w. IsDelivery net w.delivery) run.waiting
         → EachTick net most_routes most_services (IsBusyTick net most_routes most_services) run (first ∷ ticks) → most_ticks_gone ≤ length ticks
         → router < length net → AllByRecursion (AllByRecursion (SaysOnly AsksApart)) ticks
-        → AllByRecursion (λ s. IsAnnounced ticks s.service)
+        → AllByRecursion (λ s. IsAnnounced net most_routes most_services (run_of net most_routes most_services run first) ticks s.service)
         (offers (services_held (ports_of net router) most_services (history_of (ticked net most_routes most_services run (first ∷ ticks)).histories router))) }
 {
     ipx_wire::laws::readings();

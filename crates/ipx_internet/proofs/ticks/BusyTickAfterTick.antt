@@ -19,7 +19,7 @@ use Rattle.ipx_internet.specs.Run.{Step, Happens, Settles, IsStep, AreHistories,
 use Rattle.ipx_internet.specs.Ticks.{seconds_of, ticked, ups}
 use Rattle.ipx_internet.proofs.deliveries.QueueOfARun.{events, deliveries}
 use Rattle.ipx_internet.proofs.deliveries.WaitsAfterDelivery.{there}
-use Rattle.ipx_internet.proofs.lists.EachElement.{all_then, all-append}
+use Rattle.ipx_internet.proofs.lists.EachElement.{all-append}
 use Rattle.ipx_internet.proofs.packets.SentOnOrReply.{Layouts}
 use Rattle.ipx_internet.proofs.places.OneReceiverOfANode.{ports_at}
 use Rattle.ipx_internet.proofs.records.RecordsGrowOld.{passed}
@@ -95,7 +95,8 @@ module _ (IsFine : Network → Type 0) (IsServed : Service → Type 0) (net : In
   -- ---- one event of a router
 
   module _ (ticks : ℕ) (histories : List History) (queue : List Delivery) (router : ℕ) (event : Event) (left rest : ℕ → ℕ)
-      (within : router < length net) (on : IsOnPort (ports_of net router) event) (of_bytes : IsOfBytes event) (tells : EventTells IsFine IsServed ticks event)
+      (within : router < length net) (on : IsOnPort (ports_of net router) event) (of_bytes : IsOfBytes event)
+      (tells : EventTells IsFine IsServed (ports_of net router) most_routes most_services ticks (history_of histories router) event)
       (own : left router ≡ passed event 0 + rest router) (others : (other : ℕ) → other ≢ router → left other ≡ rest other)
       (stays : Stays histories) (stays_now : Stays (with_event histories router event))
       (going : Going ticks left (record { histories = histories; queue = queue })) where
@@ -183,15 +184,24 @@ module _ (IsFine : Network → Type 0) (IsServed : Service → Type 0) (net : In
       let first = going.waiting.0 in
       let inside = there net laws is most_routes most_services histories going.are d first.delivery in
       event_goes ticks histories queue d.to.router (Packet d.to.port d.bytes) (left_of (Settles ∷ rest)) (left_of rest) inside first.delivery.place first.delivery.bytes
-      first.tells (omega arith) (λ other off. refl) stays now
+      (λ accepted. first.tells) (omega arith) (λ other off. refl) stays now
       (record { are = going.are; routers = going.routers; few = going.few; waiting = going.waiting.1 })
 
-  -- a step tells of such, if it is a packet from outside
-  abbrev StepTells : ℕ → Step → Type 0
-  StepTells ticks (Happens router event) = EventTells IsFine IsServed ticks event
-  StepTells ticks Settles = Unit
+  -- a step of a run tells of such, if it is a packet from outside that its router hears or sends on; and so do steps, and ticks
+  abbrev StepTells : ℕ → Run → Step → Type 0
+  StepTells ticks run (Happens router event) =
+      EventTells IsFine IsServed (ports_of net router) most_routes most_services ticks (history_of run.histories router) event
+  StepTells ticks run Settles = Unit
 
-  step_goes : (ticks : ℕ) (step : Step) (rest : List Step) (run : Run) → IsStep net step → StepTells ticks step → Stays run.histories
+  abbrev pub StepsTell : ℕ → Run → List Step → Type 0
+  StepsTell ticks run [] = Unit
+  StepsTell ticks run (step ∷ steps) = StepTells ticks run step × StepsTell ticks (stepped net most_routes most_services run step) steps
+
+  abbrev pub TicksTell : ℕ → Run → List (List Step) → Type 0
+  TicksTell so_far run [] = Unit
+  TicksTell so_far run (steps ∷ ticks) = StepsTell (suc so_far) run steps × TicksTell (suc so_far) (run_of net most_routes most_services run steps) ticks
+
+  step_goes : (ticks : ℕ) (step : Step) (rest : List Step) (run : Run) → IsStep net step → StepTells ticks run step → Stays run.histories
       → Stays (stepped net most_routes most_services run step).histories → Going ticks (left_of (step ∷ rest)) (forgotten run)
       → Going ticks (left_of rest) (forgotten (stepped net most_routes most_services run step))
   step_goes ticks (Happens router event) rest run (within, on, of_bytes) tells stays now going =
@@ -203,7 +213,7 @@ module _ (IsFine : Network → Type 0) (IsServed : Service → Type 0) (net : In
       subst (λ (q : Queued). Going ticks (left_of rest) q) (sym same)
       (settles_goes ticks rest run.histories (map (λ w. w.delivery) run.waiting) stays (subst (λ (q : Queued). Stays q.histories) same now) going)
 
-  steps_go : (ticks : ℕ) (steps : List Step) (run : Run) → AllByRecursion (IsStep net) steps → AllByRecursion (StepTells ticks) steps → AlwaysStays run steps
+  steps_go : (ticks : ℕ) (steps : List Step) (run : Run) → AllByRecursion (IsStep net) steps → StepsTell ticks run steps → AlwaysStays run steps
       → Going ticks (left_of steps) (forgotten run) → Going ticks (left_of []) (forgotten (run_of net most_routes most_services run steps))
   steps_go ticks [] run are tell stays going = going
   steps_go ticks (step ∷ steps) run are tell stays going =
@@ -222,7 +232,7 @@ module _ (IsFine : Network → Type 0) (IsServed : Service → Type 0) (net : In
   none_waits ticks waiting none = subst (λ (ws : List Waiting). AllByRecursion (Arrives ticks) (map (λ w. w.delivery) ws)) (sym none) tt
 
   tick_rests : (ticks : ℕ) (run : Run) (steps : List Step) → Rests ticks run → IsBusyTick net most_routes most_services run steps
-      → AllByRecursion (StepTells (suc ticks)) steps → AlwaysStays run steps → Rests (suc ticks) (run_of net most_routes most_services run steps)
+      → StepsTell (suc ticks) run steps → AlwaysStays run steps → Rests (suc ticks) (run_of net most_routes most_services run steps)
   tick_rests ticks run steps rests tick tell stays =
       let after = steps_go (suc ticks) steps run tick.happens tell stays (record {
         are = rests.are;
@@ -239,33 +249,47 @@ module _ (IsFine : Network → Type 0) (IsServed : Service → Type 0) (net : In
         quiet = tick.quiet;
       }
 
+  pub told_rest : (so_far : ℕ) (run : Run) (ticks : List (List Step)) → Rests so_far run
+      → EachTick net most_routes most_services (IsBusyTick net most_routes most_services) run ticks → EachTick net most_routes most_services AlwaysStays run ticks
+      → TicksTell so_far run ticks → Rests (length ticks + so_far) (ticked net most_routes most_services run ticks)
+  told_rest so_far run [] rests busy stay tell =
+      let same : so_far ≡ 0 + so_far = omega arith in
+      subst (λ (n : ℕ). Rests n run) same rests
+  told_rest so_far run (steps ∷ ticks) rests busy stay tell =
+      let next = run_of net most_routes most_services run steps in
+      let later = told_rest (suc so_far) next ticks (tick_rests so_far run steps rests busy.0 tell.0 stay.0) busy.1 stay.1 tell.1 in
+      let same : length ticks + suc so_far ≡ length (steps ∷ ticks) + so_far = omega arith in
+      subst (λ (n : ℕ). Rests n (ticked net most_routes most_services next ticks)) same later
+
   -- ---- packets of hosts that do no harm
 
   module _ (Says : Heard → Type 0) (harmless : (ticks : ℕ) (m : Heard) → Says m → Said IsFine IsServed ticks m) where
-    event_says : (ticks : ℕ) (event : Event) → IsWith Says event → EventTells IsFine IsServed ticks event
-    event_says ticks Start says = tt
-    event_says ticks Stop says = tt
-    event_says ticks Second says = tt
-    event_says ticks (Packet number bytes) says = λ m e. harmless ticks m (subst (λ (o : Option Heard). IfSome o Says) e says)
-    event_says ticks (PortDown number) says = tt
-    event_says ticks (PortUp number) says = tt
+    event_says : (ticks : ℕ) (run : Run) (router : ℕ) (event : Event) → IsWith Says event → StepTells ticks run (Happens router event)
+    event_says ticks run router Start says = tt
+    event_says ticks run router Stop says = tt
+    event_says ticks run router Second says = tt
+    event_says ticks run router (Packet number bytes) says = λ accepted m e. harmless ticks m (subst (λ (o : Option Heard). IfSome o Says) e says)
+    event_says ticks run router (PortDown number) says = tt
+    event_says ticks run router (PortUp number) says = tt
 
-    step_says : (ticks : ℕ) (step : Step) → SaysOnly Says step → StepTells ticks step
-    step_says ticks (Happens router event) says = event_says ticks event says
-    step_says ticks Settles says = tt
+    step_says : (ticks : ℕ) (run : Run) (step : Step) → SaysOnly Says step → StepTells ticks run step
+    step_says ticks run (Happens router event) says = event_says ticks run router event says
+    step_says ticks run Settles says = tt
+
+    steps_say : (ticks : ℕ) (run : Run) (steps : List Step) → AllByRecursion (SaysOnly Says) steps → StepsTell ticks run steps
+    steps_say ticks run [] says = tt
+    steps_say ticks run (step ∷ steps) says =
+        (step_says ticks run step says.0, steps_say ticks (stepped net most_routes most_services run step) steps says.1)
+
+    ticks_say : (so_far : ℕ) (run : Run) (ticks : List (List Step)) → AllByRecursion (AllByRecursion (SaysOnly Says)) ticks → TicksTell so_far run ticks
+    ticks_say so_far run [] says = tt
+    ticks_say so_far run (steps ∷ ticks) says =
+        (steps_say (suc so_far) run steps says.0, ticks_say (suc so_far) (run_of net most_routes most_services run steps) ticks says.1)
 
     pub ticks_rest : (so_far : ℕ) (run : Run) (ticks : List (List Step)) → Rests so_far run
         → EachTick net most_routes most_services (IsBusyTick net most_routes most_services) run ticks → EachTick net most_routes most_services AlwaysStays run ticks
         → AllByRecursion (AllByRecursion (SaysOnly Says)) ticks → Rests (length ticks + so_far) (ticked net most_routes most_services run ticks)
-    ticks_rest so_far run [] rests busy stay says =
-        let same : so_far ≡ 0 + so_far = omega arith in
-        subst (λ (n : ℕ). Rests n run) same rests
-    ticks_rest so_far run (steps ∷ ticks) rests busy stay says =
-        let next = run_of net most_routes most_services run steps in
-        let told = all_then (SaysOnly Says) (StepTells (suc so_far)) (λ step is. step_says (suc so_far) step is) steps says.0 in
-        let later = ticks_rest (suc so_far) next ticks (tick_rests so_far run steps rests busy.0 told stay.0) busy.1 stay.1 says.1 in
-        let same : length ticks + suc so_far ≡ length (steps ∷ ticks) + so_far = omega arith in
-        subst (λ (n : ℕ). Rests n (ticked net most_routes most_services next ticks)) same later
+    ticks_rest so_far run ticks rests busy stay says = told_rest so_far run ticks rests busy stay (ticks_say so_far run ticks says)
 
   pub quiet_rests : (run : Run) → AreHistories net run.histories → run.waiting ≡ [] → Rests 0 run
   quiet_rests run are quiet = record {

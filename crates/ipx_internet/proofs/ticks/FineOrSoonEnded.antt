@@ -25,7 +25,7 @@ use Rattle.ipx_router.proofs.bounds.PacketsOfEachEvent.{network_total, service_t
 use Rattle.ipx_router.proofs.histories.OneEventMore.{none_up}
 use Rattle.ipx_router.proofs.tables.OffersOfAMessage.{facts_from-more}
 use Rattle.ipx_router.proofs.tables.HeldCameByPortsUp.{held_routes_up, held_services_up}
-use Rattle.ipx_internet.specs.Announces.{service_of}
+use Rattle.ipx_internet.specs.Announces.{service_of, IsAccepted}
 use Rattle.ipx_internet.specs.Meanwhile.{message_of}
 use Rattle.ipx_internet.proofs.lists.EachElement.{all_then}
 use Rattle.ipx_internet.proofs.packets.SentOnSaysTheSame.{heard_message}
@@ -89,12 +89,12 @@ module _ (IsFine : Network → Type 0) (IsServed : Service → Type 0) where
   abbrev pub Tells : ℕ → List ℕ → Type 0
   Tells begun bytes = (m : Heard) → message_of bytes ≡ Some m → Said begun m
 
-  -- a packet that comes tells of such
-  abbrev pub EventTells : ℕ → Event → Type 0
-  EventTells begun (Packet number bytes) = Tells begun bytes
-  EventTells begun event = Unit
-
   module _ (ports : List Port) (most_routes most_services : ℕ) where
+    -- a packet that comes tells of such, if the router hears it or sends it on
+    abbrev pub EventTells : ℕ → History → Event → Type 0
+    EventTells begun history (Packet number bytes) = IsAccepted ports most_routes most_services history number bytes → Tells begun bytes
+    EventTells begun history event = Unit
+
     -- ---- what a router has that had so many seconds
 
     abbrev pub FineRoute : RouteOffer → Type 0
@@ -161,8 +161,9 @@ module _ (IsFine : Network → Type 0) (IsServed : Service → Type 0) where
           services_are (RouteSaid begun) (EntrySaid begun) RouteOld ServiceOld number route_old service_old source.node entries said
 
       -- what was heard was told
-      pub heard_said : (history : History) (bytes : List ℕ) → Tells begun bytes → IfSome (heard_after ports history number bytes) (Said begun)
-      heard_said history bytes tells = by (heard_after ports history number bytes) (λ m e. tells m (heard_message ports history number bytes m e))
+      pub heard_said : (history : History) (bytes : List ℕ) → (IsAccepted ports most_routes most_services history number bytes → Tells begun bytes)
+          → IfSome (heard_after ports history number bytes) (Said begun)
+      heard_said history bytes tells = by (heard_after ports history number bytes) (λ m e. tells (inl (m, e)) m (heard_message ports history number bytes m e))
         where
           by : (o : Option Heard) → ((m : Heard) → o ≡ Some m → Said begun m) → IfSome o (Said begun)
           by None each = tt
@@ -170,9 +171,9 @@ module _ (IsFine : Network → Type 0) (IsServed : Service → Type 0) where
 
     -- ---- any event
 
-    module _ (had begun : ℕ) (late : had ≤ begun) (history : History) (event : Event) (tells : EventTells begun event) (abides : Abides had history) where
+    module _ (had begun : ℕ) (late : had ≤ begun) (history : History) (event : Event) (tells : EventTells begun history event) (abides : Abides had history) where
       told : (number : ℕ) (bytes : List ℕ) → event ≡ Packet number bytes → IfSome (heard_after ports history number bytes) (Said begun)
-      told number bytes same = heard_said had begun number late history bytes (subst (λ (x : Event). EventTells begun x) same tells)
+      told number bytes same = heard_said had begun number late history bytes (subst (λ (x : Event). EventTells begun history x) same tells)
 
       pub event_abides : Abides (passed event had) (history ++ event ∷ [])
       event_abides =

@@ -1,5 +1,5 @@
 -- What a router sends for any event, while what it has is fine or old enough, says what is fine or was told soon enough.
-use Rattle.std.proofs.Common.{◌≡◌, refl, sym, subst, ◌⊎◌, ℕ, ◌+◌, ◌*◌, ◌<◌, ◌≤◌, ◌==◌, ◌&&◌, Bool, true, false, not, if◌then◌else◌, List, [], ◌∷◌, ◌++◌, length, map, flat_map, Option, Some, None, inl, inr, arith}
+use Rattle.std.proofs.Common.{◌≡◌, ◌≢◌, refl, sym, ap, ◌∙◌, subst, ◌⊎◌, ℕ, suc, ◌+◌, ◌*◌, ◌<◌, ◌≤◌, ◌==◌, ◌&&◌, Bool, true, false, not, if◌then◌else◌, List, [], ◌∷◌, ◌++◌, length, map, flat_map, Option, Some, None, inl, inr, arith}
 use Rattle.std.specs.List.{AllByRecursion}
 use Rattle.std.proofs.lemmas.Bool.{cases_Bool, and_parts}
 use Rattle.ipx_wire.specs.Rip.{IsEntry}
@@ -337,7 +337,7 @@ module _ (IsFine : Network → Type 0) (IsServed : Service → Type 0) (begun : 
     pub event_tells : (event : Event) → IsOnPort ports event → IsOfBytes event
         → ((number : ℕ) → is_up before.up number ≡ true → IsFine (port_at ports number).network)
         → ((number : ℕ) → is_up (ports_up ports (history ++ event ∷ [])) number ≡ true → IsFine (port_at ports number).network)
-        → Abides IsFine IsServed ports most_routes most_services (passed event had) (history ++ event ∷ []) → EventTells IsFine IsServed begun event
+        → Abides IsFine IsServed ports most_routes most_services (passed event had) (history ++ event ∷ []) → EventTells IsFine IsServed ports most_routes most_services begun history event
         → AllByRecursion Told (sends ports most_routes most_services history event)
     event_tells Start there are_bytes old_fine new_fine new tells =
         let up = ports_up ports (history ++ Start ∷ []) in
@@ -367,15 +367,22 @@ module _ (IsFine : Network → Type 0) (IsServed : Service → Type 0) (begun : 
         these : List Sent
         these = sends ports most_routes most_services history (Packet number bytes)
 
+        -- if anything is sent on, the packet was accepted
+        sent_on_tell : (ss : List Sent) → these ≡ ss → AllByRecursion (λ s. IsOnward (port_at ports number) bytes s.bytes) ss → AllByRecursion Told ss
+        sent_on_tell [] same all = tt
+        sent_on_tell (first ∷ rest) same all =
+            let some : these ≢ [] = λ none. let count : suc (length rest) ≡ 0 = ap length (sym same ∙ none) in absurd (omega (arith, count)) in
+            all_then (λ s. IsOnward (port_at ports number) bytes s.bytes) Told
+            (λ s onward m is. tells (inr some) m (sent_on_message (port_at ports number) bytes s.bytes onward m is)) (first ∷ rest) all
+
         by : (o : Option Heard) → heard_after ports history number bytes ≡ o → AllByRecursion Told these
         by None e =
-            all_then (λ s. IsOnward (port_at ports number) bytes s.bytes) Told
-            (λ s onward m is. tells m (sent_on_message (port_at ports number) bytes s.bytes onward m is)) these
+            sent_on_tell these refl
             (unsaid laws ports are most_routes most_services history on of_bytes number bytes there are_bytes e)
         by (Some m) e =
             let source = (heard_is laws.readings ports before.up number bytes are_bytes (running history) m e).source in
             let all = heard_tells (Packet number bytes) there are_bytes soon old_fine new_fine new number there m source
-            (tells m (heard_message ports history number bytes m e)) in
+            (tells (inl (m, e)) m (heard_message ports history number bytes m e)) in
             elim (said laws ports are most_routes most_services history on of_bytes number bytes there are_bytes m e) [
               | inl none ↦ subst (λ (ss : List Sent). AllByRecursion Told ss) (sym none) tt
               | inr same ↦ subst (λ (ss : List Sent). AllByRecursion Told ss) (sym same) all

@@ -48,7 +48,7 @@ seconds_more : (n : ℕ) → seconds (suc n) ≡ seconds n ++ second n ∷ []
 seconds_more n = mapped (numbers n) (n ∷ [])
 
 module _ (most_routes most_services : ℕ) where
-  run_more : (net : Internet) (run : Run) (first rest : List Step)
+  pub run_more : (net : Internet) (run : Run) (first rest : List Step)
       → run_of net most_routes most_services run (first ++ rest) ≡ run_of net most_routes most_services (run_of net most_routes most_services run first) rest
   run_more net run [] rest = refl
   run_more net run (step ∷ first) rest = run_more net (stepped net most_routes most_services run step) first rest

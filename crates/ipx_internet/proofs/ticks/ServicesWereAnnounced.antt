@@ -1,6 +1,7 @@
 -- Whatever else happens meanwhile, after 2,880 ticks there is no service but those that hosts announced in them.
-use Rattle.std.proofs.Common.{◌≡◌, refl, ap, ◌∙◌, ℕ, suc, ◌+◌, ◌<◌, ◌≤◌, List, [], ◌∷◌, length, map, Option, None, Some, IfSome, slice_get, inl, inr, arith}
+use Rattle.std.proofs.Common.{◌≡◌, refl, sym, ap, ◌∙◌, subst, ℕ, suc, ◌+◌, ◌<◌, ◌≤◌, List, [], ◌∷◌, ◌++◌, length, map, Option, Some, IfSome, inl, inr, arith}
 use Rattle.std.specs.List.{AllByRecursion}
+use Rattle.std.proofs.lemmas.List.{append_assoc}
 use Rattle.ipx_wire.specs.declared.address.Address.{Address}
 use Rattle.ipx_wire.specs.declared.rip.Operation.{Operation}
 use Rattle.ipx_wire.specs.declared.rip.Operation.TheVariants.{Request, Response}
@@ -14,80 +15,30 @@ use Rattle.ipx_router.specs.History.{Event, History, Start, Stop, Second, Packet
 use Rattle.ipx_router.specs.Port.{Port}
 use Rattle.ipx_router.specs.Services.{service_reading, service_order}
 use Rattle.ipx_router.proofs.bounds.PacketsOfEachEvent.{service_total}
-use Rattle.ipx_internet.specs.Announces.{service_of, message_at, IsSaid, IsAnnounced, AsksApart}
+use Rattle.ipx_internet.specs.Announces.{service_of, IsAccepted, IsSaid, IsAnnounced, AsksApart}
 use Rattle.ipx_internet.specs.Internet.{Internet, IsInternet, ports_of}
 use Rattle.ipx_internet.specs.Meanwhile.{message_of, AsksElsewhere, SaysOnly, IsBusyTick, EachTick}
 use Rattle.ipx_internet.specs.Queue.{history_of}
-use Rattle.ipx_internet.specs.Run.{Step, Happens, Settles, AreHistories, Run}
+use Rattle.ipx_internet.specs.Run.{Step, Happens, Settles, AreHistories, Run, stepped, run_of}
 use Rattle.ipx_internet.specs.Ticks.{ticked, most_ticks_gone}
 use Rattle.ipx_internet.proofs.lists.EachElement.{all_of, all_then, all_listed}
 use Rattle.ipx_internet.proofs.packets.SentOnOrReply.{Layouts}
 use Rattle.ipx_internet.proofs.records.RecordsGrowOld.{at_last}
-use Rattle.ipx_internet.proofs.ticks.BusyTickAfterTick.{ticks_rest, quiet_rests}
-use Rattle.ipx_internet.proofs.ticks.FineOrSoonEnded.{IsFineService, RouteSaid, EntrySaid, RipSaid, Said}
+use Rattle.ipx_internet.proofs.tables.TablesAreRight.{ticked_on}
+use Rattle.ipx_internet.proofs.ticks.BusyTickAfterTick.{StepsTell, TicksTell, told_rest, quiet_rests}
+use Rattle.ipx_internet.proofs.ticks.FineOrSoonEnded.{IsFineService, RouteSaid, EntrySaid, RipSaid, Said, EventTells}
 use Rattle.ipx_internet.proofs.ticks.GoneWhateverHappens.{EveryNetwork, each_always}
+use Rattle.ipx_internet.proofs.ticks.SecondIsATick.{run_more}
 
--- what holds of each element, where one knows of which it is said
-each_with : {X : Type 0} (P Q : X → Type 0) (xs : List X) → AllByRecursion P xs → ((k : ℕ) (x : X) → slice_get xs k ≡ Some x → P x → Q x) → AllByRecursion Q xs
-each_with P Q [] all step = tt
-each_with P Q (x ∷ xs) all step = (step 0 x refl all.0, each_with P Q xs all.1 (λ k y at. step (suc k) y at))
-
-module _ (ticks : List (List Step)) where
+module _ (net : Internet) (laws : Layouts) (is : IsInternet net) (most_routes most_services : ℕ) (first : Run) (ticks : List (List Step)) where
   abbrev pub Served : Service → Type 0
-  Served s = IsSaid ticks s
+  Served s = IsSaid net most_routes most_services first ticks s
 
   -- what is heard says only what is said in these ticks
   abbrev pub SaysServed : Heard → Type 0
   SaysServed (HeardRip source rip) = AsksElsewhere source rip.operation
   SaysServed (HeardSap source (Query nearest kind)) = Unit {0}
   SaysServed (HeardSap source (SapResponse nearest entries)) = AllByRecursion (λ e. (name : List ℕ) → e.name ≡ Some name → Served (service_of e name)) entries
-
-  module _ (which_tick which_step : ℕ) (tick : List Step) (of_ticks : slice_get ticks which_tick ≡ Some tick) where
-    message_says : (step : Step) → slice_get tick which_step ≡ Some step → (m : Heard) → message_at step ≡ Some m → AsksApart m → SaysServed m
-    message_says step of_tick (HeardRip source rip) heard apart = apart
-    message_says step of_tick (HeardSap source (Query nearest kind)) heard apart = tt
-    message_says step of_tick (HeardSap source (SapResponse nearest entries)) heard apart =
-        all_listed (λ e. (name : List ℕ) → e.name ≡ Some name → Served (service_of e name)) entries (λ k e at name same. record {
-          tick = tick;
-          which_tick = which_tick;
-          of_ticks = of_ticks;
-          step = step;
-          which_step = which_step;
-          of_tick = of_tick;
-          message = HeardSap source (SapResponse nearest entries);
-          heard = heard;
-          which_entry = k;
-          says = at ∙ named e name same;
-        })
-      where
-        named : (e : SapEntry) (name : List ℕ) → e.name ≡ Some name
-            → Some e ≡ Some (record { kind = e.kind; name = Some name; address = e.address; hops = e.hops })
-        named e name same =
-            let make : Option (List ℕ) → Option SapEntry = λ n. Some (record { kind = e.kind; name = n; address = e.address; hops = e.hops }) in
-            ap make same
-
-    some_says : (step : Step) → slice_get tick which_step ≡ Some step → (o : Option Heard) → message_at step ≡ o → IfSome o AsksApart → IfSome o SaysServed
-    some_says step of_tick None heard apart = tt
-    some_says step of_tick (Some m) heard apart = message_says step of_tick m heard apart
-
-    event_says : (router : ℕ) (event : Event) → slice_get tick which_step ≡ Some (Happens router event) → SaysOnly AsksApart (Happens router event)
-        → SaysOnly SaysServed (Happens router event)
-    event_says router Start of_tick apart = tt
-    event_says router Stop of_tick apart = tt
-    event_says router Second of_tick apart = tt
-    event_says router (Packet number bytes) of_tick apart = some_says (Happens router (Packet number bytes)) of_tick (message_of bytes) refl apart
-    event_says router (PortDown number) of_tick apart = tt
-    event_says router (PortUp number) of_tick apart = tt
-
-    step_says : (step : Step) → slice_get tick which_step ≡ Some step → SaysOnly AsksApart step → SaysOnly SaysServed step
-    step_says (Happens router event) of_tick apart = event_says router event of_tick apart
-    step_says Settles of_tick apart = tt
-
-  all_say : AllByRecursion (AllByRecursion (SaysOnly AsksApart)) ticks → AllByRecursion (AllByRecursion (SaysOnly SaysServed)) ticks
-  all_say apart =
-      each_with (AllByRecursion (SaysOnly AsksApart)) (AllByRecursion (SaysOnly SaysServed)) ticks apart
-      (λ k tick of_ticks all. each_with (SaysOnly AsksApart) (SaysOnly SaysServed) tick all
-      (λ l step of_tick one. step_says k l tick of_ticks step of_tick one))
 
   -- ---- that does no harm
 
@@ -103,6 +54,89 @@ module _ (ticks : List (List Step)) where
       all_then (λ e. (name : List ℕ) → e.name ≡ Some name → Served (service_of e name)) (EntrySaid EveryNetwork Served begun)
       (λ e said near name same. inl (e.hops, omega arith, said name same)) entries says
 
+  -- ---- what is said at each step
+
+  abbrev ticked_by : List (List Step) → Run
+  ticked_by before = ticked net most_routes most_services first before
+
+  abbrev steps_by : List (List Step) → List Step → Run
+  steps_by before earlier = run_of net most_routes most_services (ticked_by before) earlier
+
+  module _ (before : List (List Step)) (tick : List Step) (after : List (List Step)) (of_ticks : ticks ≡ before ++ tick ∷ after) where
+    message_says : (earlier : List Step) (router number : ℕ) (bytes : List ℕ) (later : List Step) → tick ≡ earlier ++ Happens router (Packet number bytes) ∷ later
+        → IsAccepted (ports_of net router) most_routes most_services (history_of (steps_by before earlier).histories router) number bytes
+        → (m : Heard) → message_of bytes ≡ Some m → AsksApart m → SaysServed m
+    message_says earlier router number bytes later of_tick accepted (HeardRip source rip) heard apart = apart
+    message_says earlier router number bytes later of_tick accepted (HeardSap source (Query nearest kind)) heard apart = tt
+    message_says earlier router number bytes later of_tick accepted (HeardSap source (SapResponse nearest entries)) heard apart =
+        all_listed (λ e. (name : List ℕ) → e.name ≡ Some name → Served (service_of e name)) entries (λ k e at name same. record {
+          before = before;
+          tick = tick;
+          after = after;
+          of_ticks = of_ticks;
+          earlier = earlier;
+          router = router;
+          number = number;
+          bytes = bytes;
+          later = later;
+          of_tick = of_tick;
+          accepted = accepted;
+          message = HeardSap source (SapResponse nearest entries);
+          heard = heard;
+          which_entry = k;
+          says = at ∙ named e name same;
+        })
+      where
+        named : (e : SapEntry) (name : List ℕ) → e.name ≡ Some name
+            → Some e ≡ Some (record { kind = e.kind; name = Some name; address = e.address; hops = e.hops })
+        named e name same =
+            let make : Option (List ℕ) → Option SapEntry = λ n. Some (record { kind = e.kind; name = n; address = e.address; hops = e.hops }) in
+            ap make same
+
+    abbrev Steps : ℕ → Run → List Step → Type 0
+    Steps begun run steps = StepsTell EveryNetwork Served net laws is most_routes most_services begun run steps
+
+    event_tells : (begun : ℕ) (earlier : List Step) (router : ℕ) (event : Event) (later : List Step) → tick ≡ earlier ++ Happens router event ∷ later
+        → SaysOnly AsksApart (Happens router event)
+        → EventTells EveryNetwork Served (ports_of net router) most_routes most_services begun (history_of (steps_by before earlier).histories router) event
+    event_tells begun earlier router Start later of_tick apart = tt
+    event_tells begun earlier router Stop later of_tick apart = tt
+    event_tells begun earlier router Second later of_tick apart = tt
+    event_tells begun earlier router (Packet number bytes) later of_tick apart =
+        λ accepted m e. harmless begun m
+        (message_says earlier router number bytes later of_tick accepted m e (subst (λ (o : Option Heard). IfSome o AsksApart) e apart))
+    event_tells begun earlier router (PortDown number) later of_tick apart = tt
+    event_tells begun earlier router (PortUp number) later of_tick apart = tt
+
+    one_more : (begun : ℕ) (earlier : List Step) (step : Step) (later : List Step) → Steps begun (steps_by before (earlier ++ step ∷ [])) later
+        → Steps begun (stepped net most_routes most_services (steps_by before earlier) step) later
+    one_more begun earlier step later tell =
+        subst (λ (run : Run). Steps begun run later) (run_more most_routes most_services net (ticked_by before) earlier (step ∷ [])) tell
+
+    moved : (earlier : List Step) (step : Step) (later : List Step) → tick ≡ earlier ++ step ∷ later → tick ≡ (earlier ++ step ∷ []) ++ later
+    moved earlier step later of_tick = of_tick ∙ sym (append_assoc earlier (step ∷ []) later)
+
+    steps_tell : (begun : ℕ) (earlier steps : List Step) → tick ≡ earlier ++ steps → AllByRecursion (SaysOnly AsksApart) steps
+        → Steps begun (steps_by before earlier) steps
+    steps_tell begun earlier [] of_tick apart = tt
+    steps_tell begun earlier (Happens router event ∷ later) of_tick apart =
+        let step = Happens router event in (
+          event_tells begun earlier router event later of_tick apart.0,
+          one_more begun earlier step later (steps_tell begun (earlier ++ step ∷ []) later (moved earlier step later of_tick) apart.1),
+        )
+    steps_tell begun earlier (Settles ∷ later) of_tick apart =
+        (tt, one_more begun earlier Settles later (steps_tell begun (earlier ++ Settles ∷ []) later (moved earlier Settles later of_tick) apart.1))
+
+  ticks_tell : (so_far : ℕ) (before rest : List (List Step)) → ticks ≡ before ++ rest → AllByRecursion (AllByRecursion (SaysOnly AsksApart)) rest
+      → TicksTell EveryNetwork Served net laws is most_routes most_services so_far (ticked_by before) rest
+  ticks_tell so_far before [] of_ticks apart = tt
+  ticks_tell so_far before (tick ∷ after) of_ticks apart = (
+    steps_tell before tick after of_ticks (suc so_far) [] tick refl apart.0,
+    subst (λ (run : Run). TicksTell EveryNetwork Served net laws is most_routes most_services (suc so_far) run after)
+        (ticked_on net most_routes most_services first before (tick ∷ []))
+        (ticks_tell (suc so_far) (before ++ tick ∷ []) after (of_ticks ∙ sym (append_assoc before (tick ∷ []) after)) apart.1),
+  )
+
 module _ (net : Internet) (laws : Layouts) (is : IsInternet net) (most_routes most_services : ℕ) (first : Run) (are : AreHistories net first.histories)
     (quiet : first.waiting ≡ []) (ticks : List (List Step)) (busy : EachTick net most_routes most_services (IsBusyTick net most_routes most_services) first ticks)
     (long : most_ticks_gone ≤ length ticks) (router : ℕ) (within : router < length net) (apart : AllByRecursion (AllByRecursion (SaysOnly AsksApart)) ticks) where
@@ -113,14 +147,15 @@ module _ (net : Internet) (laws : Layouts) (is : IsInternet net) (most_routes mo
   past = history_of (ticked net most_routes most_services first ticks).histories router
 
   abbrev IsServed : Service → Type 0
-  IsServed s = Served ticks s
+  IsServed s = Served net laws is most_routes most_services first ticks s
 
-  pub announced : AllByRecursion (λ s. IsAnnounced ticks s.service) (offers (services_held ports most_services past))
+  pub announced : AllByRecursion (λ s. IsAnnounced net most_routes most_services first ticks s.service) (offers (services_held ports most_services past))
   announced =
-      let rests = ticks_rest EveryNetwork IsServed net laws is most_routes most_services (SaysServed ticks) (harmless ticks) 0 first ticks
+      let rests = told_rest EveryNetwork IsServed net laws is most_routes most_services 0 first ticks
       (quiet_rests EveryNetwork IsServed net laws is most_routes most_services first are quiet) busy
-      (each_always IsServed net laws is most_routes most_services first ticks) (all_say ticks apart) in
-      all_then (λ s. IsFineService EveryNetwork IsServed s.service) (λ s. IsAnnounced ticks s.service)
+      (each_always IsServed net laws is most_routes most_services first ticks)
+      (ticks_tell net laws is most_routes most_services first ticks 0 [] ticks refl apart) in
+      all_then (λ s. IsFineService EveryNetwork IsServed s.service) (λ s. IsAnnounced net most_routes most_services first ticks s.service)
       (λ s fine. record { hops = fine.0; no_more = fine.1; said = fine.2 }) (offers (services_held ports most_services past))
       (at_last service_reading service_order service_total most_services (map (λ p. p.service_share) ports) (λ s. s.service.hops) (λ s. refl)
       (λ s. IsFineService EveryNetwork IsServed s.service)
