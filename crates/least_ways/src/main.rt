@@ -1,0 +1,47 @@
+//! Two routers that share a network, for 49 minutes: then the tables in memory have the routes of the least ways.
+//!
+//! That is the contract of `become_right` (`src/right.rt`). Its proof rests on the public calls of `Internet` and on its laws alone, so it
+//! shows how to cite them. What the contract asks for is seen by reading of this internet, and isn't proved here: it has two routers, each
+//! port costs one tick, a table has room for 50 routes, and nothing waits, which `main` sees from what `settle` answers.
+#![tactic(auto)]
+
+mod right;
+
+use crate::right::become_right;
+use anyhow::Result;
+use ipx_internet::{Internet, Settled};
+use ipx_router::{Event, Port, PortFault, Router};
+use ipx_wire::{Network, Node};
+
+/// More deliveries than one second of these routers causes.
+const LIMIT: usize = 100;
+
+fn main(rt: HostRuntime) -> Result<()> {
+    let west = Router::<2, 50, 8>::new(&[port(0x10, 1)?, port(0x20, 2)?])?;
+    let east = Router::<2, 50, 8>::new(&[port(0x20, 3)?, port(0x30, 4)?])?;
+    let mut internet = Internet::new(rt.alloc());
+    let first = internet.add(west).map_err(|refused| refused.fault)?;
+    let second = internet.add(east).map_err(|refused| refused.fault)?;
+    internet.event(first, Event::Start)?;
+    internet.event(second, Event::Start)?;
+    let is_quiet = internet.settle(LIMIT)? == Settled::Quiet;
+    println!(rt;
+        "right: {}",
+        is_quiet && become_right(&mut internet, LIMIT)?
+    )?;
+    for router in internet.iter() {
+        for route in router.iter_routes() {
+            let offer = route.offer;
+            println!(rt;
+                "network {}: {} hops, {} ticks",
+                offer.network, offer.hops, offer.ticks
+            )?;
+        }
+    }
+    Ok(())
+}
+
+/// A port on a network, as a node of this number, that costs one tick.
+fn port(network: u32, node: u8) -> Result<Port, PortFault> {
+    Port::new(Network(network), Node([0, 0, 0, 0, 0, node]), 1, 576)
+}
