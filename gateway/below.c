@@ -46,17 +46,57 @@ static bool read_most(reader *r, uint32_t most, const char *what, uint16_t *numb
     return true;
 }
 
+/* Whether a line of that kind stands below the network for the first time. */
+static bool is_first_line(reader *r, size_t line)
+{
+    return line == 0 || reader_fault(r, r->words[0], "expected no more than once, line %zu has it", line);
+}
+
 static void read_clients(reader *r, network_setting *it)
 {
-    if (it->clients_line != 0) {
-        reader_fault(r, r->words[0], "expected no more than once, line %zu has it", it->clients_line);
-        return;
-    }
-    if (!read_most(r, IPXR_MOST_CLIENTS, "", &it->clients))
+    if (!is_first_line(r, it->clients_line) || !read_most(r, IPXR_MOST_CLIENTS, "", &it->clients))
         return;
     it->per_address = it->clients;
     if ((r->next == r->count || read_most(r, it->clients, " of one address", &it->per_address)) && reader_ends(r))
         it->clients_line = r->line;
+}
+
+/* A number, or `none`, which is 0. */
+static bool read_rate_or_none(reader *r, const char *what, uint32_t *rate)
+{
+    const char *word = reader_word(r);
+    *rate = 0;
+    if (word != NULL && strcmp(word, "none") == 0)
+        return true;
+    if (word == NULL || !is_number(word, MOST_RATE, rate) || *rate == 0)
+        return reader_fault(r, word, "expected %s a second, 1 to %d, or none", what, MOST_RATE);
+    return true;
+}
+
+/* The packets a second of who says little, at most all that one receives. */
+static bool read_share(reader *r, network_setting *it)
+{
+    const char *word = reader_word(r);
+    if (it->rate == 0)
+        return reader_fault(r, word, "expected nothing more");
+    if (!is_number(word, it->rate, &it->share) || it->share == 0)
+        return reader_fault(r, word, "expected the packets a second of who says little, 1 to %lu", (unsigned long)it->rate);
+    return true;
+}
+
+static void read_rate(reader *r, network_setting *it)
+{
+    if (!is_first_line(r, it->rate_line) || !read_rate_or_none(r, "the packets that a client receives", &it->rate))
+        return;
+    it->share = it->rate < USUAL_SHARE ? it->rate : USUAL_SHARE;
+    if ((r->next == r->count || read_share(r, it)) && reader_ends(r))
+        it->rate_line = r->line;
+}
+
+static void read_strangers(reader *r, network_setting *it)
+{
+    if (is_first_line(r, it->strangers_line) && read_rate_or_none(r, "the datagrams for strangers", &it->strangers) && reader_ends(r))
+        it->strangers_line = r->line;
 }
 
 static bool read_range(reader *r, ranges *into)
@@ -100,6 +140,8 @@ static const struct {
     {"clients", true, read_clients},
     {"allow", true, read_allowed},
     {"trust", true, read_trusted},
+    {"rate", true, read_rate},
+    {"strangers", true, read_strangers},
 };
 enum { LINE_COUNT = sizeof LINES / sizeof *LINES };
 

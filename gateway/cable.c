@@ -93,9 +93,14 @@ size_t cable_waits(const cable *it, watch list[2])
     bool is_under_way = is_connection(it) && (!it->stream.is_connected || it->stream.out > 0);
     if (it->fd >= 0)
         list[count++] = (watch){.fd = it->fd, .sends = is_under_way};
-    if (it->listener >= 0)
+    if (it->listener >= 0 && pc_may_come(it))
         list[count++] = (watch){.fd = it->listener};
     return count;
+}
+
+bool cable_is_new(const cable *it)
+{
+    return it->stream.is_connected && !it->is_settled;
 }
 
 bool cable_has_more(const cable *it)

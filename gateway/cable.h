@@ -22,6 +22,10 @@ typedef struct cable {
     address peer;               /* who came in and is connected */
     uint64_t refused;           /* how many came in while somebody was */
     uint64_t told;              /* milliseconds of the clock when that was told last */
+    bool is_settled;            /* the machine that is connected has said a frame, or has stayed */
+    uint64_t taken;             /* milliseconds of the clock when it came in, or when none could be taken; 0 before */
+    uint64_t not_taken;         /* how often none could be, since the system has no room for a connection */
+    bool is_not_taken_told;     /* and whether that was told */
     uint8_t card[6];            /* the interface's own address; zeros while it isn't known */
     const char *lacks;          /* what it had to have to be up, when one looked last; */
     int fault;                  /* and the system's number for it, or 0 */
@@ -32,6 +36,9 @@ typedef struct cable {
 const char *cable_open(cable *it, const network_setting *set);
 
 void cable_close(cable *it);
+
+/* Whether a machine is connected of which it isn't known yet whether it stays: one looks, then, as soon as something comes. */
+bool cable_is_new(const cable *it);
 
 /* What it waits for: at most two. Returns how many. */
 size_t cable_waits(const cable *it, watch list[2]);

@@ -1,6 +1,8 @@
 #include "capture.h"
 
+#include <inttypes.h>
 #include <stdio.h>
+#include <string.h>
 
 #include "clock.h"
 #include "ipx.h"
@@ -8,15 +10,32 @@
 #include "output.h"
 #include "system.h"
 
+enum { RECORD = 16 /* bytes before each frame */ };
+
 static FILE *file;
+static bool is_pipe;     /* somebody reads it as it is written: nobody waits for him */
+static uint64_t dropped; /* frames that he didn't read in time */
 
 /* Ends the capture where the file takes no more: it is told once. */
+static void end(const char *why)
+{
+    complain("ipxr-gateway: the capture ends: %s", why);
+    capture_close();
+}
+
+/* Takes some bytes, all or none. */
 static void write_all(const void *bytes, size_t length)
 {
-    if (file == NULL || fwrite(bytes, 1, length, file) == length)
+    outcome became = WILL_BE_WRITTEN;
+    if (file == NULL)
         return;
-    complain("ipxr-gateway: the capture ends: %s", fault_words());
-    capture_close();
+    if (is_pipe)
+        became = output_capture(bytes, length);
+    else if (fwrite(bytes, 1, length, file) != length)
+        end(fault_words());
+    if (became == READER_IS_GONE)
+        end("nobody reads it any more");
+    dropped += became == NO_ROOM_FOR_IT;
 }
 
 bool capture_open(const char *name)
@@ -30,6 +49,9 @@ bool capture_open(const char *name)
     file = file_open(name, "wb");
     if (file == NULL)
         return false;
+    is_pipe = file_waits(file);
+    if (is_pipe && !output_begin_capture(file))
+        return false;
     write_all(&header, sizeof header);
     capture_flush();
     return true;
@@ -38,12 +60,14 @@ bool capture_open(const char *name)
 void capture_frame(const uint8_t *frame, size_t length)
 {
     uint32_t seconds, microseconds;
-    if (file == NULL)
+    uint8_t record[RECORD + IPXR_LONGEST_FRAME];
+    if (file == NULL || length > IPXR_LONGEST_FRAME)
         return;
     clock_date(&seconds, &microseconds);
     const uint32_t header[4] = {seconds, microseconds, (uint32_t)length, (uint32_t)length};
-    write_all(header, sizeof header);
-    write_all(frame, length);
+    memcpy(record, header, sizeof header);
+    memcpy(record + sizeof header, frame, length);
+    write_all(record, sizeof header + length);
 }
 
 void capture_packet(const uint8_t *packet, size_t length, const uint8_t from[6])
@@ -59,16 +83,21 @@ void capture_packet(const uint8_t *packet, size_t length, const uint8_t from[6])
 
 void capture_flush(void)
 {
-    if (file != NULL && fflush(file) != 0) {
-        complain("ipxr-gateway: the capture ends: %s", fault_words());
-        capture_close();
-    }
+    if (file != NULL && !is_pipe && fflush(file) != 0)
+        end(fault_words());
 }
 
+void capture_show(void)
+{
+    if (dropped > 0)
+        say("capture: %" PRIu64 " frames are missing: they weren't read in time", dropped);
+}
+
+/* (the thread of a pipe has it until the program ends: it may wait there for a reader) */
 void capture_close(void)
 {
     FILE *it = file;
     file = NULL;
-    if (it != NULL && fclose(it) != 0)
+    if (it != NULL && !is_pipe && fclose(it) != 0)
         complain("ipxr-gateway: the capture can't be closed: %s", fault_words());
 }

@@ -8,6 +8,9 @@
  * sleeps. */
 uint64_t clock_now(void);
 
+/* The same in nanoseconds, as far as the system counts so finely. */
+uint64_t clock_nanoseconds(void);
+
 /* The seconds since 1970 of the world's zone, and the microseconds behind them. */
 void clock_date(uint32_t *seconds, uint32_t *microseconds);
 

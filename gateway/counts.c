@@ -19,6 +19,12 @@ static const char *const WORDS_OF[REASONS] = {
     [NO_MEMORY] = "out of memory",
     [NOT_EXTENDED] = "not extended",
     [NOT_SENT] = "not sent",
+    [TOO_MANY_STRANGERS] = "too many strangers",
+    [TOO_MUCH_FOR_CLIENT] = "too much for a client",
+    [TOO_MANY_PINGS] = "too many pings",
+    [TOO_MANY_QUESTIONS] = "too many questions",
+    [TOO_MANY_ANSWERS] = "too many answers",
+    [TOO_MUCH_FOR_ROUTER] = "too much for the router",
 };
 
 const char *reason_words(reason why)

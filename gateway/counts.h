@@ -19,6 +19,12 @@ typedef enum {
     NO_MEMORY,     /* the router had no memory for what it would have sent */
     NOT_EXTENDED,  /* a broadcast that is extended, too long for another network, or its source doesn't know its network */
     NOT_SENT,      /* the system refused what was to be sent */
+    TOO_MANY_STRANGERS,  /* a stranger isn't answered: too many were lately */
+    TOO_MUCH_FOR_CLIENT, /* a copy for a client that received too much lately */
+    TOO_MANY_PINGS,      /* a ping for all, of a client that sent too many */
+    TOO_MANY_QUESTIONS,  /* a question to the router, of one that asked too many */
+    TOO_MANY_ANSWERS,    /* an answer of the gateway to a client that was answered too often */
+    TOO_MUCH_FOR_ROUTER, /* all else that the router would hear, of an address that said too much */
     REASONS,
 } reason;
 

@@ -181,7 +181,7 @@ static void attend(gateway *it, cable *at, const watch *list, size_t count)
         has_come = has_come || list[k].has_come;
         has_changed = has_changed || (list[k].has_come && !is_packet);
     }
-    if (has_changed)
+    if (has_changed || cable_is_new(at))
         links_look(it, at);
     if (has_come)
         receive(it, at);
@@ -193,7 +193,9 @@ void gateway_turn(gateway *it, bool waits)
     size_t first[IPXR_MOST_PORTS + 1] = {0};
     for (size_t k = 0; k < it->cable_count; k++)
         first[k + 1] = first[k] + cable_waits(&it->cables[k], list + first[k]);
-    if (watch_all(list, first[it->cable_count], waits ? patience(it) : 0))
+    bool is_known = watch_all(list, first[it->cable_count], waits ? patience(it) : 0);
+    limits_look_at_clock();
+    if (is_known)
         for (size_t k = 0; k < it->cable_count; k++)
             attend(it, &it->cables[k], list + first[k], first[k + 1] - first[k]);
     let_seconds_pass(it);

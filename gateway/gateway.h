@@ -13,6 +13,8 @@
 #include "roster.h"
 #include "settings.h"
 #include "siphash.h"
+#include "strangers.h"
+#include "throttle.h"
 
 /* A network: the router's port of the same number. */
 typedef struct network {
@@ -24,8 +26,10 @@ typedef struct network {
     int fault;         /* and the system's number for it, or 0 */
     counts counts;
     ipxr_tunnel tunnel; /* of DOSBox', where it is one */
-    roster roster;      /* and its clients */
-    outgoing outgoing;  /* what waits to be sent to them */
+    roster roster;       /* and its clients, */
+    throttle throttle;   /* within limits, */
+    strangers strangers; /* and who isn't one */
+    outgoing outgoing;   /* what waits to be sent to clients */
 } network;
 
 typedef struct gateway {

@@ -25,6 +25,7 @@ typedef struct outlet {
     uint64_t dropped; /* lines, since the last one that had room */
     bool is_refused;  /* the system refused what was written last */
     bool is_closed;   /* nobody will read anything any more */
+    bool is_captured; /* it is a capture's, which has begun */
 } outlet;
 
 static outlet outlets[WRITERS];
@@ -85,6 +86,18 @@ void complain(const char *format, ...)
     va_end(rest);
 }
 
+outcome output_capture(const void *bytes, size_t length)
+{
+    outlet *it = &outlets[CAPTURE];
+    writer_lock(CAPTURE);
+    outcome became = it->is_closed ? READER_IS_GONE : it->count + length > ROOM ? NO_ROOM_FOR_IT : WILL_BE_WRITTEN;
+    if (became == WILL_BE_WRITTEN)
+        append(it, bytes, length);
+    writer_wake(CAPTURE);
+    writer_unlock(CAPTURE);
+    return became;
+}
+
 /* ---- The thread ---- */
 
 /* Waits for lines, and takes the place where they are. How many were dropped is told now, where no line comes behind them. */
@@ -135,7 +148,13 @@ static void write_on(writer which)
 
 bool output_begin(void)
 {
-    return writer_begin(OUTPUT, write_on) && writer_begin(COMPLAINTS, write_on);
+    return writer_begin(OUTPUT, stdout, write_on) && writer_begin(COMPLAINTS, stderr, write_on);
+}
+
+bool output_begin_capture(FILE *file)
+{
+    outlets[CAPTURE].is_captured = writer_begin(CAPTURE, file, write_on);
+    return outlets[CAPTURE].is_captured;
 }
 
 /* Waits until nothing is left, and no longer than somebody reads. */
@@ -158,6 +177,8 @@ static void wait_for(writer which)
 
 void output_end(void)
 {
-    for (int which = 0; which < WRITERS; which++)
-        wait_for(which);
+    wait_for(OUTPUT);
+    wait_for(COMPLAINTS);
+    if (outlets[CAPTURE].is_captured)
+        wait_for(CAPTURE);
 }

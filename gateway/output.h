@@ -5,6 +5,8 @@
 #define OUTPUT_H
 
 #include <stdbool.h>
+#include <stddef.h>
+#include <stdio.h>
 
 /* From now on lines are written. Returns false where the system has no thread for it; errno has the reason. */
 bool output_begin(void);
@@ -13,7 +15,17 @@ bool output_begin(void);
 void say(const char *format, ...);
 void complain(const char *format, ...);
 
-/* Waits until all lines are written, as long as somebody reads them. */
+/* The same for a capture that somebody reads as it is written: from now on its bytes go to a file. Returns false where the system has no
+ * thread for it. */
+bool output_begin_capture(FILE *file);
+
+/* What became of the bytes of a capture: they are written some time, or there was no room for them, or nobody will read any more. */
+typedef enum { WILL_BE_WRITTEN, NO_ROOM_FOR_IT, READER_IS_GONE } outcome;
+
+/* Takes the bytes of a capture, all or none. */
+outcome output_capture(const void *bytes, size_t length);
+
+/* Waits until all lines, and the bytes of a capture, are written, as long as somebody reads them. */
 void output_end(void);
 
 #endif

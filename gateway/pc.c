@@ -8,20 +8,28 @@
 #include "clock.h"
 #include "note.h"
 #include "sockets.h"
+#include "system.h"
 #include "words.h"
 
-/* Milliseconds from one call, or from one line about those who are refused, to the next. */
+/* Milliseconds from one call, from one who comes in, or from one line about those who are refused, to the next; and those that a machine
+ * stays, or says something in, before others are told of it. */
 enum { BETWEEN = 1000 };
+
+bool pc_may_come(const cable *it)
+{
+    return it->taken == 0 || clock_now() - it->taken >= BETWEEN;
+}
 
 void pc_goes(cable *it)
 {
-    if (it->stream.is_connected) {
+    if (it->is_settled) {
         it->was_lost = true;
         it->lacks = it->listener >= 0 ? "nobody is connected" : "the connection ended";
         it->fault = 0;
     }
     close_any(&it->fd);
     stream_clear(&it->stream);
+    it->is_settled = false;
 }
 
 static void refuse(cable *it, int fd, const address *from)
@@ -49,19 +57,60 @@ static bool is_out_of_reach(cable *it)
     return it->stream.is_connected && (connection_is_dead(it->fd) || !stream_push(&it->stream, it->fd));
 }
 
+/* Whether the system has no room for one more connection, by its fault. */
+static bool is_for_want_of_room(int fault)
+{
+    return fault == EMFILE || fault == ENFILE || fault == ENOBUFS || fault == ENOMEM;
+}
+
+/* Waits for a second, since the system has no room for one more connection, which it would tell at once, again and again. */
+static void rest(cable *it)
+{
+    char link[LINK_ROOM];
+    int why = errno;
+    it->taken = clock_now();
+    it->not_taken++;
+    if (it->is_not_taken_told)
+        return;
+    it->is_not_taken_told = true;
+    cable_words(it, it->set, link);
+    errno = why;
+    event("nobody can come in at %s now: %s", link, fault_words());
+}
+
 static void take_or_refuse(cable *it)
 {
     address from;
-    if (has_more(it))
+    if (has_more(it) || !pc_may_come(it))
         return;
     int fd = listener_take(it->listener, &from);
-    if (fd >= 0 && it->stream.is_connected) {
-        refuse(it, fd, &from);
-    } else if (fd >= 0) {
-        it->fd = fd;
-        it->peer = from;
-        it->stream.is_connected = true;
+    if (fd < 0) {
+        if (is_for_want_of_room(errno))
+            rest(it);
+        return;
     }
+    it->is_not_taken_told = false;
+    if (it->stream.is_connected) {
+        refuse(it, fd, &from);
+        return;
+    }
+    it->fd = fd;
+    it->peer = from;
+    it->taken = clock_now();
+    it->stream.is_connected = true;
+}
+
+/* Whether others are to be told of a machine: it has said a whole frame, or has stayed. One that has gone is forgotten. */
+static bool settles(cable *it)
+{
+    if (it->is_settled || !it->stream.is_connected)
+        return it->is_settled;
+    if (it->listener >= 0 && !stream_looks(&it->stream, it->fd)) {
+        pc_goes(it);
+        return false;
+    }
+    it->is_settled = it->listener < 0 || stream_has_frame(&it->stream) || clock_now() - it->taken >= BETWEEN;
+    return it->is_settled;
 }
 
 /* Calls the PC, or looks what became of the call. Where nobody listens, the system may connect a socket with itself. */
@@ -97,5 +146,5 @@ bool pc_is_up(cable *it)
         take_or_refuse(it);
     else if (!it->stream.is_connected)
         call(it);
-    return it->stream.is_connected;
+    return settles(it);
 }

@@ -8,6 +8,9 @@
  * second. */
 bool pc_is_up(cable *it);
 
+/* Whether the next may come in: one a second does, and the others wait. */
+bool pc_may_come(const cable *it);
+
 /* Takes it for gone. */
 void pc_goes(cable *it);
 

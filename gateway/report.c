@@ -2,6 +2,7 @@
 #include <inttypes.h>
 #include <stdio.h>
 
+#include "capture.h"
 #include "gateway.h"
 #include "note.h"
 #include "output.h"
@@ -17,8 +18,12 @@ static void show_network(network *on)
         snprintf(extended, sizeof extended, ", extended %" PRIu64, on->counts.extended);
     say("  in %" PRIu64 ", out %" PRIu64 "%s", on->counts.in, on->counts.out, extended);
     counts_show(&on->counts);
+    if (set->type == LINK_QEMU_LISTEN)
+        say("  connected: %d", on->cable->stream.is_connected ? 1 : 0);
     if (set->type == LINK_QEMU_LISTEN && on->cable->refused > 0)
         say("  refused: %" PRIu64, on->cable->refused);
+    if (set->type == LINK_QEMU_LISTEN && on->cable->not_taken > 0)
+        say("  not taken: %" PRIu64, on->cable->not_taken);
     if (set->type == LINK_DOSBOX)
         tunnel_show(on);
 }
@@ -54,5 +59,6 @@ void gateway_report(gateway *it)
         show_network(&it->networks[k]);
     show_routes(it);
     show_services(it);
+    capture_show();
     say("end of report");
 }

@@ -1,22 +1,51 @@
-/* The clients of a tunnel as the gateway tells of them: who they are, the library knows. */
+/* The clients of a tunnel as the gateway tells of them, and what each has received and said lately: who they are, the library knows. */
 #ifndef ROSTER_H
 #define ROSTER_H
 
+#include <stdbool.h>
 #include <stddef.h>
 #include <stdint.h>
 
-#include "ipxr_tunnel.h"
+#include "limit.h"
+
+/* An address that clients have, and what they said together. */
+typedef struct speaker {
+    uint8_t host[4];
+    size_t clients; /* 0: nobody has it */
+    meter said;
+    meter handed; /* to the router */
+} speaker;
+
+/* What was dropped of a client. */
+typedef enum {
+    DROPPED_FOR_IT,     /* packets for it, since it received too many */
+    DROPPED_OF_IT,      /* copies of what it said, since others received too many */
+    DROPPED_PINGS,      /* pings of its own */
+    DROPPED_QUESTIONS,  /* questions to the router */
+    DROPPED_FOR_ROUTER, /* all else that the router would hear */
+    DROPPED_ANSWERS,    /* of the gateway, to its registrations and pings */
+    DROPS,
+} drop;
 
 typedef struct member {
     uint8_t place[6];
     uint64_t refused; /* datagrams for it that the system didn't take */
+    uint64_t dropped[DROPS];
+    speaker *speaks;  /* its address */
+    meter received, pinged, asked, answered;
 } member;
 
 typedef struct roster {
-    member list[IPXR_MOST_CLIENTS]; /* in the order in which they came */
+    member *list; /* in the order in which they came */
     size_t count;
+    size_t room;
     size_t next; /* behind the one that was found last */
+    speaker *speakers;
 } roster;
+
+/* Makes one for so many clients. Returns false where there is no memory. */
+bool roster_make(roster *it, size_t room);
+void roster_free(roster *it);
 
 /* The client at a place, or NULL. Who asks for one behind the other, in their order, is answered at once. */
 member *roster_find(roster *it, const uint8_t place[6]);

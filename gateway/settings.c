@@ -13,10 +13,12 @@
 
 enum { SHORTEST_LONGEST = 576 };
 
-/* Of a network of DOSBox': how many clients it has, and how much they may advertise, where its lines don't say it. So the clients of all
- * networks that there may be can't fill a table together. */
+/* Of a network of DOSBox': how many clients it has, how much each receives and how much they may advertise, where its lines don't say it.
+ * So the clients of all networks that there may be can't fill a table together. */
 enum {
     USUAL_CLIENTS = 256,
+    USUAL_RATE = 800, /* packets a second that a client receives: a DOSBox reads some 1,000 */
+    USUAL_STRANGERS = 100, /* datagrams a second for strangers */
     TUNNEL_ROUTES = IPXR_MOST_ROUTES / IPXR_MOST_PORTS,
     TUNNEL_SERVICES = IPXR_MOST_SERVICES / IPXR_MOST_PORTS,
 };
@@ -154,6 +156,9 @@ static void choose_defaults(network_setting *it)
 {
     bool is_tunnel = it->type == LINK_DOSBOX;
     it->clients = it->per_address = USUAL_CLIENTS;
+    it->rate = USUAL_RATE;
+    it->share = USUAL_SHARE;
+    it->strangers = USUAL_STRANGERS;
     if (it->has_shares)
         return;
     it->routes = is_tunnel ? TUNNEL_ROUTES : IPXR_NO_LIMIT;
@@ -295,7 +300,7 @@ static void read_line(reader *r, char *line)
     if (strcmp(word, "network") == 0)
         read_network_line(r);
     else if (!read_line_below(r, word))
-        reader_fault(r, word, "expected network, extend, clients, allow or trust");
+        reader_fault(r, word, "expected network, extend, clients, allow, trust, rate or strangers");
 }
 
 /* Reads all lines; returns false where memory or the file fails. */

@@ -41,16 +41,27 @@ static bool fill(stream *it, int fd)
     return true;
 }
 
-ssize_t stream_receive(stream *it, int fd, uint8_t *frame, size_t room)
+bool stream_looks(stream *it, int fd)
 {
     while (!stream_has_frame(it)) {
         /* (a length that can't be one: what comes isn't frames) */
         if (size_of_next(it) > STREAM_ROOM) {
             errno = EPROTO;
-            return -1;
+            return false;
         }
         if (!fill(it, fd))
-            return -1;
+            return errno == EAGAIN || errno == EINTR;
+    }
+    return true;
+}
+
+ssize_t stream_receive(stream *it, int fd, uint8_t *frame, size_t room)
+{
+    if (!stream_looks(it, fd))
+        return -1;
+    if (!stream_has_frame(it)) {
+        errno = EAGAIN;
+        return -1;
     }
     size_t size = size_of_next(it);
     memcpy(frame, it->coming + it->taken + FRONT, size - FRONT < room ? size - FRONT : room);

@@ -20,6 +20,9 @@ typedef struct stream {
 /* Forgets what is under way. */
 void stream_clear(stream *it);
 
+/* Reads what has come, where no whole frame is there. Returns false where the connection is lost, or what came isn't frames. */
+bool stream_looks(stream *it, int fd);
+
 /* Whether a whole frame has come that wasn't taken yet. */
 bool stream_has_frame(const stream *it);
 

@@ -16,6 +16,9 @@ int gateway_main(int count, char **words);
 /* Opens a file as fopen does; its name is in UTF-8. */
 FILE *file_open(const char *name, const char *how);
 
+/* Whether a file is one that somebody else reads while it is written, such as a pipe: to write there may have to wait for him. */
+bool file_waits(FILE *file);
+
 /* Reads a line with its end as getline does, into memory that is made or made larger. Returns its length; -1 at the end of the file, or
  * where there is a fault in errno. */
 ssize_t line_read(char **line, size_t *room, FILE *file);

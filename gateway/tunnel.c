@@ -3,6 +3,7 @@
 #include "tunnel.h"
 
 #include <inttypes.h>
+#include <stdio.h>
 #include <string.h>
 
 #include "capture.h"
@@ -12,6 +13,8 @@
 #include "note.h"
 #include "output.h"
 #include "place.h"
+#include "strangers.h"
+#include "throttle.h"
 
 /* Seconds with which a client is kept: from its answer on, and from each word of one that is trusted. */
 enum { ANSWER_LASTS = 30, TRUST_LASTS = 180 };
@@ -25,33 +28,51 @@ int32_t tunnel_open(network *on)
 {
     ipxr_tunnel_setting set = {.network = on->set->network, .capacity = on->set->clients, .share = on->set->per_address};
     memcpy(set.node, on->node, NODE);
+    throttle_set(&on->throttle, on->set->rate, on->set->share);
+    if (!roster_make(&on->roster, on->set->clients) || !strangers_make(&on->strangers, on->set->strangers))
+        return IPXR_OUT_OF_MEMORY;
     return ipxr_tunnel_make(&on->tunnel, &set);
 }
 
 void tunnel_close(network *on)
 {
     ipxr_tunnel_free(&on->tunnel);
+    roster_free(&on->roster);
+    strangers_free(&on->strangers);
 }
 
 /* ---- Sending ---- */
+
+/* Sends a datagram of the gateway's own. */
+static void send_one(network *on, const ipxr_own *own, bool is_client)
+{
+    outgoing_own(on, own->place, own->bytes, sizeof own->bytes, is_client);
+    capture_packet(own->bytes, sizeof own->bytes, on->node);
+}
 
 /* Sends the answers and pings that the tunnel gave. */
 static void send_own(network *on, bool are_clients)
 {
     ipxr_own own;
-    for (size_t k = 0; ipxr_tunnel_own(&on->tunnel, k, &own) == 0; k++) {
-        outgoing_own(on, own.place, own.bytes, sizeof own.bytes, are_clients);
-        capture_packet(own.bytes, sizeof own.bytes, on->node);
-    }
+    for (size_t k = 0; ipxr_tunnel_own(&on->tunnel, k, &own) == 0; k++)
+        send_one(on, &own, are_clients);
 }
 
-/* Sends a packet to the clients that get it, as the tunnel said. */
-static void send_carried(network *on, const uint8_t *packet, size_t length)
+/* Sends a packet to the clients that get it, as the tunnel said, and as far as each receives it. Returns to how many it doesn't go
+ * since they received too much. */
+static size_t send_carried(network *on, const uint8_t *packet, size_t length, weight weighs)
 {
     uint8_t place[NODE];
+    size_t dropped = 0;
     outgoing_begin(on, packet, length);
-    for (size_t k = 0; ipxr_tunnel_receiver(&on->tunnel, k, place) == 0; k++)
-        outgoing_copy(on, place);
+    for (size_t k = 0; ipxr_tunnel_receiver(&on->tunnel, k, place) == 0; k++) {
+        if (throttle_lets_receive(&on->throttle, roster_find(&on->roster, place), weighs))
+            outgoing_copy(on, place);
+        else
+            dropped++;
+    }
+    on->counts.lost[TOO_MUCH_FOR_CLIENT] += dropped;
+    return dropped;
 }
 
 void tunnel_send(network *on, const uint8_t *node, const uint8_t *packet, size_t length)
@@ -59,7 +80,7 @@ void tunnel_send(network *on, const uint8_t *node, const uint8_t *packet, size_t
     ipxr_tunnel_send(&on->tunnel, node);
     if (ipxr_tunnel_receivers(&on->tunnel) == 0 && !is_broadcast(node))
         gateway_lose(on, NO_CLIENT);
-    send_carried(on, packet, length);
+    (void)send_carried(on, packet, length, throttle_weigh_routed(on->node, packet));
 }
 
 /* ---- Who comes and who leaves ---- */
@@ -78,6 +99,17 @@ static void tell_leaves(network *on, const uint8_t place[NODE])
     event("client %s leaves %08" PRIX32, node_words(place, words), on->set->network);
 }
 
+/* Pings those again who registered lately and haven't come in, as far as strangers may be answered. */
+static void ping_again(network *on)
+{
+    strangers_second(&on->strangers, &on->roster);
+    for (size_t k = 0; k < MOST_NEW; k++) {
+        const ipxr_own *ping = strangers_due(&on->strangers, k);
+        if (ping != NULL && strangers_let(&on->strangers, ping->place, 1))
+            send_one(on, ping, false);
+    }
+}
+
 void tunnel_second(network *on)
 {
     uint8_t place[NODE];
@@ -85,6 +117,7 @@ void tunnel_second(network *on)
     for (size_t k = 0; ipxr_tunnel_leaver(&on->tunnel, k, place) == 0; k++)
         tell_leaves(on, place);
     send_own(on, true);
+    ping_again(on);
 }
 
 /* ---- Hearing ---- */
@@ -106,12 +139,11 @@ static ipxr_sender sender_at(const gateway *it, const network *on, const address
 }
 
 /* Why nothing became of what somebody said; REASONS, which is none, where something did. */
-static reason why_lost(network *on, const uint8_t place[NODE], int32_t said, bool is_packet)
+static reason why_lost(network *on, bool is_client, int32_t said, bool is_packet)
 {
     bool is_answered = ipxr_tunnel_owns(&on->tunnel) > 0;
     if (ipxr_tunnel_receivers(&on->tunnel) > 0 || ipxr_tunnel_is_heard(&on->tunnel) == 1)
         return REASONS;
-    bool is_client = roster_find(&on->roster, place) != NULL;
     switch (said) {
     case IPXR_REGISTERS:
         return is_answered ? REASONS : NO_ROOM;
@@ -126,32 +158,82 @@ static reason why_lost(network *on, const uint8_t place[NODE], int32_t said, boo
     }
 }
 
-/* What a client said goes to the router, and to other networks where it is extended. */
-static void pass_on(gateway *it, network *on, const uint8_t *packet, size_t length)
+/* Answers a client's registration or ping. (somebody may ask in its name, so that it would hear nothing else) */
+static void answer_client(network *on, member *to)
 {
+    if (ipxr_tunnel_owns(&on->tunnel) == 0)
+        return;
+    if (throttle_lets_answer(&on->throttle, to))
+        send_own(on, true);
+    else
+        on->counts.lost[TOO_MANY_ANSWERS]++;
+}
+
+/* Answers a stranger, and pings him; who registers is pinged again. Returns false where too many strangers were answered lately. */
+static bool answer_stranger(network *on, const uint8_t place[NODE], bool registers)
+{
+    uint32_t count = (uint32_t)ipxr_tunnel_owns(&on->tunnel);
+    ipxr_own last;
+    if (count == 0)
+        return true;
+    if (!strangers_let(&on->strangers, place, count))
+        return false;
+    send_own(on, false);
+    if (registers && ipxr_tunnel_own(&on->tunnel, count - 1, &last) == 0 && is_broadcast(last.bytes + AT_TO_NODE))
+        strangers_keep(&on->strangers, &last);
+    return true;
+}
+
+/* What a client said goes to the router, and to other networks where it is extended. */
+static void pass_on(gateway *it, network *on, member *from, weight weighs, const uint8_t *packet, size_t length)
+{
+    reason why = throttle_hands(&on->throttle, from, packet, length);
+    if (why != REASONS) {
+        gateway_lose(on, why);
+        return;
+    }
+    throttle_bring(weighs);
     if (is_broadcast(packet + AT_TO_NODE) && is_for_here(on, packet))
         extend(it, on, packet, length);
     gateway_hear(it, on, packet, length);
+    throttle_bring(OF_LITTLE);
 }
 
-/* Sends what is to be sent before the router, which sends too, hears the packet. */
+/* Sends what a client said before the router, which sends too, hears it. */
+static void carry(gateway *it, network *on, member *from, const uint8_t *packet, size_t length)
+{
+    bool is_heard = ipxr_tunnel_is_heard(&on->tunnel) == 1;
+    weight weighs;
+    reason why = throttle_weigh(&on->throttle, from, packet, &weighs);
+    if (why != REASONS) {
+        gateway_lose(on, why);
+        return;
+    }
+    from->dropped[DROPPED_OF_IT] += send_carried(on, packet, length, weighs);
+    if (is_heard)
+        pass_on(it, on, from, weighs, packet, length);
+    else
+        gateway_note(on, packet, length, "handed on");
+}
+
+/* (behind the tunnel, which has noted that a client answers: no limit drops that) */
 static void hear(gateway *it, network *on, const ipxr_sender *sender, const uint8_t *bytes, size_t length)
 {
     size_t before = ipxr_tunnel_clients(&on->tunnel);
     int32_t said = ipxr_tunnel_hear(&on->tunnel, sender, bytes, length);
     size_t carried = ipxr_tunnel_carried(&on->tunnel);
-    bool is_heard = ipxr_tunnel_is_heard(&on->tunnel) == 1;
     if (ipxr_tunnel_clients(&on->tunnel) > before)
         tell_comes(on, sender->place);
-    reason why = why_lost(on, sender->place, said, has_length(bytes, length));
-    send_own(on, false);
-    send_carried(on, bytes, carried);
+    member *from = roster_find(&on->roster, sender->place);
+    reason why = why_lost(on, from != NULL, said, has_length(bytes, length));
+    if (from != NULL)
+        answer_client(on, from);
+    else if (!answer_stranger(on, sender->place, said == IPXR_REGISTERS))
+        why = TOO_MANY_STRANGERS;
     if (why != REASONS)
         gateway_lose(on, why);
-    else if (is_heard)
-        pass_on(it, on, bytes, carried);
-    else if (said == IPXR_SPEAKS)
-        gateway_note(on, bytes, carried, "handed on");
+    else if (said == IPXR_SPEAKS && from != NULL)
+        carry(it, on, from, bytes, carried);
 }
 
 void tunnel_hear(gateway *it, network *on, uint8_t *bytes, size_t length, const address *from)
@@ -175,6 +257,21 @@ void tunnel_hear(gateway *it, network *on, uint8_t *bytes, size_t length, const 
 
 /* ---- Reports ---- */
 
+/* What was dropped of a client, behind its line. */
+static void show_dropped(const member *it)
+{
+    static const char *const OF[DROPS] = {[DROPPED_FOR_IT] = "for it", [DROPPED_OF_IT] = "copies of what it said",
+        [DROPPED_PINGS] = "pings", [DROPPED_QUESTIONS] = "questions", [DROPPED_FOR_ROUTER] = "for the router",
+        [DROPPED_ANSWERS] = "answers"};
+    char words[200] = "";
+    size_t at = 0;
+    for (int k = 0; k < DROPS; k++)
+        if (it->dropped[k] > 0)
+            at += (size_t)snprintf(words + at, sizeof words - at, "%s %" PRIu64 " %s", at > 0 ? "," : "", it->dropped[k], OF[k]);
+    if (at > 0)
+        say("      dropped:%s", words);
+}
+
 static void show_client(network *on, const ipxr_client *client)
 {
     char node[WORDS], refused[40] = "";
@@ -185,6 +282,8 @@ static void show_client(network *on, const ipxr_client *client)
         snprintf(refused, sizeof refused, ", %" PRIu64 " not sent", known->refused);
     say("    %s, %s %d s ago%s", node_words(client->place, node), is_trusted ? "trusted, heard" : "answered",
         (is_trusted ? TRUST_LASTS : ANSWER_LASTS) - client->seconds_left, refused);
+    if (known != NULL)
+        show_dropped(known);
 }
 
 void tunnel_show(network *on)

@@ -1,16 +1,17 @@
-/* Threads that write to standard output and to standard error. Each has a lock; what is gathered for it is changed between writer_lock and
- * writer_unlock alone. */
+/* Threads that write to standard output, to standard error, and to a capture that somebody reads as it is written. Each has a lock; what is
+ * gathered for it is changed between writer_lock and writer_unlock alone. */
 #ifndef WRITER_H
 #define WRITER_H
 
 #include <stdbool.h>
 #include <stddef.h>
+#include <stdio.h>
 #include <sys/types.h>
 
-typedef enum { OUTPUT, COMPLAINTS, WRITERS } writer;
+typedef enum { OUTPUT, COMPLAINTS, CAPTURE, WRITERS } writer;
 
-/* Begins a thread, which calls a function that never returns; it ends with the program. Returns false where there can be none. */
-bool writer_begin(writer which, void (*write_on)(writer which));
+/* Begins a thread for a file, which calls a function that never returns; it ends with the program. Returns false where none can be had. */
+bool writer_begin(writer which, FILE *file, void (*write_on)(writer which));
 
 void writer_lock(writer which);
 void writer_unlock(writer which);

@@ -109,6 +109,8 @@ int datagram_open(address *local, const address *remote)
         return -1;
     keep(fd, SO_RCVBUFFORCE, SO_RCVBUF, KEPT);
     keep(fd, SO_SNDBUFFORCE, SO_SNDBUF, KEPT_SENT);
+    /* (else anybody who forges a router's complaint makes the system cut what goes to a client, into pieces as small as he likes) */
+    (void)set(fd, IPPROTO_IP, IP_MTU_DISCOVER, IP_PMTUDISC_OMIT);
     return kept_if(is_bound(fd, local) && (remote == NULL || is_connected(fd, remote)), fd);
 }
 

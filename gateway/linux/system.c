@@ -3,10 +3,18 @@
 #include <errno.h>
 #include <string.h>
 #include <sys/random.h>
+#include <sys/stat.h>
+#include <unistd.h>
 
 FILE *file_open(const char *name, const char *how)
 {
     return fopen(name, how);
+}
+
+bool file_waits(FILE *file)
+{
+    struct stat about;
+    return fstat(fileno(file), &about) == 0 && (S_ISFIFO(about.st_mode) || S_ISSOCK(about.st_mode) || isatty(fileno(file)));
 }
 
 ssize_t line_read(char **line, size_t *room, FILE *file)

@@ -9,9 +9,8 @@
 
 enum { SECOND = 1000 /* milliseconds */ };
 
-static const int FILES[WRITERS] = {STDOUT_FILENO, STDERR_FILENO};
-
 static struct {
+    int file;
     pthread_mutex_t lock;
     sem_t woken;
     void (*write_on)(writer which);
@@ -26,10 +25,11 @@ static void *run(void *at)
 }
 
 /* (signals are for the thread that routes: it waits no longer then) */
-bool writer_begin(writer which, void (*write_on)(writer which))
+bool writer_begin(writer which, FILE *file, void (*write_on)(writer which))
 {
     pthread_t thread;
     sigset_t all, before;
+    writers[which].file = fileno(file);
     writers[which].which = which;
     writers[which].write_on = write_on;
     if ((errno = pthread_mutex_init(&writers[which].lock, NULL)) != 0 || sem_init(&writers[which].woken, 0, 0) != 0)
@@ -79,9 +79,9 @@ void writer_rest(int milliseconds)
 ssize_t writer_write(writer which, const char *bytes, size_t count)
 {
     ssize_t written;
-    struct pollfd room = {FILES[which], POLLOUT, 0};
+    struct pollfd room = {writers[which].file, POLLOUT, 0};
     do
-        written = write(FILES[which], bytes, count);
+        written = write(writers[which].file, bytes, count);
     while (written < 0 && (errno == EINTR || (errno == EAGAIN && poll(&room, 1, SECOND) > 0)));
     if (written > 0)
         return written;

@@ -7,13 +7,24 @@
 #define SECOND 10000000u
 #define FROM_1601 116444736000000000u
 
-uint64_t clock_now(void)
+/* Its counts; the last ones, where there are none now. */
+static uint64_t counted(void)
 {
     static uint64_t last;
     ULONGLONG now;
     if (QueryUnbiasedInterruptTime(&now))
-        last = now / MILLISECOND;
+        last = now;
     return last;
+}
+
+uint64_t clock_now(void)
+{
+    return counted() / MILLISECOND;
+}
+
+uint64_t clock_nanoseconds(void)
+{
+    return counted() * 100;
 }
 
 void clock_date(uint32_t *seconds, uint32_t *microseconds)

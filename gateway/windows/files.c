@@ -1,9 +1,11 @@
 #include "../system.h"
 
 #include <errno.h>
+#include <io.h>
 #include <stdbool.h>
 #include <stdlib.h>
 
+#include "net.h"
 #include "text.h"
 
 /* (other programs may read it meanwhile) */
@@ -18,6 +20,11 @@ FILE *file_open(const char *name, const char *how)
     free(wide_name);
     free(wide_how);
     return file;
+}
+
+bool file_waits(FILE *file)
+{
+    return GetFileType((HANDLE)_get_osfhandle(_fileno(file))) != FILE_TYPE_DISK;
 }
 
 /* Makes room for so many bytes. */

@@ -1,14 +1,14 @@
 #include "../writer.h"
 
 #include <errno.h>
+#include <io.h>
 
 #include "net.h"
 
 enum { SECOND = 1000 /* milliseconds */, MOST = 4096 /* bytes that are written at once */ };
 
-static const DWORD FILES[WRITERS] = {STD_OUTPUT_HANDLE, STD_ERROR_HANDLE};
-
 static struct {
+    HANDLE file;
     CRITICAL_SECTION lock;
     CONDITION_VARIABLE woken;
     void (*write_on)(writer which);
@@ -22,8 +22,17 @@ static DWORD WINAPI run(void *at)
     return 0;
 }
 
-bool writer_begin(writer which, void (*write_on)(writer which))
+/* (where there is no console, the C library knows no file of the first two) */
+static HANDLE handle_of(writer which, FILE *file)
 {
+    if (which == CAPTURE)
+        return (HANDLE)_get_osfhandle(_fileno(file));
+    return GetStdHandle(which == OUTPUT ? STD_OUTPUT_HANDLE : STD_ERROR_HANDLE);
+}
+
+bool writer_begin(writer which, FILE *file, void (*write_on)(writer which))
+{
+    writers[which].file = handle_of(which, file);
     writers[which].which = which;
     writers[which].write_on = write_on;
     InitializeCriticalSection(&writers[which].lock);
@@ -62,12 +71,12 @@ void writer_rest(int milliseconds)
     Sleep((DWORD)milliseconds);
 }
 
-/* The bytes with Windows' ends of lines. Returns how many these are. */
-static DWORD with_ends(const char *bytes, size_t count, char *words)
+/* The bytes of a writer, lines with Windows' ends. Returns how many these are. */
+static DWORD with_ends(writer which, const char *bytes, size_t count, char *words)
 {
     DWORD length = 0;
     for (size_t k = 0; k < count; k++) {
-        if (bytes[k] == '\n')
+        if (which != CAPTURE && bytes[k] == '\n')
             words[length++] = '\r';
         words[length++] = bytes[k];
     }
@@ -79,8 +88,8 @@ ssize_t writer_write(writer which, const char *bytes, size_t count)
 {
     char words[2 * MOST];
     size_t piece = count < MOST ? count : MOST;
-    DWORD length = with_ends(bytes, piece, words), taken = 0, written = 0;
-    while (taken < length && WriteFile(GetStdHandle(FILES[which]), words + taken, length - taken, &written, NULL))
+    DWORD length = with_ends(which, bytes, piece, words), taken = 0, written = 0;
+    while (taken < length && WriteFile(writers[which].file, words + taken, length - taken, &written, NULL))
         taken += written;
     if (taken == length)
         return (ssize_t)piece;

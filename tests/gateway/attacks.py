@@ -21,9 +21,12 @@ PATIENCE = 33  # seconds after which a client that doesn't answer is gone
 OWN = 30  # bytes of the gateway's own answers and pings
 MOST_OWN = 2  # of them for a datagram
 QUIET = 0.2  # seconds in which what was sent has come
-TUNNEL = f"network {NETWORK:X} 1 1424 dosbox 0.0.0.0:{GATEWAY[1]}\n"
+TUNNEL_LINE = f"network {NETWORK:X} 1 1424 dosbox 0.0.0.0:{GATEWAY[1]}\n"
+LONG_SHARES = f"{ALL_THERE_IS} dosbox"
 OTHER_PORT = GATEWAY[1] + 1
-TWO = TUNNEL.replace("dosbox", f"{ALL_THERE_IS} dosbox") + f"network 20 1 1424 dosbox 0.0.0.0:{OTHER_PORT}\n"
+# (the clock of these stands still, and so would a limit)
+STILL = TUNNEL_LINE + "rate none\nstrangers none\n"
+TWO = STILL.replace("dosbox", LONG_SHARES) + f"network 20 1 1424 dosbox 0.0.0.0:{OTHER_PORT}\nstrangers none\n"
 VICTIMS_PORT = 5000
 
 
@@ -48,17 +51,20 @@ def flood(gate, way, kind, rate=1000, count=None, port=GATEWAY[1], **places):
 class Playground:
     """A field with a gateway and a party that plays there."""
 
-    def __init__(self, text=TUNNEL, numbers=(2, 2, 3), more=0, clock=None, environment=None, field=None):
+    def __init__(self, text=TUNNEL_LINE, numbers=(2, 2, 3), more=0, clock=None, environment=None, field=None, begins=True,
+                 program=None):
+        self.begins = begins
         self.field = field or Field()
         hosts = own_addresses(1, sum(numbers) + more)
         self.free = hosts[sum(numbers):]
-        how = {"program": SYSTEM.fast, "environment": clock.environment()} if clock else {"environment": environment}
+        how = {"program": SYSTEM.fast, "environment": clock.environment()} if clock else {"program": program, "environment": environment}
         self.clock = clock
         self.gate = Gateway(text, before=self.field.gate.within, **how)
         self.party = Party(hosts, GATEWAY, numbers=numbers)
 
     def __enter__(self):
-        self.party.enter()
+        if self.begins:
+            self.party.enter()
         return self
 
     def __exit__(self, kind, *_):
@@ -159,7 +165,7 @@ def a_newcomer():
 
 def a_crowd_answers():
     """200 ports of a host register, and answer pings: nobody leaves for them."""
-    with Playground(more=1) as it:
+    with Playground(TUNNEL_LINE + "strangers none\n", more=1) as it:
         crowd = Party(it.free * 200, GATEWAY, numbers=(200, 0, 0))
         for player in crowd.all:
             player.register()
@@ -196,7 +202,7 @@ def false_sources():
 
 def gone(number):
     """Players switch their PCs off: after 30 s nothing is sent to them, and what the others say isn't lost."""
-    with Playground(more=number, clock=Clock()) as it:
+    with Playground(STILL, more=number, clock=Clock()) as it:
         for guest in invite(it):
             guest.close()
         leave(it.free)

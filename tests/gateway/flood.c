@@ -8,6 +8,7 @@
  *     first=PORT ports=COUNT       the same of the ports of each address
  *     rate=COUNT count=COUNT       datagrams a second, and in all
  *     seed=NUMBER                  what the bytes begin with that are made up
+ *     for=ADDRESS:PORT             whom a packet of the kind `tell` is for
  *     gateway=PROCESS              waits while much of it waits for the gateway: nothing is lost then since a machine is slow
  *
  * The last line is what was sent: `COUNT datagrams in SECONDS s, RATE a second`. */
@@ -37,6 +38,7 @@ enum {
     SAP = 0x452,
     RIP = 0x453,
     GAME = 0x4003,
+    CHAT = 0x4004,
     LONGEST = 1500,
     IP_HEADER = 20,
     UDP_HEADER = 8,
@@ -54,7 +56,7 @@ typedef struct place {
 typedef struct order {
     bool is_forged;
     const char *kind;
-    place to, first;
+    place to, first, receiver;
     unsigned long hosts, ports, rate, count, seed, gateway;
 } order;
 
@@ -93,6 +95,8 @@ static void read_word(order *it, char *word)
         it->to = place_of(value);
     else if (strcmp(word, "host") == 0)
         it->first.host = place_of(value).host;
+    else if (strcmp(word, "for") == 0)
+        it->receiver = place_of(value);
     else if (strcmp(word, "first") == 0)
         it->first.port = (uint16_t)atoi(value);
     for (size_t k = 0; k < sizeof numbers / sizeof *numbers; k++)
@@ -160,6 +164,15 @@ static size_t to_all(uint8_t *bytes, const place *from, unsigned socket, unsigne
     return length;
 }
 
+/* The same, for the client at a place. */
+static size_t to_one(uint8_t *bytes, const place *from, const place *to, unsigned socket)
+{
+    size_t length = to_all(bytes, from, socket, 4, HEADER + 16);
+    put32(bytes + AT_TO_NODE, to->host);
+    put16(bytes + AT_TO_NODE + 4, to->port);
+    return length;
+}
+
 static size_t registration(uint8_t *bytes, const place *from)
 {
     size_t length = to_all(bytes, from, TUNNEL, 0, HEADER);
@@ -222,6 +235,12 @@ static size_t datagram(const order *it, const char *kind, uint8_t *bytes, const 
         return registration(bytes, from);
     if (strcmp(kind, "speak") == 0)
         return to_all(bytes, from, GAME, 4, HEADER + 16);
+    if (strcmp(kind, "chat") == 0)
+        return to_all(bytes, from, CHAT, 4, HEADER + 16);
+    if (strcmp(kind, "tell") == 0)
+        return to_one(bytes, from, &it->receiver, CHAT);
+    if (strcmp(kind, "ping") == 0)
+        return to_all(bytes, from, TUNNEL, 0, HEADER);
     if (strcmp(kind, "guess") == 0)
         return guessed_answer(bytes, from, seed);
     if (strcmp(kind, "sap") == 0)

@@ -1,6 +1,9 @@
 """Cards of emulators: frames in datagrams and on connections, by the four kinds."""
 import fcntl
+import os
 import re
+import resource
+import select
 import socket
 import struct
 import termios
@@ -11,6 +14,8 @@ from lab import (EVERYONE, GAME, LIMIT, Client, Counts, Gateway, address, comes_
 from systems import SYSTEM, Windows
 
 STATION = bytes.fromhex("020000000AA1")
+RESETS = 30
+SOON = 0.05  # seconds in which a connection comes about, where there is room for it
 
 
 def listening(port=0):
@@ -155,6 +160,43 @@ def one_pc_at_a_time():
         assert reaches(far, station) and gate.counted(0x20, "refused") == 50
 
 
+def nobody_hears_of_it():
+    """Who connects and resets, again and again, isn't told to anybody; then a PC comes in as if nothing had been."""
+    with Gateway(tunnels(1) + "network 20 1 1490 qemu-tcp listen 0 raw\n") as gate:
+        far = Client(gate.ports[0x10])
+        gate.told("network 00000020 is down")
+        for _ in range(RESETS):
+            scanner = socket.socket()
+            scanner.setblocking(False)
+            scanner.connect_ex(("127.0.0.1", gate.ports[0x20]))
+            select.select([], [scanner], [], SOON)
+            reset(scanner)
+        station, _ = connected(gate, 0x20, "raw")
+        assert reaches(far, station) and reaches(station, far)
+        gate.told("network 00000020 is up")
+        told = [line for line in gate.lines if "network 00000020 is" in line]
+        assert [" is up: " in line for line in told] == [False, True], told
+
+
+def no_room_for_a_connection():
+    """Where the system has no room for one more connection, the gateway says so once, tries again each second, and takes it then."""
+    with Gateway(tunnels(1) + "network 20 1 1490 qemu-tcp listen 0 raw\n") as gate:
+        far = Client(gate.ports[0x10])
+        process = gate.run.process()
+        files = len(os.listdir(f"/proc/{process}/fd"))
+        before = resource.prlimit(process, resource.RLIMIT_NOFILE, (files, resource.getrlimit(resource.RLIMIT_NOFILE)[1]))
+        with socket.create_connection(("127.0.0.1", gate.ports[0x20])) as pc:
+            assert gate.told("nobody can come in at").endswith(" now: Too many open files")
+            until(lambda: gate.counted(0x20, "not taken") >= 2, "it is tried again")
+            report = gate.report()
+            seconds = int(re.search(r"(?m)^report after (\d+) s$", report)[1])
+            assert gate.counted(0x20, "not taken", report) <= seconds + 2, report
+            assert sum("nobody can come in" in line for line in gate.lines) == 1
+            resource.prlimit(process, resource.RLIMIT_NOFILE, before)
+            station = Station(Tcp(pc), "raw", 0x20, STATION, gate.nodes[0x20])
+            assert station.hear(is_routers) is not None and reaches(far, station)
+
+
 def is_at_its_end(connection):
     """Whether all that was said on a connection has come to the machine at its other end. What has not is lost where it is reset, also by a
     close while something is unread: the system of who resets it throws it away."""
@@ -282,13 +324,15 @@ def nobody_listens():
 
 def main():
     counts = Counts()
-    for test in (datagrams, two_networks_on_a_link, long_frames, a_connection_comes, one_pc_at_a_time, a_connection_is_reset, a_stream,
-                 a_connection_goes, nobody_listens_yet, an_address_comes_later, two_gateways, extended):
+    for test in (datagrams, two_networks_on_a_link, long_frames, a_connection_comes, one_pc_at_a_time, nobody_hears_of_it,
+                 a_connection_is_reset, a_stream, a_connection_goes, nobody_listens_yet, an_address_comes_later, two_gateways, extended):
         counts.run(test)
     if SYSTEM is Windows:
         left_out("whether what is sent to nobody is counted", "Windows doesn't tell it, though Wine does")
+        left_out("no room for a connection", "it is tried on Linux alone")
     else:
         counts.run(nobody_listens)
+        counts.run(no_room_for_a_connection)
     return counts
 
 

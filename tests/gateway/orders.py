@@ -5,14 +5,18 @@ import re
 import select
 import signal
 import struct
+import sys
 import tempfile
 import time
 
 from lab import EVERYONE, GAME, LIMIT, RIP, Client, Counts, Gateway, address, reaches, tunnels, until
-from systems import SYSTEM
+from systems import SYSTEM, Windows
 
 UNREACHABLE = 16  # hops
 CTRL_C = b"\x03"
+UNREAD, LONG_WORD = 3000, 1000  # packets that are more than the gateway and a pipe keep, and the bytes of each
+QUIET = 0.5  # seconds in which what was written has come
+PCAP_HEADER, RECORD = 24, 16  # bytes of a capture's header, and before each frame
 STALLED = 1000  # broadcasts, whose lines are more than the gateway and a pipe keep
 
 
@@ -77,7 +81,7 @@ def is_routed(client, listener, count):
 
 def nobody_reads():
     """While nobody reads its lines it routes on; then it tells how many are missing. It ends, though nobody reads that."""
-    with Gateway(tunnels(32, extra="extend 4003\n"), options=["--log"]) as gate:
+    with Gateway(tunnels(32, extra="extend 4003\nrate none\n"), options=["--log"]) as gate:
         a, b = Client(gate.ports[0x10]), Client(gate.ports[0x20])
         assert is_routed(a, b, STALLED)
         missing = re.fullmatch(r"(\d+) lines are missing here: they weren't read in time", gate.told("lines are missing here"))
@@ -86,6 +90,49 @@ def nobody_reads():
         assert is_routed(a, b, STALLED)
         gate.run.order(SYSTEM.end)
         assert gate.run.wait(timeout=LIMIT) == 0
+
+
+def frames_of(capture):
+    """How many whole frames a capture has, from its header on."""
+    at, count = PCAP_HEADER, 0
+    while at < len(capture):
+        size = int.from_bytes(capture[at + 8 : at + 12], sys.byteorder)
+        at, count = at + RECORD + size, count + 1
+    assert at == len(capture), "a frame is cut"
+    return count
+
+
+def nobody_reads_the_capture():
+    """While nobody reads a pipe that it captures into it routes on, and counts the frames that are missing, each whole; also when the reader goes."""
+    with tempfile.TemporaryDirectory() as folder:
+        pipe = os.path.join(folder, "pipe")
+        os.mkfifo(pipe)
+        reader = os.open(pipe, os.O_RDONLY | os.O_NONBLOCK)
+        extra = "rate none\nextend 4003\n"
+        with Gateway(tunnels(2, extra=extra), options=["--pcap", pipe]) as gate:
+            a, b = Client(gate.ports[0x10]), Client(gate.ports[0x20])
+            for k in range(UNREAD):
+                a.say(address(0, EVERYONE, GAME), b"%d " % k + bytes(LONG_WORD))
+                assert b.hear()[30:].startswith(b"%d " % k)
+            missing = int(re.search(r"(?m)^capture: (\d+) frames are missing: ", gate.report())[1])
+            assert missing > 0
+            capture = read_all(reader)
+            assert frames_of(capture) + missing >= 2 * UNREAD
+            os.close(reader)
+            for k in range(2):
+                a.say(address(0, EVERYONE, GAME), b"%d " % k)
+                assert b.hear()[30:].startswith(b"%d " % k)
+            gate.run.order(SYSTEM.end)
+            _, complaint = gate.run.communicate(timeout=LIMIT)
+            assert gate.run.returncode == 0 and complaint in (b"", b"ipxr-gateway: the capture ends: nobody reads it any more\n"), complaint
+
+
+def read_all(reader):
+    """All that comes out of a pipe until nothing has come for a while."""
+    pieces = []
+    while select.select([reader], [], [], QUIET)[0]:
+        pieces.append(os.read(reader, 1 << 20))
+    return b"".join(pieces)
 
 
 def told_until(terminal, words):
@@ -125,6 +172,10 @@ def main():
     counts = Counts()
     for test in (reports, lines_come, nobody_reads, seconds_pass, told_to_end, typed):
         counts.run(test)
+    if SYSTEM is Windows:
+        left_out("a capture into a pipe that nobody reads", "pipes have other names there")
+    else:
+        counts.run(nobody_reads_the_capture)
     return counts
 
 

@@ -6,6 +6,7 @@ speaker says a last word until everybody has heard it, and LIMIT_OF_LAST ends th
 import select
 import socket
 import struct
+import sys
 import time
 
 from lab import EVERYONE, GAME, LIMIT, NOBODY, ROOM, TUNNEL, address, packet, socket_of
@@ -21,15 +22,16 @@ MOST_LOST = 0.02
 class Player:
     """One DOSBox: `every` is how many seconds pass between two words of its program; None says nothing."""
 
-    def __init__(self, host, gateway, every=None, size=100):
+    def __init__(self, host, gateway, every=None, size=100, port=0):
         self.udp = socket.socket(socket.AF_INET, socket.SOCK_DGRAM)
         self.udp.setsockopt(socket.SOL_SOCKET, socket.SO_RCVBUF, ROOM)
-        self.udp.bind((host, 0))
+        self.udp.bind((host, port))
         self.udp.connect(gateway)
         self.node = socket.inet_aton(host) + struct.pack(">H", self.udp.getsockname()[1])
         self.every, self.size = every, size
         self.network = 0
         self.pings = self.said = self.twice = 0
+        self.beside = 0  # packets to sockets that no player has
         self.others = []  # words that no player of a party says
         self.heard = {}  # by the node of who said it: the numbers
         self.met, self.ended, self.guests = set(), set(), set()  # of whom it has heard a hello, a last word, a guest's
@@ -61,9 +63,9 @@ class Player:
         self.say(NUMBERED, self.said)
         self.said += 1
 
-    def receive(self):
-        """Hears all that has come, and answers pings."""
-        while True:
+    def receive(self, most=sys.maxsize):
+        """Hears what has come, at most so many, and answers pings."""
+        for _ in range(most):
             try:
                 bytes_ = self.udp.recv(65536, socket.MSG_DONTWAIT)
             except BlockingIOError:
@@ -82,6 +84,8 @@ class Player:
             self.network = int.from_bytes(bytes_[6:10], "big") or self.network
         elif socket_of(bytes_) == GAME:
             self.hear_word(source, bytes_[30:])
+        else:
+            self.beside += 1
 
     def hear_word(self, source, data):
         what, number = data[:6].rstrip(b"\0"), int.from_bytes(data[6:10], "big")
@@ -100,6 +104,25 @@ class Player:
 
     def close(self):
         self.udp.close()
+
+
+class Slow(Player):
+    """A player that reads as a DOSBox does: a packet a millisecond, of those that the system keeps for it."""
+
+    KIND, KEPT, A_SECOND = "as slow as a DOSBox", 106496, 1000
+
+    def __init__(self, host, gateway, every=None):
+        super().__init__(host, gateway, every)
+        self.udp.setsockopt(socket.SOL_SOCKET, socket.SO_RCVBUF, self.KEPT)
+        self.looked = time.monotonic()
+
+    def receive(self, most=1):
+        """Hears as many as it would have read since it looked last."""
+        now = time.monotonic()
+        due = int((now - self.looked) * self.A_SECOND)
+        if due > 0:
+            self.looked = now
+            super().receive(due)
 
 
 class Party:
@@ -136,6 +159,13 @@ class Party:
                     speaker.say(every)
             self.hear(0.005)
         return True
+
+    def put_in(self, kind, player):
+        """One more player, of a kind of his own."""
+        self.players.append((kind, player))
+        self.all.append(player)
+        self.by_number[player.udp.fileno()] = player
+        self.poll.register(player.udp.fileno(), select.EPOLLIN)
 
     def have_all(self, seen):
         """Whether everybody has heard everybody else who speaks."""
@@ -187,7 +217,7 @@ class Party:
         """For each kind of player the largest part that one of them lost."""
         found = dict.fromkeys(self.KINDS, 0.0)
         for kind, player in self.players:
-            found[kind] = max(found[kind], self.lost(player))
+            found[kind] = max(found.get(kind, 0.0), self.lost(player))
         return found
 
     def figures(self):

@@ -6,6 +6,7 @@ import sys
 import attacks
 import counting
 import dosbox
+import limits
 import links
 import orders
 import pc
@@ -18,7 +19,7 @@ import words
 from lab import left_out
 from systems import SYSTEM, Windows
 
-TESTS = {it.__name__: it for it in (counting, words, siphash, unit, orders, tunnel, links, troubles, wires, attacks, dosbox, pc)}
+TESTS = {it.__name__: it for it in (counting, words, siphash, unit, orders, tunnel, links, troubles, wires, attacks, limits, dosbox, pc)}
 
 
 def has_loopback():

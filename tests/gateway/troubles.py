@@ -8,7 +8,7 @@ import time
 from frames import Station, Tcp, Udp
 from lab import (ALL_THERE_IS, AGAIN, EVERYONE, GAME, LIMIT, Client, Clock, Counts, Gateway, address, comes_next, fresh,
                  is_ping, reaches, reaches_again, registration, rip_response, sap_response, says, tunnels, until)
-from links import listening
+from links import STATION, listening
 from systems import SYSTEM
 
 # Each call, the faults that it gives, and how many times it is let fail: the first time, the second, ..
@@ -156,7 +156,7 @@ def an_hour():
 def full_tables():
     """With full tables a minute's broadcast goes out whole on 8 networks, and packets pass meanwhile."""
     clock = Clock()
-    with Gateway(tunnels(8, shares=ALL_THERE_IS), SYSTEM.fast, environment=clock.environment()) as gate:
+    with Gateway(tunnels(8, shares=ALL_THERE_IS, extra="rate none\n"), SYSTEM.fast, environment=clock.environment()) as gate:
         clients = [Client(gate.ports[n]) for n in sorted(gate.ports)]
         a, b = clients[:2]
         # (what is too much at once for a socket is lost, and advertised again)
@@ -280,9 +280,35 @@ def one_is_refused():
             assert gate.counted(0x10, "out", report) == out + 2, report
 
 
+def who_stays():
+    """A machine that connects is told as up once it has said a frame, or has stayed for a second; and the next comes in a second later."""
+    clock = Clock()
+    text = tunnels(1) + "network 20 1 1490 qemu-tcp listen 0 raw\n"
+    with Gateway(text, SYSTEM.fast, environment=clock.environment()) as gate:
+
+        def comes():
+            return Station(Tcp(socket.create_connection(("127.0.0.1", gate.ports[0x20]))), "raw", 0x20, STATION, gate.nodes[0x20])
+
+        talks = comes()
+        until(lambda: gate.counted(0x20, "connected") == 1, "it comes in")
+        assert "network 00000020 down" in gate.report(), "nothing was said"
+        talks.say(address(0x20, gate.nodes[0x20], GAME), b"I am here")
+        gate.told("network 00000020 is up")
+        talks.wire.socket.close()
+        gate.told("network 00000020 is down")
+        silent = comes()
+        assert "network 00000020 down" in gate.report() and gate.counted(0x20, "connected") == 0, "a second comes at once"
+        clock.let_pass(1)
+        until(lambda: gate.counted(0x20, "connected") == 1, "it comes in a second later")
+        assert "network 00000020 down" in gate.report(), "nothing was said, and no second has passed"
+        clock.let_pass(1)
+        gate.told("network 00000020 is up")
+        silent.wire.socket.close()
+
+
 def main():
     counts = Counts()
-    for test in (each_fails, one_is_refused, who_is_silent, who_left, stands_still, late_answers, an_hour, full_tables):
+    for test in (each_fails, one_is_refused, who_is_silent, who_left, stands_still, late_answers, an_hour, full_tables, who_stays):
         counts.run(test)
     return counts
 

@@ -43,7 +43,7 @@ def three_clients():
 
 def seventy_clients():
     """Where there is room for 64 clients, of 70 the first 64 are there and stay, and the others aren't answered."""
-    with Gateway(tunnels(1, extra="clients 64\n")) as gate:
+    with Gateway(tunnels(1, extra="clients 64\nstrangers none\n")) as gate:
         clients = [Client(gate.ports[0x10]) for _ in range(64)]
         for _ in range(6):
             late = Client(gate.ports[0x10], registers=False)
@@ -117,9 +117,53 @@ class House:
             assert self.hear(lambda it: it[30:] == b"I", self.AT_ONCE) == set(some)
 
 
+class Deaf(Client):
+    """A DOSBox to which some pings are lost."""
+
+    def __init__(self, port, lost, **how):
+        self.lost = lost
+        super().__init__(port, registers=False, **how)
+
+    def answer(self, ping):
+        self.lost -= 1
+        if self.lost < 0:
+            super().answer(ping)
+
+
+def a_ping_is_lost():
+    """Who registers once comes in though the first ping, or the first two, are lost; and isn't pinged a fourth time."""
+    with Gateway(tunnels(1)) as gate:
+        boxes = [Deaf(gate.ports[0x10], lost) for lost in (0, 1, 2, 3)]
+        for box in boxes:
+            box.ask()
+        gate.until_counted(0x10, "clients", 3)
+        speaker = Client(gate.ports[0x10])
+        speaker.say(address(0, EVERYONE, GAME), b"to all")
+        assert all(box.hear()[30:] == b"to all" for box in boxes[:3])
+        second = int(re.search(r"report after (\d+) s", gate.report())[1])
+        until(lambda: int(re.search(r"report after (\d+) s$", gate.report(), re.M)[1]) >= second + 3, "three seconds more")
+        assert boxes[3].pings == 3 and gate.counted(0x10, "clients") == 4
+
+
+def many_pings_are_lost():
+    """Forty of one address that answer no ping leave room for one of another, to whom the first ping is lost."""
+    with Gateway(tunnels(1)) as gate:
+        crowd = [Deaf(gate.ports[0x10], 9, host="127.0.0.2") for _ in range(20)]
+        for box in crowd:
+            box.ask()
+        for _ in range(3):
+            for box in crowd:
+                box.send(registration())
+        box = Deaf(gate.ports[0x10], 1, host="127.0.0.3")
+        box.ask()
+        gate.until_counted(0x10, "clients", 1)
+        # (16 of them are pinged again, and so is the other)
+        until(lambda: sum(it.pings for it in crowd) >= 20 + 2 * 16, "who is kept is pinged three times")
+
+
 def four_thousand_clients():
     """As many clients as there may be, of an address each, are there, and one broadcast comes to all."""
-    with Gateway(tunnels(1, extra="clients 4096\n")) as gate:
+    with Gateway(tunnels(1, extra="clients 4096\nrate none\nstrangers none\n")) as gate:
         houses = [House(gate.ports[0x10], number) for number in range(16)]
         for house in houses:
             house.enter()
@@ -465,7 +509,8 @@ def counts_and_lines():
 
 def main():
     counts = Counts()
-    for test in (two_clients, three_clients, seventy_clients, of_one_address, four_thousand_clients, allowed, trusted, strangers,
+    for test in (two_clients, three_clients, seventy_clients, of_one_address, a_ping_is_lost, many_pings_are_lost,
+                 four_thousand_clients, allowed, trusted, strangers,
                  allowed_is_not_trusted, cookies_of_places, cookies_of_runs, who_comes_and_leaves, shares, starts_again,
                  control_is_cleared, false_sources, ping, all_sizes, padding, nobody_there, neighbours, extended, flood, the_capture,
                  counts_and_lines):

@@ -1,0 +1,42 @@
+#include "limit.h"
+
+#include "clock.h"
+
+static uint64_t now;
+
+limit limit_of(uint32_t count, uint32_t seconds, uint32_t burst)
+{
+    uint64_t between = (uint64_t)SECOND_NS * seconds / count;
+    return (limit){.between = between, .burst = between * burst};
+}
+
+void limits_look_at_clock(void)
+{
+    now = clock_nanoseconds();
+}
+
+/* Nanoseconds that a meter is ahead of the clock. */
+static uint64_t ahead(const meter *used)
+{
+    return *used > now ? *used - now : 0;
+}
+
+bool limit_has_room(const limit *it, const meter *used, uint32_t count)
+{
+    return ahead(used) + count * it->between <= it->burst;
+}
+
+/* (whoever is sent more than may pass owes no more than a burst: else he would hear nothing for long) */
+void limit_count(const limit *it, meter *used, uint32_t count)
+{
+    uint64_t after = ahead(used) + count * it->between;
+    *used = now + (after < it->burst ? after : it->burst);
+}
+
+bool limit_lets(const limit *it, meter *used, uint32_t count)
+{
+    bool lets = limit_has_room(it, used, count);
+    if (lets)
+        limit_count(it, used, count);
+    return lets;
+}

@@ -1,0 +1,141 @@
+#include "throttle.h"
+
+#include <string.h>
+
+#include "ipx.h"
+
+/* Packets that come at once, of a client that receives them, and of an address that hands them to the router. */
+enum { BURST = 64 };
+
+/* Pings of a client, and of all together, and questions to the router: a second, and at once. */
+enum { PINGS = 1, PINGS_AT_ONCE = 2, ALL_PINGS = 4, ALL_PINGS_AT_ONCE = 8, QUESTIONS = 1, QUESTIONS_AT_ONCE = 4 };
+
+/* Answers to pings may use so much of the burst that a client receives; and answers of the gateway to what a client says to it. */
+enum { BURST_WITH_PINGS = BURST / 2, ANSWERS = 2, ANSWERS_AT_ONCE = 8 };
+
+/* Sockets, and the words of routers that ask. */
+enum { PING_SOCKET = 2, SAP_SOCKET = 0x452, RIP_SOCKET = 0x453, RIP_REQUEST = 1, SAP_QUERY = 1, SAP_NEAREST_QUERY = 3 };
+
+void throttle_set(throttle *it, uint32_t rate, uint32_t share)
+{
+    memset(it, 0, sizeof *it);
+    it->is_off = rate == 0;
+    if (it->is_off)
+        return;
+    it->received = limit_of(rate, 1, BURST);
+    it->received_with_pings = limit_of(rate, 1, BURST_WITH_PINGS);
+    for (uint32_t k = 0; k < HOUSEHOLD; k++)
+        it->said[k] = limit_of(share * (k + 1), 1, share * (k + 1));
+    it->handed = limit_of(rate, 2, BURST);
+    it->pings = limit_of(PINGS, 1, PINGS_AT_ONCE);
+    it->all_pings = limit_of(ALL_PINGS, 1, ALL_PINGS_AT_ONCE);
+    it->questions = limit_of(QUESTIONS, 1, QUESTIONS_AT_ONCE);
+    it->answers = limit_of(ANSWERS, 1, ANSWERS_AT_ONCE);
+}
+
+/* ---- What packets are ---- */
+
+static bool is_of_pings(const uint8_t *packet)
+{
+    return get16(packet + AT_TO_SOCKET) == PING_SOCKET || get16(packet + AT_FROM_SOCKET) == PING_SOCKET;
+}
+
+/* Whether each client answers it. */
+static bool is_ping(const uint8_t *packet)
+{
+    return get16(packet + AT_TO_SOCKET) == PING_SOCKET && is_broadcast(packet + AT_TO_NODE);
+}
+
+/* Whether the router may answer it at length. What another router tells, as its own answers, is no question. */
+static bool is_question(const uint8_t *packet, size_t length)
+{
+    uint16_t asks = length >= HEADER + 2 ? get16(packet + HEADER) : 0;
+    switch (get16(packet + AT_TO_SOCKET)) {
+    case RIP_SOCKET:
+        return asks == RIP_REQUEST;
+    case SAP_SOCKET:
+        return asks == SAP_QUERY || asks == SAP_NEAREST_QUERY;
+    default:
+        return false;
+    }
+}
+
+/* What a packet weighs of an address. (others make clients answer pings, so answers don't count as said) */
+static weight weigh(const throttle *it, speaker *from, const uint8_t *packet)
+{
+    size_t shares = from->clients < HOUSEHOLD ? from->clients : HOUSEHOLD;
+    if (is_of_pings(packet))
+        return OF_PINGS;
+    return limit_lets(&it->said[shares - 1], &from->said, 1) ? OF_LITTLE : OF_MUCH;
+}
+
+/* ---- What clients say ---- */
+
+/* Whether a client may ping all others now, and all together may. */
+static bool lets_ping(throttle *it, member *from)
+{
+    return limit_has_room(&it->all_pings, &it->pinged, 1) && limit_lets(&it->pings, &from->pinged, 1) &&
+           limit_lets(&it->all_pings, &it->pinged, 1);
+}
+
+reason throttle_weigh(throttle *it, member *from, const uint8_t *packet, weight *weighs)
+{
+    *weighs = OF_LITTLE;
+    if (it->is_off)
+        return REASONS;
+    if (is_ping(packet) && !lets_ping(it, from)) {
+        from->dropped[DROPPED_PINGS]++;
+        return TOO_MANY_PINGS;
+    }
+    *weighs = weigh(it, from->speaks, packet);
+    return REASONS;
+}
+
+bool throttle_lets_answer(throttle *it, member *to)
+{
+    bool lets = it->is_off || limit_lets(&it->answers, &to->answered, 1);
+    to->dropped[DROPPED_ANSWERS] += !lets;
+    return lets;
+}
+
+reason throttle_hands(throttle *it, member *from, const uint8_t *packet, size_t length)
+{
+    if (it->is_off)
+        return REASONS;
+    if (is_question(packet, length) && !limit_lets(&it->questions, &from->asked, 1)) {
+        from->dropped[DROPPED_QUESTIONS]++;
+        return TOO_MANY_QUESTIONS;
+    }
+    if (!limit_lets(&it->handed, &from->speaks->handed, 1)) {
+        from->dropped[DROPPED_FOR_ROUTER]++;
+        return TOO_MUCH_FOR_ROUTER;
+    }
+    return REASONS;
+}
+
+/* ---- What they receive ---- */
+
+static weight brought = OF_LITTLE;
+
+void throttle_bring(weight weighs)
+{
+    brought = weighs;
+}
+
+weight throttle_weigh_routed(const uint8_t own[6], const uint8_t *packet)
+{
+    return same_node(packet + AT_FROM_NODE, own) ? OF_LITTLE : brought;
+}
+
+bool throttle_lets_receive(throttle *it, member *to, weight weighs)
+{
+    if (it->is_off || to == NULL)
+        return true;
+    const limit *most = weighs == OF_PINGS ? &it->received_with_pings : &it->received;
+    bool lets = weighs == OF_LITTLE || limit_has_room(most, &to->received, 1);
+    if (lets)
+        limit_count(&it->received, &to->received, 1);
+    else
+        to->dropped[DROPPED_FOR_IT]++;
+    return lets;
+}

@@ -1,0 +1,56 @@
+/* What clients of a tunnel receive and say within limits, so that who floods loses, and not who plays. A client receives so many packets a
+ * second. Beyond that it receives only what comes from those who say little: from an address that said no more than its share. An address
+ * is one, and has the shares of up to four clients, however many it has. Answers to pings are dropped first.
+ *
+ * All of this stands behind the library, which has said who is a client and who gets what: who answers the gateway's pings stays, whatever
+ * is dropped here. */
+#ifndef THROTTLE_H
+#define THROTTLE_H
+
+#include <stddef.h>
+
+#include "counts.h"
+#include "limit.h"
+#include "roster.h"
+
+/* So many clients of one address may each say their share: players of one household. More of them share that. */
+enum { HOUSEHOLD = 4 };
+
+typedef struct throttle {
+    bool is_off;
+    limit received;  /* by a client */
+    limit received_with_pings; /* beyond which it gets no answers to pings, by the same meter */
+    limit said[HOUSEHOLD]; /* by an address with one client, or two, .., so that it is little */
+    limit handed;    /* by an address, to the router */
+    limit pings;     /* of a client */
+    limit all_pings; /* of all clients together: each of them answers each ping */
+    limit questions; /* of a client, to the router */
+    limit answers;   /* of the gateway, to what a client says to it, or somebody in its name */
+    meter pinged;
+} throttle;
+
+/* What a packet weighs where there is more than a client receives. */
+typedef enum { OF_LITTLE, OF_MUCH, OF_PINGS } weight;
+
+/* Sets the limits: packets a second that a client receives, 0 for no limit at all, and those of one who says little. */
+void throttle_set(throttle *it, uint32_t rate, uint32_t share);
+
+/* What a client's packet weighs; or why it is dropped, REASONS where it isn't. */
+reason throttle_weigh(throttle *it, member *from, const uint8_t *packet, weight *weighs);
+
+/* From now on the router hears, and other networks get, what weighs so much: OF_LITTLE where it isn't from a client of a tunnel. */
+void throttle_bring(weight weighs);
+
+/* What a packet of the router's weighs: OF_LITTLE where the node is its own, so that it says it itself, else as much as what it heard. */
+weight throttle_weigh_routed(const uint8_t own[6], const uint8_t *packet);
+
+/* Whether a client receives a packet. */
+bool throttle_lets_receive(throttle *it, member *to, weight weighs);
+
+/* Whether the gateway answers a client's registration or ping. */
+bool throttle_lets_answer(throttle *it, member *to);
+
+/* Why a client's packet isn't handed to the router; REASONS where it is. */
+reason throttle_hands(throttle *it, member *from, const uint8_t *packet, size_t length);
+
+#endif

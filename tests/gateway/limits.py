@@ -1,0 +1,276 @@
+"""Clients that flood, and those in whose name somebody else does: whoever plays beside them loses at most 2 %, and nobody leaves.
+
+It runs in networks of its own (spaces.py). A flood in the name of a client's place is the same to the gateway as one that the client sends
+itself. Each receiver's count shows that it gets no more than its limit, and one of them reads as slowly as a DOSBox does.
+"""
+import multiprocessing
+import os
+import re
+import socket
+import struct
+import sys
+import time
+
+from attacks import LONG_SHARES, OTHER_PORT, TUNNEL_LINE, Playground, during, figures, fill, flood, named, none
+from lab import Counts, left_out, until
+from players import NETWORK, Party, Player, Slow
+from spaces import GATEWAY, INSIDE, STRANGERS, build_flood, tried_inside
+from systems import SYSTEM
+
+SECONDS = 6  # that a flood lasts: each client is pinged meanwhile
+RATE, SHARE, BURST = 800, 50, 64  # packets a second that a client receives, of who says little, and at once
+HOUSEHOLD = 4  # clients of an address that have a share each
+FLOOD = 8000  # packets a second
+CROWD, FIRST = 200, 20000  # clients of one host, and the first of their ports
+FILLS_TABLES = 147  # packets that answer a question, where the tables are full
+STRANGERS_A_SECOND = 100
+TRIES = 3  # of what a machine that has much else to do may spoil
+MOST_AHEAD = 1.5  # seconds by which a look at the clock may be late here
+
+
+def most_of(seconds):
+    """Packets that one client may receive of a flood."""
+    return (RATE + HOUSEHOLD * SHARE) * (seconds + MOST_AHEAD) + BURST
+
+
+def slow_one(it):
+    """A player who reads as slowly as a DOSBox joins the party. Returns him."""
+    player = Slow(it.free[-1], GATEWAY)
+    it.party.put_in(Slow.KIND, player)
+    return player
+
+
+def place_of(player):
+    host, port = player.udp.getsockname()
+    return {"host": host, "first": port}
+
+
+def are_answering(it, players):
+    """What is wrong where one of some players has left, or hasn't answered for longer than he is silent between two pings."""
+    report, late = it.gate.report(), []
+    for player in players:
+        found = re.search(rf"{player.node.hex().upper()}, answered (\d+) s ago", report)
+        late += [] if found and int(found[1]) <= SECONDS else [player.node.hex()]
+    return f"{len(late)} leave, or don't answer: {late[:3]}" if late else ""
+
+
+def too_many(players, seconds):
+    """What is wrong where one of some players received more than he may."""
+    most = max(player.beside for player in players)
+    figures(f"a player got at most {most} other packets in {seconds:.1f} s")
+    return f"{most} packets in {seconds:.1f} s" if most > most_of(seconds) else ""
+
+
+def stands(it, sent, players):
+    """Plays while a flood lasts. Players lose nothing, get no more than they may, and stay."""
+    began = time.monotonic()
+    lost = it.play(sent.lasts)
+    figures(sent.end())
+    seconds = time.monotonic() - began
+    none(lost, too_many(players, seconds), are_answering(it, players))
+
+
+def flooder(it):
+    """One more client, in whose name a flood is sent; it answers pings."""
+    player = Player(it.free[0], GATEWAY)
+    it.party.put_in("floods", player)
+    return player
+
+
+def floods(kind):
+    """A client says 8,000 packets a second to all, or to one."""
+    with Playground(more=2, begins=False) as it:
+        guilty, victim = flooder(it), slow_one(it)
+        it.party.enter()
+        to = "{}:{}".format(*victim.udp.getsockname())
+        stands(it, flood(it.gate, "forged", kind, FLOOD, count=FLOOD * SECONDS, **{"for": to}, **place_of(guilty)), it.party.all)
+        report = it.gate.report()
+        told = rf"{guilty.node.hex().upper()}, answered \d+ s ago\n      dropped: \d+ copies of what it said"
+        assert re.search(told, report), report
+
+
+class Crowd:
+    """200 clients of one host, each of which answers pings: in a process of their own, so that they hold up no player."""
+
+    def __init__(self, it, host):
+        self.run = multiprocessing.get_context("fork").Process(target=self.live, args=(host,), daemon=True)
+        self.run.start()
+        until(lambda: it.party.hear() or it.gate.counted(NETWORK, "clients") == CROWD + len(it.party.all), "the crowd comes in")
+
+    @staticmethod
+    def live(host):
+        os.nice(10)
+        crowd = Party([], GATEWAY, numbers=(0, 0, 0))
+        for k in range(CROWD):
+            crowd.put_in("crowd", Player(host, GATEWAY, port=FIRST + k))
+            crowd.all[-1].register()
+        while True:
+            crowd.hear(1)
+
+    def __enter__(self):
+        return self
+
+    def __exit__(self, *_):
+        self.run.kill()
+        self.run.join()
+
+
+def played_until_it_stands(play, *words):
+    """Plays something, and anew where it fails: a machine with much else to do loses packets itself where they go to so many."""
+    for left in reversed(range(TRIES)):
+        try:
+            play(*words)
+            return
+        except AssertionError:
+            if left == 0:
+                raise
+
+
+def with_a_crowd():
+    """A field for 200 clients more, whose gateway isn't slowed down by sanitizers."""
+    return Playground(TUNNEL_LINE + "strangers none\n", more=2, begins=False, program=SYSTEM.delivered)
+
+
+def a_crowd_plays():
+    with with_a_crowd() as it:
+        slow_one(it)
+        it.party.enter()
+        with Crowd(it, it.free[0]):
+            sent = flood(it.gate, "forged", "chat", FLOOD, count=FLOOD // 4, host=it.free[0], first=FIRST, ports=CROWD)
+            stands(it, sent, it.party.all)
+
+
+def a_crowd_floods():
+    """200 clients of one host say 8,000 packets a second together: who plays beside them loses nothing."""
+    played_until_it_stands(a_crowd_plays)
+
+
+def pings_play(rate):
+    with with_a_crowd() as it:
+        victim = slow_one(it)
+        it.party.enter()
+        with Crowd(it, it.free[0]):
+            stands(it, flood(it.gate, "forged", "ping", rate, count=rate * SECONDS, **place_of(victim)), it.party.all)
+        assert it.gate.counted(NETWORK, "too many pings") >= (rate - 2) * SECONDS - BURST
+
+
+def pings_in_its_name():
+    """Among 200 clients somebody pings all in a player's name, 50 and 1,000 times a second: he loses nothing, and stays."""
+    for rate in (50, 1000):
+        played_until_it_stands(pings_play, rate)
+
+
+def questions_in_its_name(kind):
+    """With full tables somebody asks the router in a player's name, 50 times a second."""
+    text = f"{TUNNEL_LINE.replace('dosbox', LONG_SHARES)}rate none\nnetwork 20 1 1424 dosbox 0.0.0.0:{OTHER_PORT}\n"
+    with Playground(text, numbers=(1, 0, 1), more=5) as it:
+        fill(it)
+        far = Party(it.free[:4], (GATEWAY[0], OTHER_PORT), numbers=(1, 1, 2))
+        victim = Slow(it.free[4], (GATEWAY[0], OTHER_PORT))
+        far.put_in(Slow.KIND, victim)
+        far.enter()
+        before, began = victim.beside, time.monotonic()
+        sent = flood(it.gate, "forged", kind, 50, count=50 * SECONDS, port=OTHER_PORT, **place_of(victim))
+        far.play(lambda: it.party.hear() or sent.lasts())
+        came, seconds = far.settle(), time.monotonic() - began
+        figures(f"{sent.end()}; lost: {far.figures()}; the one in whose name it was asked got {victim.beside - before} packets")
+        most = (seconds + 4) * FILLS_TABLES + len(far.all) * 50 * SECONDS
+        none(far.fault(came), are_answering(it, far.all), "" if victim.beside - before <= most else "too many answers")
+        assert it.gate.counted(0x20, "too many questions") >= 49 * SECONDS - 8
+        far.close()
+
+
+def honest_players():
+    """Players of 35 packets a second lose nothing, and nothing of theirs is dropped."""
+    with Playground(numbers=(1, 0, 4)) as it:
+        none(it.play(during(SECONDS)))
+        report = it.gate.report()
+        assert "too much" not in report and "too many" not in report and "dropped:" not in report, report
+
+
+def forged_strangers():
+    """Whoever registers from 60,000 forged addresses, 1,000 times a second, brings at most 100 datagrams a second upon them."""
+    with Playground() as it:
+        began = time.monotonic()
+        sent = flood(it.gate, "forged", "register", 1000, count=1000 * SECONDS, host=STRANGERS, hosts=60000, first=3000, ports=8)
+        lost = []
+        count, _ = it.received(lambda: lost.append(it.play(sent.lasts)))
+        figures(f"{sent.end()}: {count} datagrams to strangers")
+        most = STRANGERS_A_SECOND * (time.monotonic() - began + 2 + MOST_AHEAD)
+        none(*lost, "" if count <= most else f"{count} datagrams to strangers")
+
+
+def a_narrow_line():
+    """By a line of 1 Mbit/s strangers who register 1,000 times a second cost the players nothing."""
+    with Playground(numbers=(1, 1, 2)) as it:
+        for card in "g0", "g1":
+            it.field.gate.run("tc", "qdisc", "add", "dev", card, "root", "tbf", "rate", "1mbit", "burst", "5kb", "latency", "100ms")
+        sent = flood(it.gate, "sockets", "register", 1000, count=1000 * SECONDS, host="10.79.0.1", hosts=512, first=3000)
+        lost = it.play(sent.lasts)
+        figures(sent.end())
+        none(lost)
+
+
+def fragmentation_needed(gateway, to, size):
+    """What a router says whose next line takes less: the bytes of ICMP, about a datagram from the gateway to a place."""
+    about = struct.pack(">BBHHHBBH4s4s", 0x45, 0, 1028, 1, 0x4000, 64, 17, 0, *map(socket.inet_aton, (gateway[0], to[0])))
+    about += struct.pack(">HHHH", gateway[1], to[1], 1008, 0)
+    whole = struct.pack(">BBHHH", 3, 4, 0, 0, size) + about
+    words = struct.unpack(f">{len(whole) // 2}H", whole)
+    total = sum(words)
+    total = (total & 0xFFFF) + (total >> 16)
+    return whole[:2] + struct.pack(">H", ~((total & 0xFFFF) + (total >> 16)) & 0xFFFF) + whole[4:]
+
+
+def pieces():
+    """Pieces of datagrams that have come to the test's own network."""
+    with open("/proc/net/snmp", encoding="ascii") as it:
+        names, numbers = (line.split() for line in it if line.startswith("Ip: "))
+    return int(dict(zip(names, numbers))["ReasmReqds"])
+
+
+def a_forged_complaint():
+    """Nobody makes the gateway cut what it sends by a forged word of a router that it is too long."""
+    with Playground() as it, socket.socket(socket.AF_INET, socket.SOCK_RAW, socket.IPPROTO_ICMP) as raw:
+        before = pieces()
+        for player in it.party.all:
+            raw.sendto(fragmentation_needed(GATEWAY, player.udp.getsockname(), 576), (GATEWAY[0], 0))
+        it.party.begin_again(1000)
+        none(it.play(during(1)), "" if pieces() == before else f"{pieces() - before} pieces came")
+
+
+TESTS = [
+    honest_players,
+    named("a client says 8,000 packets a second to all", floods, "chat"),
+    named("a client says 8,000 packets a second to one, who reads as slowly as a DOSBox", floods, "tell"),
+    a_crowd_floods,
+    pings_in_its_name,
+    named("with full tables SAP's queries in a player's name, 50 a second", questions_in_its_name, "sap"),
+    named("with full tables RIP's requests in a player's name, 50 a second", questions_in_its_name, "rip"),
+    forged_strangers,
+    a_narrow_line,
+    a_forged_complaint,
+]
+
+
+def inside():
+    """In the network of its own."""
+    counts = Counts()
+    build_flood()
+    for test in TESTS:
+        counts.run(test)
+    print(f"{counts.passed} passed, {counts.failed} failed")
+
+
+def main():
+    if SYSTEM.name != "Linux":
+        left_out("limits", "they are tried on this machine's own system")
+        return Counts()
+    return tried_inside(os.path.realpath(__file__), "limits")
+
+
+if __name__ == "__main__":
+    if sys.argv[1:] == [INSIDE]:
+        inside()
+    else:
+        main()
