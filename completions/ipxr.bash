@@ -28,15 +28,28 @@ _ipxr() {
     esac
 }
 
+# What may stand behind a word that asks a gateway.
+_ipxr_gateway_asking() {
+    case $1 in
+    show) echo "links clients routes services counts events --json --prometheus --status" ;;
+    *) echo "--status" ;;
+    esac
+}
+
 _ipxr_gateway() {
-    local word=${COMP_WORDS[COMP_CWORD]}
+    local word=${COMP_WORDS[COMP_CWORD]} first=${COMP_WORDS[1]}
     COMPREPLY=()
-    if [ "${COMP_WORDS[COMP_CWORD - 1]}" = --pcap ]; then
-        _ipxr_files "$word" '*.pcap'
+    case ${COMP_WORDS[COMP_CWORD - 1]} in
+    --pcap) _ipxr_files "$word" '*.pcap' && return ;;
+    --status) _ipxr_files "$word" '*' && return ;;
+    esac
+    if [ "$COMP_CWORD" -gt 1 ] && [[ $first =~ ^(show|ping|trace|reload)$ ]]; then
+        mapfile -t COMPREPLY < <(compgen -W "$(_ipxr_gateway_asking "$first")" -- "$word")
     elif [[ $word == -* ]]; then
-        mapfile -t COMPREPLY < <(compgen -W "--check --help --log --pcap" -- "$word")
+        mapfile -t COMPREPLY < <(compgen -W "--check --example --help --log --pcap --status" -- "$word")
     else
         _ipxr_files "$word" '*.conf'
+        [ "$COMP_CWORD" != 1 ] || mapfile -t -O ${#COMPREPLY[@]} COMPREPLY < <(compgen -W "show ping trace reload" -- "$word")
     fi
 }
 

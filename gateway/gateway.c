@@ -9,6 +9,7 @@
 #include "ipx.h"
 #include "links.h"
 #include "note.h"
+#include "status.h"
 #include "tunnel.h"
 
 /* Frames and datagrams of one cable, after which the next has its turn. */
@@ -86,6 +87,10 @@ void gateway_note(const network *on, const uint8_t *packet, size_t length, const
 void gateway_hear(gateway *it, network *on, const uint8_t *packet, size_t length)
 {
     char words[WORDS];
+    if (status_hears(packet, length)) {
+        gateway_note(on, packet, length, "answer");
+        return;
+    }
     int32_t became = ipxr_packet(&it->router, (uint8_t)(on - it->networks), packet, length);
     if (notes_events())
         gateway_note(on, packet, length, answer_words(became, words));
@@ -159,6 +164,7 @@ static void let_seconds_pass(gateway *it)
             break; /* (no memory: the second is given again) */
         gateway_send_all(it);
     }
+    status_second(it);
     capture_flush();
 }
 
@@ -193,11 +199,14 @@ void gateway_turn(gateway *it, bool waits)
     size_t first[IPXR_MOST_PORTS + 1] = {0};
     for (size_t k = 0; k < it->cable_count; k++)
         first[k + 1] = first[k] + cable_waits(&it->cables[k], list + first[k]);
-    bool is_known = watch_all(list, first[it->cable_count], waits ? patience(it) : 0);
+    size_t of_cables = first[it->cable_count], of_status = status_waits(list + of_cables);
+    bool is_known = watch_all(list, of_cables + of_status, waits ? patience(it) : 0);
     limits_look_at_clock();
-    if (is_known)
+    if (is_known) {
         for (size_t k = 0; k < it->cable_count; k++)
             attend(it, &it->cables[k], list + first[k], first[k + 1] - first[k]);
+        status_attend(it, list + of_cables, of_status);
+    }
     let_seconds_pass(it);
     gateway_flush(it);
 }

@@ -4,6 +4,7 @@
 #include <inttypes.h>
 #include <string.h>
 
+#include "events.h"
 #include "note.h"
 #include "system.h"
 #include "words.h"
@@ -42,6 +43,7 @@ static void look_at(gateway *it, network *on, bool is_up)
         tell_up(on);
     else
         tell_down(on);
+    events_link(on);
 }
 
 static void look(gateway *it, cable *at)

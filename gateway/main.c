@@ -2,12 +2,17 @@
 #include <stdio.h>
 #include <string.h>
 
+#include "ask.h"
 #include "capture.h"
+#include "example.h"
 #include "gateway.h"
+#include "local.h"
 #include "note.h"
 #include "orders.h"
 #include "output.h"
+#include "reload.h"
 #include "settings.h"
+#include "status.h"
 #include "system.h"
 
 /* Exit statuses: something can't be opened; the configuration is wrong; the command line is. */
@@ -15,8 +20,9 @@ enum { CANNOT_OPEN = 1, WRONG_CONFIGURATION = 2, WRONG_USE = 64 };
 
 /* What the command line says. */
 typedef struct {
-    bool is_check, is_help, is_log;
+    bool is_check, is_help, is_log, is_example;
     const char *capture;
+    const char *status;
     const char *configuration;
 } options;
 
@@ -28,34 +34,75 @@ static bool use_fault(const char *word, const char *expected)
     return false;
 }
 
+/* Sets the flag that a word names. Returns false where it names none. */
+static bool read_flag(options *it, const char *word)
+{
+    const struct {
+        const char *word;
+        bool *flag;
+    } flags[] = {{"--check", &it->is_check}, {"--help", &it->is_help}, {"--log", &it->is_log}, {"--example", &it->is_example}};
+    for (size_t k = 0; k < sizeof flags / sizeof *flags; k++)
+        if (strcmp(word, flags[k].word) == 0) {
+            *flags[k].flag = true;
+            return true;
+        }
+    return false;
+}
+
+/* Where the name goes that stands behind a word; NULL where none does. */
+static const char **named_by(options *it, const char *word)
+{
+    return strcmp(word, "--pcap") == 0 ? &it->capture : strcmp(word, "--status") == 0 ? &it->status : NULL;
+}
+
 static bool read_options(options *it, int count, char **words)
 {
     for (int k = 1; k < count; k++) {
-        if (strcmp(words[k], "--check") == 0)
-            it->is_check = true;
-        else if (strcmp(words[k], "--help") == 0)
-            it->is_help = true;
-        else if (strcmp(words[k], "--log") == 0)
-            it->is_log = true;
-        else if (strcmp(words[k], "--pcap") == 0 && k + 1 == count)
-            return use_fault(NULL, "a file for the capture behind --pcap");
-        else if (strcmp(words[k], "--pcap") == 0)
-            it->capture = words[++k];
+        const char **name = named_by(it, words[k]);
+        if (name != NULL && k + 1 == count)
+            return use_fault(NULL, name == &it->capture ? "a file for the capture behind --pcap" : "the path of a socket behind --status");
+        if (name != NULL)
+            *name = words[++k];
+        else if (read_flag(it, words[k]))
+            continue;
         else if (words[k][0] == '-')
-            return use_fault(words[k], "--check, --log, --pcap, --help or a configuration");
+            return use_fault(words[k], "--check, --log, --pcap, --status, --example, --help or a configuration");
         else if (it->configuration != NULL)
             return use_fault(words[k], "one configuration");
         else
             it->configuration = words[k];
     }
-    return it->is_help || it->configuration != NULL || use_fault(NULL, "a configuration");
+    return it->is_help || it->is_example || it->configuration != NULL || use_fault(NULL, "a configuration");
 }
 
 static void show_use(FILE *file)
 {
-    fprintf(file, "ipxr-gateway [--log] [--pcap FILE] CONFIG   routes until it is told to stop\n"
-                  "ipxr-gateway --check CONFIG                 says what is wrong with a configuration\n"
-                  "--log writes a line for each packet, --pcap captures them. The manual page, ipxr-gateway(8), shows a configuration.\n");
+    fprintf(file, "ipxr-gateway [--log] [--pcap FILE] [--status SOCKET] CONFIG   routes until it is told to stop\n"
+                  "ipxr-gateway --check CONFIG   says what is wrong with a configuration\n"
+                  "ipxr-gateway --example        prints one\n"
+                  "ipxr-gateway show [links | clients | routes | services | counts | events] [--json] [--status SOCKET]\n"
+                  "ipxr-gateway show counts --prometheus, ping NETWORK.NODE, trace NETWORK, reload   ask one that runs, by its SOCKET\n"
+                  "--log writes a line for each packet, --pcap captures them. The manual page is ipxr-gateway(8).\n");
+}
+
+/* What somebody does who begins. */
+static void show_beginning(FILE *file)
+{
+    fprintf(file, "Write a file net.conf with the line `network 10 1 1424 dosbox 2130`; ipxr-gateway --example prints more lines.\n"
+                  "Let it run: ipxr-gateway net.conf\n"
+                  "Type into each DOSBox, whose configuration says ipx=true: IPXNET CONNECT 127.0.0.1 2130\n");
+}
+
+/* Listens for those who ask. */
+static bool open_status(const char *path)
+{
+    if (!has_local())
+        complain("ipxr-gateway: --status: only Linux has a status socket");
+    else if (!status_open(path))
+        complain("ipxr-gateway: %s: can't listen there: %s", path, fault_words());
+    else
+        return true;
+    return false;
 }
 
 static int read_configuration(settings *set, const char *name)
@@ -76,6 +123,7 @@ static int route(const options *it, const settings *set)
     static gateway gate;
     if (it->is_log)
         note_events();
+    reload_from(it->configuration);
     if (!gateway_open(&gate, set))
         return CANNOT_OPEN;
     /* (behind the links: where another gateway has them, its capture of that name stays) */
@@ -83,12 +131,16 @@ static int route(const options *it, const settings *set)
         complain("ipxr-gateway: %s: can't be opened: %s", it->capture, fault_words());
         return CANNOT_OPEN;
     }
+    if (it->status != NULL && !open_status(it->status))
+        return CANNOT_OPEN;
     if (!gateway_start(&gate))
         return CANNOT_OPEN;
     while (!is_told_to_end()) {
         /* (what came before somebody asked is in the report) */
         bool was_asked = is_asked_to_report();
         gateway_turn(&gate, !was_asked);
+        if (is_told_to_read())
+            reload(&gate);
         if (was_asked) {
             capture_flush();
             gateway_report(&gate);
@@ -115,9 +167,15 @@ int gateway_main(int count, char **words)
 {
     static settings set;
     options it = {0};
-    if (!read_options(&it, count, words) || it.is_help) {
-        show_use(it.is_help ? stdout : stderr);
-        return it.is_help ? 0 : WRONG_USE;
+    if (count > 1 && is_asking(words[1]))
+        return ask_gateway(count, words);
+    if (!read_options(&it, count, words)) {
+        (count > 1 ? show_use : show_beginning)(stderr);
+        return WRONG_USE;
+    }
+    if (it.is_help || it.is_example) {
+        (it.is_help ? show_use : example_show)(stdout);
+        return 0;
     }
     int fault = read_configuration(&set, it.configuration);
     if (fault != 0)

@@ -10,6 +10,7 @@
 #include "node.h"
 #include "note.h"
 #include "output.h"
+#include "status.h"
 #include "system.h"
 #include "tunnel.h"
 
@@ -148,6 +149,7 @@ void gateway_renew(gateway *it)
 
 void gateway_stop(gateway *it)
 {
+    status_close();
     ipxr_stop(&it->router);
     gateway_send_all(it);
     gateway_flush(it);

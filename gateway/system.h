@@ -23,6 +23,9 @@ bool file_waits(FILE *file);
  * where there is a fault in errno. */
 ssize_t line_read(char **line, size_t *room, FILE *file);
 
+/* A file whose text lies in memory once it is closed; then it is the caller's to free. NULL where there is none. */
+FILE *text_open(char **text, size_t *length);
+
 /* Bytes that nobody can tell beforehand. Returns whether the system gave them; else errno has the reason. */
 bool system_random(uint8_t *bytes, size_t count);
 

@@ -8,6 +8,7 @@
 
 #include "capture.h"
 #include "cookie.h"
+#include "events.h"
 #include "extend.h"
 #include "ipx.h"
 #include "note.h"
@@ -85,18 +86,20 @@ void tunnel_send(network *on, const uint8_t *node, const uint8_t *packet, size_t
 
 /* ---- Who comes and who leaves ---- */
 
-static void tell_comes(network *on, const uint8_t place[NODE])
+void tunnel_tell_comes(network *on, const uint8_t place[NODE])
 {
     char words[WORDS];
     roster_add(&on->roster, place);
     event("client %s comes to %08" PRIX32, node_words(place, words), on->set->network);
+    events_client(on, place, true);
 }
 
-static void tell_leaves(network *on, const uint8_t place[NODE])
+void tunnel_tell_leaves(network *on, const uint8_t place[NODE])
 {
     char words[WORDS];
     roster_remove(&on->roster, place);
     event("client %s leaves %08" PRIX32, node_words(place, words), on->set->network);
+    events_client(on, place, false);
 }
 
 /* Pings those again who registered lately and haven't come in, as far as strangers may be answered. */
@@ -115,7 +118,7 @@ void tunnel_second(network *on)
     uint8_t place[NODE];
     ipxr_tunnel_second(&on->tunnel);
     for (size_t k = 0; ipxr_tunnel_leaver(&on->tunnel, k, place) == 0; k++)
-        tell_leaves(on, place);
+        tunnel_tell_leaves(on, place);
     send_own(on, true);
     ping_again(on);
 }
@@ -123,12 +126,12 @@ void tunnel_second(network *on)
 /* ---- Hearing ---- */
 
 /* Whether a network lets somebody in who sends from that address. */
-static bool lets_in(const network_setting *set, const address *from)
+bool tunnel_lets_in(const network_setting *set, const address *from)
 {
     return set->allowed.count == 0 || ranges_have(&set->allowed, from) || ranges_have(&set->trusted, from);
 }
 
-static ipxr_sender sender_at(const gateway *it, const network *on, const address *from)
+ipxr_sender tunnel_sender(const gateway *it, const network *on, const address *from)
 {
     ipxr_sender sender = {.is_trusted = ranges_have(&on->set->trusted, from)};
     uint64_t minute = it->seconds / MINUTE;
@@ -223,7 +226,7 @@ static void hear(gateway *it, network *on, const ipxr_sender *sender, const uint
     int32_t said = ipxr_tunnel_hear(&on->tunnel, sender, bytes, length);
     size_t carried = ipxr_tunnel_carried(&on->tunnel);
     if (ipxr_tunnel_clients(&on->tunnel) > before)
-        tell_comes(on, sender->place);
+        tunnel_tell_comes(on, sender->place);
     member *from = roster_find(&on->roster, sender->place);
     reason why = why_lost(on, from != NULL, said, has_length(bytes, length));
     if (from != NULL)
@@ -238,14 +241,14 @@ static void hear(gateway *it, network *on, const ipxr_sender *sender, const uint
 
 void tunnel_hear(gateway *it, network *on, uint8_t *bytes, size_t length, const address *from)
 {
-    ipxr_sender sender = sender_at(it, on, from);
+    ipxr_sender sender = tunnel_sender(it, on, from);
     on->counts.in++;
     if (length > on->set->longest) {
         gateway_lose(on, TOO_LONG);
         return;
     }
     capture_packet(bytes, length, sender.place);
-    if (!lets_in(on->set, from)) {
+    if (!tunnel_lets_in(on->set, from)) {
         gateway_lose(on, NOT_ALLOWED);
         return;
     }
@@ -257,8 +260,26 @@ void tunnel_hear(gateway *it, network *on, uint8_t *bytes, size_t length, const 
 
 /* ---- Reports ---- */
 
+bool tunnel_client(network *on, size_t index, known_client *client)
+{
+    ipxr_client at;
+    if (ipxr_tunnel_client(&on->tunnel, index, &at) != 0)
+        return false;
+    const member *known = roster_find(&on->roster, at.place);
+    memset(client, 0, sizeof *client);
+    memcpy(client->place, at.place, NODE);
+    client->at = address_of(at.place);
+    client->is_trusted = ranges_have(&on->set->trusted, &client->at);
+    client->heard = (client->is_trusted ? TRUST_LASTS : ANSWER_LASTS) - at.seconds_left;
+    if (known != NULL) {
+        client->refused = known->refused;
+        memcpy(client->dropped, known->dropped, sizeof client->dropped);
+    }
+    return true;
+}
+
 /* What was dropped of a client, behind its line. */
-static void show_dropped(const member *it)
+static void show_dropped(const known_client *it)
 {
     static const char *const OF[DROPS] = {[DROPPED_FOR_IT] = "for it", [DROPPED_OF_IT] = "copies of what it said",
         [DROPPED_PINGS] = "pings", [DROPPED_QUESTIONS] = "questions", [DROPPED_FOR_ROUTER] = "for the router",
@@ -272,24 +293,20 @@ static void show_dropped(const member *it)
         say("      dropped:%s", words);
 }
 
-static void show_client(network *on, const ipxr_client *client)
+static void show_client(const known_client *client)
 {
     char node[WORDS], refused[40] = "";
-    address at = address_of(client->place);
-    bool is_trusted = ranges_have(&on->set->trusted, &at);
-    const member *known = roster_find(&on->roster, client->place);
-    if (known != NULL && known->refused > 0)
-        snprintf(refused, sizeof refused, ", %" PRIu64 " not sent", known->refused);
-    say("    %s, %s %d s ago%s", node_words(client->place, node), is_trusted ? "trusted, heard" : "answered",
-        (is_trusted ? TRUST_LASTS : ANSWER_LASTS) - client->seconds_left, refused);
-    if (known != NULL)
-        show_dropped(known);
+    if (client->refused > 0)
+        snprintf(refused, sizeof refused, ", %" PRIu64 " not sent", client->refused);
+    say("    %s, %s %d s ago%s", node_words(client->place, node), client->is_trusted ? "trusted, heard" : "answered", client->heard,
+        refused);
+    show_dropped(client);
 }
 
 void tunnel_show(network *on)
 {
-    ipxr_client client;
+    known_client client;
     say("  clients: %zu of %u", ipxr_tunnel_clients(&on->tunnel), on->set->clients);
-    for (size_t k = 0; ipxr_tunnel_client(&on->tunnel, k, &client) == 0; k++)
-        show_client(on, &client);
+    for (size_t k = 0; tunnel_client(on, k, &client); k++)
+        show_client(&client);
 }

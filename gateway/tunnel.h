@@ -17,6 +17,31 @@ void tunnel_second(network *on);
 /* Sends a packet of the router's to the client that has a node, or to all. Its bytes stay where they are until gateway_flush. */
 void tunnel_send(network *on, const uint8_t *node, const uint8_t *packet, size_t length);
 
+/* ---- For those who change a tunnel ---- */
+
+/* Whether a network lets somebody in who sends from that address; and who he is for the library. */
+bool tunnel_lets_in(const network_setting *set, const address *from);
+ipxr_sender tunnel_sender(const gateway *it, const network *on, const address *from);
+
+/* Tells that somebody comes, or leaves, and keeps the list of clients so. */
+void tunnel_tell_comes(network *on, const uint8_t place[6]);
+void tunnel_tell_leaves(network *on, const uint8_t place[6]);
+
+/* ---- Reports ---- */
+
+/* A client as the gateway tells of it. */
+typedef struct known_client {
+    uint8_t place[6];
+    address at;
+    bool is_trusted;
+    int heard;        /* seconds since it answered, or, where it is trusted, said anything */
+    uint64_t refused; /* datagrams for it that the system didn't take */
+    uint64_t dropped[DROPS];
+} known_client;
+
+/* The client with exactly `index` others before it. Returns false where there is none. */
+bool tunnel_client(network *on, size_t index, known_client *client);
+
 /* Says a line for each client. */
 void tunnel_show(network *on);
 

@@ -11,9 +11,11 @@ import binaries
 import layout
 
 UNITS = "lib/systemd/system"
+# What the system's owner may change, in etc/: by its name there, the piece of a package that it is at first.
+CONFIGURATIONS = {"ipxr-gateway": {"ipxr-gateway.conf": "share/ipxr/ipxr-gateway.conf"}}
 NO_LICENCE = "No licence has been named: that is the owner's word, which is still to come.\n"
 
-# What the gateway's package does beside its files. There is no postrm: so nothing of it stays where it is removed and not purged.
+# What the gateway's package does beside its files. Its configuration stays where it is removed and not purged, and nothing else.
 BEGUN = """#!/bin/sh
 # A gateway that runs is begun anew by the newer program; one that doesn't is left alone.
 set -e
@@ -131,11 +133,18 @@ def installed(name, pieces, pages, release):
     return found
 
 
+def configurations(name, pieces):
+    """What a package puts into etc/."""
+    contents = {it.place: it.content for it in pieces}
+    return [layout.Piece(name, file, contents[place]) for file, place in CONFIGURATIONS.get(name, {}).items()]
+
+
 def extras(name, release):
-    """What else stands beside the control file: what is run at an installation or a removal, and what programs that are linked with the
-    library depend on."""
+    """What else stands beside the control file: what is run at an installation or a removal, what is kept as its owner changed it, and what
+    programs that are linked with the library depend on."""
     if name == "ipxr-gateway":
-        return {"postinst": BEGUN, "prerm": ENDED}
+        kept = "".join(f"/etc/{file}\n" for file in CONFIGURATIONS[name])
+        return {"postinst": BEGUN, "prerm": ENDED, "conffiles": kept}
     if name != "libipxr1":
         return {}
     return {"shlibs": f"libipxr 1 libipxr1 (>= {release.version})\n", "triggers": "activate-noawait ldconfig\n"}
@@ -154,6 +163,8 @@ def package(name, pieces, release, system):
         root = f"{folder}/root"
         for it in pieces:
             layout.put(it, f"{root}/usr")
+        for it in configurations(name, pieces):
+            layout.put(it, f"{root}/etc")
         os.makedirs(f"{root}/DEBIAN")
         texts = {"control": control(name, pieces, release, system), "md5sums": sums(pieces), **extras(name, release)}
         for file, text in texts.items():

@@ -22,6 +22,11 @@ ssize_t line_read(char **line, size_t *room, FILE *file)
     return getline(line, room, file);
 }
 
+FILE *text_open(char **text, size_t *length)
+{
+    return open_memstream(text, length);
+}
+
 bool system_random(uint8_t *bytes, size_t count)
 {
     return getrandom(bytes, count, 0) == (ssize_t)count;

@@ -40,6 +40,14 @@ static bool has_room(char **line, size_t *room, size_t wanted)
     return true;
 }
 
+/* (nobody asks for one: there is no order to read a configuration anew) */
+FILE *text_open(char **text, size_t *length)
+{
+    *text = NULL;
+    *length = 0;
+    return NULL;
+}
+
 ssize_t line_read(char **line, size_t *room, FILE *file)
 {
     size_t length = 0;

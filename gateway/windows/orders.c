@@ -32,3 +32,9 @@ bool is_asked_to_report(void)
 {
     return InterlockedExchange(&is_asked, 0) != 0;
 }
+
+/* (Windows has no such order) */
+bool is_told_to_read(void)
+{
+    return false;
+}

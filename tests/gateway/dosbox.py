@@ -8,7 +8,8 @@ import time
 
 from lab import Client, Counts, Gateway, address, free_ports, left_out, packet, reaches, tunnels, until, until_wine_lets_go
 from players import NETWORK, Player
-from systems import TOP
+from status import Watched
+from systems import SYSTEM, TOP, Windows
 
 DOS = os.path.join(TOP, "tests", "gateway", "dos")
 MOST = 300  # seconds until a DOSBox is taken for lost
@@ -205,6 +206,20 @@ def come_and_go():
     until_wine_lets_go(played_again)
 
 
+def answers_pings():
+    """A real DOSBox that waits at its prompt answers the gateway's pings, and stays a client."""
+    with Watched(tunnels(1)) as gate, tempfile.TemporaryDirectory() as folder:
+        box = DosBox(folder, "pinged", gate.ports[0x10], has_program=False)
+        try:
+            (client,) = until(lambda: time.sleep(BETWEEN_LOOKS) or gate.shown("clients"), "it is a client")
+            out = gate.asked("ping", f"{client['network']}.{client['client']}")
+            print(f"        {re.search('in (.*),', out)[1]}", flush=True)
+            assert out.endswith("\n4 asked, 4 answered\n"), out
+            assert len(gate.shown("clients")) == 1
+        finally:
+            box.kill()
+
+
 def main():
     counts = Counts()
     missing = [it for it in ("dosbox", "nasm") if not shutil.which(it)]
@@ -214,6 +229,10 @@ def main():
         counts.run(two_dosboxes)
         counts.run(no_room)
         counts.run(come_and_go)
+        if SYSTEM is Windows:
+            left_out("pings that a real DOSBox answers", "the status socket is Linux' own")
+        else:
+            counts.run(answers_pings)
     return counts
 
 

@@ -6,7 +6,8 @@ import tempfile
 import time
 
 from lab import AGAIN, GAME, Client, Counts, Gateway, address, free_ports, left_out, packet, tunnels
-from systems import TOP
+from status import Watched
+from systems import SYSTEM, TOP, Windows
 
 SOURCE = os.path.join(TOP, "tests", "gateway", "pc", "boot.asm")
 PROGRAMS = ("qemu-system-i386", "qemu-system-x86_64")
@@ -78,6 +79,19 @@ def connections():
     tried(f"qemu-tcp connect {port}", f"socket,listen=127.0.0.1:{port}")
 
 
+def pinged():
+    """A PC in QEMU, whose program sends back what it gets, answers the gateway's pings at any socket."""
+    gate, card = free_ports(2)
+    link = f"network 30 1 1500 qemu-udp {gate} {card} raw\n"
+    netdev = f"dgram,{inet('local', card)},{inet('remote', gate)}"
+    with tempfile.TemporaryDirectory() as folder, Watched(tunnels(1) + link) as it, Pc(folder, netdev) as pc:
+        assert is_answered(Client(it.ports[0x10]), pc, b"booted")
+        station = f"00000030.{NODE.hex().upper()}"
+        for words, port in ((station, "0456"), (f"{station}.4003", "4003")):
+            out = it.asked("ping", words)
+            assert out.startswith(f"asks {station} at socket {port}\n") and out.endswith("\n4 asked, 4 answered\n"), out
+
+
 def main():
     counts = Counts()
     if not any(shutil.which(it) for it in PROGRAMS):
@@ -87,6 +101,10 @@ def main():
     else:
         counts.run(datagrams)
         counts.run(connections)
+        if SYSTEM is Windows:
+            left_out("pings that a PC in QEMU answers", "the status socket is Linux' own")
+        else:
+            counts.run(pinged)
     return counts
 
 

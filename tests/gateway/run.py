@@ -6,11 +6,15 @@ import sys
 import attacks
 import counting
 import dosbox
+import events
 import limits
 import links
 import orders
 import pc
+import probes
+import reloading
 import siphash
+import status
 import troubles
 import tunnel
 import unit
@@ -19,7 +23,9 @@ import words
 from lab import left_out
 from systems import SYSTEM, Windows
 
-TESTS = {it.__name__: it for it in (counting, words, siphash, unit, orders, tunnel, links, troubles, wires, attacks, limits, dosbox, pc)}
+ALL = (counting, words, siphash, unit, orders, status, events, probes, reloading, tunnel, links, troubles, wires, attacks, limits, dosbox,
+       pc)
+TESTS = {it.__name__: it for it in ALL}
 
 
 def has_loopback():

@@ -92,7 +92,7 @@ class Linux:
     runner = quick = []
     run = Run
     report, end = signal.SIGUSR1, signal.SIGTERM
-    ends = (signal.SIGTERM, signal.SIGINT, signal.SIGHUP)
+    ends = (signal.SIGTERM, signal.SIGINT)
 
 
 class Aarch64(Linux):

@@ -1,6 +1,7 @@
 """The configuration and the command line."""
 import difflib
 import os
+import re
 import subprocess
 import tempfile
 
@@ -58,12 +59,12 @@ def the_command_line():
     """A wrong command line is told with the word and what was expected, and how it is right."""
     status, use, complaint = asked("--help")
     assert (status, complaint) == (0, "") and use.startswith("ipxr-gateway [--log]")
-    options = "--check, --log, --pcap, --help or a configuration"
+    options = "--check, --log, --pcap, --status, --example, --help or a configuration"
     for words, what in (
-        ((), "the command line ends: expected a configuration"),
         (("--check",), "the command line ends: expected a configuration"),
         (("--pcap", "wrong.conf"), "the command line ends: expected a configuration"),
         (("wrong.conf", "--pcap"), "the command line ends: expected a file for the capture behind --pcap"),
+        (("wrong.conf", "--status"), "the command line ends: expected the path of a socket behind --status"),
         (("--chek", "wrong.conf"), f"'--chek': expected {options}"),
         (("-h",), f"'-h': expected {options}"),
         (("wrong.conf", "other.conf"), "'other.conf': expected one configuration"),
@@ -71,10 +72,36 @@ def the_command_line():
         assert asked(*words) == (64, "", f"ipxr-gateway: {what}\n{use}"), words
 
 
+def no_words():
+    """Without a word it says in three lines what to write, and the configuration there is right."""
+    status, out, complaint = asked()
+    first, *lines = complaint.splitlines()
+    assert (status, out, first, len(lines)) == (64, "", "ipxr-gateway: the command line ends: expected a configuration", 3), complaint
+    line = re.search("`(network [^`]*)`", complaint)[1]
+    assert asked("--check", STDIN, stdin=f"{line}\n".encode())[:2] == (0, f"{STDIN}: 1 network, nothing wrong\n")
+
+
+def the_example():
+    """--example prints the configuration of the sources, which is right, and has one network of DOSBox' on this machine alone."""
+    status, out, complaint = asked("--example")
+    with open(os.path.join(TOP, "gateway", "example.conf"), encoding="utf-8") as it:
+        assert (status, out, complaint) == (0, it.read(), "")
+    assert asked("--check", STDIN, stdin=out.encode())[:2] == (0, f"{STDIN}: 1 network, nothing wrong\n")
+    assert re.findall(r"(?m)^[^#\n]+$", out) == ["network 10      1     1424               dosbox 127.0.0.1:2130"], out
+
+
+def status_on_windows():
+    """On Windows a status socket is told to be Linux' own."""
+    status, _, complaint = asked("--status", "status", STDIN, stdin=tunnels(1).encode())
+    assert status == 1 and complaint.endswith("ipxr-gateway: --status: only Linux has a status socket\n"), complaint
+    status, _, complaint = asked("show")
+    assert status == 64 and "only Linux has a status socket" in complaint, complaint
+
+
 def what_is_right():
     """What is right is told so: the example, 32 networks, shares, blanks, comments, the last line without its end."""
     example = os.path.join(TOP, "gateway", "example.conf")
-    assert asked("--check", example)[:2] == (0, f"{example}: 2 networks, nothing wrong\n")
+    assert asked("--check", example)[:2] == (0, f"{example}: 1 network, nothing wrong\n")
     many = tunnels(32).encode()
     assert asked("--check", "/dev/stdin", stdin=many)[:2] == (0, "/dev/stdin: 32 networks, nothing wrong\n")
     status, _, complaint = asked("--check", "/dev/stdin", stdin=many + b"network FF 1 1424 dosbox 0\n")
@@ -115,9 +142,11 @@ def what_cannot_be_opened():
 
 def main():
     counts = Counts()
-    for test in (each_wrong_line, nothing_is_opened, no_configuration, the_command_line, what_is_right, names_and_marks,
-                 what_cannot_be_opened):
+    for test in (each_wrong_line, nothing_is_opened, no_configuration, the_command_line, no_words, the_example, what_is_right,
+                 names_and_marks, what_cannot_be_opened):
         counts.run(test)
+    if SYSTEM is Windows:
+        counts.run(status_on_windows)
     return counts
 
 

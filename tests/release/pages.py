@@ -109,8 +109,12 @@ ASKED = {
     "ipxr replay -- examples/dr": "examples/drops.script",
     "ipxr replay examples/drops.script ": "",
     "ipxr-gateway --c": "--check",
-    "ipxr-gateway --": "--check --help --log --pcap",
+    "ipxr-gateway --": "--check --example --help --log --pcap --status",
     "ipxr-gateway --check gateway/ex": "gateway/example.conf",
+    "ipxr-gateway sh": "show",
+    "ipxr-gateway show l": "links",
+    "ipxr-gateway show events --": "--json --prometheus --status",
+    "ipxr-gateway ping 10.7F0000010BB8 ": "--status",
 }
 IN_BASH = """
 source completions/ipxr.bash

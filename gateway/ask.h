@@ -1,0 +1,16 @@
+/* Asking a gateway that runs, by its status socket: show, ping, trace and reload. */
+#ifndef ASK_H
+#define ASK_H
+
+#include <stdbool.h>
+
+/* Where a gateway is asked that is told nothing else; the service listens there. */
+#define USUAL_STATUS "/run/ipxr-gateway/status"
+
+/* Whether a command line that begins with this word asks a gateway. */
+bool is_asking(const char *word);
+
+/* Asks, and prints the answer. Returns the exit status. */
+int ask_gateway(int count, char **words);
+
+#endif

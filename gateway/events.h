@@ -1,0 +1,17 @@
+/* What happens, for those who follow it by the status socket: clients, links, routes and services that come and go. */
+#ifndef EVENTS_H
+#define EVENTS_H
+
+#include "gateway.h"
+
+/* A client came or left; a network went up or down. */
+void events_client(const network *on, const uint8_t place[6], bool comes);
+void events_link(const network *on);
+
+/* From now on somebody follows: what the router has learned by now is nothing new. */
+void events_begin(gateway *it);
+
+/* A second has passed: what the router has learned or forgotten since the last. */
+void events_second(gateway *it);
+
+#endif

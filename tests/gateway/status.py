@@ -1,0 +1,266 @@
+"""Who runs the gateway sees what it knows, by its status socket: show, and what others can do there."""
+import contextlib
+import json
+import os
+import re
+import shutil
+import socket
+import stat
+import subprocess
+import tempfile
+
+from lab import (ALL_THERE_IS, EVERYONE, GAME, LIMIT, NOBODY, Client, Counts, Gateway, address, left_out, packet, reaches,
+                 rip_response, text_of, tunnels, until)
+from systems import SYSTEM, Windows
+
+SECTIONS = ("links", "clients", "routes", "services", "counts")
+HOSTILE = [b'"', b"\\", b"\x1b[2J\x07", b"a b\tc\r\nd", b"\xff\xfe\x80", b"\x7f", b"</script>&'%s%n", b"\x01" * 47, bytes(range(1, 48)),
+           bytes(range(200, 247)), "größe".encode()]
+ROUTES = 2048  # that fill the table
+MOST_ASKED = 8  # at once
+
+
+def asked(path, *words, program=None):
+    """What a gateway answers at a path: status, output, complaint."""
+    command = [*SYSTEM.quick, program or SYSTEM.program, *words, "--status", path]
+    run = subprocess.run(command, capture_output=True, timeout=LIMIT, check=False)
+    return run.returncode, text_of(run.stdout), text_of(run.stderr)
+
+
+class Watched(Gateway):
+    """A gateway with a status socket."""
+
+    def __init__(self, text, **how):
+        self.own = tempfile.TemporaryDirectory()
+        self.path = os.path.join(self.own.name, "status")
+        super().__init__(text, options=["--status", self.path, *how.pop("options", ())], **how)
+
+    def asked(self, *words):
+        """What it answers, where it has something to say."""
+        status, out, complaint = asked(self.path, *words)
+        assert (status, complaint) == (0, ""), (words, status, complaint)
+        return out
+
+    def shown(self, section):
+        """The records of a section."""
+        return json.loads(self.asked("show", section, "--json"))
+
+    def connects(self, line=b""):
+        """A connection to it by hand."""
+        it = socket.socket(socket.AF_UNIX)
+        it.connect(self.path)
+        it.settimeout(LIMIT)
+        it.sendall(line)
+        return it
+
+    def __exit__(self, *fault):
+        super().__exit__(*fault)
+        self.own.cleanup()
+
+
+def answer_of(connection):
+    """All that comes until the gateway closes the connection."""
+    whole = b""
+    with contextlib.suppress(ConnectionResetError):
+        while piece := connection.recv(65536):
+            whole += piece
+    return whole
+
+
+def advertise(client, names=(), routes=()):
+    """A client says what it offers, and waits until it was heard."""
+    for name in names:
+        field = name + bytes(48 - len(name))
+        data = b"\0\2" + (0x640).to_bytes(2, "big") + field + address(client.network, client.node, 0x451) + (1).to_bytes(2, "big")
+        client.send(packet(address(client.network, EVERYONE, 0x452), client.at(0x452), data))
+    for first in range(0, len(routes), 50):
+        client.send(rip_response(client.network, client.node, routes[first : first + 50]))
+    assert reaches(client, client)
+
+
+def rows(text):
+    """The words of each line of columns, without their heading."""
+    return [line.split() for line in text.splitlines()[1:]]
+
+
+def seen():
+    """Links, clients, routes, services and counts are shown, in columns and as JSON, and both say the same."""
+    with Watched(tunnels(2) + "network 30 7 1500 qemu-tcp listen 127.0.0.1:0 raw\n") as gate:
+        a = Client(gate.ports[0x10])
+        advertise(a, [b"SERVER"], [(0x77, 2, 3)])
+        node = a.node.hex().upper()
+        assert [(it["network"], it["state"], it["cost"]) for it in gate.shown("links")] == [
+            ("00000010", "up", 1), ("00000020", "up", 1), ("00000030", "down", 7)]
+        assert gate.shown("links")[2]["lacks"] == "nobody is connected" and gate.shown("links")[0]["lacks"] is None
+        (client,) = gate.shown("clients")
+        host, port = a.udp.getsockname()
+        assert (client["network"], client["client"], client["address"]) == ("00000010", node, f"{host}:{port}")
+        assert client["trusted"] is False and client["heard"] <= LIMIT and client["not_sent"] == 0
+        (route,) = gate.shown("routes")
+        assert {**route, "age": 0} == {"network": "00000077", "hops": 2, "ticks": 3, "by": node, "on": "00000010", "age": 0}
+        (service,) = gate.shown("services")
+        assert (service["type"], service["name"], service["network"], service["node"]) == ("0640", "SERVER", "00000010", node)
+        counts = {(it["network"], it["count"]): it["number"] for it in gate.shown("counts")}
+        assert counts["00000010", "in"] >= 4 and counts["00000020", "in"] == 0
+        assert rows(gate.asked("show", "routes"))[0][:5] == ["00000077", "2", "3", node, "00000010"]
+        assert rows(gate.asked("show", "services"))[0][:4] == ["0640", "SERVER", "00000010", node]
+        assert rows(gate.asked("show", "links"))[2][:4] == ["00000030", "down", "7", "1500"]
+        assert rows(gate.asked("show", "clients"))[0][:3] == ["00000010", node, f"{host}:{port}"]
+
+
+def all_of_it():
+    """Without a word all sections are shown, and as JSON in one object."""
+    with Watched(tunnels(1)) as gate:
+        whole = json.loads(gate.asked("show", "--json"))
+        assert list(whole) == ["release", "seconds", *SECTIONS], whole
+        text = gate.asked("show")
+        assert [it.split()[0] for it in text.split("\n\n")] == ["NETWORK", "NETWORK", "NETWORK", "TYPE", "NETWORK"], text
+
+
+def as_the_report():
+    """Counts are those of the report, whatever was lost or dropped."""
+    with Watched(tunnels(2, extra="clients 1\n")) as gate:
+        a = Client(gate.ports[0x10])
+        a.send(b"no packet")
+        a.say(address(0x99, NOBODY, GAME), b"nowhere")
+        a.say(address(0, EVERYONE, GAME), b"all")
+        a.send(packet(a.at(), address(0x10, b"\2stran", GAME)))
+        assert reaches(a, a)
+        report = gate.report()
+        shown = {it["count"]: it["number"] for it in gate.shown("counts") if it["network"] == "00000010"}
+        part = report.split("network 00000010 up", 1)[1].split("network 00000020", 1)[0]
+        told = dict(re.findall(r"(?m)^  (lost: [^:]+|drop \S+): (\d+)$", part))
+        assert {"drop NoRoute", "drop OtherSocket", "lost: no IPX", "lost: source of another"} <= told.keys(), part
+        assert {key: int(number) for key, number in told.items()} == {key: it for key, it in shown.items() if key not in ("in", "out")}
+
+
+def hostile_names():
+    """Names of services are shown without a byte that a terminal obeys, and are valid JSON, which has each of their bytes."""
+    with Watched(tunnels(1, shares=ALL_THERE_IS)) as gate:
+        a = Client(gate.ports[0x10])
+        advertise(a, HOSTILE)
+        text = gate.asked("show", "services")
+        assert re.fullmatch(r"[\x20-\x7e\n]*", text) and all(len(it) == 9 for it in rows(text)), text
+        names = {it["name"].encode("latin-1") for it in gate.shown("services")}
+        assert names == set(HOSTILE), names
+        whole = subprocess.run([*SYSTEM.quick, SYSTEM.program, "show", "--json", "--status", gate.path], capture_output=True, check=True)
+        json.loads(whole.stdout.decode("ascii"))
+
+
+def full_tables():
+    """Tables that are full are shown whole, in pieces, while packets pass."""
+    with Watched(tunnels(1, shares=ALL_THERE_IS)) as gate:
+        a = Client(gate.ports[0x10])
+        advertise(a, routes=[(0x1000 + k, 1, 2) for k in range(ROUTES)])
+        waits = gate.connects(b"show routes json\n")
+        for _ in range(20):
+            assert reaches(a, a)
+        whole = answer_of(waits)
+        assert whole[:1] == b"+" and whole[-2:] == b"\0" + b"0", whole[-20:]
+        assert [it["network"] for it in json.loads(whole[1:-2])] == [f"{0x1000 + k:08X}" for k in range(ROUTES)]
+
+
+def metrics():
+    """Counts in the text format of Prometheus have each family once, with its samples behind it."""
+    with Watched(tunnels(2)) as gate:
+        a = Client(gate.ports[0x10])
+        a.say(address(0x99, NOBODY, GAME), b"nowhere")
+        assert reaches(a, a)
+        text = gate.asked("show", "counts", "--prometheus")
+        assert 'ipxr_gateway_dropped_packets_total{network="00000010",reason="NoRoute"} 1\n' in text, text
+        assert 'ipxr_gateway_clients{network="00000010"} 1\n' in text
+        families = []
+        for line in text.splitlines():
+            name = re.match(r"(?:# (?:HELP|TYPE) )?(\w+)", line)[1]
+            if not families or families[-1] != name:
+                families.append(name)
+        assert len(families) == len(set(families)), families
+        if shutil.which("promtool"):
+            run = subprocess.run(["promtool", "check", "metrics"], input=text, capture_output=True, text=True, check=False)
+            assert run.returncode == 0 and not run.stderr, run.stderr
+        else:
+            left_out("Prometheus' own check of the counts", "no promtool")
+
+
+def wrong_questions():
+    """Wrong words are told with what was expected; whatever else is said by hand, it answers the next."""
+    with Watched(tunnels(1)) as gate:
+        assert asked(gate.path, "show", "nothing")[::2] == (1, "expected links, clients, routes, services, counts or events\n")
+        assert asked(gate.path, "show", "links", "counts")[0] == 64
+        assert asked(gate.path, "show", "links", "--prometheus")[0] == 64
+        assert asked(gate.path, "reload", "now")[0] == 64
+        assert asked(gate.path + "s", "show")[0] == 1
+        assert asked(gate.path, "ping", "nobody")[0] == 1 and asked(gate.path, "trace", "99")[0] == 1
+        for line in (b"\n", b"\0\n", b"show \xff\xff\n", b"show links json counts more\n", b"go\n", b"show events\rjson\n"):
+            with gate.connects(line) as it:
+                assert it.recv(1) in (b"-", b"+"), line
+        for line in (b"x" * 4096, b"show links"):
+            with gate.connects(line):
+                pass
+        assert gate.shown("links")
+
+
+def begun_at(path):
+    """What becomes of another gateway that is to listen at a path."""
+    words = [*SYSTEM.quick, SYSTEM.program, "--status", path, "/dev/stdin"]
+    return subprocess.run(words, input=tunnels(1).encode(), capture_output=True, timeout=LIMIT, check=False)
+
+
+def who_may_ask():
+    """The socket is its owner's and its group's; what a killed gateway left is replaced, and a gateway that runs keeps its own."""
+    with Watched(tunnels(1)) as gate:
+        assert stat.S_IMODE(os.stat(gate.path).st_mode) == 0o660
+        run = begun_at(gate.path)
+        assert run.returncode == 1 and b"can't listen there: Address already in use" in run.stderr, run
+        assert gate.shown("links")
+        gate.run.kill()
+        gate.run.communicate()
+        assert os.path.exists(gate.path)
+        gate.start(gate.program, ["--status", gate.path])
+        assert gate.shown("links")
+        gate.end()
+        assert not os.path.exists(gate.path)
+        with open(gate.path, "w", encoding="ascii") as it:
+            it.write("of somebody")
+        assert begun_at(gate.path).returncode == 1
+        with open(gate.path, encoding="ascii") as it:
+            assert it.read() == "of somebody"
+
+
+def many_ask():
+    """Eight may be connected at once; another is told so, and comes in once one has left."""
+    with Watched(tunnels(1)) as gate:
+        some = [gate.connects(b"show events\n") for _ in range(MOST_ASKED)]
+        for it in some:
+            assert it.recv(1) == b"+"
+        assert asked(gate.path, "show")[::2] == (1, "too many ask at once: expected a few less\n")
+        some.pop().close()
+        until(lambda: asked(gate.path, "show", "links")[0] == 0, "one may ask again")
+        for it in some:
+            it.close()
+
+
+def nobody_reads():
+    """Who asks for much and reads nothing holds up nobody: packets pass, and others are answered."""
+    with Watched(tunnels(2, shares=ALL_THERE_IS, extra="rate none\n")) as gate:
+        a, b = Client(gate.ports[0x10]), Client(gate.ports[0x20])
+        advertise(a, routes=[(0x1000 + k, 1, 2) for k in range(ROUTES)])
+        some = [gate.connects(b"show json\n") for _ in range(MOST_ASKED - 1)]
+        for k in range(200):
+            assert reaches(a, b, b"%d" % k)
+        assert len(gate.shown("routes")) == ROUTES
+        assert all(answer_of(it).endswith(b"\0" + b"0") for it in some), "who reads late is told all"
+
+
+def main():
+    counts = Counts()
+    if SYSTEM is Windows:
+        left_out("the status socket", "it is Linux' own")
+        return counts
+    for test in (seen, all_of_it, as_the_report, hostile_names, full_tables, metrics, wrong_questions, who_may_ask, many_ask, nobody_reads):
+        counts.run(test)
+    return counts
+
+
+if __name__ == "__main__":
+    main()
