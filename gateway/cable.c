@@ -69,7 +69,8 @@ const char *cable_open(cable *it, const network_setting *set)
         return is_not_there_yet(errno) ? NULL : it->lacks;
     if (is_connection(it)) {
         it->lacks = it->listener >= 0 ? "nobody is connected" : "not connected yet";
-        it->fault = it->tried = 0;
+        it->fault = 0;
+        it->tried = 0;
     }
     return NULL;
 }

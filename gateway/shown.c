@@ -72,7 +72,17 @@ static bool next_link(gateway *it, cursor *at, sheet *s)
 /* ---- Clients ---- */
 
 static const column CLIENT_COLUMNS[] = {{"network", "NETWORK", 8},   {"client", "CLIENT", 12}, {"address", "ADDRESS", 21},
-                                        {"trusted", "TRUSTED", 7}, {"heard", "HEARD", 5},    {"not_sent", "NOT-SENT", 0}, {0}};
+                                        {"trusted", "TRUSTED", 7}, {"heard", "HEARD", 5},    {"not_sent", "NOT-SENT", 8},
+                                        {"dropped", "DROPPED", 0}, {0}};
+
+/* All that was dropped of a client, and for it. */
+static uint64_t dropped_of(const known_client *client)
+{
+    uint64_t sum = 0;
+    for (int k = 0; k < DROPS; k++)
+        sum += client->dropped[k];
+    return sum;
+}
 
 static bool next_client(gateway *it, cursor *at, sheet *s)
 {
@@ -90,8 +100,9 @@ static bool next_client(gateway *it, cursor *at, sheet *s)
     field_node(s, client.place);
     field_text(s, address_words(&client.at, place));
     field_flag(s, client.is_trusted);
-    field_number(s, client.heard);
+    field_number(s, (uint64_t)client.heard);
     field_number(s, client.refused);
+    field_number(s, dropped_of(&client));
     record_end(s);
     return true;
 }

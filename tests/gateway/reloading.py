@@ -8,13 +8,14 @@ import tempfile
 
 from events import Follower
 from lab import (AGAIN, EVERYONE, GAME, LIMIT, TUNNEL, Client, Counts, address, free_ports, is_ping, left_out, packet, reaches, registration,
-                 rip_response, socket_of, tunnels)
+                 rip_response, socket_of, tunnels, until)
 from orders import is_farewell, told_until
 from status import Watched, asked
 from systems import SYSTEM, Windows
 
 TIMES = 20  # that the configuration is read anew while others play
 BETWEEN = 25  # packets from one time to the next
+FLOOD = 300  # packets of a client, more than another receives at once where there are limits
 
 
 class Changed(Watched):
@@ -96,6 +97,29 @@ def rules_for_clients():
         assert gate.counted(0x10, "clients") == 1 and reaches(a, a)
 
 
+def limits():
+    """Other limits hold from then on, for those who are there too; they stay, with what was counted of them."""
+    dropped = "lost: too much for a client"
+    with Changed(tunnels(1, extra="rate none\n")) as gate:
+        a, b = Client(gate.ports[0x10]), Client(gate.ports[0x10])
+        for _ in range(FLOOD):
+            assert reaches(a, b)
+        said = gate.reload(tunnels(1, extra="rate 1 1\n"))
+        assert "1 with other clients" in said and "router" not in said, said
+        for _ in range(FLOOD):
+            a.say(b.at(), b"too much")
+        until(lambda: gate.counted(0x10, dropped) > 0, "packets that are dropped")
+        gate.reload(tunnels(1, extra="rate none\n"))
+        lost = gate.counted(0x10, dropped)
+        for _ in range(FLOOD - lost):
+            assert b.hear()[30:] == b"too much"
+        for _ in range(FLOOD):
+            assert reaches(a, b)
+        assert lost > 0 and gate.counted(0x10, dropped) == lost and f"{lost} copies of what it said" in gate.report()
+        assert [it["dropped"] for it in gate.shown("clients")] == [lost, lost]
+        assert not is_told_to_leave(gate)
+
+
 def sockets():
     """Sockets that are extended from now on are, and others aren't any more."""
     with Changed(tunnels(2)) as gate:
@@ -111,7 +135,8 @@ def sockets():
 def others_play(change, restore):
     """While the configuration changes again and again, two clients on a network that stays lose nothing, in either direction."""
     first, second = free_ports(2)
-    with Changed(at(0x10, first) + change(second)) as gate:
+    stays = at(0x10, first, below="rate none\n")
+    with Changed(stays + change(second)) as gate:
         a, b = Client(first), Client(first)
         count = 0
         for k in range(TIMES):
@@ -119,7 +144,7 @@ def others_play(change, restore):
                 a.say(b.at(), b"%d" % count)
                 b.say(a.at(), b"%d" % count)
                 count += 1
-            gate.reload(at(0x10, first) + (restore if k % 2 == 0 else change)(second))
+            gate.reload(stays + (restore if k % 2 == 0 else change)(second))
         for one in (a, b):
             for k in range(count):
                 heard = one.hear()
@@ -223,8 +248,8 @@ def main():
     if SYSTEM is Windows:
         left_out("reading the configuration anew", "it is Linux' own")
         return counts
-    for test in (nothing_changes, wrong_file, rules_for_clients, sockets, a_link_is_another, networks_come_and_go, another_address,
-                 a_link_is_taken, the_router_begins_anew, followed, at_a_terminal):
+    for test in (nothing_changes, wrong_file, rules_for_clients, limits, sockets, a_link_is_another, networks_come_and_go,
+                 another_address, a_link_is_taken, the_router_begins_anew, followed, at_a_terminal):
         counts.run(test)
     return counts
 
