@@ -2,6 +2,7 @@
 import contextlib
 import json
 import os
+import re
 import select
 import socket
 import subprocess
@@ -101,6 +102,11 @@ def in_words():
         assert r" service 0640 \x1B[2J comes: 00000010." in f" {told.split(' ', 1)[1]}", told
 
 
+def seconds_of(gate):
+    """The seconds that have passed for a gateway, in each of which it looks at its tables."""
+    return int(re.search(r"(?m)^report after (\d+) s$", gate.report())[1])
+
+
 def late_reader():
     """Who reads nothing is told how many events are missing once he reads; meanwhile packets pass, and nothing is held up."""
     with Watched(tunnels(2, shares=ALL_THERE_IS, extra="rate none\n")) as gate:
@@ -109,8 +115,8 @@ def late_reader():
             assert it.recv(1) == b"+"
             for hops in range(2, 8):
                 advertise(a, routes=[(0x1000 + k, hops, hops) for k in range(ROUTES)])
-                before = time.monotonic()
-                while time.monotonic() < before + 1.2:
+                second = seconds_of(gate)
+                while seconds_of(gate) == second:
                     assert reaches(a, b)
             heard, lines = b"", []
             while not any(line.get("event") == "missing" for line in lines):

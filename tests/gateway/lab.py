@@ -24,6 +24,7 @@ import weakref
 from systems import SYSTEM, Windows
 
 LIMIT = 60  # seconds until a test that fails gives up
+PLAYS = 3  # of what a machine with much else to do may spoil
 AGAIN = 0.5  # seconds until something is said again, where it may have been lost
 TRIES = 5  # of what Wine may spoil
 ROOM = 1 << 20  # bytes that a socket of a test keeps, as far as the system allows it, while the test looks elsewhere
@@ -418,6 +419,19 @@ def until(holds, what):
             return found
         assert time.monotonic() < end, f"never: {what}"
         time.sleep(0.01)
+
+
+def played_anew(test):
+    """The test, which is played anew where it fails, at most twice: a machine with much else to do loses packets itself, or comes late."""
+    @functools.wraps(test)
+    def plays(*words, **how):
+        for left in reversed(range(PLAYS)):
+            try:
+                return test(*words, **how)
+            except AssertionError:
+                if left == 0:
+                    raise
+    return plays
 
 
 def is_free(port):

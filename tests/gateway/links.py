@@ -9,8 +9,8 @@ import struct
 import termios
 
 from frames import KINDS, Station, Tcp, Udp, frame
-from lab import (EVERYONE, GAME, LIMIT, Client, Counts, Gateway, address, comes_next, free_ports, is_routers, left_out, packet, reaches,
-                 tunnels, until)
+from lab import (EVERYONE, GAME, LIMIT, Client, Counts, Gateway, address, comes_next, free_ports, is_routers, left_out, packet, played_anew,
+                 reaches, tunnels, until)
 from systems import SYSTEM, Windows
 
 STATION = bytes.fromhex("020000000AA1")
@@ -160,6 +160,7 @@ def one_pc_at_a_time():
         assert reaches(far, station) and gate.counted(0x20, "refused") == 50
 
 
+@played_anew
 def nobody_hears_of_it():
     """Who connects and resets, again and again, isn't told to anybody; then a PC comes in as if nothing had been."""
     with Gateway(tunnels(1) + "network 20 1 1490 qemu-tcp listen 0 raw\n") as gate:

@@ -92,14 +92,15 @@ def nobody_reads():
         assert gate.run.wait(timeout=LIMIT) == 0
 
 
-def frames_of(capture):
-    """How many whole frames a capture has, from its header on."""
+def whole_frames(capture):
+    """How many whole frames a capture has, from its header on, and whether nothing is behind them."""
     at, count = PCAP_HEADER, 0
-    while at < len(capture):
-        size = int.from_bytes(capture[at + 8 : at + 12], sys.byteorder)
-        at, count = at + RECORD + size, count + 1
-    assert at == len(capture), "a frame is cut"
-    return count
+    while at + RECORD <= len(capture):
+        behind = at + RECORD + int.from_bytes(capture[at + 8 : at + 12], sys.byteorder)
+        if behind > len(capture):
+            break
+        at, count = behind, count + 1
+    return count, at == len(capture)
 
 
 def nobody_reads_the_capture():
@@ -116,8 +117,9 @@ def nobody_reads_the_capture():
                 assert b.hear()[30:].startswith(b"%d " % k)
             missing = int(re.search(r"(?m)^capture: (\d+) frames are missing: ", gate.report())[1])
             assert missing > 0
-            capture = read_all(reader)
-            assert frames_of(capture) + missing >= 2 * UNREAD
+            capture = []
+            until(lambda: capture.append(read_all(reader)) or whole_frames(b"".join(capture))[0] + missing >= 2 * UNREAD, "all frames")
+            assert whole_frames(b"".join(capture))[1], "a frame is cut"
             os.close(reader)
             for k in range(2):
                 a.say(address(0, EVERYONE, GAME), b"%d " % k)

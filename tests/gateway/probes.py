@@ -1,7 +1,7 @@
 """A gateway that runs asks stations whether they answer, and routers for their way."""
 import re
 
-from lab import EVERYONE, GATEWAY, NOBODY, TUNNEL, Client, Counts, address, left_out, packet, reaches, socket_of, tunnels
+from lab import EVERYONE, GATEWAY, NOBODY, TUNNEL, Client, Counts, address, left_out, packet, played_anew, reaches, socket_of, tunnels
 from status import Watched, asked
 from systems import SYSTEM, Windows
 
@@ -45,6 +45,7 @@ def name(network, node):
     return f"{network:08X}.{node.hex().upper()}"
 
 
+@played_anew
 def pinged():
     """A client that answers as DOSBox does is pinged, one that is silent is told so, and where there is none that is told."""
     with Watched(tunnels(1)) as gate:
@@ -60,6 +61,7 @@ def pinged():
         assert asked(gate.path, "ping", name(0x99, a.node))[1:] == ("", "there is no route to network 00000099\n")
 
 
+@played_anew
 def at_a_socket():
     """A station is asked at the socket that is named, with the byte of NetWare's diagnostics that leaves nobody out."""
     with Watched(tunnels(1)) as gate:
@@ -68,6 +70,7 @@ def at_a_socket():
         assert out.startswith(f"asks {name(0x10, a.node)} at socket 0456\n") and out.endswith("4 asked, 4 answered\n"), out
 
 
+@played_anew
 def traced():
     """A trace shows the route, and asks the router on the way for its own; the gateway's own networks are told."""
     link = "network 20 2 1490 qemu-tcp {} raw\n"

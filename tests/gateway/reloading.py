@@ -176,7 +176,8 @@ def another_address():
         (moved,) = free_ports(1)
         gate.reload(at(0x10, moved))
         gate.told(f"client {a.node.hex().upper()} leaves 00000010")
-        assert gate.counted(0x10, "clients") == 0 and comes_in(moved)
+        assert gate.counted(0x10, "clients") == 0
+        until(lambda: comes_in(moved), "somebody comes in at the other port")
 
 
 def a_link_is_taken():
