@@ -32,7 +32,10 @@ use std::marker::Model;
 /// segment.come(2, player);
 /// let mut to = ArrayVec::new();
 /// let is_heard = segment.hear(0, pc, Node::BROADCAST, &mut to);
-/// println!(rt; "a call goes to {} links, and to the router: {is_heard}", to.len())?;
+/// println!(rt;
+///     "a call goes to {} links, and to the router: {is_heard}",
+///     to.len()
+/// )?;
 /// segment.hear(2, player, pc, &mut to);
 /// for link in to.iter() {
 ///     let number = *link;
