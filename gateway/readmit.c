@@ -49,6 +49,7 @@ static void keep_client(roster *list, const known_client *client)
     member *kept = roster_find(list, client->place);
     if (kept == NULL)
         return;
+    speaker_forget(kept->speaks);
     kept->refused = client->refused;
     memcpy(kept->dropped, client->dropped, sizeof kept->dropped);
 }

@@ -7,14 +7,7 @@
 #include <stdint.h>
 
 #include "limit.h"
-
-/* An address that clients have, and what they said together. */
-typedef struct speaker {
-    uint8_t host[4];
-    size_t clients; /* 0: nobody has it */
-    meter said;
-    meter handed; /* to the router */
-} speaker;
+#include "speaker.h"
 
 /* What was dropped of a client. */
 typedef enum {
@@ -40,7 +33,6 @@ typedef struct roster {
     size_t count;
     size_t room;
     size_t next; /* behind the one that was found last */
-    speaker *speakers;
 } roster;
 
 /* Makes one for so many clients. Returns false where there is no memory. */

@@ -12,13 +12,15 @@ import sys
 import time
 
 from attacks import LONG_SHARES, OTHER_PORT, TUNNEL_LINE, Playground, during, figures, fill, flood, named, none
-from lab import Counts, left_out, played_anew, until
+from lab import GAME, LIMIT, Clock, Counts, address, left_out, packet, played_anew, until
 from players import NETWORK, Party, Player, Slow
 from spaces import GATEWAY, INSIDE, STRANGERS, build_flood, tried_inside
 from systems import SYSTEM
 
 SECONDS = 6  # that a flood lasts: each client is pinged meanwhile
 RATE, SHARE, BURST = 800, 50, 64  # packets a second that a client receives, of who says little, and at once
+TWO = f"{TUNNEL_LINE}network 20 1 1424 dosbox 0.0.0.0:{OTHER_PORT}\n"
+PORTS = {NETWORK: GATEWAY[1], 0x20: OTHER_PORT}
 HOUSEHOLD = 4  # clients of an address that have a share each
 FLOOD = 8000  # packets a second
 CROWD, FIRST = 200, 20000  # clients of one host, and the first of their ports
@@ -204,6 +206,31 @@ def a_narrow_line():
         none(lost)
 
 
+# ---- What an address says, by a clock that stands still ----
+
+
+def one_on_each(it, hosts):
+    """A client on each of two networks. Returns them."""
+    players = [Player(host, (GATEWAY[0], port)) for host, port in zip(hosts, PORTS.values())]
+    for player in players:
+        it.party.put_in("on each network", player)
+        player.register()
+    until(lambda: it.party.hear() or all(it.gate.counted(network, "clients") == 1 for network in PORTS), "clients on both networks")
+    assert it.party.until(lambda: all(player.network for player in players), LIMIT), "a registration isn't answered"
+    return players
+
+
+def an_address_is_one():
+    """An address with a client on each of two networks hands the router 64 packets at once on both together, and no more."""
+    with Playground(TWO, numbers=(0, 0, 0), more=1, clock=Clock()) as it:
+        for player in one_on_each(it, it.free * 2):
+            for _ in range(2 * BURST):
+                player.send(packet(address(0x99, player.node, GAME), player.at(), b"far"))
+            it.gate.report()
+        lost = [it.gate.counted(network, "too much for the router") for network in PORTS]
+        assert lost == [BURST, 2 * BURST], lost
+
+
 def fragmentation_needed(gateway, to, size):
     """What a router says whose next line takes less: the bytes of ICMP, about a datagram from the gateway to a place."""
     about = struct.pack(">BBHHHBBH4s4s", 0x45, 0, 1028, 1, 0x4000, 64, 17, 0, *map(socket.inet_aton, (gateway[0], to[0])))
@@ -242,6 +269,7 @@ TESTS = [
     named("with full tables RIP's requests in a player's name, 50 a second", questions_in_its_name, "rip"),
     forged_strangers,
     a_narrow_line,
+    an_address_is_one,
     a_forged_complaint,
 ]
 

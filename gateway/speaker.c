@@ -1,0 +1,52 @@
+#include "speaker.h"
+
+#include <stdlib.h>
+#include <string.h>
+
+/* All that are known; and the one that those share for whom there was no memory. */
+static speaker *speakers, spare;
+
+static speaker *known(const uint8_t host[4])
+{
+    speaker *it = speakers;
+    while (it != NULL && memcmp(it->host, host, sizeof it->host) != 0)
+        it = it->next;
+    return it;
+}
+
+static speaker *new_speaker(const uint8_t host[4])
+{
+    speaker *it = malloc(sizeof *it);
+    if (it == NULL)
+        return &spare;
+    memset(it, 0, sizeof *it);
+    memcpy(it->host, host, sizeof it->host);
+    it->next = speakers;
+    speakers = it;
+    return it;
+}
+
+speaker *speaker_join(const uint8_t host[4])
+{
+    speaker *it = known(host);
+    if (it == NULL)
+        it = new_speaker(host);
+    it->clients++;
+    return it;
+}
+
+void speaker_leave(speaker *it)
+{
+    speaker **at = &speakers;
+    if (--it->clients > 0 || it == &spare)
+        return;
+    while (*at != it)
+        at = &(*at)->next;
+    *at = it->next;
+    free(it);
+}
+
+void speaker_forget(speaker *it)
+{
+    it->said = it->handed = 0;
+}
