@@ -23,6 +23,7 @@ static const char *const WORDS_OF[REASONS] = {
     [TOO_MUCH_FOR_CLIENT] = "too much for a client",
     [TOO_MANY_PINGS] = "too many pings",
     [TOO_MANY_QUESTIONS] = "too many questions",
+    [TOO_MANY_ADVERTISEMENTS] = "too many advertisements",
     [TOO_MANY_ANSWERS] = "too many answers",
     [TOO_MUCH_FOR_ROUTER] = "too much for the router",
 };

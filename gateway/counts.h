@@ -23,6 +23,7 @@ typedef enum {
     TOO_MUCH_FOR_CLIENT, /* a copy for a client that received too much lately */
     TOO_MANY_PINGS,      /* a ping for all, of a client that sent too many */
     TOO_MANY_QUESTIONS,  /* a question to the router, of one that asked too many */
+    TOO_MANY_ADVERTISEMENTS, /* what a router tells, of an address that told too much */
     TOO_MANY_ANSWERS,    /* an answer of the gateway to a client that was answered too often */
     TOO_MUCH_FOR_ROUTER, /* all else that the router would hear, of an address that said too much */
     REASONS,

@@ -15,6 +15,7 @@ typedef enum {
     DROPPED_OF_IT,      /* copies of what it said, since others received too many */
     DROPPED_PINGS,      /* pings of its own */
     DROPPED_QUESTIONS,  /* questions to the router */
+    DROPPED_ADVERTISEMENTS, /* what it told as a router */
     DROPPED_FOR_ROUTER, /* all else that the router would hear */
     DROPPED_ANSWERS,    /* of the gateway, to its registrations and pings */
     DROPS,

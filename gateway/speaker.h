@@ -12,7 +12,8 @@ typedef struct speaker {
     uint8_t host[4];
     size_t clients;
     meter said;
-    meter handed; /* to the router */
+    meter handed;     /* to the router */
+    meter advertised; /* of these, what routers tell */
     struct speaker *next;
 } speaker;
 

@@ -10,18 +10,42 @@ enum { BURST = 64 };
 /* Pings of a client, and of all together, and questions to the router: a second, and at once. */
 enum { PINGS = 1, PINGS_AT_ONCE = 2, ALL_PINGS = 4, ALL_PINGS_AT_ONCE = 8, QUESTIONS = 1, QUESTIONS_AT_ONCE = 4 };
 
+/* Packets a second of what an address tells as a router, and at least so many at once; and what one has. */
+enum { ADVERTISEMENTS = 4, ADVERTISEMENTS_AT_ONCE = 32, ROUTES_IN_PACKET = 50, SERVICES_IN_PACKET = 7 };
+
 /* Answers to pings may use so much of the burst that a client receives; and answers of the gateway to what a client says to it. */
 enum { BURST_WITH_PINGS = BURST / 2, ANSWERS = 2, ANSWERS_AT_ONCE = 8 };
 
 /* Sockets, and the words of routers that ask. */
 enum { PING_SOCKET = 2, SAP_SOCKET = 0x452, RIP_SOCKET = 0x453, RIP_REQUEST = 1, SAP_QUERY = 1, SAP_NEAREST_QUERY = 3 };
 
-void throttle_set(throttle *it, uint32_t rate, uint32_t share)
+static uint32_t least(uint32_t a, uint32_t b)
 {
+    return a < b ? a : b;
+}
+
+/* Packets that advertise as much as a network has shares of the tables. */
+static uint32_t packets_of_shares(const network_setting *set)
+{
+    uint32_t routes = least(set->routes, IPXR_MOST_ROUTES), services = least(set->services, IPXR_MOST_SERVICES);
+    return (routes + ROUTES_IN_PACKET - 1) / ROUTES_IN_PACKET + (services + SERVICES_IN_PACKET - 1) / SERVICES_IN_PACKET;
+}
+
+/* Advertisements that may come at once: all that the tables take of a network, twice; where that is little, some more. */
+static uint32_t advertisements_at_once(const network_setting *set)
+{
+    uint32_t twice = 2 * packets_of_shares(set);
+    return twice > ADVERTISEMENTS_AT_ONCE ? twice : ADVERTISEMENTS_AT_ONCE;
+}
+
+void throttle_set(throttle *it, const network_setting *set)
+{
+    uint32_t rate = set->rate, share = set->share;
     memset(it, 0, sizeof *it);
     it->is_off = rate == 0;
     if (it->is_off)
         return;
+    it->advertisements = limit_of(ADVERTISEMENTS, 1, advertisements_at_once(set));
     it->received = limit_of(rate, 1, BURST);
     it->received_with_pings = limit_of(rate, 1, BURST_WITH_PINGS);
     for (uint32_t k = 0; k < HOUSEHOLD; k++)
@@ -44,6 +68,13 @@ static bool is_of_pings(const uint8_t *packet)
 static bool is_ping(const uint8_t *packet)
 {
     return get16(packet + AT_TO_SOCKET) == PING_SOCKET && is_broadcast(packet + AT_TO_NODE);
+}
+
+/* Whether it is what routers say to each other. */
+static bool is_of_routers(const uint8_t *packet)
+{
+    uint16_t to = get16(packet + AT_TO_SOCKET);
+    return to == RIP_SOCKET || to == SAP_SOCKET;
 }
 
 /* Whether the router may answer it at length. What another router tells, as its own answers, is no question. */
@@ -105,6 +136,10 @@ reason throttle_hands(throttle *it, member *from, const uint8_t *packet, size_t 
     if (is_question(packet, length) && !limit_lets(&it->questions, &from->asked, 1)) {
         from->dropped[DROPPED_QUESTIONS]++;
         return TOO_MANY_QUESTIONS;
+    }
+    if (is_of_routers(packet) && !is_question(packet, length) && !limit_lets(&it->advertisements, &from->speaks->advertised, 1)) {
+        from->dropped[DROPPED_ADVERTISEMENTS]++;
+        return TOO_MANY_ADVERTISEMENTS;
     }
     if (!limit_lets(&it->handed, &from->speaks->handed, 1)) {
         from->dropped[DROPPED_FOR_ROUTER]++;

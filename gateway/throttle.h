@@ -12,6 +12,7 @@
 #include "counts.h"
 #include "limit.h"
 #include "roster.h"
+#include "settings.h"
 
 /* So many clients of one address may each say their share: players of one household. More of them share that. */
 enum { HOUSEHOLD = 4 };
@@ -25,6 +26,7 @@ typedef struct throttle {
     limit pings;     /* of a client */
     limit all_pings; /* of all clients together: each of them answers each ping */
     limit questions; /* of a client, to the router */
+    limit advertisements; /* of an address, to the router: what changes by them it says to all other networks at once */
     limit answers;   /* of the gateway, to what a client says to it, or somebody in its name */
     meter pinged;
 } throttle;
@@ -32,8 +34,8 @@ typedef struct throttle {
 /* What a packet weighs where there is more than a client receives. */
 typedef enum { OF_LITTLE, OF_MUCH, OF_PINGS } weight;
 
-/* Sets the limits: packets a second that a client receives, 0 for no limit at all, and those of one who says little. */
-void throttle_set(throttle *it, uint32_t rate, uint32_t share);
+/* Sets the limits of a network, by its line and those below it. */
+void throttle_set(throttle *it, const network_setting *set);
 
 /* What a client's packet weighs; or why it is dropped, REASONS where it isn't. */
 reason throttle_weigh(throttle *it, member *from, const uint8_t *packet, weight *weighs);

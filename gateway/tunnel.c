@@ -29,7 +29,7 @@ int32_t tunnel_open(network *on)
 {
     ipxr_tunnel_setting set = {.network = on->set->network, .capacity = on->set->clients, .share = on->set->per_address};
     memcpy(set.node, on->node, NODE);
-    throttle_set(&on->throttle, on->set->rate, on->set->share);
+    throttle_set(&on->throttle, on->set);
     if (!roster_make(&on->roster, on->set->clients) || !strangers_make(&on->strangers, on->set->strangers))
         return IPXR_OUT_OF_MEMORY;
     return ipxr_tunnel_make(&on->tunnel, &set);
@@ -282,9 +282,9 @@ bool tunnel_client(network *on, size_t index, known_client *client)
 static void show_dropped(const known_client *it)
 {
     static const char *const OF[DROPS] = {[DROPPED_FOR_IT] = "for it", [DROPPED_OF_IT] = "copies of what it said",
-        [DROPPED_PINGS] = "pings", [DROPPED_QUESTIONS] = "questions", [DROPPED_FOR_ROUTER] = "for the router",
-        [DROPPED_ANSWERS] = "answers"};
-    char words[200] = "";
+        [DROPPED_PINGS] = "pings", [DROPPED_QUESTIONS] = "questions", [DROPPED_ADVERTISEMENTS] = "advertisements",
+        [DROPPED_FOR_ROUTER] = "for the router", [DROPPED_ANSWERS] = "answers"};
+    char words[240] = "";
     size_t at = 0;
     for (int k = 0; k < DROPS; k++)
         if (it->dropped[k] > 0)

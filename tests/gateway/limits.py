@@ -11,8 +11,8 @@ import struct
 import sys
 import time
 
-from attacks import LONG_SHARES, OTHER_PORT, TUNNEL_LINE, Playground, during, figures, fill, flood, named, none
-from lab import GAME, LIMIT, Clock, Counts, address, left_out, packet, played_anew, until
+from attacks import LONG_SHARES, OTHER_PORT, QUIET, TUNNEL_LINE, Playground, during, figures, fill, flood, named, none
+from lab import GAME, LIMIT, Clock, Counts, address, left_out, packet, played_anew, rip_response, until
 from players import NETWORK, Party, Player, Slow
 from spaces import GATEWAY, INSIDE, STRANGERS, build_flood, tried_inside
 from systems import SYSTEM
@@ -20,6 +20,7 @@ from systems import SYSTEM
 SECONDS = 6  # that a flood lasts: each client is pinged meanwhile
 RATE, SHARE, BURST = 800, 50, 64  # packets a second that a client receives, of who says little, and at once
 TWO = f"{TUNNEL_LINE}network 20 1 1424 dosbox 0.0.0.0:{OTHER_PORT}\n"
+ADVERTISED, ADVERTISED_AT_ONCE = 4, 32  # packets of an address that tell of routes and services, a second and at once
 PORTS = {NETWORK: GATEWAY[1], 0x20: OTHER_PORT}
 HOUSEHOLD = 4  # clients of an address that have a share each
 FLOOD = 8000  # packets a second
@@ -231,6 +232,29 @@ def an_address_is_one():
         assert lost == [BURST, 2 * BURST], lost
 
 
+def advertise_in_turns(it, router, count):
+    """A route comes and goes, so many times."""
+    for k in range(count):
+        router.send(rip_response(NETWORK, router.node, [(0x99, 16 if k % 2 else 1, 2)]))
+    it.gate.report()
+
+
+def a_route_that_comes_and_goes():
+    """A client advertises a route and withdraws it 100 times: the router hears it 32 times, then 4 a second, and tells others no more."""
+    with Playground(TWO, numbers=(0, 0, 0), more=2, clock=Clock()) as it:
+        router, far = one_on_each(it, it.free)
+        before, heard = far.beside, ADVERTISED_AT_ONCE
+        for _ in range(2):
+            advertise_in_turns(it, router, 100)
+            it.party.until(lambda: far.beside - before >= heard, QUIET)
+            assert 0 < far.beside - before <= heard, f"{far.beside - before} packets"
+            it.let_pass(1)
+            heard += ADVERTISED
+        report, lost = it.gate.report(), 200 - heard + ADVERTISED
+        assert it.gate.counted(NETWORK, "too many advertisements", report) == lost, report
+        assert f"dropped: {lost} advertisements" in report and f"{router.node.hex().upper()}, answered" in report, report
+
+
 def fragmentation_needed(gateway, to, size):
     """What a router says whose next line takes less: the bytes of ICMP, about a datagram from the gateway to a place."""
     about = struct.pack(">BBHHHBBH4s4s", 0x45, 0, 1028, 1, 0x4000, 64, 17, 0, *map(socket.inet_aton, (gateway[0], to[0])))
@@ -270,6 +294,7 @@ TESTS = [
     forged_strangers,
     a_narrow_line,
     an_address_is_one,
+    a_route_that_comes_and_goes,
     a_forged_complaint,
 ]
 
