@@ -19,6 +19,7 @@ static const char *const WORDS_OF[REASONS] = {
     [NO_MEMORY] = "out of memory",
     [NOT_EXTENDED] = "not extended",
     [NOT_SENT] = "not sent",
+    [NOBODY_THERE] = "nobody there",
     [TOO_MANY_STRANGERS] = "too many strangers",
     [TOO_MUCH_FOR_CLIENT] = "too much for a client",
     [TOO_MANY_PINGS] = "too many pings",

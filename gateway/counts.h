@@ -19,6 +19,7 @@ typedef enum {
     NO_MEMORY,     /* the router had no memory for what it would have sent */
     NOT_EXTENDED,  /* a broadcast that is extended, too long for another network, or its source doesn't know its network */
     NOT_SENT,      /* the system refused what was to be sent */
+    NOBODY_THERE,  /* somebody said that nobody hears at the other address. What is sent there later goes out */
     TOO_MANY_STRANGERS,  /* a stranger isn't answered: too many were lately */
     TOO_MUCH_FOR_CLIENT, /* a copy for a client that received too much lately */
     TOO_MANY_PINGS,      /* a ping for all, of a client that sent too many */

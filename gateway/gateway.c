@@ -124,17 +124,30 @@ static void hear_all(gateway *it, cable *at, arrivals *in)
     gateway_flush(it);
 }
 
+/* The next that came on a cable, sent on. Returns how many: frames, datagrams, or one complaint that nobody hears; 0 where there is none. */
+static size_t receive_next(gateway *it, cable *at)
+{
+    arrivals *in = &it->arrivals;
+    if (cable_receive(at, in)) {
+        hear_all(it, at, in);
+        return in->count;
+    }
+    if (at->set->type == LINK_QEMU_UDP && errno == ECONNREFUSED) {
+        gateway_lose(first_on(it, at), NOBODY_THERE);
+        return 1;
+    }
+    if (errno != EAGAIN)
+        links_look(it, at);
+    return 0;
+}
+
 /* What came on a cable, as far as it is its turn. */
 static void receive(gateway *it, cable *at)
 {
-    arrivals *in = &it->arrivals;
-    for (size_t heard = 0; heard < MOST_AT_ONCE && at->fd >= 0; heard += in->count) {
-        if (!cable_receive(at, in)) {
-            if (errno != EAGAIN)
-                links_look(it, at);
-            return;
-        }
-        hear_all(it, at, in);
+    size_t heard = 0, next = 1;
+    while (next > 0 && heard < MOST_AT_ONCE && at->fd >= 0) {
+        next = receive_next(it, at);
+        heard += next;
     }
 }
 

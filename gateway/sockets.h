@@ -14,7 +14,8 @@
  * Returns the socket, or -1. */
 int datagram_open(address *local, const address *remote);
 
-/* The next datagrams of a socket, or the next frames of an interface's. Returns false where there is none. */
+/* The next datagrams of a socket, or the next frames of an interface's. Returns false where there is none; with ECONNREFUSED where
+ * somebody said, as anybody can, that nobody hears what the socket sent. */
 bool datagrams_receive(int fd, arrivals *in);
 
 /* Sends a datagram, or a frame, to where the socket is bound to send; a datagram to someone who may not be there. Returns whether it is on

@@ -19,6 +19,9 @@ enum { KEPT = 1 << 20, KEPT_SENT = 8 << 20, MOST_WAITING = 4 };
 /* What goes to strangers may hold one part in so many of what the system keeps of what is sent. */
 enum { STRANGERS_PART = 4 };
 
+/* How often something is sent where the call tells only what somebody complained of: the next complaint may be there already. */
+enum { MOST_TRIES = 16 };
+
 /* Seconds of silence, after which a connection is asked whether it is there; from one question to the next; and how many there are. */
 enum { SILENT = 20, AGAIN = 20, TIMES = 2, MINUTE = SILENT + AGAIN * TIMES, MILLISECONDS = 1000 };
 
@@ -223,6 +226,25 @@ static batch *rooms_of(arrivals *in)
     return &rooms;
 }
 
+/* Whether a call on a socket for datagrams has done nothing but to tell what ICMP said of an earlier one. Anybody can send that. */
+static bool tells_complaint(ssize_t answer)
+{
+    if (answer >= 0)
+        return false;
+    switch (errno) {
+    case ECONNREFUSED:
+    case ENOPROTOOPT:
+    case ENETUNREACH:
+    case EHOSTUNREACH:
+    case EHOSTDOWN:
+    case ENONET:
+    case EPROTO:
+        return true;
+    default:
+        return false;
+    }
+}
+
 bool datagrams_receive(int fd, arrivals *in)
 {
     batch *all = rooms_of(in);
@@ -233,12 +255,19 @@ bool datagrams_receive(int fd, arrivals *in)
         all->list[k].msg_hdr.msg_namelen = sizeof all->places[k];
     }
     in->count = count > 0 ? (size_t)count : 0;
+    if (tells_complaint(count))
+        errno = ECONNREFUSED;
     return count > 0;
 }
 
 bool datagram_send(int fd, const uint8_t *bytes, size_t length)
 {
-    return send(fd, bytes, length, MSG_NOSIGNAL) == (ssize_t)length;
+    int tries = 0;
+    ssize_t sent;
+    do
+        sent = send(fd, bytes, length, MSG_NOSIGNAL);
+    while (tells_complaint(sent) && ++tries < MOST_TRIES);
+    return sent == (ssize_t)length;
 }
 
 /* Whether there is room for what goes to somebody who may not be there. Linux asks for a card that it doesn't know and keeps what is to go

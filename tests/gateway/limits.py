@@ -13,8 +13,8 @@ import time
 
 from attacks import LONG_SHARES, OTHER_PORT, QUIET, TUNNEL_LINE, Playground, during, figures, fill, flood, named, none
 from lab import GAME, LIMIT, Clock, Counts, address, left_out, packet, played_anew, rip_response, until
-from players import NETWORK, Party, Player, Slow
-from spaces import GATEWAY, INSIDE, STRANGERS, build_flood, tried_inside
+from players import NETWORK, NUMBERED, Party, Player, Slow
+from spaces import GATEWAY, INSIDE, STRANGERS, build_flood, host, tried_inside
 from systems import SYSTEM
 
 SECONDS = 6  # that a flood lasts: each client is pinged meanwhile
@@ -255,15 +255,25 @@ def a_route_that_comes_and_goes():
         assert f"dropped: {lost} advertisements" in report and f"{router.node.hex().upper()}, answered" in report, report
 
 
-def fragmentation_needed(gateway, to, size):
-    """What a router says whose next line takes less: the bytes of ICMP, about a datagram from the gateway to a place."""
-    about = struct.pack(">BBHHHBBH4s4s", 0x45, 0, 1028, 1, 0x4000, 64, 17, 0, *map(socket.inet_aton, (gateway[0], to[0])))
-    about += struct.pack(">HHHH", gateway[1], to[1], 1008, 0)
-    whole = struct.pack(">BBHHH", 3, 4, 0, 0, size) + about
+# ---- What ICMP says in others' names ----
+
+PORT_UNREACHABLE, FRAGMENTATION_NEEDED = 3, 4
+WORDS = 20  # of a player, each with a complaint
+
+
+def complaint(code, about, to, size=0):
+    """What somebody says of a datagram from a place to another: the bytes of ICMP."""
+    datagram = struct.pack(">BBHHHBBH4s4s", 0x45, 0, 1028, 1, 0x4000, 64, 17, 0, *map(socket.inet_aton, (about[0], to[0])))
+    datagram += struct.pack(">HHHH", about[1], to[1], 1008, 0)
+    whole = struct.pack(">BBHHH", 3, code, 0, 0, size) + datagram
     words = struct.unpack(f">{len(whole) // 2}H", whole)
     total = sum(words)
     total = (total & 0xFFFF) + (total >> 16)
     return whole[:2] + struct.pack(">H", ~((total & 0xFFFF) + (total >> 16)) & 0xFFFF) + whole[4:]
+
+
+def icmp():
+    return socket.socket(socket.AF_INET, socket.SOCK_RAW, socket.IPPROTO_ICMP)
 
 
 def pieces():
@@ -275,12 +285,30 @@ def pieces():
 
 def a_forged_complaint():
     """Nobody makes the gateway cut what it sends by a forged word of a router that it is too long."""
-    with Playground() as it, socket.socket(socket.AF_INET, socket.SOCK_RAW, socket.IPPROTO_ICMP) as raw:
+    with Playground() as it, icmp() as raw:
         before = pieces()
         for player in it.party.all:
-            raw.sendto(fragmentation_needed(GATEWAY, player.udp.getsockname(), 576), (GATEWAY[0], 0))
+            raw.sendto(complaint(FRAGMENTATION_NEEDED, GATEWAY, player.udp.getsockname(), 576), (GATEWAY[0], 0))
         it.party.begin_again(1000)
         none(it.play(during(1)), "" if pieces() == before else f"{pieces() - before} pieces came")
+
+
+def a_port_that_is_there():
+    """Nobody makes the gateway lose a frame for QEMU by a forged word that nobody is at its port."""
+    at, to = (GATEWAY[0], OTHER_PORT), (host(0), OTHER_PORT)
+    text = f"{TUNNEL_LINE}extend 4003\nnetwork 20 1 1490 qemu-udp {at[0]}:{at[1]} {to[0]}:{to[1]} raw\nextend 4003\n"
+    with Playground(text, numbers=(0, 1, 1)) as it, icmp() as raw, socket.socket(socket.AF_INET, socket.SOCK_DGRAM) as card:
+        card.bind(to)
+        card.settimeout(LIMIT)
+        for number in range(WORDS):
+            word = struct.pack(">6sI", NUMBERED, number)
+            # (it finds what the player says and the complaint at once, and hears the player first)
+            with it.gate.run.halted():
+                it.party.all[0].say(NUMBERED, number)
+                raw.sendto(complaint(PORT_UNREACHABLE, at, to), (GATEWAY[0], 0))
+            until(lambda: word in card.recv(2048), f"word {number}")
+        report = it.gate.report()
+        assert it.gate.counted(0x20, "not sent", report) == 0 and it.gate.counted(0x20, "nobody there", report) > 0, report
 
 
 TESTS = [
@@ -296,6 +324,7 @@ TESTS = [
     an_address_is_one,
     a_route_that_comes_and_goes,
     a_forged_complaint,
+    a_port_that_is_there,
 ]
 
 

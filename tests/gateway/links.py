@@ -317,10 +317,10 @@ def extended():
 
 
 def nobody_listens():
-    """Where no QEMU has the other address, what is sent there is refused and counted."""
+    """Where no QEMU has the other address, the system says so, and it is counted."""
     (port,) = free_ports(1)
     with Gateway(tunnels(1) + f"network 20 1 1490 qemu-udp 0 127.0.0.1:{port} raw\n") as gate:
-        until(lambda: gate.counted(0x20, "not sent") > 0, "packets that are not sent")
+        until(lambda: gate.counted(0x20, "nobody there") > 0, "packets for nobody")
 
 
 def main():
