@@ -13,7 +13,7 @@ enum { PINGS = 1, PINGS_AT_ONCE = 2, ALL_PINGS = 4, ALL_PINGS_AT_ONCE = 8, QUEST
 /* Packets a second of what an address tells as a router, and at least so many at once; and what one has. */
 enum { ADVERTISEMENTS = 4, ADVERTISEMENTS_AT_ONCE = 32, ROUTES_IN_PACKET = 50, SERVICES_IN_PACKET = 7 };
 
-/* Answers to pings may use so much of the burst that a client receives; and answers of the gateway to what a client says to it. */
+/* Answers to pings may use so much of the burst that a client receives, or that its address hands to the router; and answers of the gateway to what a client says to it. */
 enum { BURST_WITH_PINGS = BURST / 2, ANSWERS = 2, ANSWERS_AT_ONCE = 8 };
 
 /* Sockets, and the words of routers that ask. */
@@ -51,6 +51,7 @@ void throttle_set(throttle *it, const network_setting *set)
     for (uint32_t k = 0; k < HOUSEHOLD; k++)
         it->said[k] = limit_of(share * (k + 1), 1, share * (k + 1));
     it->handed = limit_of(rate, 2, BURST);
+    it->handed_with_pings = limit_of(rate, 2, BURST_WITH_PINGS);
     it->pings = limit_of(PINGS, 1, PINGS_AT_ONCE);
     it->all_pings = limit_of(ALL_PINGS, 1, ALL_PINGS_AT_ONCE);
     it->questions = limit_of(QUESTIONS, 1, QUESTIONS_AT_ONCE);
@@ -129,6 +130,15 @@ bool throttle_lets_answer(throttle *it, member *to)
     return lets;
 }
 
+/* Whether an address may hand the router a packet now. (others make clients answer pings, and take none of what these say for that) */
+static bool lets_hand(throttle *it, speaker *from, const uint8_t *packet)
+{
+    bool lets = limit_has_room(is_of_pings(packet) ? &it->handed_with_pings : &it->handed, &from->handed, 1);
+    if (lets)
+        limit_count(&it->handed, &from->handed, 1);
+    return lets;
+}
+
 reason throttle_hands(throttle *it, member *from, const uint8_t *packet, size_t length)
 {
     if (it->is_off)
@@ -141,7 +151,7 @@ reason throttle_hands(throttle *it, member *from, const uint8_t *packet, size_t 
         from->dropped[DROPPED_ADVERTISEMENTS]++;
         return TOO_MANY_ADVERTISEMENTS;
     }
-    if (!limit_lets(&it->handed, &from->speaks->handed, 1)) {
+    if (!lets_hand(it, from->speaks, packet)) {
         from->dropped[DROPPED_FOR_ROUTER]++;
         return TOO_MUCH_FOR_ROUTER;
     }

@@ -23,6 +23,7 @@ typedef struct throttle {
     limit received_with_pings; /* beyond which it gets no answers to pings, by the same meter */
     limit said[HOUSEHOLD]; /* by an address with one client, or two, .., so that it is little */
     limit handed;    /* by an address, to the router */
+    limit handed_with_pings; /* beyond which no answers to pings are, by the same meter */
     limit pings;     /* of a client */
     limit all_pings; /* of all clients together: each of them answers each ping */
     limit questions; /* of a client, to the router */

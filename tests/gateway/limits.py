@@ -20,6 +20,7 @@ from systems import SYSTEM
 SECONDS = 6  # that a flood lasts: each client is pinged meanwhile
 RATE, SHARE, BURST = 800, 50, 64  # packets a second that a client receives, of who says little, and at once
 TWO = f"{TUNNEL_LINE}network 20 1 1424 dosbox 0.0.0.0:{OTHER_PORT}\n"
+PING = 2  # the socket of pings, and of their answers
 ADVERTISED, ADVERTISED_AT_ONCE = 4, 32  # packets of an address that tell of routes and services, a second and at once
 PORTS = {NETWORK: GATEWAY[1], 0x20: OTHER_PORT}
 HOUSEHOLD = 4  # clients of an address that have a share each
@@ -232,6 +233,16 @@ def an_address_is_one():
         assert lost == [BURST, 2 * BURST], lost
 
 
+def answers_to_pings_come_last():
+    """Who answers pings of another network can say half as much as without to other networks, however many these are."""
+    with Playground(TWO, numbers=(0, 0, 0), more=1, clock=Clock()) as it:
+        player, _ = one_on_each(it, it.free * 2)
+        for source, heard in (PING, BURST // 2), (GAME, BURST):
+            for _ in range(2 * BURST):
+                player.send(packet(address(0x99, player.node, GAME), player.at(source), b"far"))
+            assert it.gate.counted(NETWORK, "drop NoRoute") == heard, it.gate.report()
+
+
 def advertise_in_turns(it, router, count):
     """A route comes and goes, so many times."""
     for k in range(count):
@@ -322,6 +333,7 @@ TESTS = [
     forged_strangers,
     a_narrow_line,
     an_address_is_one,
+    answers_to_pings_come_last,
     a_route_that_comes_and_goes,
     a_forged_complaint,
     a_port_that_is_there,
