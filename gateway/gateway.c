@@ -124,7 +124,7 @@ static void hear_all(gateway *it, cable *at, arrivals *in)
     gateway_flush(it);
 }
 
-/* The next that came on a cable, sent on. Returns how many: frames, datagrams, or one complaint that nobody hears; 0 where there is none. */
+/* The next that came on a cable, sent on. Returns how many: frames, datagrams, or a complaint that nobody hears; 0 where there is none. */
 static size_t receive_next(gateway *it, cable *at)
 {
     arrivals *in = &it->arrivals;

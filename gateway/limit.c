@@ -26,11 +26,11 @@ bool limit_has_room(const limit *it, const meter *used, uint32_t count)
     return ahead(used) + count * it->between <= it->burst;
 }
 
-/* (whoever is sent more than may pass owes no more than a burst: else he would hear nothing for long) */
+/* (whoever is sent more than may pass owes no more than a second's, or a burst: else he would hear nothing for long) */
 void limit_count(const limit *it, meter *used, uint32_t count)
 {
-    uint64_t after = ahead(used) + count * it->between;
-    *used = now + (after < it->burst ? after : it->burst);
+    uint64_t after = ahead(used) + count * it->between, most = it->burst > SECOND_NS ? it->burst : SECOND_NS;
+    *used = now + (after < most ? after : most);
 }
 
 bool limit_lets(const limit *it, meter *used, uint32_t count)

@@ -13,7 +13,8 @@ enum { PINGS = 1, PINGS_AT_ONCE = 2, ALL_PINGS = 4, ALL_PINGS_AT_ONCE = 8, QUEST
 /* Packets a second of what an address tells as a router, and at least so many at once; and what one has. */
 enum { ADVERTISEMENTS = 4, ADVERTISEMENTS_AT_ONCE = 32, ROUTES_IN_PACKET = 50, SERVICES_IN_PACKET = 7 };
 
-/* Answers to pings may use so much of the burst that a client receives, or that its address hands to the router; and answers of the gateway to what a client says to it. */
+/* Answers to pings may use so much of the burst that a client receives, or that its address hands to the router; and answers of the gateway
+ * to what a client says to it. */
 enum { BURST_WITH_PINGS = BURST / 2, ANSWERS = 2, ANSWERS_AT_ONCE = 8 };
 
 /* Sockets, and the words of routers that ask. */

@@ -3,6 +3,7 @@ PCs off, the players who are there lose at most 2 % of what they say.
 
 It runs in networks of its own (spaces.py). The floods come from flood.c at the rates that are named, and the rate that was reached is printed.
 """
+import math
 import os
 import resource
 import sys
@@ -75,9 +76,9 @@ class Playground:
             self.field.close()
 
     def let_pass(self, seconds):
-        """Seconds pass by the gateway's clock, one by one; meanwhile the players answer pings."""
-        for _ in range(seconds):
-            self.clock.let_pass(1)
+        """Time passes by the gateway's clock, a second at most at once; meanwhile the players answer pings."""
+        for first in range(math.ceil(seconds)):
+            self.clock.let_pass(min(1, seconds - first))
             self.gate.report()
             self.party.until(lambda: False, 0.01)
 

@@ -12,7 +12,7 @@ import sys
 import time
 
 from attacks import LONG_SHARES, OTHER_PORT, QUIET, TUNNEL_LINE, Playground, during, figures, fill, flood, named, none
-from lab import GAME, LIMIT, Clock, Counts, address, left_out, packet, played_anew, rip_response, until
+from lab import EVERYONE, GAME, LIMIT, Clock, Counts, address, left_out, packet, played_anew, rip_response, until
 from players import NETWORK, NUMBERED, Party, Player, Slow
 from spaces import GATEWAY, INSIDE, STRANGERS, build_flood, host, tried_inside
 from systems import SYSTEM
@@ -20,6 +20,7 @@ from systems import SYSTEM
 SECONDS = 6  # that a flood lasts: each client is pinged meanwhile
 RATE, SHARE, BURST = 800, 50, 64  # packets a second that a client receives, of who says little, and at once
 TWO = f"{TUNNEL_LINE}network 20 1 1424 dosbox 0.0.0.0:{OTHER_PORT}\n"
+CHAT = 0x4004  # the socket of what no player says
 PING = 2  # the socket of pings, and of their answers
 ADVERTISED, ADVERTISED_AT_ONCE = 4, 32  # packets of an address that tell of routes and services, a second and at once
 PORTS = {NETWORK: GATEWAY[1], 0x20: OTHER_PORT}
@@ -211,13 +212,13 @@ def a_narrow_line():
 # ---- What an address says, by a clock that stands still ----
 
 
-def one_on_each(it, hosts):
-    """A client on each of two networks. Returns them."""
-    players = [Player(host, (GATEWAY[0], port)) for host, port in zip(hosts, PORTS.values())]
+def come(it, hosts, ports):
+    """A client at each of some addresses, each at a port of the gateway's. Returns them."""
+    players = [Player(host, (GATEWAY[0], port)) for host, port in zip(hosts, ports)]
     for player in players:
-        it.party.put_in("on each network", player)
+        it.party.put_in("by a clock", player)
         player.register()
-    until(lambda: it.party.hear() or all(it.gate.counted(network, "clients") == 1 for network in PORTS), "clients on both networks")
+    until(lambda: it.party.hear() or sum(it.gate.counted(network, "clients") for network in PORTS) == len(players), "all clients")
     assert it.party.until(lambda: all(player.network for player in players), LIMIT), "a registration isn't answered"
     return players
 
@@ -225,7 +226,7 @@ def one_on_each(it, hosts):
 def an_address_is_one():
     """An address with a client on each of two networks hands the router 64 packets at once on both together, and no more."""
     with Playground(TWO, numbers=(0, 0, 0), more=1, clock=Clock()) as it:
-        for player in one_on_each(it, it.free * 2):
+        for player in come(it, it.free * 2, PORTS.values()):
             for _ in range(2 * BURST):
                 player.send(packet(address(0x99, player.node, GAME), player.at(), b"far"))
             it.gate.report()
@@ -233,10 +234,31 @@ def an_address_is_one():
         assert lost == [BURST, 2 * BURST], lost
 
 
+def chatter(it, player, count):
+    """A client says something to all, so many times at once."""
+    for _ in range(count):
+        player.send(packet(address(0, EVERYONE, CHAT), player.at(CHAT), b"chatter"))
+    it.gate.report()
+
+
+def many_at_once_count():
+    """Where four clients of an address say 50 packets at once each, a flood beside them gets nothing for what these had too many."""
+    with Playground(TWO, numbers=(0, 0, 0), more=3, clock=Clock()) as it:
+        listener, floods, *household = come(it, [it.free[0], it.free[1], *it.free[2:] * HOUSEHOLD], [GATEWAY[1]] * (2 + HOUSEHOLD))
+        for player in household:
+            chatter(it, player, SHARE)
+        chatter(it, floods, 4 * SHARE)
+        it.let_pass(0.11)
+        chatter(it, floods, 4 * SHARE)
+        heard = (HOUSEHOLD + 1) * SHARE + int(0.11 * SHARE)  # (the flood's own share too, and what it may say of it again)
+        it.party.until(lambda: listener.beside > heard, QUIET)
+        assert listener.beside == heard, f"{listener.beside} packets"
+
+
 def answers_to_pings_come_last():
     """Who answers pings of another network can say half as much as without to other networks, however many these are."""
     with Playground(TWO, numbers=(0, 0, 0), more=1, clock=Clock()) as it:
-        player, _ = one_on_each(it, it.free * 2)
+        player, _ = come(it, it.free * 2, PORTS.values())
         for source, heard in (PING, BURST // 2), (GAME, BURST):
             for _ in range(2 * BURST):
                 player.send(packet(address(0x99, player.node, GAME), player.at(source), b"far"))
@@ -253,7 +275,7 @@ def advertise_in_turns(it, router, count):
 def a_route_that_comes_and_goes():
     """A client advertises a route and withdraws it 100 times: the router hears it 32 times, then 4 a second, and tells others no more."""
     with Playground(TWO, numbers=(0, 0, 0), more=2, clock=Clock()) as it:
-        router, far = one_on_each(it, it.free)
+        router, far = come(it, it.free, PORTS.values())
         before, heard = far.beside, ADVERTISED_AT_ONCE
         for _ in range(2):
             advertise_in_turns(it, router, 100)
@@ -333,6 +355,7 @@ TESTS = [
     forged_strangers,
     a_narrow_line,
     an_address_is_one,
+    many_at_once_count,
     answers_to_pings_come_last,
     a_route_that_comes_and_goes,
     a_forged_complaint,

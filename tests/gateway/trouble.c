@@ -152,7 +152,7 @@ int __wrap_ioctl(int fd, unsigned long what, ...)
     return fails("ioctl") ? -1 : __real_ioctl(fd, what, value);
 }
 
-/* The second that a file says, in digits. */
+/* The second that a file says, in digits, with or without a part of the next. */
 static int read_clock(const char *name, struct timespec *now)
 {
     char digits[32] = {0};
@@ -160,8 +160,9 @@ static int read_clock(const char *name, struct timespec *now)
     bool is_read = fd >= 0 && __real_read(fd, digits, sizeof digits - 1) > 0;
     if (fd >= 0)
         __real_close(fd);
-    now->tv_sec = (time_t)strtol(digits, NULL, 10);
-    now->tv_nsec = 0;
+    double second = strtod(digits, NULL);
+    now->tv_sec = (time_t)second;
+    now->tv_nsec = (long)((second - (double)now->tv_sec) * 1e9);
     return is_read ? 0 : -1;
 }
 
