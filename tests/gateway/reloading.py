@@ -7,14 +7,15 @@ import subprocess
 import tempfile
 
 from events import Follower
-from lab import (AGAIN, EVERYONE, GAME, LIMIT, TUNNEL, Client, Counts, address, free_ports, is_ping, left_out, packet, reaches, registration,
-                 rip_response, socket_of, tunnels, until)
+from lab import (AGAIN, ALL_THERE_IS, EVERYONE, GAME, LIMIT, TUNNEL, Client, Counts, address, free_ports, is_ping, left_out, packet,
+                 reaches, registration, rip_response, socket_of, tunnels, until)
 from orders import is_farewell, told_until
 from status import Watched, asked
 from systems import SYSTEM, Windows
 
 TIMES = 20  # that the configuration is read anew while others play
 BETWEEN = 25  # packets from one time to the next
+ADVERTISED = 60  # packets that tell of routes: too many at once for a usual share, and few for all that there is
 FLOOD = 300  # packets of a client, more than another receives at once where there are limits
 
 
@@ -118,6 +119,23 @@ def limits():
         assert lost > 0 and gate.counted(0x10, dropped) == lost and f"{lost} copies of what it said" in gate.report()
         assert [it["dropped"] for it in gate.shown("clients")] == [lost, lost]
         assert not is_told_to_leave(gate)
+
+
+def shares():
+    """With another share of the tables a network's clients may advertise as much at once."""
+    dropped = "too many advertisements"
+    (port,) = free_ports(1)
+    with Changed(at(0x10, port)) as gate:
+        a = Client(port)
+
+        def advertise():
+            for _ in range(ADVERTISED):
+                a.send(rip_response(0x10, a.node, [(0x99, 1, 2)]))
+            return gate.counted(0x10, dropped)
+
+        lost = advertise()
+        gate.reload(at(0x10, port, ALL_THERE_IS))
+        assert advertise() == lost > 0, lost
 
 
 def sockets():
@@ -249,8 +267,8 @@ def main():
     if SYSTEM is Windows:
         left_out("reading the configuration anew", "it is Linux' own")
         return counts
-    for test in (nothing_changes, wrong_file, rules_for_clients, limits, sockets, a_link_is_another, networks_come_and_go,
-                 another_address, a_link_is_taken, the_router_begins_anew, followed, at_a_terminal):
+    for test in (nothing_changes, wrong_file, rules_for_clients, limits, shares, sockets, a_link_is_another,
+                 networks_come_and_go, another_address, a_link_is_taken, the_router_begins_anew, followed, at_a_terminal):
         counts.run(test)
     return counts
 
