@@ -77,7 +77,7 @@ fn remove<const C: usize>(node: Node, stations: &mut ArrayVec<Station, C>)
 }
 
 /// What is known of a link's stations is forgotten.
-pub(crate) fn forget<const C: usize>(link: u8, stations: &mut ArrayVec<Station, C>)
+pub(crate) fn remove_all<const C: usize>(link: u8, stations: &mut ArrayVec<Station, C>)
     ensures { stations.new.items ≡ filter (λ s. not (s.link == link)) stations.old.items }
 {
     stations.retain(|station| station.link != link);

@@ -6,7 +6,7 @@ ghost use Rattle.ipx_segment.specs.Receivers.{receivers, is_heard};
 ghost use Rattle.ipx_segment.specs.Stands.{State, Stands};
 
 use crate::changing::{all_down, put_at};
-use crate::learning::{come, forget, learn, leave, pass};
+use crate::learning::{come, learn, leave, pass, remove_all};
 use crate::link::Link;
 use crate::looking::{is_taken, link_at, station_of};
 use crate::reaching::put_links;
@@ -108,7 +108,7 @@ impl<const L: usize, const C: usize> Segment<L, C> {
         ensures setting { self.new.setting ≡ self.old.setting }
         ensures stands { (h : History) → Stands self.old h → Stands self.new (Changes link to ∷ h) }
     {
-        forget(link, &mut self.stations);
+        remove_all(link, &mut self.stations);
         put_at(link, to, &mut self.links);
     }
 
