@@ -40,7 +40,7 @@ bool strangers_let(strangers *it, const uint8_t place[6], uint32_t count)
 {
     meter *host = &it->hosts[get32(place) % MOST_HOSTS];
     return it->has_no_limit ||
-           (limit_has_room(&it->one, host, 1) && limit_lets(&it->all, &it->sent, count) && limit_lets(&it->one, host, count));
+           (limit_has_room(&it->one, host, count) && limit_lets(&it->all, &it->sent, count) && limit_lets(&it->one, host, count));
 }
 
 /* Whether the place of a ping waits already, or as many of its address do as may. */

@@ -24,7 +24,7 @@ STAGE = 1.0  # seconds that a flood lasts
 FRAMES = 4  # of each wire, each time the players are heard
 BETWEEN_CARDS = 0.7  # seconds between two changes of a card
 CUT, REFUSED, CHANGED = "connections cut", "connections refused", "cards switched, taken out or put in"  # what is no datagram
-MOST_GROWN = 1.1  # memory at the end, as a part of that at the start
+MOST_GROWN = 1.1  # memory at the end, as a part of that halfway, when each buffer has been used (they aren't touched before)
 SANITIZER = "quarantine_size_mb=1:malloc_context_size=1"  # (else what is freed is kept, and counted as memory)
 UDP_PORT, CARD_PORT, LISTEN_PORT, CONNECT_PORT = 5001, 5002, 5003, 5004
 CONFIGURATION = f"""network 10 1 1424 dosbox 0.0.0.0:{GATEWAY[1]}
@@ -229,7 +229,7 @@ class Soak:
             self.ground.gate.end()
         except AssertionError as fault:
             self.faults.append(str(fault))
-        if self.memory and self.memory[-1] > MOST_GROWN * self.memory[0]:
+        if self.memory and self.memory[-1] > MOST_GROWN * self.memory[len(self.memory) // 2]:
             self.faults.append("its memory grows")
 
     def tell(self):
@@ -237,7 +237,7 @@ class Soak:
             figures(f"{what}: {count}")
         figures("lost in the worst round: " + ", ".join(f"{kind} {100 * lost:.1f} %" for kind, lost in self.lost.items()))
         if self.memory:
-            figures(f"memory: {self.memory[0]} KB after the first round, {self.memory[-1]} KB after the last, {max(self.memory)} KB at most")
+            figures(f"memory: {self.memory[0]} KB after the first round, {self.memory[len(self.memory) // 2]} KB halfway, {self.memory[-1]} KB after the last, {max(self.memory)} KB at most")
         for fault in self.faults:
             print(f"FAULT   gateway: {fault}")
         sent = sum(count for what, count in self.counts.items() if what not in (CUT, REFUSED, CHANGED))
