@@ -237,7 +237,8 @@ class Soak:
             figures(f"{what}: {count}")
         figures("lost in the worst round: " + ", ".join(f"{kind} {100 * lost:.1f} %" for kind, lost in self.lost.items()))
         if self.memory:
-            figures(f"memory: {self.memory[0]} KB after the first round, {self.memory[len(self.memory) // 2]} KB halfway, {self.memory[-1]} KB after the last, {max(self.memory)} KB at most")
+            halfway = self.memory[len(self.memory) // 2]
+            figures(f"memory: {self.memory[0]} KB after the first round, {halfway} KB halfway, {self.memory[-1]} KB after the last")
         for fault in self.faults:
             print(f"FAULT   gateway: {fault}")
         sent = sum(count for what, count in self.counts.items() if what not in (CUT, REFUSED, CHANGED))
