@@ -2,5 +2,6 @@
 pub mod EachElement
 pub mod FoundInAList
 pub mod HowManyPass
+pub mod SameElementsInOrder
 pub mod SomeElement
 pub mod SortedByNumber

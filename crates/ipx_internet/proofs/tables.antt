@@ -12,6 +12,7 @@ pub mod NoRouteIsBetter
 pub mod PacketsArrive
 pub mod RightWithinAMinute
 pub mod RoomForEachNetwork
+pub mod RoutesStayAtEachStep
 pub mod SaysItsLeastWay
 pub mod SaysWhatItKnows
 pub mod SecondKeepsRight

@@ -3,3 +3,5 @@ pub mod FewNetworks
 pub mod NothingNewIsSent
 pub mod OnceInAPeriod
 pub mod SizeOfPages
+pub mod TablesStayInTicks
+pub mod TicksAreOfUpkeep

@@ -1,6 +1,6 @@
 -- What it costs to keep tables as they are: while they stay, each router sends the pages of what it advertises once in 60 seconds.
 use Rattle.std.specs.Prelude.{◌≡◌, ℕ, ◌+◌, ◌*◌, ◌<◌, ◌==◌, ◌&&◌, true, false, List, [], ◌∷◌, length, map, Ok, Some}
-use Rattle.std.specs.List.{filter}
+use Rattle.std.specs.List.{filter, flat_map}
 use Rattle.ipx_wire.specs.Packet.{Parts, packet_of}
 use Rattle.ipx_wire.specs.Piece.{IsBytes}
 use Rattle.ipx_wire.specs.declared.rip.Operation.TheVariants.{Response}
@@ -62,6 +62,20 @@ module _ (net : Internet) (most_routes most_services : ℕ) where
   TablesStay old run (step ∷ steps) =
       let next = stepped net most_routes most_services run step in
       HaveTheSame old next.histories × TablesStay old next steps
+
+  -- the same of services alone
+  abbrev pub HaveTheServices : List History → List History → Type 0
+  HaveTheServices old new = (router : ℕ) → router < length net → (has new router).services ≡ (has old router).services
+
+  abbrev pub ServicesStay : List History → Run → List Step → Type 0
+  ServicesStay old run [] = Unit
+  ServicesStay old run (step ∷ steps) =
+      let next = stepped net most_routes most_services run step in
+      HaveTheServices old next.histories × ServicesStay old next steps
+
+-- the steps of ticks, one after the other
+abbrev pub steps_of : List (List Step) → List Step
+steps_of ticks = flat_map (λ steps. steps) ticks
 
 -- ---- what is sent
 

@@ -47,7 +47,7 @@ ghost use Rattle.ipx_internet.specs.Weight.{weight, weights, CanCome, IsBounded}
 mod costs;
 mod passing;
 
-pub use crate::laws::costs::upkeep;
+pub use crate::laws::costs::{tables_stay, upkeep};
 pub use crate::laws::passing::seconds_pass;
 
 /// How far a packet goes, in any internet and any log: with any tables and any ports up, also such as change on the way.

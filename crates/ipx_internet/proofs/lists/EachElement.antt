@@ -229,14 +229,25 @@ numbers_differ (suc n) =
     differ-append (numbers n) (n ∷ []) (numbers_differ n) (tt, tt)
     (all_apart (λ k. k < n) (λ k. k ≡ n) (λ k less same. absurd (omega (arith, less, same))) (numbers n) (n ∷ []) (numbers_below n) (refl, tt))
 
--- rising numbers differ
-pub rising_differ : (xs : List ℕ) → IsStrictlyIncreasing xs → AreDifferent xs
-rising_differ xs rising = by xs (AllPairs-from_increasing xs rising)
+-- each number is below those behind it
+abbrev pub Climbs : List ℕ → Type 0
+Climbs [] = Unit
+Climbs (x ∷ xs) = AllByRecursion (λ y. x < y) xs × Climbs xs
+
+pub climbs : (xs : List ℕ) → IsStrictlyIncreasing xs → Climbs xs
+climbs xs rising = by xs (AllPairs-from_increasing xs rising)
   where
-    by : (xs : List ℕ) → AllPairs (λ x y. x < y) xs → AreDifferent xs
+    by : (xs : List ℕ) → AllPairs (λ x y. x < y) xs → Climbs xs
     by [] pairs = tt
     by (x ∷ xs) pairs = (
-      all_then (λ y. x < y) (λ y. y ≢ x) (λ y less same. absurd (omega (arith, less, same))) xs
-          (recursion_from_All (λ y. x < y) xs (λ k d below. pairs 0 (suc k) d (omega arith) (omega (arith, below)))),
+      recursion_from_All (λ y. x < y) xs (λ k d below. pairs 0 (suc k) d (omega arith) (omega (arith, below))),
       by xs (λ i j d less below. pairs (suc i) (suc j) d (omega (arith, less)) (omega (arith, below))),
     )
+
+-- rising numbers differ
+pub rising_differ : (xs : List ℕ) → IsStrictlyIncreasing xs → AreDifferent xs
+rising_differ xs rising = by xs (climbs xs rising)
+  where
+    by : (xs : List ℕ) → Climbs xs → AreDifferent xs
+    by [] all = tt
+    by (x ∷ xs) all = (all_then (λ y. x < y) (λ y. y ≢ x) (λ y less same. absurd (omega (arith, less, same))) xs all.0, by xs all.1)

@@ -149,7 +149,7 @@ module _ (net : Internet) (laws : Layouts) (is : IsInternet net) (differ : Nodes
     abbrev clock : ℕ → ℕ
     clock router = (seconds_run (history_of run.histories router) + 1) % 60
 
-    few_seconds : (router : ℕ) → clock router < 60
+    pub few_seconds : (router : ℕ) → clock router < 60
     few_seconds router = mod_below (seconds_run (history_of run.histories router) + 1) 60 (omega arith)
 
     abbrev at_start : ℕ → Option RouteOffer
@@ -161,7 +161,7 @@ module _ (net : Internet) (laws : Layouts) (is : IsInternet net) (differ : Nodes
     abbrev queue : List Delivery
     queue = map (λ w. w.delivery) run.waiting
 
-    abbrev RightedOf : (ℕ → ℕ) → Queued → Type 0
+    abbrev pub RightedOf : (ℕ → ℕ) → Queued → Type 0
     RightedOf = Righted net laws is differ cheap up in_ports most_routes most_services room network suffice before clock few_seconds at_start
 
     abbrev Waits_by : (ℕ → ℕ) → List History → List Delivery → ℕ → Place → Type 0 → Type 0
@@ -225,7 +225,7 @@ module _ (net : Internet) (laws : Layouts) (is : IsInternet net) (differ : Nodes
         waits x f S (inr (inr (inl bad))) = inr (inr (inl bad))
         waits x f S (inr (inr (inr (s, ending)))) = inr (inr (inr (s, inl ending)))
 
-    kept : IsKept net laws is most_routes most_services up RightedOf
+    pub kept : IsKept net laws is most_routes most_services up RightedOf
     kept = record {
       same = same_left;
       second = second_rights net laws is differ cheap up in_ports most_routes most_services room network suffice before long clock few_seconds at_start;
@@ -255,7 +255,7 @@ module _ (net : Internet) (laws : Layouts) (is : IsInternet net) (differ : Nodes
     abbrev left : ℕ → ℕ
     left = left_of net laws is most_routes most_services up steps
 
-    begins_right : RightedOf (left_of net laws is most_routes most_services up steps) (forgotten run)
+    pub begins_right : RightedOf (left_of net laws is most_routes most_services up steps) (forgotten run)
     begins_right = record {
       going = begins net laws is most_routes most_services up before run steps rest.rests tick.busy;
       states = λ x w. record {
@@ -301,7 +301,7 @@ module _ (net : Internet) (laws : Layouts) (is : IsInternet net) (differ : Nodes
             weaker (inr (inr (inl bad))) = inr (inr (inl bad))
             weaker (inr (inr (inr (s, ending)))) = inr (inr (inr (inr s, ending)))
 
-    ended : RightedOf (left_of net laws is most_routes most_services up []) (forgotten last)
+    pub ended : RightedOf (left_of net laws is most_routes most_services up []) (forgotten last)
     ended =
         steps_so net laws is most_routes most_services up RightedOf kept steps run tick.busy.happens tick.leaves tick.says begins_right
 
@@ -343,19 +343,22 @@ module _ (net : Internet) (laws : Layouts) (is : IsInternet net) (differ : Nodes
       ];
     }
 
-    -- once all are right a route stays
-    pub route_stays : (x : ℕ) (w : Wanting x) → most_ticks_right ≤ before → route_of last x ≡ route_of run x
-    route_stays x w steady = elim (ended.states x w).holds [
+    -- once all are right a route stays, at each moment of a tick
+    pub held_now : (left_now : ℕ → ℕ) (now : Run) → RightedOf left_now (forgotten now) → (x : ℕ) (w : Wanting x) → most_ticks_right ≤ before → route_of now x ≡ route_of run x
+    held_now left_now now righted x w steady = elim (righted.states x w).holds [
       | inl held ↦
-          found_there net laws is differ cheap up in_ports most_routes most_services room network suffice x w (history_of last.histories x) held.0 held.2
+          found_there net laws is differ cheap up in_ports most_routes most_services room network suffice x w (history_of now.histories x) held.0 held.2
           (ap (λ (r : RouteOffer). r.network) held.3.same)
           (right_way net is differ cheap up in_ports most_routes room network suffice x w.v w.off w.least held.1 held.0.offer held.3)
           ∙ sym (held.4 steady)
       | inr (port, f, source, late) ↦
           let unsteady = waits_unsteady net laws is differ cheap up in_ports most_routes most_services room network suffice before clock few_seconds at_start
-          (left_of net laws is most_routes most_services up []) last.histories (map (λ w. w.delivery) last.waiting) x f late in
+          left_now now.histories (map (λ w. w.delivery) now.waiting) x f late in
           absurd (omega (arith, unsteady, steady))
     ]
+
+    pub route_stays : (x : ℕ) (w : Wanting x) → most_ticks_right ≤ before → route_of last x ≡ route_of run x
+    route_stays = held_now (left_of net laws is most_routes most_services up []) last ended
 
   -- ---- ticks, one after the other
 

@@ -1,5 +1,5 @@
 -- What a table has for a network once every route is of a real way, and once all are right: the route of the least way, for good.
-use Rattle.std.proofs.Common.{◌≡◌, refl, sym, ap, ◌∙◌, subst, ◌⊎◌, ℕ, suc, ◌+◌, ◌<◌, ◌≤◌, ◌==◌, true, false, List, [], ◌∷◌, ◌++◌, length, map, Option, None, Some, option_map, inl, inr, arith, is_eq}
+use Rattle.std.proofs.Common.{◌≡◌, refl, sym, ap, ◌∙◌, subst, ◌⊎◌, ℕ, suc, ◌+◌, ◌<◌, ◌≤◌, ◌==◌, true, false, List, [], ◌∷◌, ◌++◌, length, map, find, Option, None, Some, option_map, inl, inr, arith, is_eq}
 use Rattle.std.specs.List.{AllByRecursion}
 use Rattle.std.proofs.lemmas.Bool.{cases_Bool, ne_eqb, both_ways}
 use Rattle.std.proofs.lemmas.Nat.{mod_below}
@@ -28,6 +28,7 @@ use Rattle.ipx_internet.proofs.tables.NoRouteIsBetter.{there_where_up, real_way,
 use Rattle.ipx_internet.proofs.tables.RightWithinAMinute.{find_same, find_none, tied, route_of, AtRest, good_then, tick_rests, route_stays, ticks_rest_right}
 use Rattle.ipx_internet.proofs.tables.RoomForEachNetwork.{real_wanted, same_where_equal}
 use Rattle.ipx_internet.proofs.tables.SaysWhatItKnows.{Wants, wants, SourceOf, found_there}
+use Rattle.ipx_internet.proofs.ticks.RealOrSoonEnded.{Endures}
 use Rattle.ipx_internet.proofs.ticks.TickAfterTick.{CalmTicks}
 
 -- they are at least those after which every route is of a real way, and no more than stated
@@ -69,22 +70,22 @@ module _ (net : Internet) (laws : Layouts) (is : IsInternet net) (differ : Nodes
       let h = ap (λ (y : Way). y.hops) c.by in
       omega (arith, h)
 
-  -- ---- what a router holds then
+  -- ---- what a router never holds, when it had so many seconds
 
-  module _ (ticks : ℕ) (run : Run) (rest : Rest ticks run) (long : most_ticks_gone ≤ ticks) (router : ℕ) (inside : router < length net) where
-    abbrev history : History
-    history = history_of run.histories router
-
+  module _ (router had : ℕ) (long : most_ticks_gone ≤ had) (history : History) (endures : Endures net up most_routes router had history) where
     abbrev routes : List RouteOffer
     routes = offers (routes_held (ports_of net router) most_routes history)
+
+    abbrev found : Option RouteOffer
+    found = find (λ o. is_eq (network_order o.network network)) routes
 
     all_real : AllByRecursion (IsReal net up router) routes
     all_real =
         at_last route_reading network_order network_total most_routes (map (λ p. p.route_share) (ports_of net router)) (λ r. r.hops) (λ r. refl)
         (IsReal net up router)
-        ticks (route_facts (ports_of net router) history) long (rest.rests.routers router inside).routes
+        had (route_facts (ports_of net router) history) long endures.routes
 
-    none_of : ((r : RouteOffer) → IsReal net up router r → r.network ≡ network → ⊥) → RouteOf run router ≡ None
+    none_of : ((r : RouteOffer) → IsReal net up router r → r.network ≡ network → ⊥) → found ≡ None
     none_of never =
         find_none (λ o. is_eq (network_order o.network network)) routes
         (all_then (IsReal net up router) (λ r. is_eq (network_order r.network network) ≡ false) (λ r real. by r real (cases_Bool (is_eq
@@ -95,16 +96,25 @@ module _ (net : Internet) (laws : Layouts) (is : IsInternet net) (differ : Nodes
         by r real (inl e) = absurd (never r real (same_number r.network network (same_where_equal r.network.0 network.0 e)))
         by r real (inr e) = e
 
-    pub none_on : is_on (ports_of net router) network ≡ true → RouteOf run router ≡ None
+    pub none_on : is_on (ports_of net router) network ≡ true → found ≡ None
     none_on on =
         none_of (λ r real named. both_ways (is_on (ports_of net router) network)
         (subst (λ (n : Network). is_on (ports_of net router) n ≡ false) named (real_wanted net up (there_where_up net is cheap up in_ports network) real)) on)
 
-    pub none_without : within net up in_ports network 15 router ≡ None → RouteOf run router ≡ None
+    pub none_without : within net up in_ports network 15 router ≡ None → found ≡ None
     none_without none =
         none_of (λ r real named.
         let (v, is_v, less) = none_beats net is cheap up in_ports network router r (real_way net is cheap up in_ports network real named) in
         nothing (sym none ∙ is_v))
+
+  -- ---- what a router holds then
+
+  module _ (ticks : ℕ) (run : Run) (rest : Rest ticks run) (long : most_ticks_gone ≤ ticks) (router : ℕ) (inside : router < length net) where
+    abbrev history : History
+    history = history_of run.histories router
+
+    abbrev endured : Endures net up most_routes router ticks history
+    endured = rest.rests.routers router inside
 
     -- the route of the least way, and the neighbour that it came from
     pub record HasRoute (v : Way) : Type 0 where
@@ -143,16 +153,18 @@ module _ (net : Internet) (laws : Layouts) (is : IsInternet net) (differ : Nodes
         ]
 
     -- by its number
-    pub by_number : route_to routes network.0 ≡ RouteOf run router
-    by_number = find_same (λ r. r.network.0 == network.0) (λ o. is_eq (network_order o.network network)) (λ r. tied r.network.0 network.0) routes
+    pub by_number : route_to (offers (routes_held (ports_of net router) most_routes history)) network.0 ≡ RouteOf run router
+    by_number = find_same (λ r. r.network.0 == network.0) (λ o. is_eq (network_order o.network network)) (λ r. tied r.network.0 network.0)
+        (offers (routes_held (ports_of net router) most_routes history))
 
-    pub table_is : ticks_right (least_route net up router network) ≤ ticks → option_map way_of (route_to routes network.0) ≡ least_route net up router network
+    pub table_is : ticks_right (least_route net up router network) ≤ ticks
+        → option_map way_of (route_to (offers (routes_held (ports_of net router) most_routes history)) network.0) ≡ least_route net up router network
     table_is sure = ap (option_map way_of) by_number ∙ by (on_or_off net up in_ports network router) (within net up in_ports network 15 router) refl
       where
         by : OnOrOff net up in_ports network router → (o : Option Way) → within net up in_ports network 15 router ≡ o → option_map way_of
             (RouteOf run router) ≡ least_route net up router network
-        by (inl on) o e = ap (option_map way_of) (none_on on) ∙ rw on refl
-        by (inr off) None e = ap (option_map way_of) (none_without e) ∙ rw off (sym e)
+        by (inl on) o e = ap (option_map way_of) (none_on router ticks long history endured on) ∙ rw on refl
+        by (inr off) None e = ap (option_map way_of) (none_without router ticks long history endured e) ∙ rw off (sym e)
         by (inr off) (Some v) e =
             let should : least_route net up router network ≡ Some v = rw off e in
             let enough = all_ticks v ticks (subst (λ (o : Option Way). ticks_right o ≤ ticks) should sure) (a_hop router v off e) in
@@ -188,11 +200,11 @@ module _ (net : Internet) (laws : Layouts) (is : IsInternet net) (differ : Nodes
           → OnOrOff net up in_ports network router → (o : Option Way) → within net up in_ports network 15 router ≡ o
           → RouteOf (ticked net most_routes most_services run further) router ≡ RouteOf run router
       by later longer long (inl on) o e =
-          none_on (length further + ticks) (ticked net most_routes most_services run further) later longer router inside on ∙ sym
-          (none_on ticks run rest long router inside on)
+          none_on router (length further + ticks) longer (history_of (ticked net most_routes most_services run further).histories router) (later.rests.routers router inside) on
+          ∙ sym (none_on router ticks long (history_of run.histories router) (rest.rests.routers router inside) on)
       by later longer long (inr off) None e =
-          none_without (length further + ticks) (ticked net most_routes most_services run further) later longer router inside e
-          ∙ sym (none_without ticks run rest long router inside e)
+          none_without router (length further + ticks) longer (history_of (ticked net most_routes most_services run further).histories router) (later.rests.routers router inside) e
+          ∙ sym (none_without router ticks long (history_of run.histories router) (rest.rests.routers router inside) e)
       by later longer long (inr off) (Some v) e =
           let should : least_route net up router network ≡ Some v = rw off e in
           let w = wants net laws is differ cheap up in_ports most_routes most_services room network suffice router v off e in

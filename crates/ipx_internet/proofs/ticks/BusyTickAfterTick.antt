@@ -24,6 +24,7 @@ use Rattle.ipx_internet.proofs.packets.SentOnOrReply.{Layouts}
 use Rattle.ipx_internet.proofs.places.OneReceiverOfANode.{ports_at}
 use Rattle.ipx_internet.proofs.records.RecordsGrowOld.{passed}
 use Rattle.ipx_internet.proofs.rounds.OneRound.{each_delivery}
+use Rattle.ipx_internet.proofs.ticks.AfterEachStep.{AfterEach}
 use Rattle.ipx_internet.proofs.ticks.FineOrSoonEnded.{Said, Tells, EventTells, Abides, abides_first, event_abides}
 use Rattle.ipx_internet.proofs.ticks.SaysFineOrSoonEnded.{event_tells}
 use Rattle.ipx_internet.proofs.ticks.TickAfterTick.{second_here, second_there}
@@ -78,15 +79,15 @@ module _ (IsFine : Network → Type 0) (IsServed : Service → Type 0) (net : In
   stays_first run (step ∷ steps) stays = stays.0
 
   -- what waits, when so many ticks have begun
-  record Arrives (ticks : ℕ) (d : Delivery) : Type 0 where
+  pub record Arrives (ticks : ℕ) (d : Delivery) : Type 0 where
     pub delivery : IsDelivery net d
     pub tells : Tells IsFine IsServed ticks d.bytes
 
-  abbrev Lasts : ℕ → ℕ → History → Type 0
+  abbrev pub Lasts : ℕ → ℕ → History → Type 0
   Lasts router had history = Abides IsFine IsServed (ports_of net router) most_routes most_services had history
 
   -- what is so while a tick goes on, with the seconds that are left of each router
-  record Going (ticks : ℕ) (left : ℕ → ℕ) (q : Queued) : Type 0 where
+  pub record Going (ticks : ℕ) (left : ℕ → ℕ) (q : Queued) : Type 0 where
     pub are : AreHistories net q.histories
     pub routers : (router had : ℕ) → router < length net → had + left router ≡ ticks → Lasts router had (history_of q.histories router)
     pub few : (router : ℕ) → router < length net → (left router ≤ 1) × (left router ≤ ticks)
@@ -172,7 +173,7 @@ module _ (IsFine : Network → Type 0) (IsServed : Service → Type 0) (net : In
 
   -- ---- steps
 
-  abbrev left_of : List Step → ℕ → ℕ
+  abbrev pub left_of : List Step → ℕ → ℕ
   left_of steps router = seconds_of router steps
 
   settles_goes : (ticks : ℕ) (rest : List Step) (histories : List History) (queue : List Delivery) → Stays histories
@@ -220,6 +221,16 @@ module _ (IsFine : Network → Type 0) (IsServed : Service → Type 0) (net : In
       let next = stepped net most_routes most_services run step in
       steps_go ticks steps next are.1 tell.1 stays.1 (step_goes ticks step steps run are.0 tell.0 stays.0 (stays_first next steps stays.1) going)
 
+  -- what follows from it is so after each step
+  pub each_goes : (ticks : ℕ) (Is : Run → Type 0) → ((left : ℕ → ℕ) (now : Run) → Going ticks left (forgotten now) → Is now) → (steps : List Step) (run : Run)
+      → AllByRecursion (IsStep net) steps → StepsTell ticks run steps → AlwaysStays run steps → Going ticks (left_of steps) (forgotten run)
+      → AfterEach net most_routes most_services Is run steps
+  each_goes ticks Is so [] run are tell stays going = tt
+  each_goes ticks Is so (step ∷ steps) run are tell stays going =
+      let next = stepped net most_routes most_services run step in
+      let now = step_goes ticks step steps run are.0 tell.0 stays.0 (stays_first next steps stays.1) going in
+      (so (left_of steps) next now, each_goes ticks Is so steps next are.1 tell.1 stays.1 now)
+
   -- ---- ticks
 
   -- after so many ticks, where nothing waits
@@ -231,18 +242,22 @@ module _ (IsFine : Network → Type 0) (IsServed : Service → Type 0) (net : In
   none_waits : (ticks : ℕ) (waiting : List Waiting) → waiting ≡ [] → AllByRecursion (Arrives ticks) (map (λ w. w.delivery) waiting)
   none_waits ticks waiting none = subst (λ (ws : List Waiting). AllByRecursion (Arrives ticks) (map (λ w. w.delivery) ws)) (sym none) tt
 
-  tick_rests : (ticks : ℕ) (run : Run) (steps : List Step) → Rests ticks run → IsBusyTick net most_routes most_services run steps
+  pub begins : (ticks : ℕ) (run : Run) (steps : List Step) → Rests ticks run → IsBusyTick net most_routes most_services run steps
+      → Going (suc ticks) (left_of steps) (forgotten run)
+  begins ticks run steps rests tick = record {
+    are = rests.are;
+    routers = λ router had within e.
+        let one = tick.each router within in
+        let all : had ≡ ticks = omega (arith, one, e) in
+        subst (λ (n : ℕ). Lasts router n (history_of run.histories router)) (sym all) (rests.routers router within);
+    few = λ router within. let one = tick.each router within in (omega (arith, one), omega (arith, one));
+    waiting = none_waits (suc ticks) run.waiting rests.quiet;
+  }
+
+  pub tick_rests : (ticks : ℕ) (run : Run) (steps : List Step) → Rests ticks run → IsBusyTick net most_routes most_services run steps
       → StepsTell (suc ticks) run steps → AlwaysStays run steps → Rests (suc ticks) (run_of net most_routes most_services run steps)
   tick_rests ticks run steps rests tick tell stays =
-      let after = steps_go (suc ticks) steps run tick.happens tell stays (record {
-        are = rests.are;
-        routers = λ router had within e.
-            let one = tick.each router within in
-            let all : had ≡ ticks = omega (arith, one, e) in
-            subst (λ (n : ℕ). Lasts router n (history_of run.histories router)) (sym all) (rests.routers router within);
-        few = λ router within. let one = tick.each router within in (omega (arith, one), omega (arith, one));
-        waiting = none_waits (suc ticks) run.waiting rests.quiet;
-      }) in
+      let after = steps_go (suc ticks) steps run tick.happens tell stays (begins ticks run steps rests tick) in
       record {
         are = after.are;
         routers = λ router within. after.routers router (suc ticks) within (omega arith);
@@ -281,7 +296,7 @@ module _ (IsFine : Network → Type 0) (IsServed : Service → Type 0) (net : In
     steps_say ticks run (step ∷ steps) says =
         (step_says ticks run step says.0, steps_say ticks (stepped net most_routes most_services run step) steps says.1)
 
-    ticks_say : (so_far : ℕ) (run : Run) (ticks : List (List Step)) → AllByRecursion (AllByRecursion (SaysOnly Says)) ticks → TicksTell so_far run ticks
+    pub ticks_say : (so_far : ℕ) (run : Run) (ticks : List (List Step)) → AllByRecursion (AllByRecursion (SaysOnly Says)) ticks → TicksTell so_far run ticks
     ticks_say so_far run [] says = tt
     ticks_say so_far run (steps ∷ ticks) says =
         (steps_say (suc so_far) run steps says.0, ticks_say (suc so_far) (run_of net most_routes most_services run steps) ticks says.1)

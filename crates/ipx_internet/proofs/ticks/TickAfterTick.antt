@@ -407,7 +407,7 @@ module _ (net : Internet) (laws : Layouts) (is : IsInternet net) (most_routes mo
     happens_so rest q router (PortDown number) is_step leaves says goes = absurd leaves
     happens_so rest q router (PortUp number) is_step leaves says goes = absurd leaves
 
-    step_so : (step : Step) (rest : List Step) (run : Run) → IsStep net step → LeavesPorts step → SaysOnly TellsNoRoute step
+    pub step_so : (step : Step) (rest : List Step) (run : Run) → IsStep net step → LeavesPorts step → SaysOnly TellsNoRoute step
         → Goes (left_of (step ∷ rest)) (forgotten run) → Goes (left_of rest) (forgotten (stepped net most_routes most_services run step))
     step_so (Happens router event) rest run is_step leaves says goes =
         subst (λ (q : Queued). Goes (left_of rest) q) (sym (events net most_routes most_services run router event None))

@@ -35,7 +35,7 @@ seconds_by router (other ∷ order) =
       | inr e ↦ rw e rest
     ]
 
-seconds_more : (router : ℕ) (first rest : List Step) → seconds_of router (first ++ rest) ≡ seconds_of router first + seconds_of router rest
+pub seconds_more : (router : ℕ) (first rest : List Step) → seconds_of router (first ++ rest) ≡ seconds_of router first + seconds_of router rest
 seconds_more router first rest =
     ap length (filter-append (is_second_of router) first rest) ∙ length-append (filter (is_second_of router) first) (filter (is_second_of router) rest)
 
