@@ -9,6 +9,7 @@ pub mod Leasts
 pub mod Links
 pub mod Logs
 pub mod Loops
+pub mod Losing
 pub mod Meanwhile
 pub mod Premises
 pub mod Rights

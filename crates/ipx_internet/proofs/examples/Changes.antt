@@ -52,7 +52,7 @@ both_real (suc (suc router)) inside = absurd (omega (arith, inside))
 abbrev cut : List Step
 cut = Happens 0 (PortDown 1) ∷ Happens 1 (PortDown 0) ∷ []
 
-abbrev lost : Run
+abbrev pub lost : Run
 lost = run_of segment 8 8 (begun (after 8).histories) cut
 
 segment_gone : IsGone segment lost.histories (network 0x20)

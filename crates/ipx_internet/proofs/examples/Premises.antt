@@ -60,14 +60,14 @@ abbrev pub ticks : List ℕ → List (List Step)
 ticks [] = []
 ticks (deliveries ∷ more) = a_tick 2 deliveries ∷ ticks more
 
--- how many deliveries wait after each
-abbrev left : Run → List ℕ → List ℕ
-left run [] = []
-left run (deliveries ∷ more) =
-    let next = run_of segment 1 1 run (a_tick 2 deliveries) in
-    length next.waiting ∷ left next more
+-- how many deliveries wait after each, where tables have so much room
+abbrev pub left : ℕ → Run → List ℕ → List ℕ
+left most run [] = []
+left most run (deliveries ∷ more) =
+    let next = run_of segment most most run (a_tick 2 deliveries) in
+    length next.waiting ∷ left most next more
 
-none_left : left (begun started) sixty ≡ replicate 60 0
+none_left : left 1 (begun started) sixty ≡ replicate 60 0
 unfolding header_bytes address_bytes network_bytes packet_of header_at address_at items network_at entry_bytes entry_at rip_of sap_of
 none_left = refl
 
@@ -84,21 +84,21 @@ empty : {X : Type 0} (xs : List X) → length xs ≡ 0 → xs ≡ []
 empty [] e = refl
 empty (x ∷ xs) e = absurd (omega (arith, e))
 
-are_by : (run : Run) (counts : List ℕ) → left run counts ≡ replicate (length counts) 0 → AreTicks segment 1 1 run (ticks counts)
-are_by run [] e = tt
-are_by run (n ∷ counts) e =
-    let next = run_of segment 1 1 run (a_tick 2 n) in
+pub are_by : (most : ℕ) (run : Run) (counts : List ℕ) → left most run counts ≡ replicate (length counts) 0 → AreTicks segment most most run (ticks counts)
+are_by most run [] e = tt
+are_by most run (n ∷ counts) e =
+    let next = run_of segment most most run (a_tick 2 n) in
     let quiet : length next.waiting ≡ 0 = ap (λ ns. get_or ns 0 0) e in (
       record {
         passes = ((omega arith, refl), ((omega arith, refl), all_settle n));
         each = λ router within. each_once router n within;
         quiet = empty next.waiting quiet;
       },
-      are_by next counts (ap (drop 1) e),
+      are_by most next counts (ap (drop 1) e),
     )
 
 pub are_ticks : AreTicks segment 1 1 (begun started) (ticks sixty)
-are_ticks = are_by (begun started) sixty none_left
+are_ticks = are_by 1 (begun started) sixty none_left
 
 -- from real routes, without services, they are enough for a hop
 pub enough : ticks_right (least_route segment (ups segment started) 0 (network 0x30)) ≤ most_ticks_gone + length (ticks sixty)

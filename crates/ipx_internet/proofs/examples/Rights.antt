@@ -28,11 +28,11 @@ use Rattle.ipx_internet.proofs.lists.FoundInAList.{nothing}
 -- ---- two routers
 
 -- hops and ticks of the routes to 10h, 20h and 30h
-abbrev held : ℕ → List (Option Way)
+abbrev pub held : ℕ → List (Option Way)
 held router =
     map (λ n. option_map way_of (route_to (offers (routes_held (ports_of segment router) 8 (history_of (after 8).histories router))) n)) (0x10 ∷ 0x20 ∷ 0x30 ∷ [])
 
-abbrev should : ℕ → List (Option Way)
+abbrev pub should : ℕ → List (Option Way)
 should router = map (λ n. least_route segment (ups segment (after 8).histories) router (network n)) (0x10 ∷ 0x20 ∷ 0x30 ∷ [])
 
 pub first_right : held 0 ≡ None ∷ None ∷ way 1 2 ∷ []
