@@ -18,6 +18,7 @@ pub mod Running
 pub mod Segments
 pub mod Servers
 pub mod Settled
+pub mod Staying
 pub mod Ticks
 pub mod Upkeep
 pub mod Waiting

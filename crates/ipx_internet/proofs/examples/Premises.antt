@@ -75,7 +75,7 @@ all_settle : (n : ℕ) → AllByRecursion (IsOfTick segment) (replicate n Settle
 all_settle zero = tt
 all_settle (suc n) = (tt, all_settle n)
 
-each_once : (router n : ℕ) → router < 2 → seconds_of router (a_tick 2 n) ≡ 1
+pub each_once : (router n : ℕ) → router < 2 → seconds_of router (a_tick 2 n) ≡ 1
 each_once zero n within = seconds_then 0 (a_tick 2 0) n refl
 each_once (suc zero) n within = seconds_then 1 (a_tick 2 0) n refl
 each_once (suc (suc router)) n within = absurd (omega (arith, within))
@@ -139,7 +139,7 @@ has_way = refl
 
 -- ---- a tick in which a host announces a server
 
-bytes : IsBytes announcement
+pub bytes : IsBytes announcement
 unfolding header_bytes address_bytes network_bytes service_bytes name_field
 bytes = are_bytes announcement refl
 

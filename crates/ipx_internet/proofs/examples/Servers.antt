@@ -25,7 +25,7 @@ use Rattle.ipx_internet.proofs.examples.Waiting.{segment}
 use Rattle.ipx_internet.proofs.examples.Words.{network, node, port_on}
 
 -- a file server, that many hops away
-abbrev server : ℕ → Service
+abbrev pub server : ℕ → Service
 server hops = record {
   kind = 4;
   name = 0x46 ∷ [];
