@@ -105,7 +105,7 @@ module _ (net : Internet) where
         steps_keep (stepped net most_routes most_services run step) steps all.1 other j (step_keeps run step all.0 other j up)
 
 -- with more ports up what is real stays real
-real_more : (net : Internet) (few more : ℕ → List ℕ) → ((router j : ℕ) → is_up (few router) j ≡ true → is_up (more router) j ≡ true)
+pub real_more : (net : Internet) (few more : ℕ → List ℕ) → ((router j : ℕ) → is_up (few router) j ≡ true → is_up (more router) j ≡ true)
     → {router : ℕ} {r : RouteOffer} → IsReal net few router r → IsReal net more router r
 real_more net few more up {router} {r} (next from beside on apart taken) =
     next from beside (up from.router beside on) apart
@@ -146,7 +146,7 @@ module _ (net : Internet) (laws : Layouts) (is : IsInternet net) (most_routes mo
       at_last route_reading network_order network_total most_routes (map (λ p. p.route_share) (ports_of net router)) (λ r. r.hops) (λ r. refl) (IsReal net up router)
       most_ticks_gone (route_facts (ports_of net router) history) (omega arith) aged
 
-  real_held : (router : ℕ) (history : History) → AllByRecursion (IsReal net up router) (offers (routes_held (ports_of net router) most_routes history))
+  pub real_held : (router : ℕ) (history : History) → AllByRecursion (IsReal net up router) (offers (routes_held (ports_of net router) most_routes history))
       → RealAt router (route_facts (ports_of net router) history)
   real_held router history real =
       all_then (λ h. IsReal net up router h.offer) (λ h. IsReal net up router h.offer ⊎ (most_ticks_gone ≤ 180 * h.offer.hops + h.age)) (λ h fine. inl fine) _

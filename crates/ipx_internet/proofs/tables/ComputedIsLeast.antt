@@ -51,7 +51,7 @@ module _ (net : Internet) (up : ℕ → List ℕ) (in_ports : (router : ℕ) →
       let (j, on, same, way) = own_is (ports_of net router) (up router) network w e in
       (router_there net router j (one_up (λ k. k < length (ports_of net router)) (up router) j (in_ports router) on), ap (λ (x : Way). x.hops) way)
 
-  beats : {router : ℕ} {w : Way} → IsWay net up network router w → (v : Way) × (within net up in_ports network w.hops router ≡ Some v) × NoWorse v w
+  pub beats : {router : ℕ} {w : Way} → IsWay net up network router w → (v : Way) × (within net up in_ports network w.hops router ≡ Some v) × NoWorse v w
   beats {router} {w} (direct e) =
       let there = on_there router w e in
       (w, subst (λ (n : ℕ). within net up in_ports network n router ≡ Some w) (sym there.1) (first net up in_ports network router there.0 ∙ e), itself w)
