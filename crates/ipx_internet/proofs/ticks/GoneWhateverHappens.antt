@@ -32,7 +32,7 @@ use Rattle.ipx_internet.proofs.ticks.FineOrSoonEnded.{IsFineService, RouteSaid, 
 use Rattle.ipx_internet.proofs.ticks.RoutesBecomeReal.{among_ups}
 
 -- what holds of each tick, and says something else of it
-each_then : (net : Internet) (most_routes most_services : ℕ) (P Q : Run → List Step → Type 0) → ((run : Run) (steps : List Step) → P run steps → Q run steps)
+pub each_then : (net : Internet) (most_routes most_services : ℕ) (P Q : Run → List Step → Type 0) → ((run : Run) (steps : List Step) → P run steps → Q run steps)
     → (run : Run) (ticks : List (List Step)) → EachTick net most_routes most_services P run ticks → EachTick net most_routes most_services Q run ticks
 each_then net most_routes most_services P Q step run [] each = tt
 each_then net most_routes most_services P Q step run (steps ∷ ticks) each =

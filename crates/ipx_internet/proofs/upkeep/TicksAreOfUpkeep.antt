@@ -1,8 +1,9 @@
--- Ticks in which nothing else happens are steps of upkeep, in which each router has as many seconds as there are ticks.
+-- Ticks in which nothing else happens are steps of upkeep, and in any ticks each router has as many seconds as there are ticks.
 use Rattle.std.proofs.Common.{◌≡◌, refl, sym, ◌∙◌, ℕ, ◌<◌, List, [], ◌∷◌, length, arith, true≢false}
 use Rattle.std.specs.List.{AllByRecursion}
 use Rattle.ipx_router.specs.History.{Start, Stop, Second, Packet, PortDown, PortUp}
 use Rattle.ipx_internet.specs.Internet.{Internet}
+use Rattle.ipx_internet.specs.Meanwhile.{IsBusyTick, EachTick}
 use Rattle.ipx_internet.specs.Run.{Step, Happens, Settles, Run, run_of}
 use Rattle.ipx_internet.specs.Ticks.{seconds_of, IsOfTick, AreTicks}
 use Rattle.ipx_internet.specs.Upkeep.{IsOfUpkeep, steps_of}
@@ -25,8 +26,8 @@ module _ (net : Internet) (most_routes most_services : ℕ) where
       all-append (IsOfUpkeep net) steps (steps_of ticks) (all_then (IsOfTick net) (IsOfUpkeep net) of_upkeep steps are.0.passes)
       (are_of_upkeep (run_of net most_routes most_services run steps) ticks are.1)
 
-  pub seconds_in : (router : ℕ) → router < length net → (run : Run) (ticks : List (List Step)) → AreTicks net most_routes most_services run ticks
-      → seconds_of router (steps_of ticks) ≡ length ticks
+  pub seconds_in : (router : ℕ) → router < length net → (run : Run) (ticks : List (List Step))
+      → EachTick net most_routes most_services (IsBusyTick net most_routes most_services) run ticks → seconds_of router (steps_of ticks) ≡ length ticks
   seconds_in router inside run [] are = refl
   seconds_in router inside run (steps ∷ ticks) are =
       let one = are.0.each router inside in

@@ -65,7 +65,7 @@ pub fn upkeep()
 ///
 /// Where nothing but ticks happens, no router has a service by then, or after any of these steps (`alone`); nor where none had one at first
 /// (`alone_sooner`). So in any 60 such ticks each port that is up sends once the pages of all that its router advertises there, and nothing
-/// else (`minute`).
+/// else (`minute`). So it does also while hosts announce, as `upkeep` allows, and the services stay (`minute_meanwhile`).
 ///
 /// Sixty ticks are needed from right tables, too: a route of which nobody has told for 179 seconds is gone in the next.
 pub fn tables_stay()
@@ -100,6 +100,16 @@ pub fn tables_stay()
         → is_up (ups net histories router) number ≡ true
         → let run = ticked net most_routes most_services (begun histories) ticks in
         sent_by router number (departures net most_routes most_services run (steps_of further))
+        ≡ all_pages (ports_of net router) (has net most_routes most_services run.histories router) number }
+    ensures minute_meanwhile { (net : Internet) (most_routes most_services : ℕ) (histories : List History) (ticks further : List (List Step)) (router number : ℕ)
+        → IsInternet net → NodesDiffer net → ((network : Network) → FifteenSuffice net (ups net histories) network) → AreCheap net → HasRoom net most_routes → AreHistories net histories
+        → EachTick net most_routes most_services (IsBusyTick net most_routes most_services) (begun histories) (ticks ++ further)
+        → AllByRecursion (AllByRecursion LeavesPorts) (ticks ++ further) → AllByRecursion (AllByRecursion (SaysOnly TellsNoRoute)) (ticks ++ further)
+        → AllByRecursion (IsOfUpkeep net) (steps_of further) → length further ≡ period → most_ticks_right ≤ length ticks
+        → is_up (ups net histories router) number ≡ true
+        → let run = ticked net most_routes most_services (begun histories) ticks in
+        ServicesStay net most_routes most_services run.histories run (steps_of further)
+        → sent_by router number (departures net most_routes most_services run (steps_of further))
         ≡ all_pages (ports_of net router) (has net most_routes most_services run.histories router) number }
 {
     ipx_wire::laws::readings();

@@ -1,4 +1,5 @@
 use Rattle.std.proofs.Common.{◌≡◌, refl, sym, ◌∙◌, subst, ℕ, ◌+◌, ◌<◌, ◌≤◌, true, List, ◌++◌, length, arith}
+use Rattle.std.specs.List.{AllByRecursion}
 use Rattle.ipx_wire.specs.declared.network.Network.{Network}
 use Rattle.ipx_router.specs.History.{History}
 use Rattle.ipx_router.specs.Numbers.{period}
@@ -7,16 +8,18 @@ use Rattle.ipx_router.proofs.port_values.PortOfEachNumber.{one_up}
 use Rattle.ipx_internet.specs.Departure.{departures}
 use Rattle.ipx_internet.specs.Internet.{Internet, IsInternet, NodesDiffer, ports_of}
 use Rattle.ipx_internet.specs.Least.{AreCheap, HasRoom, FifteenSuffice, most_ticks_right}
+use Rattle.ipx_internet.specs.Meanwhile.{IsBusyTick, EachTick}
 use Rattle.ipx_internet.specs.Run.{Step, Run, AreHistories, begun}
 use Rattle.ipx_internet.specs.Tables.{AreReal}
 use Rattle.ipx_internet.specs.Ticks.{IsTick, AreTicks, ticked, ups, most_ticks_gone}
-use Rattle.ipx_internet.specs.Upkeep.{has, TablesStay, ServicesStay, steps_of, sent_by, all_pages}
+use Rattle.ipx_internet.specs.Upkeep.{IsOfUpkeep, has, TablesStay, ServicesStay, steps_of, sent_by, all_pages}
 use Rattle.ipx_internet.proofs.laws.costs.tables_stay.Goals as goal
 use Rattle.ipx_internet.proofs.laws.costs.tables_stay.Goals.{After-upkeep}
 use Rattle.ipx_internet.proofs.packets.SentOnOrReply.{Layouts}
 use Rattle.ipx_internet.proofs.tables.AnyTablesBecomeRight.{from_any, from_real}
 use Rattle.ipx_internet.proofs.tables.LeastWays.{ups_within}
 use Rattle.ipx_internet.proofs.tables.TablesAreRight.{parts_of}
+use Rattle.ipx_internet.proofs.ticks.GoneWhateverHappens.{each_then}
 use Rattle.ipx_internet.proofs.ticks.NoServiceInTicks.{NoService, stays_none, from_any as none_from_any, at_once}
 use Rattle.ipx_internet.proofs.ticks.TickAfterTick.{IsCalmTick, CalmTicks, Rests, calm_ticks, quiet_ticks, rested}
 use Rattle.ipx_internet.proofs.trees.RunIsALog.{router_there}
@@ -78,6 +81,30 @@ module _ (c : After-upkeep) (net : Internet) (most_routes most_services : ℕ) (
       (λ network. from_real net (layouts c) is differ cheap most_routes most_services room network histories are (suffice network) ticks parts.0 real)
       parts.1 services
 
+  -- ---- what is sent in a minute
+
+  module _ (all_calm : Calm (ticks ++ further)) where
+    abbrev both_calm : Calm ticks × CalmTicks net most_routes most_services run further
+    both_calm = parts_of net most_routes most_services (IsCalmTick net most_routes most_services) (begun histories) ticks further all_calm
+
+    rests : Rests net (layouts c) is most_routes most_services (ups net histories) (length ticks) run
+    rests = rested net (layouts c) is most_routes most_services (ups net histories) (begun histories) ticks are (λ router. refl) refl both_calm.0
+
+    minute_then : (router number : ℕ) → AllByRecursion (IsOfUpkeep net) (steps_of further) → length further ≡ period → is_up (ups net histories router) number ≡ true
+        → Tables → sent_by router number (departures net most_routes most_services run (steps_of further))
+        ≡ all_pages (ports_of net router) (has net most_routes most_services run.histories router) number
+    minute_then router number of_upkeep sixty on stay =
+        let place = one_up (λ j. j < length (ports_of net router)) (ups net histories router) number (ups_within net histories router) on in
+        let inside = router_there net router number place in
+        let on_now : is_up (ups net run.histories router) number ≡ true =
+        subst (λ (us : List ℕ). is_up us number ≡ true) (sym (rests.routers router inside).ups) on in
+        c.upkeep.ensures.pages net most_routes most_services run (steps_of further) router number is rests.are rests.quiet of_upkeep stay
+        (seconds_in net most_routes most_services router inside run further (all_busy run further both_calm.1) ∙ sixty) on_now
+      where
+        all_busy : (now : Run) (later : List (List Step)) → CalmTicks net most_routes most_services now later
+            → EachTick net most_routes most_services (IsBusyTick net most_routes most_services) now later
+        all_busy = each_then net most_routes most_services (IsCalmTick net most_routes most_services) (IsBusyTick net most_routes most_services) (λ now steps tick. tick.busy)
+
   -- ---- where nothing but ticks happens
 
   module _ (passes : AreTicks net most_routes most_services (begun histories) (ticks ++ further)) where
@@ -97,21 +124,8 @@ module _ (c : After-upkeep) (net : Internet) (most_routes most_services : ℕ) (
         stay_sooner real calm long (stays_none net (layouts c) is most_routes most_services (length ticks + most_ticks_gone) (omega (arith, long)) run further
         (at_once net (layouts c) is most_routes most_services histories are none ticks parts.0) parts.1)
 
-    rests : Rests net (layouts c) is most_routes most_services (ups net histories) (length ticks) run
-    rests =
-        rested net (layouts c) is most_routes most_services (ups net histories) (begun histories) ticks are (λ router. refl) refl
-        (quiet_ticks net most_routes most_services (layouts c) is (begun histories) ticks parts.0)
-
-    minute_then : (router number : ℕ) → length further ≡ period → is_up (ups net histories router) number ≡ true → Tables
-        → sent_by router number (departures net most_routes most_services run (steps_of further))
-        ≡ all_pages (ports_of net router) (has net most_routes most_services run.histories router) number
-    minute_then router number sixty on stay =
-        let place = one_up (λ j. j < length (ports_of net router)) (ups net histories router) number (ups_within net histories router) on in
-        let inside = router_there net router number place in
-        let on_now : is_up (ups net run.histories router) number ≡ true =
-        subst (λ (us : List ℕ). is_up us number ≡ true) (sym (rests.routers router inside).ups) on in
-        c.upkeep.ensures.pages net most_routes most_services run (steps_of further) router number is rests.are rests.quiet
-        (are_of_upkeep net most_routes most_services run further parts.1) stay (seconds_in net most_routes most_services router inside run further parts.1 ∙ sixty) on_now
+    ticks_of_upkeep : AllByRecursion (IsOfUpkeep net) (steps_of further)
+    ticks_of_upkeep = are_of_upkeep net most_routes most_services run further parts.1
 
 pub returns-clause-stay : goal.returns-clause-stay
 returns-clause-stay c net most_routes most_services histories ticks further is differ suffice cheap room are busy leave say long services =
@@ -133,5 +147,14 @@ returns-clause-alone_sooner c net most_routes most_services histories ticks furt
 
 pub returns-clause-minute : goal.returns-clause-minute
 returns-clause-minute c net most_routes most_services histories ticks further router number is differ suffice cheap room are passes long sixty on =
-    minute_then c net most_routes most_services histories ticks further is differ suffice cheap room are passes router number sixty on
+    minute_then c net most_routes most_services histories ticks further is differ suffice cheap room are
+    (calm c net most_routes most_services histories ticks further is differ suffice cheap room are passes) router number
+    (ticks_of_upkeep c net most_routes most_services histories ticks further is differ suffice cheap room are passes) sixty on
     (alone_then c net most_routes most_services histories ticks further is differ suffice cheap room are passes long)
+
+pub returns-clause-minute_meanwhile : goal.returns-clause-minute_meanwhile
+returns-clause-minute_meanwhile c net most_routes most_services histories ticks further router number is differ suffice cheap room are busy leave say of_upkeep sixty long on
+    services =
+    let all_calm = calm_ticks net most_routes most_services (begun histories) (ticks ++ further) busy leave say in
+    minute_then c net most_routes most_services histories ticks further is differ suffice cheap room are all_calm router number of_upkeep sixty on
+    (stay_then c net most_routes most_services histories ticks further is differ suffice cheap room are all_calm long services)
