@@ -7,6 +7,7 @@ pub mod packets
 pub mod places
 pub mod records
 pub mod rounds
+pub mod services
 pub mod tables
 pub mod ticks
 pub mod trees

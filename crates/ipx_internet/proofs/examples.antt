@@ -5,6 +5,7 @@ pub mod Changes
 pub mod Directed
 pub mod Heavy
 pub mod Horizons
+pub mod Hosts
 pub mod Leasts
 pub mod Links
 pub mod Logs

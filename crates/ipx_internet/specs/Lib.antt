@@ -26,6 +26,8 @@ pub mod Ticks
 pub mod Meanwhile
 -- Announces
 pub mod Announces
+-- Servers
+pub mod Servers
 -- Upkeep
 pub mod Upkeep
 -- Real

@@ -1,6 +1,7 @@
 //! What holds of every internet, whatever its routers' tables.
 pub mod changes;
 pub mod hosts;
+pub mod services;
 
 ghost use Rattle.std.specs.Prelude.{◌≡◌, ◌≢◌, ◌↔◌, ℕ, ◌+◌, ◌-◌, ◌*◌, ◌<◌, ◌≤◌, true, false, List, [], ◌∷◌, ◌++◌, length, map, flat_map, replicate, Option, Some, slice_get};
 ghost use Rattle.std.specs.List.{AllByRecursion};

@@ -321,7 +321,7 @@ module _ (laws : Layouts) (ports : List Port) (are : AllByRecursion IsPort ports
       abbrev IsNews : Sent → Type 0
       IsNews s = IsCast after.up P Q ports s
 
-      all_news : AllByRecursion IsNews (flat_map (news_on ports before after) after.up)
+      pub all_news : AllByRecursion IsNews (flat_map (news_on ports before after) after.up)
       all_news =
           let ups = ports_up-within ports (history ++ event ∷ []) in
           each_cast after.up ups P Q (news_on ports before after) (λ j on.

@@ -32,7 +32,7 @@ use Rattle.ipx_internet.proofs.trees.RunIsALog.{histories_more}
 
 -- ---- seconds that an event has
 
-passed_more : (event : Event) (had : ℕ) → passed event had ≡ passed event 0 + had
+pub passed_more : (event : Event) (had : ℕ) → passed event had ≡ passed event 0 + had
 passed_more Start had = omega arith
 passed_more Stop had = omega arith
 passed_more Second had = omega arith
@@ -43,7 +43,7 @@ passed_more (PortUp number) had = omega arith
 no_second : (router : ℕ) (event : Event) (rest : List Step) → is_second event ≡ false → seconds_of router (Happens router event ∷ rest) ≡ seconds_of router rest
 no_second router event rest other = let same = eq-eqb router router refl in rw (same, other) refl
 
-own_seconds : (router : ℕ) (event : Event) (rest : List Step) → seconds_of router (Happens router event ∷ rest) ≡ passed event 0 + seconds_of router rest
+pub own_seconds : (router : ℕ) (event : Event) (rest : List Step) → seconds_of router (Happens router event ∷ rest) ≡ passed event 0 + seconds_of router rest
 own_seconds router Start rest = let e = no_second router Start rest refl in omega (arith, e)
 own_seconds router Stop rest = let e = no_second router Stop rest refl in omega (arith, e)
 own_seconds router Second rest = let e = second_here router rest in omega (arith, e)

@@ -1,0 +1,5 @@
+-- Services that hosts announce: what a router may know of them, and what it comes to know.
+pub mod HostTickAfterTick
+pub mod ServedOrSoonEnded
+pub mod ServicesBecomeReal
+pub mod SpokenOfAServer
