@@ -1,4 +1,5 @@
 -- The record of a key: what offers, packets, seconds and ports make of it, and how old it gets.
+pub mod BestIsKept
 pub mod ChangedWasOffered
 pub mod HeardChangesItsKeys
 pub mod KeptOrOffered
