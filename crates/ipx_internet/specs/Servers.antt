@@ -78,6 +78,12 @@ SaysNoFalse net server (Happens router (Packet number bytes)) = MaySay net serve
 SaysNoFalse net server (Happens router event) = Unit
 SaysNoFalse net server Settles = Unit
 
+-- what is heard names no service but listed ones
+abbrev pub NamesOnly : (ℕ × List ℕ → Type 0) → Heard → Type 0
+NamesOnly Listed (HeardRip source rip) = Unit
+NamesOnly Listed (HeardSap source (Query nearest kind)) = Unit
+NamesOnly Listed (HeardSap source (Response nearest entries)) = AllByRecursion (λ e. (name : List ℕ) → e.name ≡ Some name → Listed (e.kind, name)) entries
+
 -- ---- what a router may know of it
 
 module _ (net : Internet) (up : ℕ → List ℕ) (server : Server) where

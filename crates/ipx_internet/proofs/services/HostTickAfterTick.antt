@@ -1,6 +1,6 @@
 -- Ticks, one after the other, in which hosts announce a service and ports stay as they are: what each router has of it is older by as many
 -- seconds as it had, and what waits was said in this tick.
-use Rattle.std.proofs.Common.{◌≡◌, ◌≢◌, refl, sym, subst, ◌⊎◌, ℕ, suc, ◌+◌, ◌-◌, ◌<◌, ◌≤◌, Bool, true, List, [], ◌∷◌, ◌++◌, length, map, flat_map, Option, Some, None, inl, inr, arith, if◌then◌else◌}
+use Rattle.std.proofs.Common.{◌≡◌, ◌≢◌, refl, sym, subst, ◌⊎◌, ℕ, suc, ◌+◌, ◌-◌, ◌<◌, ◌≤◌, Bool, true, List, [], ◌∷◌, ◌++◌, length, map, flat_map, Option, Some, None, IfSome, inl, inr, arith, if◌then◌else◌}
 use Rattle.std.specs.List.{AllByRecursion}
 use Rattle.std.proofs.lemmas.Bool.{cases_eq}
 use Rattle.ipx_wire.specs.Piece.{IsBytes}
@@ -28,11 +28,11 @@ use Rattle.ipx_router.proofs.tables.HeldWasOffered.{source_of, heard_up}
 use Rattle.ipx_router.proofs.telling.ToldFitsFields.{told_fits, told_services_fit}
 use Rattle.ipx_router.proofs.verdicts.HeardIsAsLayoutsAllow.{heard_is}
 use Rattle.ipx_internet.specs.Internet.{Internet, IsInternet, ports_of}
-use Rattle.ipx_internet.specs.Meanwhile.{AsksElsewhere, LeavesPorts, IsBusyTick, EachTick}
+use Rattle.ipx_internet.specs.Meanwhile.{AsksElsewhere, LeavesPorts, SaysOnly, IsBusyTick, EachTick}
 use Rattle.ipx_internet.specs.Queue.{Delivery, Queued, deliveries_of, history_of, sends_at, queued, settled_one}
 use Rattle.ipx_internet.specs.Rounds.{IsDelivery}
 use Rattle.ipx_internet.specs.Run.{Step, Happens, Settles, IsStep, AreHistories, Run, Waiting, forgotten, stepped, run_of}
-use Rattle.ipx_internet.specs.Servers.{Server, SaysNoFalse}
+use Rattle.ipx_internet.specs.Servers.{Server, SaysNoFalse, NamesOnly}
 use Rattle.ipx_internet.specs.Ticks.{seconds_of, ticked, ups}
 use Rattle.ipx_internet.proofs.deliveries.QueueOfARun.{events, deliveries}
 use Rattle.ipx_internet.proofs.deliveries.WaitsAfterDelivery.{there}
@@ -51,7 +51,7 @@ use Rattle.ipx_internet.proofs.ticks.SaysFineOrSoonEnded.{either, nearest_all}
 use Rattle.ipx_internet.proofs.ticks.TickAfterTick.{second_there}
 use Rattle.ipx_internet.proofs.trees.RunIsALog.{histories_more}
 
-module _ (net : Internet) (laws : Layouts) (is : IsInternet net) (most_routes most_services : ℕ) (up : ℕ → List ℕ) (server : Server) where
+module _ (net : Internet) (laws : Layouts) (is : IsInternet net) (most_routes most_services : ℕ) (up : ℕ → List ℕ) (server : Server) (Listed : ℕ × List ℕ → Type 0) where
   -- all routes
   abbrev AnyRoute : ℕ → RipEntry → Type 0
   AnyRoute j e = Unit {0}
@@ -66,14 +66,14 @@ module _ (net : Internet) (laws : Layouts) (is : IsInternet net) (most_routes mo
     ports = ports_of net router
 
     abbrev Said : ℕ → Service → Type 0
-    Said j = ServiceSaid net up server begun (at net up server router j)
+    Said j = ServiceSaid net up server Listed begun (at net up server Listed router j)
 
     abbrev Spoken : Sent → Type 0
-    Spoken s = IsSpoken net up server begun router s
+    Spoken s = IsSpoken net up server Listed begun router s
 
     casts : (us : List ℕ) (sent : List Sent) → us ≡ up router → AllByRecursion (IsCast us AnyRoute Said ports) sent → AllByRecursion Spoken sent
     casts us sent same all =
-        all_then (IsCast (up router) AnyRoute Said ports) Spoken (cast_spoken net up server begun router AnyRoute) sent
+        all_then (IsCast (up router) AnyRoute Said ports) Spoken (cast_spoken net up server Listed begun router AnyRoute) sent
         (subst (λ (vs : List ℕ). AllByRecursion (IsCast vs AnyRoute Said ports) sent) same all)
 
     pub second_spoken : let now = history ++ Second ∷ [] in
@@ -86,7 +86,7 @@ module _ (net : Internet) (laws : Layouts) (is : IsInternet net) (most_routes mo
         (all_cast laws ports (ports_at net is router) most_routes most_services history of_bytes AnyRoute Said (λ j. anything _) (λ j. anything _) all changed)
 
     module _ (number : ℕ) (bytes : List ℕ) (within : number < length ports) (are_bytes : IsBytes bytes)
-        (waits : Waits net up server begun (at net up server router number) bytes)
+        (waits : Waits net up server Listed begun (at net up server Listed router number) bytes)
         (ups_before : ports_up ports history ≡ up router) (ups_after : ports_up ports (history ++ Packet number bytes ∷ []) ≡ up router)
         (all : (j : ℕ) → AllByRecursion (Said j) (told_services (offers (services_held ports most_services history)) j))
         (changed : (j : ℕ) → AllByRecursion (Said j)
@@ -119,7 +119,7 @@ module _ (net : Internet) (laws : Layouts) (is : IsInternet net) (most_routes mo
           let known = told ports before.up before.routes number in
           let to = reply_to here source in
           all_then (λ s. IsRipPage (AnyRoute number) (own_address here) to s.bytes × (s.port ≡ number)) Spoken
-          (λ s page. inr (routes_silent net up server (AnyRoute number) (own_address here) to s.bytes apart page.0))
+          (λ s page. inr (routes_silent net up server Listed (AnyRoute number) (own_address here) to s.bytes apart page.0))
           (rip_sends ports number to Response (asked entries known))
           (rip_pages laws.readings laws.again ports number is_here (AnyRoute number) to (reply_is here source is_here from) (asked entries known)
           (all-filter (Writable (AnyRoute number)) _ known
@@ -138,13 +138,13 @@ module _ (net : Internet) (laws : Layouts) (is : IsInternet net) (most_routes mo
           (all_both IsTellable (Said number) known (told_services_fit before.services number (held_services_fit laws.readings ports most_services history of_bytes)) (all number)) in
           let answer = if nearest then nearest_of services else services in
           all_then (λ s. IsSapPage (Said number) (own_services here) to nearest s.bytes × (s.port ≡ number)) Spoken
-          (λ s page. inl (subst (λ (k : ℕ). (is_up (up router) k ≡ true) × IsOwnServices net up server begun (at net up server router k) s.bytes) (sym page.1)
+          (λ s page. inl (subst (λ (k : ℕ). (is_up (up router) k ≡ true) × IsOwnServices net up server Listed begun (at net up server Listed router k) s.bytes) (sym page.1)
           (here_up, record { to = to; home = refl; nearest = nearest; page = page.0 })))
           (sap_sends ports number to nearest answer)
           (sap_pages laws.readings laws.again ports number is_here (Said number) to (reply_is here source is_here from) nearest answer
           (either (Tellable (Said number)) nearest (nearest_of services) services (nearest_all (Tellable (Said number)) services fits) fits))
 
-      heard_spoken : (m : Heard) → is_up (up router) number ≡ true → IsPlaced (source_of m) → Told net up server begun (at net up server router number) m
+      heard_spoken : (m : Heard) → is_up (up router) number ≡ true → IsPlaced (source_of m) → Told net up server Listed begun (at net up server Listed router number) m
           → AllByRecursion Spoken (heard_sends ports before after number m)
       heard_spoken (HeardRip source rip) here_up from tells = rip_spoken source rip.operation rip.entries from tells
       heard_spoken (HeardSap source (Query nearest kind)) here_up from tells = sap_spoken here_up source nearest kind from
@@ -171,10 +171,10 @@ module _ (net : Internet) (laws : Layouts) (is : IsInternet net) (most_routes mo
 
   pub record Arrives (begun : ℕ) (d : Delivery) : Type 0 where
     pub delivery : IsDelivery net d
-    pub waits : Waits net up server begun d.to d.bytes
+    pub waits : Waits net up server Listed begun d.to d.bytes
 
   abbrev pub Lasts : ℕ → ℕ → History → Type 0
-  Lasts router had history = Endures net up server most_services router had history
+  Lasts router had history = Endures net up server Listed most_services router had history
 
   -- what is so while a tick goes on, with the seconds that are left of each router
   pub record Going (ticks : ℕ) (left : ℕ → ℕ) (q : Queued) : Type 0 where
@@ -187,7 +187,7 @@ module _ (net : Internet) (laws : Layouts) (is : IsInternet net) (most_routes mo
 
   module _ (ticks : ℕ) (histories : List History) (queue : List Delivery) (router : ℕ) (event : Event) (left rest : ℕ → ℕ)
       (within : router < length net) (on : IsOnPort (ports_of net router) event) (of_bytes : IsOfBytes event) (leaves : LeavesPorts (Happens router event))
-      (waits : (number : ℕ) (bytes : List ℕ) → event ≡ Packet number bytes → Waits net up server ticks (at net up server router number) bytes)
+      (waits : (number : ℕ) (bytes : List ℕ) → event ≡ Packet number bytes → Waits net up server Listed ticks (at net up server Listed router number) bytes)
       (own : left router ≡ passed event 0 + rest router) (others : (other : ℕ) → other ≢ router → left other ≡ rest other)
       (going : Going ticks left (record { histories = histories; queue = queue })) where
     abbrev past : History
@@ -218,24 +218,24 @@ module _ (net : Internet) (laws : Layouts) (is : IsInternet net) (most_routes mo
         omega (arith, few)
 
     lasts : Lasts router (passed event had) now
-    lasts = event_endures net up server most_services router had ticks (omega arith) past lasted event leaves waits
+    lasts = event_endures net up server Listed most_services router had ticks (omega arith) past lasted event leaves waits
 
-    all_spoken : AllByRecursion (IsSpoken net up server ticks router) sents
+    all_spoken : AllByRecursion (IsSpoken net up server Listed ticks router) sents
     all_spoken = by event leaves on of_bytes waits lasts (let more = passed_more event had in omega (arith, more, soon))
       where
         by : (e : Event) → LeavesPorts (Happens router e) → IsOnPort (ports_of net router) e → IsOfBytes e
-            → ((number : ℕ) (bytes : List ℕ) → e ≡ Packet number bytes → Waits net up server ticks (at net up server router number) bytes)
+            → ((number : ℕ) (bytes : List ℕ) → e ≡ Packet number bytes → Waits net up server Listed ticks (at net up server Listed router number) bytes)
             → Lasts router (passed e had) (past ++ e ∷ []) → ticks ≤ passed e had + 1
-            → AllByRecursion (IsSpoken net up server ticks router) (sends_at net most_routes most_services histories router e)
+            → AllByRecursion (IsSpoken net up server Listed ticks router) (sends_at net most_routes most_services histories router e)
         by Second leave there bytes wait last young =
             second_spoken ticks router past (going.are.on_ports router) (going.are.of_bytes router) last.ups
-            (services_said net up server most_services router (suc had) ticks young (past ++ Second ∷ []) last)
-            (changes_said net up server most_services router (suc had) ticks young (past ++ Second ∷ []) last
+            (services_said net up server Listed most_services router (suc had) ticks young (past ++ Second ∷ []) last)
+            (changes_said net up server Listed most_services router (suc had) ticks young (past ++ Second ∷ []) last
             (offers (services_held (ports_of net router) most_services past)))
         by (Packet number bytes) leave there are_bytes wait last young =
             packet_spoken ticks router past (going.are.on_ports router) (going.are.of_bytes router) number bytes there are_bytes (wait number bytes refl) lasted.ups last.ups
-            (services_said net up server most_services router had ticks soon past lasted)
-            (changes_said net up server most_services router had ticks young (past ++ Packet number bytes ∷ []) last
+            (services_said net up server Listed most_services router had ticks soon past lasted)
+            (changes_said net up server Listed most_services router had ticks young (past ++ Packet number bytes ∷ []) last
             (offers (services_held (ports_of net router) most_services past)))
         by Start leave there bytes wait last young = absurd leave
         by Stop leave there bytes wait last young = absurd leave
@@ -248,14 +248,14 @@ module _ (net : Internet) (laws : Layouts) (is : IsInternet net) (most_routes mo
         let bytes = laws.bytes ports_here most_routes most_services past event (ports_at net is router)
         (all-append (IsOnPort ports_here) past (event ∷ []) (going.are.on_ports router) (on, tt))
         (all-append IsOfBytes past (event ∷ []) (going.are.of_bytes router) (of_bytes, tt)) in
-        each_delivery net most_routes most_services (Arrives ticks) (λ s. IsBytes s.bytes × IsSpoken net up server ticks router s) router
+        each_delivery net most_routes most_services (Arrives ticks) (λ s. IsBytes s.bytes × IsSpoken net up server Listed ticks router s) router
         (λ s to both place received.
-        let got = receives_is net (at net up server router s.port) s.link to received in
+        let got = receives_is net (at net up server Listed router s.port) s.link to received in
         record {
           delivery = record { place = place; bytes = both.0 };
-          waits = spoken_waits net up server ticks router s to (λ here_up. record { other = got.other; network = got.network; on = here_up }) both.1;
+          waits = spoken_waits net up server Listed ticks router s to (λ here_up. record { other = got.other; network = got.network; on = here_up }) both.1;
         })
-        sents (all_both (λ s. IsBytes s.bytes) (IsSpoken net up server ticks router) sents bytes all_spoken)
+        sents (all_both (λ s. IsBytes s.bytes) (IsSpoken net up server Listed ticks router) sents bytes all_spoken)
 
     lasts_as : (count : ℕ) → count + rest router ≡ ticks → Lasts router count now
     lasts_as count e =
@@ -286,17 +286,18 @@ module _ (net : Internet) (laws : Layouts) (is : IsInternet net) (most_routes mo
   left_of steps router = seconds_of router steps
 
   -- what an outside packet says waits as what a router says
-  outside_waits : (ticks router : ℕ) (event : Event) → SaysNoFalse net server (Happens router event) → (number : ℕ) (bytes : List ℕ) → event ≡ Packet number bytes
-      → Waits net up server ticks (at net up server router number) bytes
-  outside_waits ticks router event says number bytes same =
-      host_waits net up server ticks (at net up server router number) bytes (subst (λ (e : Event). SaysNoFalse net server (Happens router e)) same says)
+  pub outside_waits : (ticks router : ℕ) (event : Event) → SaysNoFalse net server (Happens router event) → SaysOnly (NamesOnly Listed) (Happens router event) → (number : ℕ) (bytes : List ℕ) → event ≡ Packet number bytes
+      → Waits net up server Listed ticks (at net up server Listed router number) bytes
+  outside_waits ticks router event says names number bytes same =
+      host_waits net up server Listed ticks (at net up server Listed router number) bytes (subst (λ (e : Event). SaysNoFalse net server (Happens router e)) same says)
+      (λ m e. subst (λ (o : Option Heard). IfSome o (NamesOnly Listed)) e (subst (λ (x : Event). SaysOnly (NamesOnly Listed) (Happens router x)) same names))
 
   -- what waited first is what comes
-  first_waits : (ticks : ℕ) (d : Delivery) → Waits net up server ticks d.to d.bytes → (number : ℕ) (bytes : List ℕ)
-      → Packet d.to.port d.bytes ≡ Packet number bytes → Waits net up server ticks (at net up server d.to.router number) bytes
+  first_waits : (ticks : ℕ) (d : Delivery) → Waits net up server Listed ticks d.to d.bytes → (number : ℕ) (bytes : List ℕ)
+      → Packet d.to.port d.bytes ≡ Packet number bytes → Waits net up server Listed ticks (at net up server Listed d.to.router number) bytes
   first_waits ticks d waits number bytes same =
       let P : Event → Type 0 = λ e. elim e [
-        | Packet n bs ↦ Waits net up server ticks (at net up server d.to.router n) bs
+        | Packet n bs ↦ Waits net up server Listed ticks (at net up server Listed d.to.router n) bs
         | Start ↦ Unit
         | Stop ↦ Unit
         | Second ↦ Unit
@@ -316,22 +317,22 @@ module _ (net : Internet) (laws : Layouts) (is : IsInternet net) (most_routes mo
       (first_waits ticks d first.waits) (omega arith) (λ other off. refl)
       (record { are = going.are; routers = going.routers; few = going.few; waiting = going.waiting.1 })
 
-  step_goes : (ticks : ℕ) (step : Step) (rest : List Step) (run : Run) → IsStep net step → LeavesPorts step → SaysNoFalse net server step
+  step_goes : (ticks : ℕ) (step : Step) (rest : List Step) (run : Run) → IsStep net step → LeavesPorts step → SaysNoFalse net server step → SaysOnly (NamesOnly Listed) step
       → Going ticks (left_of (step ∷ rest)) (forgotten run) → Going ticks (left_of rest) (forgotten (stepped net most_routes most_services run step))
-  step_goes ticks (Happens router event) rest run (within, on, of_bytes) leaves says going =
+  step_goes ticks (Happens router event) rest run (within, on, of_bytes) leaves says names going =
       subst (λ (q : Queued). Going ticks (left_of rest) q) (sym (events net most_routes most_services run router event None))
       (event_goes ticks run.histories (map (λ w. w.delivery) run.waiting) router event (left_of (Happens router event ∷ rest)) (left_of rest) within on of_bytes leaves
-      (outside_waits ticks router event says) (own_seconds router event rest) (λ other off. second_there router other event rest off) going)
-  step_goes ticks Settles rest run is_step leaves says going =
+      (outside_waits ticks router event says names) (own_seconds router event rest) (λ other off. second_there router other event rest off) going)
+  step_goes ticks Settles rest run is_step leaves says names going =
       subst (λ (q : Queued). Going ticks (left_of rest) q) (sym (deliveries net most_routes most_services run))
       (settles_goes ticks (left_of rest) run.histories (map (λ w. w.delivery) run.waiting) going)
 
   steps_go : (ticks : ℕ) (steps : List Step) (run : Run) → AllByRecursion (IsStep net) steps → AllByRecursion LeavesPorts steps
-      → AllByRecursion (SaysNoFalse net server) steps → Going ticks (left_of steps) (forgotten run)
+      → AllByRecursion (SaysNoFalse net server) steps → AllByRecursion (SaysOnly (NamesOnly Listed)) steps → Going ticks (left_of steps) (forgotten run)
       → Going ticks (left_of []) (forgotten (run_of net most_routes most_services run steps))
-  steps_go ticks [] run are leave say going = going
-  steps_go ticks (step ∷ steps) run are leave say going =
-      steps_go ticks steps (stepped net most_routes most_services run step) are.1 leave.1 say.1 (step_goes ticks step steps run are.0 leave.0 say.0 going)
+  steps_go ticks [] run are leave say names going = going
+  steps_go ticks (step ∷ steps) run are leave say names going =
+      steps_go ticks steps (stepped net most_routes most_services run step) are.1 leave.1 say.1 names.1 (step_goes ticks step steps run are.0 leave.0 say.0 names.0 going)
 
   -- ---- ticks
 
@@ -345,9 +346,9 @@ module _ (net : Internet) (laws : Layouts) (is : IsInternet net) (most_routes mo
   none_waits ticks waiting none = subst (λ (ws : List Waiting). AllByRecursion (Arrives ticks) (map (λ w. w.delivery) ws)) (sym none) tt
 
   tick_rests : (ticks : ℕ) (run : Run) (steps : List Step) → Rests ticks run → IsBusyTick net most_routes most_services run steps
-      → AllByRecursion LeavesPorts steps → AllByRecursion (SaysNoFalse net server) steps → Rests (suc ticks) (run_of net most_routes most_services run steps)
-  tick_rests ticks run steps rests tick leave say =
-      let after = steps_go (suc ticks) steps run tick.happens leave say (record {
+      → AllByRecursion LeavesPorts steps → AllByRecursion (SaysNoFalse net server) steps → AllByRecursion (SaysOnly (NamesOnly Listed)) steps → Rests (suc ticks) (run_of net most_routes most_services run steps)
+  tick_rests ticks run steps rests tick leave say names =
+      let after = steps_go (suc ticks) steps run tick.happens leave say names (record {
         are = rests.are;
         routers = λ router had within e.
             let one = tick.each router within in
@@ -364,13 +365,13 @@ module _ (net : Internet) (laws : Layouts) (is : IsInternet net) (most_routes mo
 
   ticks_rest : (so_far : ℕ) (run : Run) (ticks : List (List Step)) → Rests so_far run
       → EachTick net most_routes most_services (IsBusyTick net most_routes most_services) run ticks → AllByRecursion (AllByRecursion LeavesPorts) ticks
-      → AllByRecursion (AllByRecursion (SaysNoFalse net server)) ticks → Rests (length ticks + so_far) (ticked net most_routes most_services run ticks)
-  ticks_rest so_far run [] rests busy leave say =
+      → AllByRecursion (AllByRecursion (SaysNoFalse net server)) ticks → AllByRecursion (AllByRecursion (SaysOnly (NamesOnly Listed))) ticks → Rests (length ticks + so_far) (ticked net most_routes most_services run ticks)
+  ticks_rest so_far run [] rests busy leave say names =
       let same : so_far ≡ 0 + so_far = omega arith in
       subst (λ (n : ℕ). Rests n run) same rests
-  ticks_rest so_far run (steps ∷ ticks) rests busy leave say =
+  ticks_rest so_far run (steps ∷ ticks) rests busy leave say names =
       let next = run_of net most_routes most_services run steps in
-      let later = ticks_rest (suc so_far) next ticks (tick_rests so_far run steps rests busy.0 leave.0 say.0) busy.1 leave.1 say.1 in
+      let later = ticks_rest (suc so_far) next ticks (tick_rests so_far run steps rests busy.0 leave.0 say.0 names.0) busy.1 leave.1 say.1 names.1 in
       let same : length ticks + suc so_far ≡ length (steps ∷ ticks) + so_far = omega arith in
       subst (λ (n : ℕ). Rests n (ticked net most_routes most_services next ticks)) same later
 
@@ -379,12 +380,12 @@ module _ (net : Internet) (laws : Layouts) (is : IsInternet net) (most_routes mo
       → ((router : ℕ) → router < length net → ups net run.histories router ≡ up router)
       → run.waiting ≡ [] → EachTick net most_routes most_services (IsBusyTick net most_routes most_services) run ticks
       → AllByRecursion (AllByRecursion LeavesPorts) ticks → AllByRecursion (AllByRecursion (SaysNoFalse net server)) ticks
-      → Rests (length ticks) (ticked net most_routes most_services run ticks)
-  rested run ticks are same quiet busy leave say =
+      → AllByRecursion (AllByRecursion (SaysOnly (NamesOnly Listed))) ticks → Rests (length ticks) (ticked net most_routes most_services run ticks)
+  rested run ticks are same quiet busy leave say names =
       let count : length ticks + 0 ≡ length ticks = omega arith in
       subst (λ (n : ℕ). Rests n (ticked net most_routes most_services run ticks)) count
       (ticks_rest 0 run ticks (record {
         are = are;
-        routers = λ router within. at_begin net up server most_services router (history_of run.histories router) (same router within);
+        routers = λ router within. at_begin net up server Listed most_services router (history_of run.histories router) (same router within);
         quiet = quiet;
-      }) busy leave say)
+      }) busy leave say names)

@@ -32,12 +32,12 @@ use Rattle.ipx_internet.proofs.records.RecordsGrowOld.{Aged, IsOldOffer, IsOldHe
 use Rattle.ipx_internet.proofs.services.SpokenOfAServer.{IsFine, EntrySaid, Told, Waits, ServiceSaid}
 use Rattle.ipx_internet.proofs.ticks.RealOrSoonEnded.{Reaches}
 
-module _ (net : Internet) (up : ℕ → List ℕ) (server : Server) (most_services router : ℕ) where
+module _ (net : Internet) (up : ℕ → List ℕ) (server : Server) (Listed : ℕ × List ℕ → Type 0) (most_services router : ℕ) where
   abbrev pub ports : List Port
   ports = ports_of net router
 
   abbrev pub Fine : ServiceOffer → Type 0
-  Fine = IsFine net up server router
+  Fine = IsFine net up server Listed router
 
   abbrev ServicesAged : ℕ → List (Fact ServiceOffer) → Type 0
   ServicesAged = Aged service_reading service_order service_total most_services (map (λ p. p.service_share) ports) (λ s. s.service.hops) (λ s. refl) Fine
@@ -71,11 +71,11 @@ module _ (net : Internet) (up : ℕ → List ℕ) (server : Server) (most_servic
         IsOldOffer service_reading service_order service_total most_services (map (λ p. p.service_share) ports) (λ s. s.service.hops) (λ s. refl) Fine had
 
     services_old : (number : ℕ) → is_up (up router) number ≡ true → (node : Node) (entries : List SapEntry)
-        → AllByRecursion (EntrySaid net up server begun (record { router = router; port = number }) node) entries
+        → AllByRecursion (EntrySaid net up server Listed begun (record { router = router; port = number }) node) entries
         → AllByRecursion (OffersOf ServiceOld) (services_offered number node entries)
     services_old number on node [] all = tt
     services_old number on node (e ∷ entries) all =
-        all-append (OffersOf ServiceOld) _ (services_offered number node entries) (by e.name (λ name is near. sooner (all.0 on near name is)))
+        all-append (OffersOf ServiceOld) _ (services_offered number node entries) (by e.name (λ name is near. sooner (all.0.fine on near name is)))
         (services_old number on node entries all.1)
       where
         sooner : {A : Type 0} → A ⊎ (begun ≤ 180 * e.hops) → A ⊎ (had ≤ 180 * e.hops)
@@ -90,14 +90,14 @@ module _ (net : Internet) (up : ℕ → List ℕ) (server : Server) (most_servic
         by None step = tt
         by (Some name) step = (step name refl, tt)
 
-    heard_old : (number : ℕ) → is_up (up router) number ≡ true → (m : Heard) → Told net up server begun (record { router = router; port = number }) m
+    heard_old : (number : ℕ) → is_up (up router) number ≡ true → (m : Heard) → Told net up server Listed begun (record { router = router; port = number }) m
         → AllByRecursion (OffersOf ServiceOld) (services_heard number (Some m))
     heard_old number on (HeardRip source rip) said = tt
     heard_old number on (HeardSap source (Query nearest kind)) said = tt
     heard_old number on (HeardSap source (SapResponse nearest entries)) said = services_old number on source.node entries said
 
     module _ (history : History) (endures : Endures had history) where
-      packet_old : (number : ℕ) (bytes : List ℕ) → Waits net up server begun (record { router = router; port = number }) bytes
+      packet_old : (number : ℕ) (bytes : List ℕ) → Waits net up server Listed begun (record { router = router; port = number }) bytes
           → AllByRecursion (OffersOf ServiceOld) (services_heard number (heard_after ports history number bytes))
       packet_old number bytes waits = by (heard_after ports history number bytes) refl
         where
@@ -118,7 +118,7 @@ module _ (net : Internet) (up : ℕ → List ℕ) (server : Server) (most_servic
               true≢false (sym none_on)
 
       pub event_endures : (event : Event) → LeavesPorts (Happens router event)
-          → ((number : ℕ) (bytes : List ℕ) → event ≡ Packet number bytes → Waits net up server begun (record { router = router; port = number }) bytes)
+          → ((number : ℕ) (bytes : List ℕ) → event ≡ Packet number bytes → Waits net up server Listed begun (record { router = router; port = number }) bytes)
           → Endures (passed event had) (history ++ event ∷ [])
       event_endures event leaves waits = record {
         services =
@@ -142,7 +142,7 @@ module _ (net : Internet) (up : ℕ → List ℕ) (server : Server) (most_servic
         old_held service_reading service_order service_total most_services (map (λ p. p.service_share) ports) (λ s. s.service.hops) (λ s. refl) Fine had
         (service_facts ports history) endures.services
 
-    learned_said : (j : ℕ) (s : ServiceOffer) → ServiceHeld s → ServiceSaid net up server begun (record { router = router; port = j }) (farther s.service)
+    learned_said : (j : ℕ) (s : ServiceOffer) → ServiceHeld s → ServiceSaid net up server Listed begun (record { router = router; port = j }) (farther s.service)
     learned_said j s held near = by held.0
       where
         from : Place
@@ -150,23 +150,23 @@ module _ (net : Internet) (up : ℕ → List ℕ) (server : Server) (most_servic
 
         by : Fine s ⊎ (had ≤ 180 * s.service.hops + 179)
             → ((to : Place) → Reaches net up from to → is_up (up to.router) to.port ≡ true
-            → IsFine net up server to.router (record { service = farther s.service; port = to.port; node = (port_of net from).node }))
+            → IsFine net up server Listed to.router (record { service = farther s.service; port = to.port; node = (port_of net from).node }))
             ⊎ (begun ≤ 180 * (s.service.hops + 1))
         by (inr old) = inr (omega (arith, old, soon))
-        by (inl fine) = inl (λ to reaches here of. passed_on from s reaches.other here reaches.on reaches.network refl refl near (fine of))
+        by (inl fine) = inl (λ to reaches here. (fine.0, (λ of. passed_on from s reaches.other here reaches.on reaches.network refl refl near (fine.1 of))))
 
-    ended_said : (j : ℕ) (s : Service) → ServiceSaid net up server begun (record { router = router; port = j }) (dead_service s)
+    ended_said : (j : ℕ) (s : Service) → ServiceSaid net up server Listed begun (record { router = router; port = j }) (dead_service s)
     ended_said j s near = absurd (omega (arith, near))
 
     pub services_said : (j : ℕ)
-        → AllByRecursion (ServiceSaid net up server begun (record { router = router; port = j })) (told_services (offers (services_held ports most_services history)) j)
+        → AllByRecursion (ServiceSaid net up server Listed begun (record { router = router; port = j })) (told_services (offers (services_held ports most_services history)) j)
     services_said j =
-        told_services_all (ServiceSaid net up server begun (record { router = router; port = j })) ServiceHeld (learned_said j) (ended_said j)
+        told_services_all (ServiceSaid net up server Listed begun (record { router = router; port = j })) ServiceHeld (learned_said j) (ended_said j)
         (offers (services_held ports most_services history)) services_are j
 
     pub changes_said : (before : List ServiceOffer) (j : ℕ)
-        → AllByRecursion (ServiceSaid net up server begun (record { router = router; port = j }))
+        → AllByRecursion (ServiceSaid net up server Listed begun (record { router = router; port = j }))
         (news_services before (offers (services_held ports most_services history)) j)
     changes_said before j =
-        news_services_told (ServiceSaid net up server begun (record { router = router; port = j })) ServiceHeld (learned_said j) (ended_said j) before
+        news_services_told (ServiceSaid net up server Listed begun (record { router = router; port = j })) ServiceHeld (learned_said j) (ended_said j) before
         (offers (services_held ports most_services history)) services_are j

@@ -22,10 +22,11 @@ use Rattle.ipx_router.specs.Port.{Port, port_at, is_local, is_up, own_address, o
 use Rattle.ipx_router.specs.Relays.{Sent}
 use Rattle.ipx_router.specs.Why.{is_propagated, is_far, is_for_rip}
 use Rattle.ipx_router.specs.declared.service_offer.ServiceOffer.{ServiceOffer}
+use Rattle.ipx_router.proofs.lists.EachElement.{all_both}
 use Rattle.ipx_internet.specs.Announces.{service_of, AsksApart}
 use Rattle.ipx_internet.specs.Internet.{Internet, Place, port_of, ports_of, network_of}
 use Rattle.ipx_internet.specs.Meanwhile.{message_in, message_of, AsksElsewhere}
-use Rattle.ipx_internet.specs.Servers.{Server, IsOf, IsAnnouncedOn, IsSilentOf, SaysAsAnnounced, IsForHere, MaySay, IsServed, announced}
+use Rattle.ipx_internet.specs.Servers.{Server, IsOf, IsAnnouncedOn, IsSilentOf, SaysAsAnnounced, IsForHere, MaySay, NamesOnly, IsServed, announced}
 use Rattle.ipx_internet.proofs.lists.EachElement.{all_then, all_mapped}
 use Rattle.ipx_internet.proofs.lists.FoundInAList.{nothing, it_is}
 use Rattle.ipx_internet.proofs.packets.PagesReadAgain.{IsRipPage, IsSapPage}
@@ -55,25 +56,30 @@ here_stays port came sent m e here on = by on.goes
         let there = (and_parts (not (is_propagated on.packet.header)) (not (is_local port on.packet.header.destination.network)) far).1 in
         true≢false (sym there ∙ ap not (here on.packet on.read))
 
-module _ (net : Internet) (up : ℕ → List ℕ) (server : Server) where
+module _ (net : Internet) (up : ℕ → List ℕ) (server : Server) (Listed : ℕ × List ℕ → Type 0) where
   abbrev pub at : ℕ → ℕ → Place
   at router j = record { router = router; port = j }
 
-  -- a service of a router is another one, or as the router may know it
+  -- a service of a router has a listed name, and is another one or as the router may know it
   abbrev pub IsFine : ℕ → ServiceOffer → Type 0
-  IsFine router s = IsOf server s.service → IsServed net up server router s
+  IsFine router s = Listed (s.service.kind, s.service.name) × (IsOf server s.service → IsServed net up server router s)
+
+  -- who says something of it on a port: who announces it there, or the port of another router
+  abbrev pub Who : Place → Node → Service → Type 0
+  Who to node s = IsAnnouncedOn server (network_of net to) node s ⊎ ((from : Place) × Reaches net up from to × (node ≡ (port_of net from).node))
 
   -- ---- what is said of it
 
-  -- whatever may be heard of the bytes asks apart and doesn't name it
+  -- whatever may be heard of the bytes asks apart, doesn't name it, and names listed ones alone
   abbrev pub Silent : List ℕ → Type 0
-  Silent bytes = (m : Heard) → message_of bytes ≡ Some m → AsksApart m × IsSilentOf server m
+  Silent bytes = (m : Heard) → message_of bytes ≡ Some m → AsksApart m × IsSilentOf server m × NamesOnly Listed m
 
-  -- an entry that a node says on a port, when so many ticks have begun: whoever learns of it may know it so, or it was said soon enough
-  abbrev pub EntrySaid : ℕ → Place → Node → SapEntry → Type 0
-  EntrySaid begun to node e =
-      is_up (up to.router) to.port ≡ true → e.hops < unreachable → (name : List ℕ) → e.name ≡ Some name
-      → IsFine to.router (service_offer to.port node e name) ⊎ (begun ≤ 180 * e.hops)
+  -- an entry that a node says on a port, when so many ticks have begun: such a node says it, and whoever learns of it may know it so, or it was
+  -- said soon enough
+  pub record EntrySaid (begun : ℕ) (to : Place) (node : Node) (e : SapEntry) : Type 0 where
+    pub who : (name : List ℕ) → e.name ≡ Some name → IsOf server (service_of e name) → Who to node (service_of e name)
+    pub fine : is_up (up to.router) to.port ≡ true → e.hops < unreachable → (name : List ℕ) → e.name ≡ Some name
+        → IsFine to.router (service_offer to.port node e name) ⊎ (begun ≤ 180 * e.hops)
 
   abbrev pub Told : ℕ → Place → Heard → Type 0
   Told begun to (HeardRip source rip) = AsksElsewhere source rip.operation
@@ -87,40 +93,54 @@ module _ (net : Internet) (up : ℕ → List ℕ) (server : Server) where
 
   -- ---- what doesn't name it
 
-  told_silent : (begun : ℕ) (to : Place) (m : Heard) → AsksApart m → IsSilentOf server m → Told begun to m
-  told_silent begun to (HeardRip source rip) apart silent = apart
-  told_silent begun to (HeardSap source (Query nearest kind)) apart silent = tt
-  told_silent begun to (HeardSap source (SapResponse nearest entries)) apart silent =
-      all_then (λ e. (name : List ℕ) → e.name ≡ Some name → IsOf server (service_of e name) → ⊥) (EntrySaid begun to source.node)
-      (λ e none here near name is. inl (λ of. absurd (none name is of))) entries silent
+  told_silent : (begun : ℕ) (to : Place) (m : Heard) → AsksApart m → IsSilentOf server m → NamesOnly Listed m → Told begun to m
+  told_silent begun to (HeardRip source rip) apart silent listed = apart
+  told_silent begun to (HeardSap source (Query nearest kind)) apart silent listed = tt
+  told_silent begun to (HeardSap source (SapResponse nearest entries)) apart silent listed =
+      let None_of : SapEntry → Type 0 = λ e. (name : List ℕ) → e.name ≡ Some name → IsOf server (service_of e name) → ⊥ in
+      let Named : SapEntry → Type 0 = λ e. (name : List ℕ) → e.name ≡ Some name → Listed (e.kind, name) in
+      all_then (λ e. None_of e × Named e) (EntrySaid begun to source.node)
+      (λ e both. record {
+        who = λ name is of. absurd (both.0 name is of);
+        fine = λ here near name is. inl (both.1 name is, (λ of. absurd (both.0 name is of)));
+      }) entries (all_both None_of Named entries silent listed)
 
   pub silent_waits : (begun : ℕ) (to : Place) (bytes : List ℕ) → Silent bytes → Waits begun to bytes
   silent_waits begun to bytes silent = record {
-    tells = λ m e. let both = silent m e in told_silent begun to m both.0 both.1;
+    tells = λ m e. let all = silent m e in told_silent begun to m all.0 all.1 all.2;
     onward = λ sent on m e. silent m (sent_on_message (port_of net to) bytes sent on m e);
   }
 
   -- ---- what a host says
 
-  told_announced : (begun : ℕ) (to : Place) (m : Heard) → AsksApart m → SaysAsAnnounced server (network_of net to) m → Told begun to m
-  told_announced begun to (HeardRip source rip) apart says = apart
-  told_announced begun to (HeardSap source (Query nearest kind)) apart says = tt
-  told_announced begun to (HeardSap source (SapResponse nearest entries)) apart says =
-      all_then
-      (λ e. (name : List ℕ) → e.name ≡ Some name → IsOf server (service_of e name) → IsAnnouncedOn server (network_of net to) source.node (service_of e name))
-      (EntrySaid begun to source.node) (λ e said here near name is. inl (λ of. announced here (said name is of))) entries says
+  told_announced : (begun : ℕ) (to : Place) (m : Heard) → AsksApart m → SaysAsAnnounced server (network_of net to) m → NamesOnly Listed m → Told begun to m
+  told_announced begun to (HeardRip source rip) apart says listed = apart
+  told_announced begun to (HeardSap source (Query nearest kind)) apart says listed = tt
+  told_announced begun to (HeardSap source (SapResponse nearest entries)) apart says listed =
+      let As_announced : SapEntry → Type 0 = λ e. (name : List ℕ) → e.name ≡ Some name → IsOf server (service_of e name)
+      → IsAnnouncedOn server (network_of net to) source.node (service_of e name) in
+      let Named : SapEntry → Type 0 = λ e. (name : List ℕ) → e.name ≡ Some name → Listed (e.kind, name) in
+      all_then (λ e. As_announced e × Named e) (EntrySaid begun to source.node)
+      (λ e both. record {
+        who = λ name is of. inl (both.0 name is of);
+        fine = λ here near name is. inl (both.1 name is, (λ of. announced here (both.0 name is of)));
+      }) entries (all_both As_announced Named entries says listed)
 
-  pub host_waits : (begun : ℕ) (to : Place) (bytes : List ℕ) → MaySay net server to bytes → Waits begun to bytes
-  host_waits begun to bytes may = record {
+  -- what may be heard of a packet names listed ones alone
+  abbrev pub Names : List ℕ → Type 0
+  Names bytes = (m : Heard) → message_of bytes ≡ Some m → NamesOnly Listed m
+
+  pub host_waits : (begun : ℕ) (to : Place) (bytes : List ℕ) → MaySay net server to bytes → Names bytes → Waits begun to bytes
+  host_waits begun to bytes may names = record {
     tells = λ m e. let both = may m e in elim both.1 [
-      | inl silent ↦ told_silent begun to m both.0 silent
-      | inr says ↦ told_announced begun to m both.0 says.1
+      | inl silent ↦ told_silent begun to m both.0 silent (names m e)
+      | inr says ↦ told_announced begun to m both.0 says.1 (names m e)
     ];
     onward = λ sent on m e.
         let came = sent_on_message (port_of net to) bytes sent on m e in
         let both = may m came in
         elim both.1 [
-          | inl silent ↦ (both.0, silent)
+          | inl silent ↦ (both.0, silent, names m came)
           | inr says ↦ absurd (here_stays (port_of net to) bytes sent m came says.0 on)
         ];
   }
@@ -155,11 +175,11 @@ module _ (net : Internet) (up : ℕ → List ℕ) (server : Server) where
       ]
     where
       by : (p : Parts) (r : Result RipParts RipFault) → elim r [ Ok rip ↦ Some (HeardRip p.header.source rip) | Err fault ↦ None ] ≡ Some m
-          → IsAnswering m → AsksApart m × IsSilentOf server m
+          → IsAnswering m → AsksApart m × IsSilentOf server m × NamesOnly Listed m
       by p (Err fault) e answers = nothing e
       by p (Ok rip) e answers =
-          it_is (λ (h : Heard). IsAnswering h → AsksApart h × IsSilentOf server h) m (HeardRip p.header.source rip) e
-          (λ is. (asks_elsewhere p.header.source rip.operation is, tt)) answers
+          it_is (λ (h : Heard). IsAnswering h → AsksApart h × IsSilentOf server h × NamesOnly Listed h) m (HeardRip p.header.source rip) e
+          (λ is. (asks_elsewhere p.header.source rip.operation is, tt, tt)) answers
 
   pub cast_spoken : (begun router : ℕ) (P : ℕ → RipEntry → Type 0) (s : Sent) → IsCast (up router) P (λ j. ServiceSaid begun (at router j)) (ports_of net router) s
       → IsSpoken begun router s
@@ -181,13 +201,17 @@ module _ (net : Internet) (up : ℕ → List ℕ) (server : Server) where
     parts = sap_packet_parts (own_services port) is.to is.nearest is.page.page
 
     entry_said : (s : Service) → ServiceSaid begun from s → EntrySaid begun to port.node (sap_entry s)
-    entry_said s said here near name same = by (said near)
+    entry_said s said = record {
+      who = λ name is of. inr (from, reaches, refl);
+      fine = λ here near name same. by here name same (said near);
+    }
       where
-        by : ((other : Place) → Reaches net up from other → is_up (up other.router) other.port ≡ true
+        by : is_up (up to.router) to.port ≡ true → (name : List ℕ) → Some s.name ≡ Some name
+            → ((other : Place) → Reaches net up from other → is_up (up other.router) other.port ≡ true
             → IsFine other.router (record { service = s; port = other.port; node = port.node })) ⊎ (begun ≤ 180 * s.hops)
             → IsFine to.router (service_offer to.port port.node (sap_entry s) name) ⊎ (begun ≤ 180 * s.hops)
-        by (inr soon) = inr soon
-        by (inl fine) =
+        by here name same (inr soon) = inr soon
+        by here name same (inl fine) =
             inl (it_is (λ (n : List ℕ). IsFine to.router (service_offer to.port port.node (sap_entry s) n)) name s.name same (fine to reaches here))
 
     read_as_routes : (m : Heard) (r : Result RipParts RipFault)
