@@ -3,6 +3,7 @@ pub mod BestIsKept
 pub mod ChangedWasOffered
 pub mod HeardChangesItsKeys
 pub mod KeptOrOffered
+pub mod KeysHaveRoom
 pub mod OneFactOnARecord
 pub mod RecordsGained
 pub mod RecordsGrowOld

@@ -1,5 +1,7 @@
 -- Services that hosts announce: what a router may know of them, and what it comes to know.
+pub mod HeardInAMinute
 pub mod HostTickAfterTick
+pub mod NearestHost
 pub mod ServedOrSoonEnded
 pub mod ServicesBecomeReal
 pub mod SpokenOfAServer

@@ -26,8 +26,9 @@ pub mod Ticks
 pub mod Meanwhile
 -- Announces
 pub mod Announces
--- Servers
+-- Servers, Regular
 pub mod Servers
+pub mod Regular
 -- Upkeep
 pub mod Upkeep
 -- Real

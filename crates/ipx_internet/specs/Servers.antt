@@ -1,6 +1,8 @@
 -- A service that hosts announce again and again: who announces it, what hosts say of it, what a router may know of it, and how far away it is.
-use Rattle.std.specs.Prelude.{◌≡◌, ◌≢◌, ◌⊎◌, ℕ, suc, ◌<◌, true, List, Ok, Some, slice_get}
-use Rattle.std.specs.List.{AllByRecursion}
+use Rattle.std.specs.Prelude.{◌≡◌, ◌≢◌, ◌⊎◌, ℕ, suc, ◌<◌, true, List, Option, Ok, Some, slice_get}
+use Rattle.std.specs.List.{AllByRecursion, find}
+use Rattle.std.specs.Option.{option_map}
+use Rattle.std.specs.Ordering.{is_eq}
 use Rattle.ipx_wire.specs.Packet.{Parts, packet_of}
 use Rattle.ipx_wire.specs.declared.address.Address.{Address}
 use Rattle.ipx_wire.specs.declared.network.Network.{Network}
@@ -11,6 +13,7 @@ use Rattle.ipx_router.specs.Heard.{Heard, HeardRip, HeardSap}
 use Rattle.ipx_router.specs.History.{Packet}
 use Rattle.ipx_router.specs.Numbers.{unreachable}
 use Rattle.ipx_router.specs.Port.{Port, is_local, is_up}
+use Rattle.ipx_router.specs.Services.{service_order}
 use Rattle.ipx_router.specs.Told.{farther}
 use Rattle.ipx_router.specs.declared.service_offer.ServiceOffer.{ServiceOffer}
 use Rattle.ipx_internet.specs.Announces.{service_of, AsksApart}
@@ -40,6 +43,11 @@ IsOf server s = (s.kind ≡ server.kind) × (s.name ≡ server.name)
 -- the service at its address, that many hops away
 abbrev pub at_hops : Server → ℕ → Service
 at_hops server hops = record { kind = server.kind; name = server.name; address = server.address; hops = hops }
+
+-- what a router has of it, if anything
+abbrev pub known_of : Server → List ServiceOffer → Option Service
+known_of server services =
+    option_map (λ s. s.service) (find (λ s. is_eq (service_order (s.service.kind, s.service.name) (server.kind, server.name))) services)
 
 -- so it is announced by that node on that network: with its address, and with the hops that this host says
 pub record IsAnnouncedOn (server : Server) (network : Network) (node : Node) (s : Service) : Type 0 where

@@ -282,7 +282,7 @@ module _ (net : Internet) (laws : Layouts) (is : IsInternet net) (most_routes mo
 
   -- ---- steps
 
-  abbrev left_of : List Step → ℕ → ℕ
+  abbrev pub left_of : List Step → ℕ → ℕ
   left_of steps router = seconds_of router steps
 
   -- what an outside packet says waits as what a router says
@@ -293,7 +293,7 @@ module _ (net : Internet) (laws : Layouts) (is : IsInternet net) (most_routes mo
       (λ m e. subst (λ (o : Option Heard). IfSome o (NamesOnly Listed)) e (subst (λ (x : Event). SaysOnly (NamesOnly Listed) (Happens router x)) same names))
 
   -- what waited first is what comes
-  first_waits : (ticks : ℕ) (d : Delivery) → Waits net up server Listed ticks d.to d.bytes → (number : ℕ) (bytes : List ℕ)
+  pub first_waits : (ticks : ℕ) (d : Delivery) → Waits net up server Listed ticks d.to d.bytes → (number : ℕ) (bytes : List ℕ)
       → Packet d.to.port d.bytes ≡ Packet number bytes → Waits net up server Listed ticks (at net up server Listed d.to.router number) bytes
   first_waits ticks d waits number bytes same =
       let P : Event → Type 0 = λ e. elim e [
@@ -317,7 +317,7 @@ module _ (net : Internet) (laws : Layouts) (is : IsInternet net) (most_routes mo
       (first_waits ticks d first.waits) (omega arith) (λ other off. refl)
       (record { are = going.are; routers = going.routers; few = going.few; waiting = going.waiting.1 })
 
-  step_goes : (ticks : ℕ) (step : Step) (rest : List Step) (run : Run) → IsStep net step → LeavesPorts step → SaysNoFalse net server step → SaysOnly (NamesOnly Listed) step
+  pub step_goes : (ticks : ℕ) (step : Step) (rest : List Step) (run : Run) → IsStep net step → LeavesPorts step → SaysNoFalse net server step → SaysOnly (NamesOnly Listed) step
       → Going ticks (left_of (step ∷ rest)) (forgotten run) → Going ticks (left_of rest) (forgotten (stepped net most_routes most_services run step))
   step_goes ticks (Happens router event) rest run (within, on, of_bytes) leaves says names going =
       subst (λ (q : Queued). Going ticks (left_of rest) q) (sym (events net most_routes most_services run router event None))
@@ -345,18 +345,24 @@ module _ (net : Internet) (laws : Layouts) (is : IsInternet net) (most_routes mo
   none_waits : (ticks : ℕ) (waiting : List Waiting) → waiting ≡ [] → AllByRecursion (Arrives ticks) (map (λ w. w.delivery) waiting)
   none_waits ticks waiting none = subst (λ (ws : List Waiting). AllByRecursion (Arrives ticks) (map (λ w. w.delivery) ws)) (sym none) tt
 
-  tick_rests : (ticks : ℕ) (run : Run) (steps : List Step) → Rests ticks run → IsBusyTick net most_routes most_services run steps
-      → AllByRecursion LeavesPorts steps → AllByRecursion (SaysNoFalse net server) steps → AllByRecursion (SaysOnly (NamesOnly Listed)) steps → Rests (suc ticks) (run_of net most_routes most_services run steps)
+  -- when a tick begins
+  pub begins : (ticks : ℕ) (run : Run) (steps : List Step) → Rests ticks run → IsBusyTick net most_routes most_services run steps
+      → Going (suc ticks) (left_of steps) (forgotten run)
+  begins ticks run steps rests tick = record {
+    are = rests.are;
+    routers = λ router had within e.
+        let one = tick.each router within in
+        let all : had ≡ ticks = omega (arith, one, e) in
+        subst (λ (n : ℕ). Lasts router n (history_of run.histories router)) (sym all) (rests.routers router within);
+    few = λ router within. let one = tick.each router within in (omega (arith, one), omega (arith, one));
+    waiting = none_waits (suc ticks) run.waiting rests.quiet;
+  }
+
+  pub tick_rests : (ticks : ℕ) (run : Run) (steps : List Step) → Rests ticks run → IsBusyTick net most_routes most_services run steps
+      → AllByRecursion LeavesPorts steps → AllByRecursion (SaysNoFalse net server) steps → AllByRecursion (SaysOnly (NamesOnly Listed)) steps
+      → Rests (suc ticks) (run_of net most_routes most_services run steps)
   tick_rests ticks run steps rests tick leave say names =
-      let after = steps_go (suc ticks) steps run tick.happens leave say names (record {
-        are = rests.are;
-        routers = λ router had within e.
-            let one = tick.each router within in
-            let all : had ≡ ticks = omega (arith, one, e) in
-            subst (λ (n : ℕ). Lasts router n (history_of run.histories router)) (sym all) (rests.routers router within);
-        few = λ router within. let one = tick.each router within in (omega (arith, one), omega (arith, one));
-        waiting = none_waits (suc ticks) run.waiting rests.quiet;
-      }) in
+      let after = steps_go (suc ticks) steps run tick.happens leave say names (begins ticks run steps rests tick) in
       record {
         are = after.are;
         routers = λ router within. after.routers router (suc ticks) within (omega arith);

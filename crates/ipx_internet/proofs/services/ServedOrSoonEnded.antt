@@ -39,7 +39,7 @@ module _ (net : Internet) (up : ℕ → List ℕ) (server : Server) (Listed : �
   abbrev pub Fine : ServiceOffer → Type 0
   Fine = IsFine net up server Listed router
 
-  abbrev ServicesAged : ℕ → List (Fact ServiceOffer) → Type 0
+  abbrev pub ServicesAged : ℕ → List (Fact ServiceOffer) → Type 0
   ServicesAged = Aged service_reading service_order service_total most_services (map (λ p. p.service_share) ports) (λ s. s.service.hops) (λ s. refl) Fine
 
   -- what a router has that had so many seconds
@@ -66,7 +66,7 @@ module _ (net : Internet) (up : ℕ → List ℕ) (server : Server) (Listed : �
   ups_stay history (PortUp number) leaves = absurd leaves
 
   module _ (had begun : ℕ) (late : had ≤ begun) where
-    abbrev ServiceOld : ServiceOffer → Type 0
+    abbrev pub ServiceOld : ServiceOffer → Type 0
     ServiceOld =
         IsOldOffer service_reading service_order service_total most_services (map (λ p. p.service_share) ports) (λ s. s.service.hops) (λ s. refl) Fine had
 

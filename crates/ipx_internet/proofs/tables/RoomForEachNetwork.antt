@@ -138,7 +138,7 @@ still_passes test keep x same kept (y ∷ xs) any = elim (cases_Bool (test y)) [
 ]
 
 -- a filter that leaves one out keeps fewer
-left_out : {X : Type 0} (test keep : X → Bool) (x : X) (xs : List X) → find test xs ≡ Some x → keep x ≡ false → length (filter keep xs) < length xs
+pub left_out : {X : Type 0} (test keep : X → Bool) (x : X) (xs : List X) → find test xs ≡ Some x → keep x ≡ false → length (filter keep xs) < length xs
 left_out test keep x [] is_x out = nothing is_x
 left_out test keep x (y ∷ xs) is_x out = elim (cases_Bool (test y)) [
   | inl here ↦
@@ -155,7 +155,7 @@ left_out test keep x (y ∷ xs) is_x out = elim (cases_Bool (test y)) [
 
 -- ---- numbers of shares
 
-share_of_all : (n capacity : ℕ) (shares : List ℕ) (port : ℕ) → n ≤ capacity → AllByRecursion (λ s. n ≤ s) shares → n ≤ share_of capacity shares port
+pub share_of_all : (n capacity : ℕ) (shares : List ℕ) (port : ℕ) → n ≤ capacity → AllByRecursion (λ s. n ≤ s) shares → n ≤ share_of capacity shares port
 share_of_all n capacity [] port most all = most
 share_of_all n capacity (s ∷ shares) zero most all = all.0
 share_of_all n capacity (s ∷ shares) (suc port) most all = share_of_all n capacity shares port most all.1

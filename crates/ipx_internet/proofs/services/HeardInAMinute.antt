@@ -1,0 +1,340 @@
+-- A router beside the nearest host that announces a service has it with that host's hops, after any 60 ticks in which all of them were heard.
+use Rattle.std.proofs.Common.{◌≡◌, ◌≢◌, refl, sym, ap, ◌∙◌, subst, ◌⊎◌, ℕ, zero, suc, ◌+◌, ◌-◌, ◌*◌, ◌<◌, ◌≤◌, Bool, true, false, List, [], ◌∷◌, ◌++◌, find, length, map, Option, None, Some, option_map, inl, inr, arith, append-nil, is_eq, slice_get, get_or-set_same, get_or-set_other}
+use Rattle.std.specs.List.{AllByRecursion}
+use Rattle.std.proofs.lemmas.Bool.{cases_Bool, cases_eq}
+use Rattle.ipx_table.specs.Facts.{Fact, Offered, Second as SecondPassed}
+use Rattle.ipx_table.specs.declared.held.Held.{Held}
+use Rattle.ipx_wire.specs.WriteServices.{entry_of}
+use Rattle.ipx_wire.specs.declared.node.Node.{Node}
+use Rattle.ipx_wire.specs.declared.sap.Sap.TheVariants.{Query, Response as SapResponse}
+use Rattle.ipx_wire.specs.declared.sap_entries.SapEntry.{SapEntry}
+use Rattle.ipx_wire.specs.declared.service.Service.{Service}
+use Rattle.ipx_router.specs.Facts.{services_offered, services_heard, heard_after, service_facts, service_facts_of}
+use Rattle.ipx_router.specs.Heard.{Heard, HeardRip, HeardSap}
+use Rattle.ipx_router.specs.History.{Event, History, Start, Stop, Second, Packet, PortDown, PortUp, running, ports_up}
+use Rattle.ipx_router.specs.Numbers.{unreachable, period}
+use Rattle.ipx_router.specs.Port.{Port, is_up}
+use Rattle.ipx_router.specs.Services.{service_reading, service_order}
+use Rattle.ipx_router.specs.declared.service_offer.ServiceOffer.{ServiceOffer}
+use Rattle.ipx_router.proofs.bounds.PacketsOfEachEvent.{service_total}
+use Rattle.ipx_router.proofs.tables.HeldWasOffered.{heard_up}
+use Rattle.ipx_router.proofs.tables.OffersOfAMessage.{facts_from-more}
+use Rattle.ipx_internet.specs.Internet.{Internet, Place, IsInternet, ports_of, network_of}
+use Rattle.ipx_internet.specs.Meanwhile.{LeavesPorts, SaysOnly, IsBusyTick, EachTick}
+use Rattle.ipx_internet.specs.Queue.{history_of, with_event}
+use Rattle.ipx_internet.specs.Regular.{HostsApart, HasRoomFor, Announces, IsHeard, HeardInSteps, HeardInTicks}
+use Rattle.ipx_internet.specs.Log.{Reception}
+use Rattle.ipx_internet.specs.Run.{Step, Happens, Settles, IsStep, Run, Waiting, forgotten, stepped, run_of}
+use Rattle.ipx_internet.specs.Servers.{Announcer, Server, at_hops, SaysNoFalse, NamesOnly}
+use Rattle.ipx_internet.specs.Ticks.{seconds_of, ticked, most_ticks_gone}
+use Rattle.ipx_internet.proofs.deliveries.WaitsAfterDelivery.{there}
+use Rattle.ipx_internet.proofs.lists.EachElement.{all-append}
+use Rattle.ipx_internet.proofs.lists.FoundInAList.{nothing, it_is}
+use Rattle.ipx_internet.proofs.lists.SomeElement.{AnyIs, any_in_front, any_behind}
+use Rattle.ipx_internet.proofs.packets.SentOnOrReply.{Layouts}
+use Rattle.ipx_internet.proofs.packets.SentOnSaysTheSame.{heard_message}
+use Rattle.ipx_internet.proofs.records.BestIsKept.{State, Comes, GoodOf, known, offers_keep, offers_come, second_keeps}
+use Rattle.ipx_internet.proofs.records.HeardChangesItsKeys.{service_offer}
+use Rattle.ipx_internet.proofs.records.KeptOrOffered.{OffersOf}
+use Rattle.ipx_internet.proofs.services.HostTickAfterTick.{Going, Rests, begins, step_goes, tick_rests, outside_waits, first_waits}
+use Rattle.ipx_internet.proofs.services.NearestHost.{one_name, here, Listed, key, shares, Real, host_of, Good, best, steady, Such, real_known, goes_on, place}
+use Rattle.ipx_internet.proofs.services.ServedOrSoonEnded.{Endures, ServiceOld, Fine}
+use Rattle.ipx_internet.proofs.services.SpokenOfAServer.{EntrySaid, Told, Waits}
+use Rattle.ipx_internet.proofs.ticks.BusyTickAfterTick.{own_seconds}
+use Rattle.ipx_internet.proofs.ticks.TickAfterTick.{second_there}
+
+module _ (net : Internet) (laws : Layouts) (is : IsInternet net) (most_routes most_services : ℕ) (up : ℕ → List ℕ) (server : Server)
+    (names : List (ℕ × List ℕ)) (r : ℕ) (apart : HostsApart net server) (hops : ℕ) (reached : hops < unreachable)
+    (least : (which : ℕ) (host : Announcer) → slice_get server.announcers which ≡ Some host → hops ≤ host.hops) (room : HasRoomFor net most_services names)
+    (inside : r < length net) (listed : Listed net up server names most_services r apart hops reached least (server.kind, server.name)) where
+  abbrev ports : List Port
+  ports = ports_of net r
+
+  abbrev Source : Type 0
+  Source = ℕ × Node
+
+  abbrev K : ℕ × List ℕ
+  K = key net up server names most_services r apart hops reached least
+
+  abbrev one : (k : ℕ × List ℕ) → is_eq (service_order k K) ≡ true → k ≡ K
+  one k = one_name k K
+
+  abbrev ss : List ℕ
+  ss = shares net up server names most_services r apart hops reached least
+
+  abbrev R : ServiceOffer → Type 0
+  R = Real net up server names most_services r apart hops reached least
+
+  abbrev pub G : ServiceOffer → Type 0
+  G = Good net up server names most_services r apart hops reached least
+
+  abbrev L : ℕ × List ℕ → Type 0
+  L = Listed net up server names most_services r apart hops reached least
+
+  abbrev at : ℕ → Place
+  at port = here net up server names most_services r apart hops reached least port
+
+  abbrev pub host : Source → Announcer
+  host = host_of net up server names most_services r apart hops reached least
+
+  abbrev pub known_now : List (Fact ServiceOffer) → Option (Held ServiceOffer)
+  known_now = known service_reading service_order service_total most_services ss K one R G
+
+  abbrev pub S : (ℕ → Type 0) → (Source → Type 0) → Type 0 → List (Fact ServiceOffer) → Type 0
+  S Fresh Late Later facts = State service_reading service_order service_total most_services ss K one R G Fresh Late Later (known_now facts)
+
+  -- the service may be missing while one of the hosts has still to be heard
+  abbrev pub Missing : (Source → Type 0) → Type 0
+  Missing Late = (g : ServiceOffer) × G g × Late (g.port, g.node)
+
+  -- ---- from step to step
+
+  -- what is heard now needn't be waited for
+  moves : (Fresh : ℕ → Type 0) (Before After Now : Source → Type 0) (facts : List (Fact ServiceOffer)) → ((s : Source) → Before s → Now s ⊎ After s)
+      → S Fresh Before (Missing Before) facts
+      → ((g : ServiceOffer) → G g → Now (g.port, g.node) → S Fresh (λ s. Before s × (s ≢ (g.port, g.node))) ⊥ facts)
+      → S Fresh After (Missing After) facts
+  moves Fresh Before After Now facts split state comes = record {
+    aged = λ h e good. elim (state.aged h e good) [
+      | inl young ↦ inl young
+      | inr late ↦ elim (split (h.offer.port, h.offer.node) late) [
+        | inr later ↦ inr later
+        | inl now ↦ elim ((comes h.offer good now).aged h e good) [
+          | inl young ↦ inl young
+          | inr both ↦ absurd (both.1 refl)
+        ]
+      ]
+    ];
+    holds = elim state.holds [
+      | inl held ↦ inl held
+      | inr missing ↦ elim (split (missing.0.port, missing.0.node) missing.2) [
+        | inr later ↦ inr (missing.0, missing.1, later)
+        | inl now ↦ elim (comes missing.0 missing.1 now).holds [
+          | inl held ↦ inl held
+          | inr none ↦ absurd none
+        ]
+      ]
+    ];
+  }
+
+  -- nothing that counts is heard
+  passes_by : (Fresh Then : ℕ → Type 0) (Before After : Source → Type 0) (facts : List (Fact ServiceOffer)) → ((age : ℕ) → Fresh age → Then age)
+      → ((s : Source) → Before s → After s) → S Fresh Before (Missing Before) facts → S Then After (Missing After) facts
+  passes_by Fresh Then Before After facts grows still state = record {
+    aged = λ h e good. elim (state.aged h e good) [
+      | inl young ↦ inl (grows h.age young)
+      | inr late ↦ inr (still (h.offer.port, h.offer.node) late)
+    ];
+    holds = elim state.holds [
+      | inl held ↦ inl held
+      | inr missing ↦ inr (missing.0, missing.1, still (missing.0.port, missing.0.node) missing.2)
+    ];
+  }
+
+  -- so many seconds of a tick are left, and so old may it be at its end
+  abbrev pub Young : ℕ → ℕ → ℕ → Type 0
+  Young top left age = age + left ≤ top
+
+  module _ (top : ℕ) (few : top ≤ 60) (some : 1 ≤ top) where
+    abbrev Q : ℕ → (Source → Type 0) → History → Type 0
+    Q left Late history = S (Young top left) Late (Missing Late) (service_facts ports history)
+
+    -- ---- a second
+
+    second_own : (rest : ℕ) (Late : Source → Type 0) (history : History) → Q (suc rest) Late history → Q rest Late (history ++ Second ∷ [])
+    second_own rest Late history state =
+        let facts = service_facts ports history in
+        subst (λ (fs : List (Fact ServiceOffer)). S (Young top rest) Late (Missing Late) fs) (sym (facts_from-more (service_facts_of ports) [] history Second))
+        (elim (cases_Bool (running history)) [
+          | inl runs ↦
+              rw runs (second_keeps service_reading service_order service_total most_services ss K one R G (Young top (suc rest)) (Young top rest) Late (Missing Late)
+              (λ age young. omega (arith, young)) (λ old. absurd (omega (arith, old, few))) (λ g good late. (g, good, late)) facts state)
+          | inr stopped ↦
+              rw stopped (subst (λ (fs : List (Fact ServiceOffer)). S (Young top rest) Late (Missing Late) fs) (sym (append-nil facts))
+              (passes_by (Young top (suc rest)) (Young top rest) Late Late facts (λ age young. omega (arith, young)) (λ s late. late) state))
+        ])
+
+    -- ---- a packet
+
+    module _ (ticks had : ℕ) (late : had ≤ ticks) (long : most_ticks_gone ≤ had) (number : ℕ) (bytes : List ℕ)
+        (waits : Waits net up server L ticks (at number) bytes) (history : History) (endures : Endures net up server L most_services r had history)
+        (left : ℕ) (one_left : left ≤ 1) where
+      abbrev Fit : ServiceOffer → Type 0
+      Fit = ServiceOld net up server L most_services r had had (omega arith)
+
+      abbrev Arrives : ServiceOffer → Type 0
+      Arrives = Comes service_reading service_order service_total most_services ss K one R G
+          (best net up server names most_services r apart hops reached least) (Young top left) (omega (arith, one_left, some))
+          (Such net up server names most_services r apart hops reached least had long) Fit
+          (real_known net up server names most_services r apart hops reached least had long)
+          (goes_on net up server names most_services r apart hops reached least had long)
+
+      sure : most_ticks_gone ≤ ticks
+      sure = omega (arith, late, long)
+
+      arrive : is_up (up r) number ≡ true → (node : Node) (entries : List SapEntry) → AllByRecursion (EntrySaid net up server L ticks (at number) node) entries
+          → AllByRecursion (OffersOf Arrives) (services_offered number node entries)
+      arrive on node [] all = tt
+      arrive on node (e ∷ entries) all =
+          all-append (OffersOf Arrives) _ (services_offered number node entries) (by e.name (λ name named.
+          (fit name named, steady net up server names most_services r apart hops reached least ticks sure number on node e all.0 name named))) (arrive on node entries all.1)
+        where
+          fit : (name : List ℕ) → e.name ≡ Some name → Fit (service_offer number node e name)
+          fit name named near = sooner (all.0.fine on near name named)
+            where
+              sooner : {A : Type 0} → A ⊎ (ticks ≤ 180 * e.hops) → A ⊎ (had ≤ 180 * e.hops)
+              sooner (inl fine) = inl fine
+              sooner (inr soon) = inr (omega (arith, soon, late))
+
+          by : (name : Option (List ℕ)) → ((given : List ℕ) → name ≡ Some given → Arrives (service_offer number node e given))
+              → AllByRecursion (OffersOf Arrives) (elim name [
+                | None ↦ []
+                | Some name ↦ Offered (service_offer number node e name) ∷ []
+              ])
+          by None step = tt
+          by (Some name) step = (step name refl, tt)
+
+      -- what one of the hosts says is among what is offered
+      among : (g : ServiceOffer) → G g → g.port ≡ number → (node : Node) → node ≡ g.node → (entries : List SapEntry) (which : ℕ)
+          → slice_get entries which ≡ Some (entry_of (at_hops server hops))
+          → AnyIs (λ fact. OffersOf (λ o. G o × ◌≡◌ {A = Source} (o.port, o.node) (g.port, g.node)) fact) (services_offered number node entries)
+      among g good port node same [] which at_it = nothing at_it
+      among g good port node same (e ∷ entries) (suc which) at_it =
+          any_behind _ (elim e.name [
+            | None ↦ []
+            | Some name ↦ Offered (service_offer number node e name) ∷ []
+          ]) (services_offered number node entries) (among g good port node same entries which at_it)
+      among g good port node same (e ∷ entries) zero at_it =
+          any_in_front _ (elim e.name [
+            | None ↦ []
+            | Some name ↦ Offered (service_offer number node e name) ∷ []
+          ]) (services_offered number node entries)
+          (it_is (λ (x : SapEntry). AnyIs (λ fact. OffersOf (λ o. G o × ◌≡◌ {A = Source} (o.port, o.node) (g.port, g.node)) fact) (elim x.name [
+            | None ↦ []
+            | Some name ↦ Offered (service_offer number node x name) ∷ []
+          ])) e (entry_of (at_hops server hops)) (sym at_it) (inl (is_good, source)))
+        where
+          o : ServiceOffer
+          o = record { service = at_hops server hops; port = number; node = node }
+
+          source : ◌≡◌ {A = Source} (number, node) (g.port, g.node)
+          source = ap (λ (p : ℕ). (p, node)) (sym port) ∙ ap (λ (n : Node). (g.port, n)) same
+
+          is_good : G o
+          is_good = record {
+            which = good.which;
+            listed = subst (λ (s : Source). slice_get server.announcers good.which ≡ Some (host s)) (sym source) good.listed;
+            on = subst (λ (p : ℕ). is_up (up r) p ≡ true) port good.on;
+            said = refl;
+          }
+
+      module _ (Before After Now : Source → Type 0) (split : (s : Source) → Before s → Now s ⊎ After s)
+          (now_is : (s : Source) → Now s → (number ≡ s.0) × (m : Heard) × (heard_after ports history s.0 bytes ≡ Some m) × Announces server (host s) m)
+          (state : Q left Before history) where
+        abbrev facts : List (Fact ServiceOffer)
+        facts = service_facts ports history
+
+        by_heard : (o : Option Heard) → heard_after ports history number bytes ≡ o
+            → S (Young top left) After (Missing After) (facts ++ services_heard number o)
+        by_heard None e =
+            subst (λ (fs : List (Fact ServiceOffer)). S (Young top left) After (Missing After) fs) (sym (append-nil facts))
+            (passes_by (Young top left) (Young top left) Before After facts (λ age young. young) (λ s late. never s (split s late)) state)
+          where
+            never : (s : Source) → Now s ⊎ After s → After s
+            never s (inr later) = later
+            never s (inl now) =
+                let it = now_is s now in
+                nothing (sym e ∙ ap (λ (n : ℕ). heard_after ports history n bytes) it.0 ∙ it.2)
+        by_heard (Some m) e = heard m e (waits.tells m (heard_message ports history number bytes m e))
+          where
+            on : is_up (up r) number ≡ true
+            on = subst (λ (us : List ℕ). is_up us number ≡ true) endures.ups (heard_up ports (ports_up ports history) number (running history) bytes m e)
+
+            -- it is this message
+            same_message : (x : Heard) → heard_after ports history number bytes ≡ Some x → (s : Source) → Now s → Announces server (host s) x
+            same_message x e s now =
+                let it = now_is s now in
+                it_is (λ (h : Heard). Announces server (host s) h) x it.1 (sym it.2 ∙ sym (ap (λ (n : ℕ). heard_after ports history n bytes) it.0) ∙ e) it.3
+
+            silent : (x : Heard) → heard_after ports history number bytes ≡ Some x → ((s : Source) → Announces server (host s) x → ⊥)
+                → S (Young top left) After (Missing After) (facts ++ [])
+            silent x e none =
+                subst (λ (fs : List (Fact ServiceOffer)). S (Young top left) After (Missing After) fs) (sym (append-nil facts))
+                (passes_by (Young top left) (Young top left) Before After facts (λ age young. young)
+                (λ s late. elim (split s late) [ inr later ↦ later | inl now ↦ absurd (none s (same_message x e s now)) ]) state)
+
+            heard : (x : Heard) → heard_after ports history number bytes ≡ Some x → Told net up server L ticks (at number) x
+                → S (Young top left) After (Missing After) (facts ++ services_heard number (Some x))
+            heard (HeardRip source rip) e tells = silent (HeardRip source rip) e (λ s none. none)
+            heard (HeardSap source (Query nearest kind)) e tells = silent (HeardSap source (Query nearest kind)) e (λ s none. none)
+            heard (HeardSap source (SapResponse nearest entries)) e tells =
+                let new = services_offered number source.node entries in
+                let all = arrive on source.node entries tells in
+                let such = endures.services in
+                moves (Young top left) Before After Now (facts ++ new) split
+                (offers_keep service_reading service_order service_total most_services ss K one R G
+                (best net up server names most_services r apart hops reached least) (Young top left) (omega (arith, one_left, some))
+                (Such net up server names most_services r apart hops reached least had long) Fit
+                (real_known net up server names most_services r apart hops reached least had long)
+                (goes_on net up server names most_services r apart hops reached least had long) Before (Missing Before) new facts all such state)
+                (λ g good now.
+                let said = same_message (HeardSap source (SapResponse nearest entries)) e (g.port, g.node) now in
+                offers_come service_reading service_order service_total most_services ss K one R G
+                (best net up server names most_services r apart hops reached least) (Young top left) (omega (arith, one_left, some))
+                (Such net up server names most_services r apart hops reached least had long) Fit
+                (real_known net up server names most_services r apart hops reached least had long)
+                (goes_on net up server names most_services r apart hops reached least had long)
+                (place net up server names most_services r apart hops reached least had long room inside listed) (g.port, g.node)
+                Before (Missing Before) new facts all
+                (among g good (sym (now_is (g.port, g.node) now).0) source.node said.0 entries said.1 said.2) such state)
+
+        pub packet_own : Q left After (history ++ Packet number bytes ∷ [])
+        packet_own =
+            subst (λ (fs : List (Fact ServiceOffer)). S (Young top left) After (Missing After) fs)
+            (sym (facts_from-more (service_facts_of ports) [] history (Packet number bytes)))
+            (by_heard (heard_after ports history number bytes) refl)
+
+    -- ---- one step
+
+    Heard_by : Run → Step → Source → Type 0
+    Heard_by run step s = IsHeard net most_routes most_services server (at s.0) (host s) run step
+
+    abbrev Goes : ℕ → (ℕ → ℕ) → Run → Type 0
+    Goes ticks left run = Going net laws is most_routes most_services up server L ticks left (forgotten run)
+
+    module _ (ticks : ℕ) (long : most_ticks_gone < ticks) where
+      -- an event of another router
+      elsewhere : (histories : List History) (router : ℕ) (event : Event) → r ≢ router → (left rest : ℕ) → left ≡ rest → (Before After : Source → Type 0)
+          → ((s : Source) → Before s → After s) → Q left Before (history_of histories r) → Q rest After (history_of (with_event histories router event) r)
+      elsewhere histories router event off left rest same Before After still state =
+          let stays = get_or-set_other histories router r (history_of histories router ++ event ∷ []) [] off in
+          subst (λ (h : History). Q rest After h) (sym stays)
+          (passes_by (Young top left) (Young top rest) Before After (service_facts ports (history_of histories r)) (λ age young. omega (arith, young, same)) still state)
+
+      -- an event of its own
+      here_now : (histories : List History) (event : Event) → r < length histories → (rest : ℕ) (After : Source → Type 0)
+          → Q rest After (history_of histories r ++ event ∷ []) → Q rest After (history_of (with_event histories r event) r)
+      here_now histories event within rest After state =
+          let now = get_or-set_same histories r (history_of histories r ++ event ∷ []) [] within in
+          subst (λ (h : History). Q rest After h) (sym now) state
+
+      lasted : (left : ℕ → ℕ) (run : Run) → Goes ticks left run → Endures net up server L most_services r (ticks - left r) (history_of run.histories r)
+      lasted left run going =
+          let some_left = (going.few r inside).1 in
+          going.routers r (ticks - left r) inside (omega (arith, some_left))
+
+      within : (left : ℕ → ℕ) (run : Run) → Goes ticks left run → r < length run.histories
+      within left run going =
+          let each = going.are.each in
+          let there_is = inside in
+          omega (arith, each, there_is)
+
+      own_packet : (run : Run) (left : ℕ → ℕ) (number : ℕ) (bytes : List ℕ) → Goes ticks left run → Waits net up server L ticks (at number) bytes
+          → (Before After Now : Source → Type 0) → ((s : Source) → Before s → Now s ⊎ After s)
+          → ((s : Source) → Now s → (number ≡ s.0) × (m : Heard) × (heard_after ports (history_of run.histories r) s.0 bytes ≡ Some m) × Announces server (host s) m)
+          → Q (left r) Before (history_of run.histories r) → Q (left r) After (history_of (with_event run.histories r (Packet number bytes)) r)
+      own_packet run left number bytes going waits Before After Now split now_is state =
+          let one_left = (going.few r inside).0 in
+          here_now run.histories (Packet number bytes) (within left run going) (left r) After
+          (packet_own ticks (ticks - left r) (omega arith) (omega (arith, one_left, long)) number bytes waits (history_of run.histories r) (lasted left run going)
+          (left r) one_left Before After Now split now_is state)

@@ -1,0 +1,244 @@
+-- A router beside the nearest of the hosts that announce a service: what these hosts say is the best that it may know, and there is room for it.
+use Rattle.std.proofs.Common.{◌≡◌, ◌≢◌, refl, sym, ap, ap₂, ◌∙◌, subst, ◌⊎◌, ℕ, zero, suc, ◌+◌, ◌*◌, ◌<◌, ◌≤◌, ◌==◌, nat_eq, nat_le, Bool, true, false, List, [], ◌∷◌, ◌++◌, filter, find, length, map, Option, None, Some, inl, inr, arith, true≢false, Ordering, Less, Equal, Greater, is_eq, slice_get}
+use Rattle.std.specs.List.{AllByRecursion}
+use Rattle.std.specs.Cmp.Lexicographic.{pointwise}
+use Rattle.std.specs.Ordering.{nat_cmp, is_gt, ordering_then}
+use Rattle.std.proofs.lemmas.Bool.{cases_Bool, and_parts, eqb-true, leb-true, leb-false}
+use Rattle.ipx_table.specs.Facts.{Fact, Offered}
+use Rattle.ipx_table.specs.Reading.{one_source, rank_order, rules_of}
+use Rattle.ipx_table.specs.declared.held.Held.{Held}
+use Rattle.ipx_table.proofs.Living.{kept}
+use Rattle.ipx_table.proofs.Order.{is_equal}
+use Rattle.ipx_table.proofs.Standing.{rules_total}
+use Rattle.ipx_wire.specs.Name.{name_order}
+use Rattle.ipx_wire.specs.declared.node.Node.{Node}
+use Rattle.ipx_wire.specs.declared.sap_entries.SapEntry.{SapEntry}
+use Rattle.ipx_wire.specs.declared.service.Service.{Service}
+use Rattle.ipx_wire.proofs.NameOrder.{equal_is}
+use Rattle.ipx_router.specs.Numbers.{unreachable}
+use Rattle.ipx_router.specs.Port.{Port, broadcast, is_up}
+use Rattle.ipx_router.specs.Services.{service_reading, service_order}
+use Rattle.ipx_router.specs.declared.service_offer.ServiceOffer.{ServiceOffer}
+use Rattle.ipx_router.proofs.bounds.PacketsOfEachEvent.{service_total}
+use Rattle.ipx_router.proofs.lists.EachElement.{all_both}
+use Rattle.ipx_internet.specs.Announces.{service_of}
+use Rattle.ipx_internet.specs.Internet.{Internet, Place, ports_of, port_of, network_of}
+use Rattle.ipx_internet.specs.Least.{Way}
+use Rattle.ipx_internet.specs.Regular.{HostsApart, HasRoomFor, IsListedName}
+use Rattle.ipx_internet.specs.Servers.{Announcer, Server, IsOf, at_hops, IsAnnouncedOn, IsServed, IsAway, announced, passed_on, beside, beyond}
+use Rattle.ipx_internet.specs.Ticks.{most_ticks_gone}
+use Rattle.ipx_internet.proofs.lists.EachElement.{all_then, all_mapped, all_at}
+use Rattle.ipx_internet.proofs.lists.SomeElement.{found_with}
+use Rattle.ipx_internet.proofs.records.BestIsKept.{AreBest, IsSteady, HasPlace, records, known, known_in}
+use Rattle.ipx_internet.proofs.records.KeysHaveRoom.{AreSingle, admits, replaces}
+use Rattle.ipx_internet.proofs.records.RecordsGrowOld.{IsOld, IsNear, near_young, after_offers}
+use Rattle.ipx_internet.proofs.services.ServedOrSoonEnded.{Fine, ServicesAged, ServiceOld}
+use Rattle.ipx_internet.proofs.services.ServicesBecomeReal.{has_way}
+use Rattle.ipx_internet.proofs.services.SpokenOfAServer.{EntrySaid, Who}
+use Rattle.ipx_internet.proofs.records.HeardChangesItsKeys.{service_offer}
+use Rattle.ipx_internet.proofs.tables.GoodRoutesStay.{same_bytes}
+use Rattle.ipx_internet.proofs.tables.LeastWays.{NoWorse}
+use Rattle.ipx_internet.proofs.tables.RoomForEachNetwork.{same_where_equal, not_worse, worse}
+
+-- ---- keys, sources and ranks of services
+
+pub one_name : (a b : ℕ × List ℕ) → is_eq (service_order a b) ≡ true → a ≡ b
+one_name a b e = by (nat_cmp a.0 b.0) refl
+  where
+    by : (r : Ordering) → nat_cmp a.0 b.0 ≡ r → a ≡ b
+    by Less is = absurd (true≢false (sym e ∙ ap (λ (o : Ordering). is_eq (ordering_then o (name_order a.1 b.1))) is))
+    by Greater is = absurd (true≢false (sym e ∙ ap (λ (o : Ordering). is_eq (ordering_then o (name_order a.1 b.1))) is))
+    by Equal is =
+        let kinds : a.0 ≡ b.0 = same_where_equal a.0 b.0 (ap is_eq is) in
+        let names : is_eq (name_order a.1 b.1) ≡ true = sym (ap (λ (o : Ordering). is_eq (ordering_then o (name_order a.1 b.1))) is) ∙ e in
+        ap₂ (λ (kind : ℕ) (name : List ℕ). (kind, name)) kinds (equal_is a.1 b.1 (is_equal (name_order a.1 b.1) names))
+
+pub source_parts : (a b : ServiceOffer) → one_source (a.port, a.node) (b.port, b.node) ≡ true → (a.port ≡ b.port) × (a.node ≡ b.node)
+source_parts a b e =
+    let parts = and_parts (a.port == b.port) (pointwise nat_eq a.node.0 b.node.0) e in
+    let node : List ℕ → Node = λ bytes. record { 0 = bytes } in
+    (eqb-true a.port b.port parts.0, ap node (same_bytes a.node.0 b.node.0 parts.1))
+
+abbrev as_way : ℕ → Way
+as_way hops = record { hops = 0; ticks = hops }
+
+no_worse : (a b : ℕ) → a ≤ b → is_gt (rank_order (a, 0) (b, 0)) ≡ false
+no_worse a b less = elim (cases_Bool (is_gt (rank_order (a, 0) (b, 0)))) [
+  | inr so ↦ so
+  | inl e ↦ absurd (worse (as_way a) (as_way b) e (record { ticks = less; hops = λ same. omega arith }))
+]
+
+module _ (net : Internet) (up : ℕ → List ℕ) (server : Server) (names : List (ℕ × List ℕ)) (most_services r : ℕ) (apart : HostsApart net server) (hops : ℕ)
+    (reached : hops < unreachable) (least : (which : ℕ) (host : Announcer) → slice_get server.announcers which ≡ Some host → hops ≤ host.hops) where
+  abbrev pub here : ℕ → Place
+  here port = record { router = r; port = port }
+
+  abbrev pub Listed : ℕ × List ℕ → Type 0
+  Listed = IsListedName names
+
+  abbrev pub key : ℕ × List ℕ
+  key = (server.kind, server.name)
+
+  abbrev pub shares : List ℕ
+  shares = map (λ p. p.service_share) (ports_of net r)
+
+  abbrev pub Real : ServiceOffer → Type 0
+  Real o = IsServed net up server r o
+
+  -- the host of a source that says so many hops
+  abbrev pub host_of : ℕ × Node → Announcer
+  host_of source = record { network = network_of net (here source.0); node = source.1; hops = hops }
+
+  -- such a host announces it so
+  pub record Good (o : ServiceOffer) : Type 0 where
+    pub which : ℕ
+    pub listed : slice_get server.announcers which ≡ Some (host_of (o.port, o.node))
+    pub on : is_up (up r) o.port ≡ true
+    pub said : o.service ≡ at_hops server hops
+
+  -- ---- nobody is nearer
+
+  no_nearer : {router more : ℕ} → IsAway net up server router more → hops ≤ more
+  no_nearer (beside port which host on listed network) = least which host listed
+  no_nearer (beyond port from other on there network way) = let less = no_nearer way in omega (arith, less)
+
+  good_hops : (g : ServiceOffer) → Good g → g.service.hops ≡ hops
+  good_hops g good = ap (λ (s : Service). s.hops) good.said
+
+  -- what is as near is announced
+  as_near : {router : ℕ} {s : ServiceOffer} → IsServed net up server router s → s.service.hops ≤ hops
+      → (is_up (up router) s.port ≡ true) × IsAnnouncedOn server (network_of net (record { router = router; port = s.port })) s.node s.service
+  as_near (announced on is) few = (on, is)
+  as_near (passed_on from other off on there network node same near served) few =
+      let less = no_nearer (has_way net up server served).1 in
+      let more = ap (λ (s : Service). s.hops) same in
+      absurd (omega (arith, less, more, few))
+
+  good_where : (o : ServiceOffer) → is_up (up r) o.port ≡ true → IsAnnouncedOn server (network_of net (here o.port)) o.node o.service → o.service.hops ≡ hops → Good o
+  good_where o on is same = record {
+    which = is.which;
+    listed = subst (λ (n : ℕ). slice_get server.announcers is.which ≡ Some (record { network = network_of net (here o.port); node = o.node; hops = n })) same is.listed;
+    on = on;
+    said = is.addressed ∙ ap (at_hops server) same;
+  }
+
+  pub best : AreBest service_reading service_order service_total most_services shares key (λ k. one_name k key) Real Good
+  best = record {
+    named = λ g good. ap (λ (s : Service). (s.kind, s.name)) good.said;
+    up = λ g good. elim (cases_Bool (nat_le unreachable g.service.hops)) [
+      | inr near ↦ near
+      | inl down ↦
+          let far = leb-true unreachable g.service.hops down in
+          let is = good_hops g good in
+          absurd (omega (arith, far, is, reached))
+    ];
+    first = λ g o good real named.
+        let less = no_nearer (has_way net up server real).1 in
+        let is = good_hops g good in
+        no_worse g.service.hops o.service.hops (omega (arith, less, is));
+    equal = λ g o good real named as_good.
+        let less = no_nearer (has_way net up server real).1 in
+        let is = good_hops g good in
+        let few = (not_worse (as_way o.service.hops) (as_way g.service.hops) as_good).ticks in
+        let both = as_near real (omega (arith, few, is)) in
+        good_where o both.0 both.1 (omega (arith, few, is, less));
+  }
+
+  -- ---- what may be heard of it
+
+  of_key : (kind : ℕ) (name : List ℕ) → ◌≡◌ {A = ℕ × List ℕ} (kind, name) key → (kind ≡ server.kind) × (name ≡ server.name)
+  of_key kind name same = (ap (λ (k : ℕ × List ℕ). k.0) same, ap (λ (k : ℕ × List ℕ). k.1) same)
+
+  module _ (begun : ℕ) (long : most_ticks_gone ≤ begun) (number : ℕ) (on : is_up (up r) number ≡ true) (node : Node) (e : SapEntry)
+      (said : EntrySaid net up server Listed begun (here number) node e) (name : List ℕ) (is : e.name ≡ Some name) where
+    abbrev o : ServiceOffer
+    o = service_offer number node e name
+
+    honest : IsOf server o.service → (g : ServiceOffer) → Good g → one_source (g.port, g.node) (number, node) ≡ true → Good o
+    honest of g good same = by (said.who name is of)
+      where
+        source : (g.port ≡ number) × (g.node ≡ node)
+        source = source_parts g o same
+
+        network : network_of net (here g.port) ≡ network_of net (here number)
+        network = ap (λ (k : ℕ). network_of net (here k)) source.0
+
+        by : Who net up server Listed (here number) node (service_of e name) → Good o
+        by (inl announces) =
+            good_where o on announces
+            (sym (apart.one_voice good.which announces.which (host_of (g.port, g.node)) _ good.listed announces.listed network source.1))
+        by (inr (from, reaches, from_node)) =
+            absurd (apart.from_routers good.which (host_of (g.port, g.node)) from good.listed (sym reaches.network ∙ sym network) (sym from_node ∙ sym source.1))
+
+    pub steady : ◌≡◌ {A = ℕ × List ℕ} (e.kind, name) key
+        → IsSteady service_reading service_order service_total most_services shares key (λ k. one_name k key) Real Good o
+    steady same =
+        let of = of_key e.kind name same in
+        record {
+          real = λ near. by (leb-false unreachable e.hops near) (said.fine on (leb-false unreachable e.hops near) name is) of;
+          honest = honest of;
+        }
+      where
+        by : e.hops < unreachable → Fine net up server Listed most_services r o ⊎ (begun ≤ 180 * e.hops) → IsOf server o.service → Real o
+        by near (inl fine) of = fine.1 of
+        by near (inr soon) of = absurd (omega (arith, near, soon, long))
+
+  -- ---- what is known is real, and there is room
+
+  module _ (had : ℕ) (long : most_ticks_gone ≤ had) where
+    abbrev pub Such : List (Fact ServiceOffer) → Type 0
+    Such = ServicesAged net up server Listed most_services r had
+
+    abbrev pub Facts : List (Fact ServiceOffer) → List (Held ServiceOffer)
+    Facts = records service_reading service_order service_total most_services shares key (λ k. one_name k key) Real Good
+
+    abbrev F : ServiceOffer → Type 0
+    F = Fine net up server Listed most_services r
+
+    all_fine : (facts : List (Fact ServiceOffer)) → Such facts → AllByRecursion (λ h. F h.offer) (Facts facts)
+    all_fine facts aged =
+        all_then (λ h. IsOld service_reading service_order service_total most_services shares (λ s. s.service.hops) (λ s. refl) F had h
+        × IsNear service_reading service_order service_total most_services shares (λ s. s.service.hops) (λ s. refl) h)
+        (λ h. F h.offer) (λ h both. one h both.0 both.1.0 both.1.1) (Facts facts)
+        (all_both _ _ (Facts facts) aged (near_young service_reading service_order service_total most_services shares (λ s. s.service.hops) (λ s. refl) facts))
+      where
+        one : (h : Held ServiceOffer) → F h.offer ⊎ (had ≤ 180 * h.offer.service.hops + h.age) → h.offer.service.hops < unreachable → h.age < 180 → F h.offer
+        one h (inl fine) near young = fine
+        one h (inr old) near young = absurd (omega (arith, old, near, young, long))
+
+    pub real_known : (facts : List (Fact ServiceOffer)) → Such facts → (h : Held ServiceOffer)
+        → known service_reading service_order service_total most_services shares key (λ k. one_name k key) Real Good facts ≡ Some h → Real h.offer
+    real_known facts aged h some =
+        let found = found_with (λ x. F x.offer) (λ x. is_eq (service_order (x.offer.service.kind, x.offer.service.name) key)) (Facts facts) h (all_fine facts aged) some in
+        found.0.1 (of_key h.offer.service.kind h.offer.service.name (one_name (h.offer.service.kind, h.offer.service.name) key found.1))
+
+    pub goes_on : (facts : List (Fact ServiceOffer)) (o : ServiceOffer) → Such facts → ServiceOld net up server Listed most_services r had had (omega arith) o
+        → Such (facts ++ Offered o ∷ [])
+    goes_on facts o aged old =
+        after_offers service_reading service_order service_total most_services shares (λ s. s.service.hops) (λ s. refl) F had (Offered o ∷ []) facts (old, tt) aged
+
+    module _ (room : HasRoomFor net most_services names) (inside : r < length net) (listed : Listed key) where
+      single : (facts : List (Fact ServiceOffer)) → AreSingle service_reading service_order service_total one_name (Facts facts)
+      single facts k =
+          (kept (rules_of service_reading service_order most_services shares) (rules_total service_reading service_order service_total most_services shares) facts).distinct
+          (record { service = record { kind = k.0; name = k.1; address = server.address; hops = 0 }; port = 0; node = broadcast })
+
+      each_share : AllByRecursion (λ s. length names ≤ s) shares
+      each_share =
+          all_mapped (λ s. length names ≤ s) (λ p. p.service_share) (ports_of net r)
+          (all_at (λ ports. AllByRecursion (λ p. length names ≤ p.service_share) ports) net r [] room.shares inside)
+
+      pub place : (facts : List (Fact ServiceOffer)) (o : ServiceOffer) → Such facts → Good o
+          → HasPlace service_reading service_order service_total most_services shares key (λ k. one_name k key) Real Good (Facts facts) o
+      place facts o aged good =
+          let same : ◌≡◌ {A = ℕ × List ℕ} (o.service.kind, o.service.name) key = ap (λ (s : Service). (s.kind, s.name)) good.said in
+          let all = all_then (λ h. F h.offer) (λ h. Listed (h.offer.service.kind, h.offer.service.name)) (λ h fine. fine.0) (Facts facts) (all_fine facts aged) in
+          record {
+            admits = λ none.
+                admits service_reading service_order service_total one_name most_services shares names room.table each_share (Facts facts) (single facts) all o
+                (subst Listed (sym same) listed)
+                (subst (λ (k : ℕ × List ℕ). find (λ h. is_eq (service_order (h.offer.service.kind, h.offer.service.name) k)) (Facts facts) ≡ None) (sym same) none);
+            replaces = λ h some.
+                replaces service_reading service_order service_total one_name most_services shares names room.table each_share (Facts facts) (single facts) all o h
+                (subst (λ (k : ℕ × List ℕ). find (λ h. is_eq (service_order (h.offer.service.kind, h.offer.service.name) k)) (Facts facts) ≡ Some h) (sym same) some);
+          }
