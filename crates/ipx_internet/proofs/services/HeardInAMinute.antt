@@ -296,7 +296,7 @@ module _ (net : Internet) (laws : Layouts) (is : IsInternet net) (most_routes mo
 
     -- ---- one step
 
-    Heard_by : Run → Step → Source → Type 0
+    abbrev Heard_by : Run → Step → Source → Type 0
     Heard_by run step s = IsHeard net most_routes most_services server (at s.0) (host s) run step
 
     abbrev Goes : ℕ → (ℕ → ℕ) → Run → Type 0
@@ -338,3 +338,93 @@ module _ (net : Internet) (laws : Layouts) (is : IsInternet net) (most_routes mo
           here_now run.histories (Packet number bytes) (within left run going) (left r) After
           (packet_own ticks (ticks - left r) (omega arith) (omega (arith, one_left, long)) number bytes waits (history_of run.histories r) (lasted left run going)
           (left r) one_left Before After Now split now_is state)
+
+      abbrev left_of : List Step → ℕ → ℕ
+      left_of steps k = seconds_of k steps
+
+      -- what is heard in a step of a router is heard by that router
+      hearer : (run : Run) (router : ℕ) (event : Event) (s : Source) → Heard_by run (Happens router event) s → r ≡ router
+      hearer run router (Packet number bytes) s now = sym now.0
+      hearer run router Start s now = absurd now
+      hearer run router Stop s now = absurd now
+      hearer run router Second s now = absurd now
+      hearer run router (PortDown number) s now = absurd now
+      hearer run router (PortUp number) s now = absurd now
+
+      later_of : {A B : Type 0} → (A → ⊥) → A ⊎ B → B
+      later_of none (inl now) = absurd (none now)
+      later_of none (inr later) = later
+
+      own_step : (run : Run) (router : ℕ) → r ≡ router → (event : Event) (rest : List Step) → LeavesPorts (Happens router event)
+          → SaysNoFalse net server (Happens router event) → SaysOnly (NamesOnly L) (Happens router event) → Goes ticks (left_of (Happens router event ∷ rest)) run
+          → (After : Source → Type 0) → Q (seconds_of r (Happens router event ∷ rest)) (λ s. Heard_by run (Happens router event) s ⊎ After s) (history_of run.histories r)
+          → Q (seconds_of r rest) After (history_of (with_event run.histories router event) r)
+      own_step run router same Second rest leaves says names going After state =
+          let e = subst (λ (k : ℕ). seconds_of r (Happens k Second ∷ rest) ≡ 1 + seconds_of r rest) same (own_seconds r Second rest) in
+          let more : seconds_of r (Happens router Second ∷ rest) ≡ suc (seconds_of r rest) = omega (arith, e) in
+          let facts = service_facts ports (history_of run.histories r) in
+          subst (λ (k : ℕ). Q (seconds_of r rest) After (history_of (with_event run.histories k Second) r)) same
+          (here_now run.histories Second (within (left_of (Happens router Second ∷ rest)) run going) (seconds_of r rest) After
+          (second_own (seconds_of r rest) After (history_of run.histories r)
+          (passes_by (Young top (seconds_of r (Happens router Second ∷ rest))) (Young top (suc (seconds_of r rest)))
+          (λ s. Heard_by run (Happens router Second) s ⊎ After s) After facts (λ age young. omega (arith, young, more)) (λ s either. later_of (λ none. none) either) state)))
+      own_step run router same (Packet number bytes) rest leaves says names going After state =
+          let step = Happens router (Packet number bytes) in
+          let e = subst (λ (k : ℕ). seconds_of r (Happens k (Packet number bytes) ∷ rest) ≡ 0 + seconds_of r rest) same (own_seconds r (Packet number bytes) rest) in
+          let as_many : seconds_of r (step ∷ rest) ≡ seconds_of r rest = omega (arith, e) in
+          let came = outside_waits net laws is most_routes most_services up server L ticks router (Packet number bytes) says names number bytes refl in
+          let waits = subst (λ (k : ℕ). Waits net up server L ticks (record { router = k; port = number }) bytes) (sym same) came in
+          subst (λ (k : ℕ). Q (seconds_of r rest) After (history_of (with_event run.histories k (Packet number bytes)) r)) same
+          (subst (λ (n : ℕ). Q n After (history_of (with_event run.histories r (Packet number bytes)) r)) as_many
+          (own_packet run (left_of (step ∷ rest)) number bytes going waits (λ s. Heard_by run step s ⊎ After s) After (Heard_by run step) (λ s either. either)
+          (λ s now. (now.1, now.2, now.3, now.4)) state))
+      own_step run router same Start rest leaves says names going After state = absurd leaves
+      own_step run router same Stop rest leaves says names going After state = absurd leaves
+      own_step run router same (PortDown number) rest leaves says names going After state = absurd leaves
+      own_step run router same (PortUp number) rest leaves says names going After state = absurd leaves
+
+      -- a delivery
+      settles_tracks : (histories : List History) (waiting : List Waiting) (log : List Reception) (left : ℕ → ℕ)
+          → Goes ticks left (record { histories = histories; waiting = waiting; log = log }) → (After : Source → Type 0)
+          → Q (left r) (λ s. ⊥ ⊎ After s) (history_of histories r)
+          → Q (left r) After
+          (history_of (stepped net most_routes most_services (record { histories = histories; waiting = waiting; log = log }) Settles).histories r)
+      settles_tracks histories [] log left going After state =
+          passes_by (Young top (left r)) (Young top (left r)) (λ s. ⊥ ⊎ After s) After (service_facts ports (history_of histories r)) (λ age young. young)
+          (λ s either. later_of (λ none. none) either) state
+      settles_tracks histories (w ∷ waiting) log left going After state =
+          let d = w.delivery in
+          let run : Run = record { histories = histories; waiting = w ∷ waiting; log = log } in
+          elim (cases_eq r d.to.router) [
+            | inr off ↦
+                elsewhere histories d.to.router (Packet d.to.port d.bytes) off (left r) (left r) refl (λ s. ⊥ ⊎ After s) After
+                (λ s either. later_of (λ none. none) either) state
+            | inl same ↦
+                let waits = subst (λ (k : ℕ). Waits net up server L ticks (record { router = k; port = d.to.port }) d.bytes) (sym same) going.waiting.0.waits in
+                subst (λ (k : ℕ). Q (left r) After (history_of (with_event histories k (Packet d.to.port d.bytes)) r)) same
+                (own_packet run left d.to.port d.bytes going waits (λ s. ⊥ ⊎ After s) After (λ s. ⊥) (λ s either. either) (λ s none. absurd none) state)
+          ]
+
+      step_tracks : (step : Step) (rest : List Step) (run : Run) → LeavesPorts step → SaysNoFalse net server step → SaysOnly (NamesOnly L) step
+          → Goes ticks (left_of (step ∷ rest)) run → (After : Source → Type 0)
+          → Q (seconds_of r (step ∷ rest)) (λ s. Heard_by run step s ⊎ After s) (history_of run.histories r)
+          → Q (seconds_of r rest) After (history_of (stepped net most_routes most_services run step).histories r)
+      step_tracks Settles rest run leaves says names going After state = settles_tracks run.histories run.waiting run.log (left_of rest) going After state
+      step_tracks (Happens router event) rest run leaves says names going After state = elim (cases_eq r router) [
+        | inl same ↦ own_step run router same event rest leaves says names going After state
+        | inr off ↦
+            elsewhere run.histories router event off (seconds_of r (Happens router event ∷ rest)) (seconds_of r rest) (second_there router r event rest off)
+            (λ s. Heard_by run (Happens router event) s ⊎ After s) After (λ s either. later_of (λ now. off (hearer run router event s now)) either) state
+      ]
+
+      steps_track : (steps : List Step) (run : Run) → AllByRecursion (IsStep net) steps → AllByRecursion LeavesPorts steps
+          → AllByRecursion (SaysNoFalse net server) steps → AllByRecursion (SaysOnly (NamesOnly L)) steps → Goes ticks (left_of steps) run
+          → (After : Source → Run → Type 0)
+          → Q (seconds_of r steps) (λ s. HeardInSteps net most_routes most_services server (at s.0) (host s) (After s) run steps) (history_of run.histories r)
+          → Q 0 (λ s. After s (run_of net most_routes most_services run steps)) (history_of (run_of net most_routes most_services run steps).histories r)
+      steps_track [] run are leave say names going After state = state
+      steps_track (step ∷ steps) run are leave say names going After state =
+          let next = stepped net most_routes most_services run step in
+          steps_track steps next are.1 leave.1 say.1 names.1
+          (step_goes net laws is most_routes most_services up server L ticks step steps run are.0 leave.0 say.0 names.0 going) After
+          (step_tracks step steps run leave.0 say.0 names.0 going (λ s. HeardInSteps net most_routes most_services server (at s.0) (host s) (After s) next steps) state)
