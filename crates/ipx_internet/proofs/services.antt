@@ -1,4 +1,5 @@
 -- Services that hosts announce: what a router may know of them, and what it comes to know.
+pub mod BesideHosts
 pub mod HeardInAMinute
 pub mod HostTickAfterTick
 pub mod NearestHost

@@ -10,7 +10,7 @@ use Rattle.ipx_router.specs.Numbers.{period}
 use Rattle.ipx_router.specs.Port.{is_up}
 use Rattle.ipx_internet.specs.Internet.{Internet, Place, port_of, ports_of, network_of}
 use Rattle.ipx_internet.specs.Queue.{history_of}
-use Rattle.ipx_internet.specs.Run.{Step, Happens, Settles, Run, stepped, run_of}
+use Rattle.ipx_internet.specs.Run.{Step, Happens, Settles, Run, stepped}
 use Rattle.ipx_internet.specs.Servers.{Announcer, Server, at_hops}
 use Rattle.ipx_internet.specs.Ticks.{ticked}
 

@@ -1,44 +1,43 @@
 -- A router beside the nearest host that announces a service has it with that host's hops, after any 60 ticks in which all of them were heard.
-use Rattle.std.proofs.Common.{◌≡◌, ◌≢◌, refl, sym, ap, ◌∙◌, subst, ◌⊎◌, ℕ, zero, suc, ◌+◌, ◌-◌, ◌*◌, ◌<◌, ◌≤◌, Bool, true, false, List, [], ◌∷◌, ◌++◌, find, length, map, Option, None, Some, option_map, inl, inr, arith, append-nil, is_eq, slice_get, get_or-set_same, get_or-set_other}
+use Rattle.std.proofs.Common.{◌≡◌, ◌≢◌, refl, sym, ap, ◌∙◌, subst, ◌⊎◌, ℕ, zero, suc, ◌+◌, ◌-◌, ◌*◌, ◌<◌, ◌≤◌, true, List, [], ◌∷◌, ◌++◌, length, Option, None, Some, option_map, inl, inr, arith, append-nil, is_eq, slice_get, get_or-set_same, get_or-set_other}
 use Rattle.std.specs.List.{AllByRecursion}
 use Rattle.std.proofs.lemmas.Bool.{cases_Bool, cases_eq}
-use Rattle.ipx_table.specs.Facts.{Fact, Offered, Second as SecondPassed}
+use Rattle.ipx_table.specs.Facts.{Fact, Offered}
 use Rattle.ipx_table.specs.declared.held.Held.{Held}
 use Rattle.ipx_wire.specs.WriteServices.{entry_of}
 use Rattle.ipx_wire.specs.declared.node.Node.{Node}
 use Rattle.ipx_wire.specs.declared.sap.Sap.TheVariants.{Query, Response as SapResponse}
 use Rattle.ipx_wire.specs.declared.sap_entries.SapEntry.{SapEntry}
 use Rattle.ipx_wire.specs.declared.service.Service.{Service}
-use Rattle.ipx_router.specs.Facts.{services_offered, services_heard, heard_after, service_facts, service_facts_of}
+use Rattle.ipx_router.specs.Facts.{services_offered, services_heard, heard_after, service_facts, service_facts_of, services_held, offers}
 use Rattle.ipx_router.specs.Heard.{Heard, HeardRip, HeardSap}
 use Rattle.ipx_router.specs.History.{Event, History, Start, Stop, Second, Packet, PortDown, PortUp, running, ports_up}
-use Rattle.ipx_router.specs.Numbers.{unreachable, period}
+use Rattle.ipx_router.specs.Numbers.{unreachable}
 use Rattle.ipx_router.specs.Port.{Port, is_up}
 use Rattle.ipx_router.specs.Services.{service_reading, service_order}
 use Rattle.ipx_router.specs.declared.service_offer.ServiceOffer.{ServiceOffer}
 use Rattle.ipx_router.proofs.bounds.PacketsOfEachEvent.{service_total}
 use Rattle.ipx_router.proofs.tables.HeldWasOffered.{heard_up}
 use Rattle.ipx_router.proofs.tables.OffersOfAMessage.{facts_from-more}
-use Rattle.ipx_internet.specs.Internet.{Internet, Place, IsInternet, ports_of, network_of}
+use Rattle.ipx_internet.specs.Internet.{Internet, Place, IsInternet, ports_of}
 use Rattle.ipx_internet.specs.Meanwhile.{LeavesPorts, SaysOnly, IsBusyTick, EachTick}
 use Rattle.ipx_internet.specs.Queue.{history_of, with_event}
 use Rattle.ipx_internet.specs.Regular.{HostsApart, HasRoomFor, Announces, IsHeard, HeardInSteps, HeardInTicks}
 use Rattle.ipx_internet.specs.Log.{Reception}
 use Rattle.ipx_internet.specs.Run.{Step, Happens, Settles, IsStep, Run, Waiting, forgotten, stepped, run_of}
-use Rattle.ipx_internet.specs.Servers.{Announcer, Server, at_hops, SaysNoFalse, NamesOnly}
+use Rattle.ipx_internet.specs.Servers.{Announcer, Server, at_hops, known_of, SaysNoFalse, NamesOnly}
 use Rattle.ipx_internet.specs.Ticks.{seconds_of, ticked, most_ticks_gone}
-use Rattle.ipx_internet.proofs.deliveries.WaitsAfterDelivery.{there}
 use Rattle.ipx_internet.proofs.lists.EachElement.{all-append}
 use Rattle.ipx_internet.proofs.lists.FoundInAList.{nothing, it_is}
 use Rattle.ipx_internet.proofs.lists.SomeElement.{AnyIs, any_in_front, any_behind}
 use Rattle.ipx_internet.proofs.packets.SentOnOrReply.{Layouts}
 use Rattle.ipx_internet.proofs.packets.SentOnSaysTheSame.{heard_message}
-use Rattle.ipx_internet.proofs.records.BestIsKept.{State, Comes, GoodOf, known, offers_keep, offers_come, second_keeps}
+use Rattle.ipx_internet.proofs.records.BestIsKept.{State, Comes, known, offers_keep, offers_come, second_keeps}
 use Rattle.ipx_internet.proofs.records.HeardChangesItsKeys.{service_offer}
-use Rattle.ipx_internet.proofs.records.KeptOrOffered.{OffersOf}
-use Rattle.ipx_internet.proofs.services.HostTickAfterTick.{Going, Rests, begins, step_goes, tick_rests, outside_waits, first_waits}
+use Rattle.ipx_internet.proofs.records.KeptOrOffered.{OffersOf, among_alive}
+use Rattle.ipx_internet.proofs.services.HostTickAfterTick.{Going, Rests, begins, step_goes, tick_rests, outside_waits}
 use Rattle.ipx_internet.proofs.services.NearestHost.{one_name, here, Listed, key, shares, Real, host_of, Good, best, steady, Such, real_known, goes_on, place}
-use Rattle.ipx_internet.proofs.services.ServedOrSoonEnded.{Endures, ServiceOld, Fine}
+use Rattle.ipx_internet.proofs.services.ServedOrSoonEnded.{Endures, ServiceOld}
 use Rattle.ipx_internet.proofs.services.SpokenOfAServer.{EntrySaid, Told, Waits}
 use Rattle.ipx_internet.proofs.ticks.BusyTickAfterTick.{own_seconds}
 use Rattle.ipx_internet.proofs.ticks.TickAfterTick.{second_there}
@@ -428,3 +427,57 @@ module _ (net : Internet) (laws : Layouts) (is : IsInternet net) (most_routes mo
           steps_track steps next are.1 leave.1 say.1 names.1
           (step_goes net laws is most_routes most_services up server L ticks step steps run are.0 leave.0 say.0 names.0 going) After
           (step_tracks step steps run leave.0 say.0 names.0 going (λ s. HeardInSteps net most_routes most_services server (at s.0) (host s) (After s) next steps) state)
+
+  -- ---- ticks
+
+  abbrev Waiting_for : Run → List (List Step) → Source → Type 0
+  Waiting_for run ticks s = HeardInTicks net most_routes most_services server (at s.0) (host s) run ticks
+
+  ticks_track : (so_far top : ℕ) (run : Run) (ticks : List (List Step)) → most_ticks_gone ≤ so_far → top + length ticks ≤ 60
+      → Rests net laws is most_routes most_services up server L so_far run → EachTick net most_routes most_services (IsBusyTick net most_routes most_services) run ticks
+      → AllByRecursion (AllByRecursion LeavesPorts) ticks → AllByRecursion (AllByRecursion (SaysNoFalse net server)) ticks
+      → AllByRecursion (AllByRecursion (SaysOnly (NamesOnly L))) ticks
+      → S (λ age. age ≤ top) (Waiting_for run ticks) (Missing (Waiting_for run ticks)) (service_facts ports (history_of run.histories r))
+      → S (λ age. age ≤ 60) (λ s. ⊥) (Missing (λ s. ⊥)) (service_facts ports (history_of (ticked net most_routes most_services run ticks).histories r))
+  ticks_track so_far top run [] long few rests busy leave say names state =
+      passes_by (λ age. age ≤ top) (λ age. age ≤ 60) (Waiting_for run []) (λ s. ⊥) (service_facts ports (history_of run.histories r))
+      (λ age young. omega (arith, young, few)) (λ s late. late) state
+  ticks_track so_far top run (steps ∷ ticks) long few rests busy leave say names state =
+      let next = run_of net most_routes most_services run steps in
+      let one_second = busy.0.each r inside in
+      let going = begins net laws is most_routes most_services up server L so_far run steps rests busy.0 in
+      let begun : S (Young (suc top) (seconds_of r steps)) (Waiting_for run (steps ∷ ticks)) (Missing (Waiting_for run (steps ∷ ticks)))
+      (service_facts ports (history_of run.histories r)) =
+      passes_by (λ age. age ≤ top) (Young (suc top) (seconds_of r steps)) (Waiting_for run (steps ∷ ticks)) (Waiting_for run (steps ∷ ticks))
+      (service_facts ports (history_of run.histories r)) (λ age young. omega (arith, young, one_second)) (λ s late. late) state in
+      let done = steps_track (suc top) (omega (arith, few)) (omega arith) (suc so_far) (omega (arith, long)) steps run busy.0.happens leave.0 say.0 names.0 going
+      (λ s after. HeardInTicks net most_routes most_services server (at s.0) (host s) after ticks) begun in
+      ticks_track (suc so_far) (suc top) next ticks (omega (arith, long)) (omega (arith, few))
+      (tick_rests net laws is most_routes most_services up server L so_far run steps rests busy.0 leave.0 say.0 names.0) busy.1 leave.1 say.1 names.1
+      (passes_by (Young (suc top) 0) (λ age. age ≤ suc top) (Waiting_for next ticks) (Waiting_for next ticks) (service_facts ports (history_of next.histories r))
+      (λ age young. omega (arith, young)) (λ s late. late) done)
+
+  -- so it is known then, from one of them
+  pub known_right : (so_far : ℕ) (run : Run) (window : List (List Step)) → most_ticks_gone ≤ so_far → length window ≤ 60
+      → Rests net laws is most_routes most_services up server L so_far run → EachTick net most_routes most_services (IsBusyTick net most_routes most_services) run window
+      → AllByRecursion (AllByRecursion LeavesPorts) window → AllByRecursion (AllByRecursion (SaysNoFalse net server)) window
+      → AllByRecursion (AllByRecursion (SaysOnly (NamesOnly L))) window
+      → ((g : ServiceOffer) → G g → HeardInTicks net most_routes most_services server (at g.port) (host (g.port, g.node)) run window) → (g : ServiceOffer) → G g
+      → known_of server (offers (services_held ports most_services (history_of (ticked net most_routes most_services run window).histories r)))
+      ≡ Some (at_hops server hops)
+  known_right so_far run window long few rests busy leave say names in_time g good = elim done.holds [
+    | inr missing ↦ absurd missing.2
+    | inl held ↦
+        ap (option_map (λ s. s.service))
+        (among_alive service_reading service_order service_total most_services ss K last ∙ ap (option_map (λ h. h.offer)) held.1)
+        ∙ ap (λ (s : Service). Some s) held.2.said
+  ]
+    where
+      last : List (Fact ServiceOffer)
+      last = service_facts ports (history_of (ticked net most_routes most_services run window).histories r)
+
+      done : S (λ age. age ≤ 60) (λ s. ⊥) (Missing (λ s. ⊥)) last
+      done = ticks_track so_far 0 run window long (omega (arith, few)) rests busy leave say names (record {
+        aged = λ h e good. inr (in_time h.offer good);
+        holds = inr (g, good, in_time g good);
+      })

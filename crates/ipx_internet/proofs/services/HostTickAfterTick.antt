@@ -369,7 +369,7 @@ module _ (net : Internet) (laws : Layouts) (is : IsInternet net) (most_routes mo
         quiet = tick.quiet;
       }
 
-  ticks_rest : (so_far : ℕ) (run : Run) (ticks : List (List Step)) → Rests so_far run
+  pub ticks_rest : (so_far : ℕ) (run : Run) (ticks : List (List Step)) → Rests so_far run
       → EachTick net most_routes most_services (IsBusyTick net most_routes most_services) run ticks → AllByRecursion (AllByRecursion LeavesPorts) ticks
       → AllByRecursion (AllByRecursion (SaysNoFalse net server)) ticks → AllByRecursion (AllByRecursion (SaysOnly (NamesOnly Listed))) ticks → Rests (length ticks + so_far) (ticked net most_routes most_services run ticks)
   ticks_rest so_far run [] rests busy leave say names =

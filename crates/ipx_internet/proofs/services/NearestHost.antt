@@ -1,5 +1,5 @@
 -- A router beside the nearest of the hosts that announce a service: what these hosts say is the best that it may know, and there is room for it.
-use Rattle.std.proofs.Common.{◌≡◌, ◌≢◌, refl, sym, ap, ap₂, ◌∙◌, subst, ◌⊎◌, ℕ, zero, suc, ◌+◌, ◌*◌, ◌<◌, ◌≤◌, ◌==◌, nat_eq, nat_le, Bool, true, false, List, [], ◌∷◌, ◌++◌, filter, find, length, map, Option, None, Some, inl, inr, arith, true≢false, Ordering, Less, Equal, Greater, is_eq, slice_get}
+use Rattle.std.proofs.Common.{◌≡◌, refl, sym, ap, ap₂, ◌∙◌, subst, ◌⊎◌, ℕ, ◌+◌, ◌*◌, ◌<◌, ◌≤◌, ◌==◌, nat_eq, nat_le, true, false, List, [], ◌∷◌, ◌++◌, find, length, map, None, Some, inl, inr, arith, true≢false, Ordering, Less, Equal, Greater, is_eq, slice_get}
 use Rattle.std.specs.List.{AllByRecursion}
 use Rattle.std.specs.Cmp.Lexicographic.{pointwise}
 use Rattle.std.specs.Ordering.{nat_cmp, is_gt, ordering_then}
@@ -16,20 +16,20 @@ use Rattle.ipx_wire.specs.declared.sap_entries.SapEntry.{SapEntry}
 use Rattle.ipx_wire.specs.declared.service.Service.{Service}
 use Rattle.ipx_wire.proofs.NameOrder.{equal_is}
 use Rattle.ipx_router.specs.Numbers.{unreachable}
-use Rattle.ipx_router.specs.Port.{Port, broadcast, is_up}
+use Rattle.ipx_router.specs.Port.{broadcast, is_up}
 use Rattle.ipx_router.specs.Services.{service_reading, service_order}
 use Rattle.ipx_router.specs.declared.service_offer.ServiceOffer.{ServiceOffer}
 use Rattle.ipx_router.proofs.bounds.PacketsOfEachEvent.{service_total}
 use Rattle.ipx_router.proofs.lists.EachElement.{all_both}
 use Rattle.ipx_internet.specs.Announces.{service_of}
-use Rattle.ipx_internet.specs.Internet.{Internet, Place, ports_of, port_of, network_of}
+use Rattle.ipx_internet.specs.Internet.{Internet, Place, ports_of, network_of}
 use Rattle.ipx_internet.specs.Least.{Way}
 use Rattle.ipx_internet.specs.Regular.{HostsApart, HasRoomFor, IsListedName}
 use Rattle.ipx_internet.specs.Servers.{Announcer, Server, IsOf, at_hops, IsAnnouncedOn, IsServed, IsAway, announced, passed_on, beside, beyond}
 use Rattle.ipx_internet.specs.Ticks.{most_ticks_gone}
 use Rattle.ipx_internet.proofs.lists.EachElement.{all_then, all_mapped, all_at}
 use Rattle.ipx_internet.proofs.lists.SomeElement.{found_with}
-use Rattle.ipx_internet.proofs.records.BestIsKept.{AreBest, IsSteady, HasPlace, records, known, known_in}
+use Rattle.ipx_internet.proofs.records.BestIsKept.{AreBest, IsSteady, HasPlace, records, known}
 use Rattle.ipx_internet.proofs.records.KeysHaveRoom.{AreSingle, admits, replaces}
 use Rattle.ipx_internet.proofs.records.RecordsGrowOld.{IsOld, IsNear, near_young, after_offers}
 use Rattle.ipx_internet.proofs.services.ServedOrSoonEnded.{Fine, ServicesAged, ServiceOld}
@@ -37,7 +37,6 @@ use Rattle.ipx_internet.proofs.services.ServicesBecomeReal.{has_way}
 use Rattle.ipx_internet.proofs.services.SpokenOfAServer.{EntrySaid, Who}
 use Rattle.ipx_internet.proofs.records.HeardChangesItsKeys.{service_offer}
 use Rattle.ipx_internet.proofs.tables.GoodRoutesStay.{same_bytes}
-use Rattle.ipx_internet.proofs.tables.LeastWays.{NoWorse}
 use Rattle.ipx_internet.proofs.tables.RoomForEachNetwork.{same_where_equal, not_worse, worse}
 
 -- ---- keys, sources and ranks of services

@@ -1,15 +1,18 @@
 //! What holds of services while hosts announce them, in every internet.
-ghost use Rattle.std.specs.Prelude.{◌≡◌, ℕ, ◌<◌, ◌≤◌, List, ◌∷◌, length};
+ghost use Rattle.std.specs.Prelude.{◌≡◌, ℕ, ◌<◌, ◌≤◌, true, List, ◌∷◌, length, Some, slice_get};
 ghost use Rattle.std.specs.List.{AllByRecursion};
 ghost use Rattle.ipx_router.specs.Facts.{services_held, offers};
 ghost use Rattle.ipx_router.specs.History.{History};
 ghost use Rattle.ipx_router.specs.Numbers.{unreachable};
-ghost use Rattle.ipx_internet.specs.Internet.{Internet, IsInternet, ports_of};
-ghost use Rattle.ipx_internet.specs.Meanwhile.{LeavesPorts, IsBusyTick, EachTick};
+ghost use Rattle.ipx_router.specs.Port.{is_up};
+ghost use Rattle.ipx_internet.specs.Internet.{Internet, Place, IsInternet, ports_of, network_of};
+ghost use Rattle.ipx_internet.specs.Least.{most_ticks_right};
+ghost use Rattle.ipx_internet.specs.Meanwhile.{LeavesPorts, SaysOnly, IsBusyTick, EachTick};
 ghost use Rattle.ipx_internet.specs.Queue.{history_of};
+ghost use Rattle.ipx_internet.specs.Regular.{HostsApart, HasRoomFor, IsListedName, AreInTime};
 ghost use Rattle.ipx_internet.specs.Rounds.{IsDelivery};
-ghost use Rattle.ipx_internet.specs.Run.{Step, AreHistories, Run, begun};
-ghost use Rattle.ipx_internet.specs.Servers.{Server, IsOf, at_hops, SaysNoFalse, IsServed, IsAway};
+ghost use Rattle.ipx_internet.specs.Run.{Step, AreHistories, Run, begun, run_of};
+ghost use Rattle.ipx_internet.specs.Servers.{Announcer, Server, IsOf, at_hops, known_of, SaysNoFalse, NamesOnly, IsServed, IsAway};
 ghost use Rattle.ipx_internet.specs.Ticks.{ticked, most_ticks_gone, ups};
 
 /// What routers have of a service becomes true of it, whatever they had before: after 2,880 ticks each router has it as a host announces it on
@@ -63,6 +66,51 @@ pub fn served()
         (λ s. IsOf server s.service → (s.service ≡ at_hops server s.service.hops) × (s.service.hops < unreachable)
         × IsAway net (ups net run.histories) server router s.service.hops)
         (offers (services_held (ports_of net router) most_services (history_of (ticked net most_routes most_services run (first ∷ ticks)).histories router))) }
+{
+    ipx_wire::laws::readings();
+    ipx_wire::laws::service_readings();
+    ipx_wire::laws::reread();
+    ipx_router::laws::packets();
+}
+
+/// A router beside the nearest of the hosts that announce a service has it, at its address, with that host's hops, from the 2,940th tick on,
+/// whatever it had before: 60 ticks after what routers have of it is true (`served`), the time in which each host is heard once (`has`). Of two
+/// hosts that are as near it is one. Whatever waits when the ticks begin, one tick more is enough, in which hosts may say anything
+/// (`whatever_waits`).
+///
+/// Beside `served` it asks for this. Each host that announces the service is heard in any 60 of these ticks, on every port of its network that
+/// is up. No host has the node of a router's port on its network, and one node on one network says one number of hops. Packets from outside name
+/// listed services alone, this one among them, and every table has room for all that are listed, and so has the share of each port. The router
+/// has a port up on that host's network, and no host says the service with fewer hops.
+pub fn beside()
+    ensures has { (net : Internet) (most_routes most_services : ℕ) (server : Server) (names : List (ℕ × List ℕ)) (histories : List History) (ticks : List (List Step))
+        (place : Place) (which : ℕ) (host : Announcer)
+        → IsInternet net → AreHistories net histories → HostsApart net server → HasRoomFor net most_services names → IsListedName names (server.kind, server.name)
+        → EachTick net most_routes most_services (IsBusyTick net most_routes most_services) (begun histories) ticks
+        → AllByRecursion (AllByRecursion LeavesPorts) ticks → AllByRecursion (AllByRecursion (SaysNoFalse net server)) ticks
+        → AllByRecursion (AllByRecursion (SaysOnly (NamesOnly (IsListedName names)))) ticks
+        → AreInTime net most_routes most_services server (ups net histories) (begun histories) ticks → most_ticks_right ≤ length ticks
+        → place.router < length net → is_up (ups net histories place.router) place.port ≡ true
+        → slice_get server.announcers which ≡ Some host → network_of net place ≡ host.network → host.hops < unreachable
+        → ((number : ℕ) (other : Announcer) → slice_get server.announcers number ≡ Some other → host.hops ≤ other.hops)
+        → known_of server (offers (services_held (ports_of net place.router) most_services
+        (history_of (ticked net most_routes most_services (begun histories) ticks).histories place.router)))
+        ≡ Some (at_hops server host.hops) }
+    ensures whatever_waits { (net : Internet) (most_routes most_services : ℕ) (server : Server) (names : List (ℕ × List ℕ)) (run : Run) (first : List Step)
+        (ticks : List (List Step)) (place : Place) (which : ℕ) (host : Announcer)
+        → IsInternet net → AreHistories net run.histories → AllByRecursion (λ w. IsDelivery net w.delivery) run.waiting
+        → HostsApart net server → HasRoomFor net most_services names → IsListedName names (server.kind, server.name)
+        → EachTick net most_routes most_services (IsBusyTick net most_routes most_services) run (first ∷ ticks)
+        → AllByRecursion (AllByRecursion LeavesPorts) (first ∷ ticks) → AllByRecursion (AllByRecursion (SaysNoFalse net server)) ticks
+        → AllByRecursion (AllByRecursion (SaysOnly (NamesOnly (IsListedName names)))) ticks
+        → AreInTime net most_routes most_services server (ups net run.histories) (run_of net most_routes most_services run first) ticks
+        → most_ticks_right ≤ length ticks
+        → place.router < length net → is_up (ups net run.histories place.router) place.port ≡ true
+        → slice_get server.announcers which ≡ Some host → network_of net place ≡ host.network → host.hops < unreachable
+        → ((number : ℕ) (other : Announcer) → slice_get server.announcers number ≡ Some other → host.hops ≤ other.hops)
+        → known_of server (offers (services_held (ports_of net place.router) most_services
+        (history_of (ticked net most_routes most_services run (first ∷ ticks)).histories place.router)))
+        ≡ Some (at_hops server host.hops) }
 {
     ipx_wire::laws::readings();
     ipx_wire::laws::service_readings();

@@ -1,0 +1,87 @@
+-- Ticks in which hosts announce a service and all of them are heard: a router beside the nearest one has it from the 2,940th on.
+use Rattle.std.proofs.Common.{◌≡◌, refl, sym, ap, ◌∙◌, subst, ℕ, ◌+◌, ◌-◌, ◌<◌, ◌≤◌, true, List, [], ◌∷◌, ◌++◌, length, take, drop, Some, arith, append-nil, slice_get}
+use Rattle.std.specs.List.{AllByRecursion}
+use Rattle.std.proofs.lemmas.List.{take-append-drop, length-drop, length-append}
+use Rattle.ipx_router.specs.Facts.{services_held, offers}
+use Rattle.ipx_router.specs.Numbers.{unreachable, period}
+use Rattle.ipx_router.specs.Port.{is_up}
+use Rattle.ipx_router.specs.declared.service_offer.ServiceOffer.{ServiceOffer}
+use Rattle.ipx_internet.specs.Internet.{Internet, Place, IsInternet, ports_of, network_of}
+use Rattle.ipx_internet.specs.Least.{most_ticks_right}
+use Rattle.ipx_internet.specs.Meanwhile.{LeavesPorts, SaysOnly, IsBusyTick, EachTick}
+use Rattle.ipx_internet.specs.Queue.{history_of}
+use Rattle.ipx_internet.specs.Regular.{HostsApart, HasRoomFor, IsListedName, AreInTime}
+use Rattle.ipx_internet.specs.Run.{Step, Run}
+use Rattle.ipx_internet.specs.Servers.{Announcer, Server, at_hops, known_of, SaysNoFalse, NamesOnly}
+use Rattle.ipx_internet.specs.Ticks.{ticked, most_ticks_gone}
+use Rattle.ipx_internet.proofs.packets.SentOnOrReply.{Layouts}
+use Rattle.ipx_internet.proofs.services.HeardInAMinute.{G, known_right}
+use Rattle.ipx_internet.proofs.services.HostTickAfterTick.{Rests, ticks_rest}
+use Rattle.ipx_internet.proofs.tables.TablesAreRight.{parts_of, ticked_on}
+
+-- what holds of each of two lists
+parted : {X : Type 0} (P : X → Type 0) (xs ys : List X) → AllByRecursion P (xs ++ ys) → AllByRecursion P xs × AllByRecursion P ys
+parted P [] ys all = (tt, all)
+parted P (x ∷ xs) ys all = let rest = parted P xs ys all.1 in ((all.0, rest.0), rest.1)
+
+module _ (net : Internet) (laws : Layouts) (is : IsInternet net) (most_routes most_services : ℕ) (up : ℕ → List ℕ) (server : Server)
+    (names : List (ℕ × List ℕ)) (apart : HostsApart net server) (room : HasRoomFor net most_services names) (listed : IsListedName names (server.kind, server.name))
+    (place : Place) (inside : place.router < length net) (which : ℕ) (host : Announcer) (announces : slice_get server.announcers which ≡ Some host)
+    (reached : host.hops < unreachable) (network : network_of net place ≡ host.network) (on : is_up (up place.router) place.port ≡ true)
+    (least : (which : ℕ) (other : Announcer) → slice_get server.announcers which ≡ Some other → host.hops ≤ other.hops) where
+  abbrev Good : ServiceOffer → Type 0
+  Good = G net laws is most_routes most_services up server names place.router apart host.hops reached least room inside listed
+
+  -- what that host says there
+  nearest_good : Good (record { service = at_hops server host.hops; port = place.port; node = host.node })
+  nearest_good = record {
+    which = which;
+    listed = announces ∙ ap (λ n. Some (record { network = n; node = host.node; hops = host.hops })) (sym network);
+    on = on;
+    said = refl;
+  }
+
+  module _ (start : Run) (rests : Rests net laws is most_routes most_services up server (IsListedName names) 0 start) where
+    abbrev known_after : List (List Step) → Type 0
+    known_after ticks =
+        known_of server (offers (services_held (ports_of net place.router) most_services
+        (history_of (ticked net most_routes most_services start ticks).histories place.router)))
+        ≡ Some (at_hops server host.hops)
+
+    by_window : (before window : List (List Step)) → most_ticks_gone ≤ length before → length window ≡ period
+        → EachTick net most_routes most_services (IsBusyTick net most_routes most_services) start (before ++ window)
+        → AllByRecursion (AllByRecursion LeavesPorts) (before ++ window) → AllByRecursion (AllByRecursion (SaysNoFalse net server)) (before ++ window)
+        → AllByRecursion (AllByRecursion (SaysOnly (NamesOnly (IsListedName names)))) (before ++ window)
+        → AreInTime net most_routes most_services server up start (before ++ window) → known_after (before ++ window)
+    by_window before window long minute busy leave say names_say in_time =
+        let each = parts_of net most_routes most_services (IsBusyTick net most_routes most_services) start before window busy in
+        let leaves = parted (AllByRecursion LeavesPorts) before window leave in
+        let says = parted (AllByRecursion (SaysNoFalse net server)) before window say in
+        let named = parted (AllByRecursion (SaysOnly (NamesOnly (IsListedName names)))) before window names_say in
+        let middle = ticked net most_routes most_services start before in
+        let then_rests = ticks_rest net laws is most_routes most_services up server (IsListedName names) 0 start before rests each.0 leaves.0 says.0 named.0 in
+        let right = known_right net laws is most_routes most_services up server names place.router apart host.hops reached least room inside listed
+        (length before + 0) middle window (omega (arith, long)) (omega (arith, minute)) then_rests each.1 leaves.1 says.1 named.1
+        (λ g good. in_time good.which _ (record { router = place.router; port = g.port }) good.listed good.on refl before window []
+        (sym (append-nil (before ++ window))) minute)
+        (record { service = at_hops server host.hops; port = place.port; node = host.node }) nearest_good in
+        subst (λ (last : Run). known_of server (offers (services_held (ports_of net place.router) most_services (history_of last.histories place.router)))
+        ≡ Some (at_hops server host.hops)) (sym (ticked_on net most_routes most_services start before window)) right
+
+    pub has : (ticks : List (List Step)) → most_ticks_right ≤ length ticks
+        → EachTick net most_routes most_services (IsBusyTick net most_routes most_services) start ticks
+        → AllByRecursion (AllByRecursion LeavesPorts) ticks → AllByRecursion (AllByRecursion (SaysNoFalse net server)) ticks
+        → AllByRecursion (AllByRecursion (SaysOnly (NamesOnly (IsListedName names)))) ticks
+        → AreInTime net most_routes most_services server up start ticks → known_after ticks
+    has ticks long =
+        let count : ℕ = length ticks - 60 in
+        let before = take count ticks in
+        let window = drop count ticks in
+        let whole = take-append-drop count ticks in
+        let behind = length-drop count ticks in
+        let minute : length window ≡ period = omega (arith, behind, long) in
+        let both : length before + length window ≡ length ticks = sym (length-append before window) ∙ ap length whole in
+        subst (λ (ts : List (List Step)). EachTick net most_routes most_services (IsBusyTick net most_routes most_services) start ts
+        → AllByRecursion (AllByRecursion LeavesPorts) ts → AllByRecursion (AllByRecursion (SaysNoFalse net server)) ts
+        → AllByRecursion (AllByRecursion (SaysOnly (NamesOnly (IsListedName names)))) ts
+        → AreInTime net most_routes most_services server up start ts → known_after ts) whole (by_window before window (omega (arith, both, minute, long)) minute)
