@@ -8,7 +8,7 @@
 //!   `Run`), what its routers send in it (`Departure`), the tree of a packet while nothing else happens (`Tree`, `Most`,
 //!   `Weight`), rounds of deliveries and what an internet weighs (`Rounds`, `InternetWeight`), time that passes, and routes of
 //!   real ways (`Ticks`, `Real`), least ways and packets that arrive (`Least`, `Arriving`), links that are lost and links that come
-//!   up (`Tables`, `Losses`, `Gains`), what routers may know of a service (`Servers`), and what it costs to keep tables
+//!   up (`Tables`, `Losses`, `Gains`), what routers may know of a service (`Servers`, `Regular`), and what it costs to keep tables
 //!   as they are (`Upkeep`); and what an `Internet` is to its contracts (`Moment`, `Settled`, `Passed`, `Refused`, `Traced`).
 //! - The laws hold of every internet, with any tables and any ports up at each reception: a packet for one network is
 //!   forwarded at most 16 times in all; a path of a propagated packet has at most eight forwards, and visits no network

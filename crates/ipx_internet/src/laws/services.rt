@@ -15,13 +15,14 @@ ghost use Rattle.ipx_internet.specs.Run.{Step, AreHistories, Run, begun, run_of}
 ghost use Rattle.ipx_internet.specs.Servers.{Announcer, Server, IsOf, at_hops, known_of, SaysNoFalse, NamesOnly, IsServed, IsAway};
 ghost use Rattle.ipx_internet.specs.Ticks.{ticked, most_ticks_gone, ups};
 
-/// What routers have of a service becomes true of it, whatever they had before: after 2,880 ticks each router has it as a host announces it on
-/// one of its networks, or as a neighbour passes it on that may know it so (`real`). So it has the service's address, and as many hops as a way
-/// to one of those hosts, fewer than 16 (`away`): nobody has it nearer than it is. A router without such a way hasn't got it (`none`).
+/// What routers have of a service becomes true of it, whatever they had before: after 2,880 ticks each router has it as a host announces it
+/// on one of its networks, or as a neighbour passes it on that may know it so (`real`). So it has the service's address, and as many hops
+/// as a way to one of those hosts, fewer than 16 (`away`): nobody has it nearer than it is. A router without such a way hasn't got it
+/// (`none`).
 ///
-/// In these ticks seconds pass, deliveries happen, and packets come from outside; nobody starts or stops, and no port goes down or comes up. A
-/// service is known by its type and its name. A packet from outside that names it comes where a host announces it: its source has that host's
-/// node, its destination is that network (0 means it too), and address and hops are as that host announces them. No request for
+/// In these ticks seconds pass, deliveries happen, and packets come from outside; nobody starts or stops, and no port goes down or comes
+/// up. A service is known by its type and its name. A packet from outside that names it comes where a host announces it: its source has
+/// that host's node, its destination is that network (0 means it too), and address and hops are as that host announces them. No request for
 /// routes is answered to the socket of SAP. Hosts may say anything else, and nothing is asked of how many routers there are, of nodes,
 /// costs or room. Whatever waits when the ticks begin, one tick more is enough, in which hosts may say anything (`whatever_waits`,
 /// `whatever_waits_away`).
@@ -73,15 +74,15 @@ pub fn served()
     ipx_router::laws::packets();
 }
 
-/// A router beside the nearest of the hosts that announce a service has it, at its address, with that host's hops, from the 2,940th tick on,
-/// whatever it had before: 60 ticks after what routers have of it is true (`served`), the time in which each host is heard once (`has`). Of two
-/// hosts that are as near it is one. Whatever waits when the ticks begin, one tick more is enough, in which hosts may say anything
-/// (`whatever_waits`).
+/// A router beside the nearest of the hosts that announce a service has it, at its address, with that host's hops, from the 2,940th tick
+/// on, whatever it had before: 60 ticks after what routers have of it is true (`served`), the time in which each host is heard once
+/// (`has`). Of two hosts that are as near it is one. Whatever waits when the ticks begin, one tick more is enough, in which hosts may say
+/// anything (`whatever_waits`).
 ///
-/// Beside `served` it asks for this. Each host that announces the service is heard in any 60 of these ticks, on every port of its network that
-/// is up. No host has the node of a router's port on its network, and one node on one network says one number of hops. Packets from outside name
-/// listed services alone, this one among them, and every table has room for all that are listed, and so has the share of each port. The router
-/// has a port up on that host's network, and no host says the service with fewer hops.
+/// Beside `served` it asks for this. Each host that announces the service is heard in any 60 of these ticks, on every port of its network
+/// that is up. No host has the node of a router's port on its network, and one node on one network says one number of hops. Packets from
+/// outside name listed services alone, this one among them, and every table has room for all that are listed, and so has the share of each
+/// port. The router has a port up on that host's network, and no host says the service with fewer hops.
 pub fn beside()
     ensures has { (net : Internet) (most_routes most_services : ℕ) (server : Server) (names : List (ℕ × List ℕ)) (histories : List History) (ticks : List (List Step))
         (place : Place) (which : ℕ) (host : Announcer)
