@@ -1,6 +1,7 @@
 -- Services that hosts announce: what a router may know of them, and what it comes to know.
 pub mod BesideHosts
 pub mod FewestHops
+pub mod HeardAtAStep
 pub mod HeardInAMinute
 pub mod HostTickAfterTick
 pub mod NearestHost

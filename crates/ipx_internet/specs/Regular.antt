@@ -1,5 +1,5 @@
 -- Hosts that are heard again and again while they announce a service, each apart from the others, where tables have room.
-use Rattle.std.specs.Prelude.{◌≡◌, ◌≢◌, ◌⊎◌, ℕ, ◌≤◌, true, List, [], ◌∷◌, ◌++◌, length, Some, slice_get}
+use Rattle.std.specs.Prelude.{◌≡◌, ◌≢◌, ◌⊎◌, ℕ, suc, ◌+◌, ◌*◌, ◌≤◌, true, List, [], ◌∷◌, ◌++◌, length, Some, slice_get}
 use Rattle.std.specs.List.{AllByRecursion}
 use Rattle.ipx_wire.specs.WriteServices.{entry_of}
 use Rattle.ipx_wire.specs.declared.sap.Sap.TheVariants.{Query, Response}
@@ -12,7 +12,7 @@ use Rattle.ipx_internet.specs.Internet.{Internet, Place, port_of, ports_of, netw
 use Rattle.ipx_internet.specs.Queue.{history_of}
 use Rattle.ipx_internet.specs.Run.{Step, Happens, Settles, Run, stepped}
 use Rattle.ipx_internet.specs.Servers.{Announcer, Server, at_hops}
-use Rattle.ipx_internet.specs.Ticks.{ticked}
+use Rattle.ipx_internet.specs.Ticks.{ticked, most_ticks_gone}
 
 -- a response of that host names the service, with its address and this host's hops
 abbrev pub Announces : Server → Announcer → Heard → Type 0
@@ -63,3 +63,8 @@ IsListedName names name = (which : ℕ) × (slice_get names which ≡ Some name)
 pub record HasRoomFor (net : Internet) (most_services : ℕ) (names : List (ℕ × List ℕ)) : Type 0 where
   pub table : length names ≤ most_services
   pub shares : AllByRecursion (λ ports. AllByRecursion (λ p. length names ≤ p.service_share) ports) net
+
+-- the ticks after which a router has a service whose fewest hops there are so many: those after which what is false of it is gone, 60 in which the
+-- hosts are heard, and 60 for each hop
+abbrev pub most_ticks_known : ℕ → ℕ
+most_ticks_known hops = most_ticks_gone + period * suc hops
