@@ -1,5 +1,6 @@
 -- Services that hosts announce: what a router may know of them, and what it comes to know.
 pub mod BesideHosts
+pub mod ExactWords
 pub mod FewestHops
 pub mod HeardAtAStep
 pub mod HeardInAMinute

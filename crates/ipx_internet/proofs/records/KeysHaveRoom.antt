@@ -24,7 +24,7 @@ module _ {O K : Type 0} (reading : Reading O K) (order : K → K → Ordering) (
   abbrev pub AreSingle : List (Held O) → Type 0
   AreSingle held = (k : K) → length (filter (of_key k) held) ≤ 1
 
-  itself : (k : K) → is_eq (order k k) ≡ true
+  pub itself : (k : K) → is_eq (order k k) ≡ true
   itself k = equal (order k k) (total.antisymm k k)
     where
       equal : (r : Ordering) → r ≡ ordering_reverse r → is_eq r ≡ true

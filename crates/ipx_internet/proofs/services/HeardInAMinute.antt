@@ -1,4 +1,5 @@
--- A router beside the nearest host that announces a service has it with that host's hops, after any 60 ticks in which all of them were heard.
+-- A router has a service with its fewest hops after any 60 ticks in which all that say it so were heard, and all routers that are nearer were right;
+-- and at each moment of the tick that follows.
 use Rattle.std.proofs.Common.{◌≡◌, ◌≢◌, refl, sym, ap, ◌∙◌, subst, ◌⊎◌, ℕ, zero, suc, ◌+◌, ◌-◌, ◌*◌, ◌<◌, ◌≤◌, true, List, [], ◌∷◌, ◌++◌, length, Option, None, Some, option_map, inl, inr, arith, append-nil, is_eq, slice_get, get_or-set_same, get_or-set_other}
 use Rattle.std.specs.List.{AllByRecursion}
 use Rattle.std.proofs.lemmas.Bool.{cases_Bool, cases_eq}
@@ -19,13 +20,13 @@ use Rattle.ipx_router.specs.declared.service_offer.ServiceOffer.{ServiceOffer}
 use Rattle.ipx_router.proofs.bounds.PacketsOfEachEvent.{service_total}
 use Rattle.ipx_router.proofs.tables.HeldWasOffered.{heard_up}
 use Rattle.ipx_router.proofs.tables.OffersOfAMessage.{facts_from-more}
-use Rattle.ipx_internet.specs.Internet.{Internet, Place, IsInternet, ports_of}
+use Rattle.ipx_internet.specs.Internet.{Internet, Place, IsInternet, NodesDiffer, ports_of}
 use Rattle.ipx_internet.specs.Meanwhile.{LeavesPorts, SaysOnly, IsBusyTick, EachTick}
 use Rattle.ipx_internet.specs.Queue.{history_of, with_event}
-use Rattle.ipx_internet.specs.Regular.{HostsApart, HasRoomFor, Announces, IsHeard, HeardInSteps, HeardInTicks}
+use Rattle.ipx_internet.specs.Regular.{HostsApart, HasRoomFor, Announces}
 use Rattle.ipx_internet.specs.Log.{Reception}
 use Rattle.ipx_internet.specs.Run.{Step, Happens, Settles, IsStep, Run, Waiting, forgotten, stepped, run_of}
-use Rattle.ipx_internet.specs.Servers.{Announcer, Server, at_hops, known_of, SaysNoFalse, NamesOnly}
+use Rattle.ipx_internet.specs.Servers.{Announcer, Server, at_hops, known_of, SaysNoFalse, NamesOnly, IsFewest}
 use Rattle.ipx_internet.specs.Ticks.{seconds_of, ticked, most_ticks_gone}
 use Rattle.ipx_internet.proofs.lists.EachElement.{all-append}
 use Rattle.ipx_internet.proofs.lists.FoundInAList.{nothing, it_is}
@@ -35,17 +36,21 @@ use Rattle.ipx_internet.proofs.packets.SentOnSaysTheSame.{heard_message}
 use Rattle.ipx_internet.proofs.records.BestIsKept.{State, Comes, known, offers_keep, offers_come, second_keeps}
 use Rattle.ipx_internet.proofs.records.HeardChangesItsKeys.{service_offer}
 use Rattle.ipx_internet.proofs.records.KeptOrOffered.{OffersOf, among_alive}
-use Rattle.ipx_internet.proofs.services.HostTickAfterTick.{Going, Rests, begins, step_goes, tick_rests, outside_waits}
-use Rattle.ipx_internet.proofs.services.NearestHost.{one_name, here, Listed, key, shares, Real, host_of, Good, best, steady, Such, real_known, goes_on, place}
-use Rattle.ipx_internet.proofs.services.ServedOrSoonEnded.{Endures, ServiceOld}
+use Rattle.ipx_internet.proofs.services.ExactWords.{one_name, Words, NearerRight, exact}
+use Rattle.ipx_internet.proofs.services.HeardAtAStep.{Hears, FirstHears, IsHeardAt, HeardWithin, HeardWithinTicks, AtEach, at_first}
+use Rattle.ipx_internet.proofs.services.HostTickAfterTick.{Going, Rests, begins, step_goes, tick_rests, ticks_rest, outside_waits}
+use Rattle.ipx_internet.proofs.services.NearestHost.{here, Listed, key, shares, Real, host_of, SaidBy, Good, best, steady, Such, real_known, goes_on, place}
+use Rattle.ipx_internet.proofs.services.ServedOrSoonEnded.{Endures, ServiceOld, AreExact}
 use Rattle.ipx_internet.proofs.services.SpokenOfAServer.{EntrySaid, Told, Waits}
 use Rattle.ipx_internet.proofs.ticks.BusyTickAfterTick.{own_seconds}
 use Rattle.ipx_internet.proofs.ticks.TickAfterTick.{second_there}
 
 module _ (net : Internet) (laws : Layouts) (is : IsInternet net) (most_routes most_services : ℕ) (up : ℕ → List ℕ) (server : Server)
-    (names : List (ℕ × List ℕ)) (r : ℕ) (apart : HostsApart net server) (hops : ℕ) (reached : hops < unreachable)
-    (least : (which : ℕ) (host : Announcer) → slice_get server.announcers which ≡ Some host → hops ≤ host.hops) (room : HasRoomFor net most_services names)
-    (inside : r < length net) (listed : Listed net up server names most_services r apart hops reached least (server.kind, server.name)) where
+    (names : List (ℕ × List ℕ)) (r : ℕ) (apart : HostsApart net server)
+    (in_ports : (router : ℕ) → AllByRecursion (λ j. j < length (ports_of net router)) (up router)) (hops : ℕ) (reached : hops < unreachable)
+    (unlike : (router less : ℕ) → hops ≡ suc less → IsFewest net up server router less → NodesDiffer net) (fewest : IsFewest net up server r hops)
+    (room : HasRoomFor net most_services names) (inside : r < length net)
+    (listed : Listed net up server names most_services r apart in_ports hops reached unlike fewest (server.kind, server.name)) where
   abbrev ports : List Port
   ports = ports_of net r
 
@@ -53,28 +58,44 @@ module _ (net : Internet) (laws : Layouts) (is : IsInternet net) (most_routes mo
   Source = ℕ × Node
 
   abbrev K : ℕ × List ℕ
-  K = key net up server names most_services r apart hops reached least
+  K = key net up server names most_services r apart in_ports hops reached unlike fewest
 
   abbrev one : (k : ℕ × List ℕ) → is_eq (service_order k K) ≡ true → k ≡ K
   one k = one_name k K
 
   abbrev ss : List ℕ
-  ss = shares net up server names most_services r apart hops reached least
+  ss = shares net up server names most_services r apart in_ports hops reached unlike fewest
 
   abbrev R : ServiceOffer → Type 0
-  R = Real net up server names most_services r apart hops reached least
+  R = Real net up server names most_services r apart in_ports hops reached unlike fewest
 
   abbrev pub G : ServiceOffer → Type 0
-  G = Good net up server names most_services r apart hops reached least
+  G = Good net up server names most_services r apart in_ports hops reached unlike fewest
 
   abbrev L : ℕ × List ℕ → Type 0
-  L = Listed net up server names most_services r apart hops reached least
+  L = Listed net up server names most_services r apart in_ports hops reached unlike fewest
+
+  -- what routers say that are nearer, as long as they are right
+  abbrev W : ℕ → Service → Type 0
+  W = Words net up server most_services hops reached
+
+  abbrev pub N : List History → Type 0
+  N = NearerRight net up server most_services hops reached
+
+  abbrev E : AreExact net most_services W N
+  E = exact net up server most_services hops reached
+
+  abbrev pub Surely : Run → List Step → Type 0
+  Surely run steps = AtEach net most_routes most_services server (λ now. N now.histories) run steps
+
+  abbrev By : Source → Type 0
+  By = SaidBy net up server names most_services r apart in_ports hops reached unlike fewest
 
   abbrev at : ℕ → Place
-  at port = here net up server names most_services r apart hops reached least port
+  at port = here net up server names most_services r apart in_ports hops reached unlike fewest port
 
   abbrev pub host : Source → Announcer
-  host = host_of net up server names most_services r apart hops reached least
+  host = host_of net up server names most_services r apart in_ports hops reached unlike fewest
 
   abbrev pub known_now : List (Fact ServiceOffer) → Option (Held ServiceOffer)
   known_now = known service_reading service_order service_total most_services ss K one R G
@@ -85,6 +106,21 @@ module _ (net : Internet) (laws : Layouts) (is : IsInternet net) (most_routes mo
   -- the service may be missing while one of the hosts has still to be heard
   abbrev pub Missing : (Source → Type 0) → Type 0
   Missing Late = (g : ServiceOffer) × G g × Late (g.port, g.node)
+
+  -- the router has it with those hops
+  abbrev pub IsRight : Run → Type 0
+  IsRight run = known_of server (offers (services_held ports most_services (history_of run.histories r))) ≡ Some (at_hops server hops)
+
+  -- once nobody has still to be heard
+  right_now : (Fresh : ℕ → Type 0) (run : Run) → S Fresh (λ s. ⊥) (Missing (λ s. ⊥)) (service_facts ports (history_of run.histories r)) → IsRight run
+  right_now Fresh run state = elim state.holds [
+    | inr missing ↦ absurd missing.2
+    | inl held ↦
+        ap (option_map (λ s. s.service))
+        (among_alive service_reading service_order service_total most_services ss K (service_facts ports (history_of run.histories r))
+        ∙ ap (option_map (λ h. h.offer)) held.1)
+        ∙ ap (λ (s : Service). Some s) held.2.said
+  ]
 
   -- ---- from step to step
 
@@ -134,7 +170,7 @@ module _ (net : Internet) (laws : Layouts) (is : IsInternet net) (most_routes mo
   abbrev pub Young : ℕ → ℕ → ℕ → Type 0
   Young top left age = age + left ≤ top
 
-  module _ (top : ℕ) (few : top ≤ 60) (some : 1 ≤ top) where
+  module _ (top : ℕ) (few : top ≤ 178) (some : 1 ≤ top) where
     abbrev Q : ℕ → (Source → Type 0) → History → Type 0
     Q left Late history = S (Young top left) Late (Missing Late) (service_facts ports history)
 
@@ -156,27 +192,27 @@ module _ (net : Internet) (laws : Layouts) (is : IsInternet net) (most_routes mo
     -- ---- a packet
 
     module _ (ticks had : ℕ) (late : had ≤ ticks) (long : most_ticks_gone ≤ had) (number : ℕ) (bytes : List ℕ)
-        (waits : Waits net up server L ticks (at number) bytes) (history : History) (endures : Endures net up server L most_services r had history)
+        (waits : Waits net up server L W ticks (at number) bytes) (history : History) (endures : Endures net up server L most_services r had history)
         (left : ℕ) (one_left : left ≤ 1) where
       abbrev Fit : ServiceOffer → Type 0
       Fit = ServiceOld net up server L most_services r had had (omega arith)
 
       abbrev Arrives : ServiceOffer → Type 0
       Arrives = Comes service_reading service_order service_total most_services ss K one R G
-          (best net up server names most_services r apart hops reached least) (Young top left) (omega (arith, one_left, some))
-          (Such net up server names most_services r apart hops reached least had long) Fit
-          (real_known net up server names most_services r apart hops reached least had long)
-          (goes_on net up server names most_services r apart hops reached least had long)
+          (best net up server names most_services r apart in_ports hops reached unlike fewest) (Young top left) (omega (arith, one_left, some))
+          (Such net up server names most_services r apart in_ports hops reached unlike fewest had long) Fit
+          (real_known net up server names most_services r apart in_ports hops reached unlike fewest had long)
+          (goes_on net up server names most_services r apart in_ports hops reached unlike fewest had long)
 
       sure : most_ticks_gone ≤ ticks
       sure = omega (arith, late, long)
 
-      arrive : is_up (up r) number ≡ true → (node : Node) (entries : List SapEntry) → AllByRecursion (EntrySaid net up server L ticks (at number) node) entries
+      arrive : is_up (up r) number ≡ true → (node : Node) (entries : List SapEntry) → AllByRecursion (EntrySaid net up server L W ticks (at number) node) entries
           → AllByRecursion (OffersOf Arrives) (services_offered number node entries)
       arrive on node [] all = tt
       arrive on node (e ∷ entries) all =
           all-append (OffersOf Arrives) _ (services_offered number node entries) (by e.name (λ name named.
-          (fit name named, steady net up server names most_services r apart hops reached least ticks sure number on node e all.0 name named))) (arrive on node entries all.1)
+          (fit name named, steady net up server names most_services r apart in_ports hops reached unlike fewest ticks sure number on node e all.0 name named))) (arrive on node entries all.1)
         where
           fit : (name : List ℕ) → e.name ≡ Some name → Fit (service_offer number node e name)
           fit name named near = sooner (all.0.fine on near name named)
@@ -221,8 +257,7 @@ module _ (net : Internet) (laws : Layouts) (is : IsInternet net) (most_routes mo
 
           is_good : G o
           is_good = record {
-            which = good.which;
-            listed = subst (λ (s : Source). slice_get server.announcers good.which ≡ Some (host s)) (sym source) good.listed;
+            who = subst By (sym source) good.who;
             on = subst (λ (p : ℕ). is_up (up r) p ≡ true) port good.on;
             said = refl;
           }
@@ -262,7 +297,7 @@ module _ (net : Internet) (laws : Layouts) (is : IsInternet net) (most_routes mo
                 (passes_by (Young top left) (Young top left) Before After facts (λ age young. young)
                 (λ s late. elim (split s late) [ inr later ↦ later | inl now ↦ absurd (none s (same_message x e s now)) ]) state)
 
-            heard : (x : Heard) → heard_after ports history number bytes ≡ Some x → Told net up server L ticks (at number) x
+            heard : (x : Heard) → heard_after ports history number bytes ≡ Some x → Told net up server L W ticks (at number) x
                 → S (Young top left) After (Missing After) (facts ++ services_heard number (Some x))
             heard (HeardRip source rip) e tells = silent (HeardRip source rip) e (λ s none. none)
             heard (HeardSap source (Query nearest kind)) e tells = silent (HeardSap source (Query nearest kind)) e (λ s none. none)
@@ -272,18 +307,18 @@ module _ (net : Internet) (laws : Layouts) (is : IsInternet net) (most_routes mo
                 let such = endures.services in
                 moves (Young top left) Before After Now (facts ++ new) split
                 (offers_keep service_reading service_order service_total most_services ss K one R G
-                (best net up server names most_services r apart hops reached least) (Young top left) (omega (arith, one_left, some))
-                (Such net up server names most_services r apart hops reached least had long) Fit
-                (real_known net up server names most_services r apart hops reached least had long)
-                (goes_on net up server names most_services r apart hops reached least had long) Before (Missing Before) new facts all such state)
+                (best net up server names most_services r apart in_ports hops reached unlike fewest) (Young top left) (omega (arith, one_left, some))
+                (Such net up server names most_services r apart in_ports hops reached unlike fewest had long) Fit
+                (real_known net up server names most_services r apart in_ports hops reached unlike fewest had long)
+                (goes_on net up server names most_services r apart in_ports hops reached unlike fewest had long) Before (Missing Before) new facts all such state)
                 (λ g good now.
                 let said = same_message (HeardSap source (SapResponse nearest entries)) e (g.port, g.node) now in
                 offers_come service_reading service_order service_total most_services ss K one R G
-                (best net up server names most_services r apart hops reached least) (Young top left) (omega (arith, one_left, some))
-                (Such net up server names most_services r apart hops reached least had long) Fit
-                (real_known net up server names most_services r apart hops reached least had long)
-                (goes_on net up server names most_services r apart hops reached least had long)
-                (place net up server names most_services r apart hops reached least had long room inside listed) (g.port, g.node)
+                (best net up server names most_services r apart in_ports hops reached unlike fewest) (Young top left) (omega (arith, one_left, some))
+                (Such net up server names most_services r apart in_ports hops reached unlike fewest had long) Fit
+                (real_known net up server names most_services r apart in_ports hops reached unlike fewest had long)
+                (goes_on net up server names most_services r apart in_ports hops reached unlike fewest had long)
+                (place net up server names most_services r apart in_ports hops reached unlike fewest had long room inside listed) (g.port, g.node)
                 Before (Missing Before) new facts all
                 (among g good (sym (now_is (g.port, g.node) now).0) source.node said.0 entries said.1 said.2) such state)
 
@@ -296,10 +331,10 @@ module _ (net : Internet) (laws : Layouts) (is : IsInternet net) (most_routes mo
     -- ---- one step
 
     abbrev Heard_by : Run → Step → Source → Type 0
-    Heard_by run step s = IsHeard net most_routes most_services server (at s.0) (host s) run step
+    Heard_by run step s = IsHeardAt net most_routes most_services server (at s.0) (host s) run step
 
     abbrev Goes : ℕ → (ℕ → ℕ) → Run → Type 0
-    Goes ticks left run = Going net laws is most_routes most_services up server L ticks left (forgotten run)
+    Goes ticks left run = Going net laws is most_routes most_services up server L W N E ticks left (forgotten run)
 
     module _ (ticks : ℕ) (long : most_ticks_gone < ticks) where
       -- an event of another router
@@ -328,7 +363,7 @@ module _ (net : Internet) (laws : Layouts) (is : IsInternet net) (most_routes mo
           let there_is = inside in
           omega (arith, each, there_is)
 
-      own_packet : (run : Run) (left : ℕ → ℕ) (number : ℕ) (bytes : List ℕ) → Goes ticks left run → Waits net up server L ticks (at number) bytes
+      own_packet : (run : Run) (left : ℕ → ℕ) (number : ℕ) (bytes : List ℕ) → Goes ticks left run → Waits net up server L W ticks (at number) bytes
           → (Before After Now : Source → Type 0) → ((s : Source) → Before s → Now s ⊎ After s)
           → ((s : Source) → Now s → (number ≡ s.0) × (m : Heard) × (heard_after ports (history_of run.histories r) s.0 bytes ≡ Some m) × Announces server (host s) m)
           → Q (left r) Before (history_of run.histories r) → Q (left r) After (history_of (with_event run.histories r (Packet number bytes)) r)
@@ -371,8 +406,8 @@ module _ (net : Internet) (laws : Layouts) (is : IsInternet net) (most_routes mo
           let step = Happens router (Packet number bytes) in
           let e = subst (λ (k : ℕ). seconds_of r (Happens k (Packet number bytes) ∷ rest) ≡ 0 + seconds_of r rest) same (own_seconds r (Packet number bytes) rest) in
           let as_many : seconds_of r (step ∷ rest) ≡ seconds_of r rest = omega (arith, e) in
-          let came = outside_waits net laws is most_routes most_services up server L ticks router (Packet number bytes) says names number bytes refl in
-          let waits = subst (λ (k : ℕ). Waits net up server L ticks (record { router = k; port = number }) bytes) (sym same) came in
+          let came = outside_waits net laws is most_routes most_services up server L W N E ticks router (Packet number bytes) says names number bytes refl in
+          let waits = subst (λ (k : ℕ). Waits net up server L W ticks (record { router = k; port = number }) bytes) (sym same) came in
           subst (λ (k : ℕ). Q (seconds_of r rest) After (history_of (with_event run.histories k (Packet number bytes)) r)) same
           (subst (λ (n : ℕ). Q n After (history_of (with_event run.histories r (Packet number bytes)) r)) as_many
           (own_packet run (left_of (step ∷ rest)) number bytes going waits (λ s. Heard_by run step s ⊎ After s) After (Heard_by run step) (λ s either. either)
@@ -385,7 +420,7 @@ module _ (net : Internet) (laws : Layouts) (is : IsInternet net) (most_routes mo
       -- a delivery
       settles_tracks : (histories : List History) (waiting : List Waiting) (log : List Reception) (left : ℕ → ℕ)
           → Goes ticks left (record { histories = histories; waiting = waiting; log = log }) → (After : Source → Type 0)
-          → Q (left r) (λ s. ⊥ ⊎ After s) (history_of histories r)
+          → Q (left r) (λ s. FirstHears net most_routes most_services server (at s.0) (host s) histories waiting ⊎ After s) (history_of histories r)
           → Q (left r) After
           (history_of (stepped net most_routes most_services (record { histories = histories; waiting = waiting; log = log }) Settles).histories r)
       settles_tracks histories [] log left going After state =
@@ -394,14 +429,16 @@ module _ (net : Internet) (laws : Layouts) (is : IsInternet net) (most_routes mo
       settles_tracks histories (w ∷ waiting) log left going After state =
           let d = w.delivery in
           let run : Run = record { histories = histories; waiting = w ∷ waiting; log = log } in
+          let Now : Source → Type 0 = λ s. Hears net most_routes most_services server (at s.0) (host s) histories d.to d.bytes in
           elim (cases_eq r d.to.router) [
             | inr off ↦
-                elsewhere histories d.to.router (Packet d.to.port d.bytes) off (left r) (left r) refl (λ s. ⊥ ⊎ After s) After
-                (λ s either. later_of (λ none. none) either) state
+                elsewhere histories d.to.router (Packet d.to.port d.bytes) off (left r) (left r) refl (λ s. Now s ⊎ After s) After
+                (λ s either. later_of (λ now. off (sym now.0)) either) state
             | inl same ↦
-                let waits = subst (λ (k : ℕ). Waits net up server L ticks (record { router = k; port = d.to.port }) d.bytes) (sym same) going.waiting.0.waits in
+                let waits = subst (λ (k : ℕ). Waits net up server L W ticks (record { router = k; port = d.to.port }) d.bytes) (sym same) going.waiting.0.waits in
                 subst (λ (k : ℕ). Q (left r) After (history_of (with_event histories k (Packet d.to.port d.bytes)) r)) same
-                (own_packet run left d.to.port d.bytes going waits (λ s. ⊥ ⊎ After s) After (λ s. ⊥) (λ s either. either) (λ s none. absurd none) state)
+                (own_packet run left d.to.port d.bytes going waits (λ s. Now s ⊎ After s) After Now (λ s either. either)
+                (λ s now. (now.1, now.2, now.3, now.4)) state)
           ]
 
       step_tracks : (step : Step) (rest : List Step) (run : Run) → LeavesPorts step → SaysNoFalse net server step → SaysOnly (NamesOnly L) step
@@ -417,67 +454,94 @@ module _ (net : Internet) (laws : Layouts) (is : IsInternet net) (most_routes mo
       ]
 
       steps_track : (steps : List Step) (run : Run) → AllByRecursion (IsStep net) steps → AllByRecursion LeavesPorts steps
-          → AllByRecursion (SaysNoFalse net server) steps → AllByRecursion (SaysOnly (NamesOnly L)) steps → Goes ticks (left_of steps) run
+          → AllByRecursion (SaysNoFalse net server) steps → AllByRecursion (SaysOnly (NamesOnly L)) steps → Surely run steps → Goes ticks (left_of steps) run
           → (After : Source → Run → Type 0)
-          → Q (seconds_of r steps) (λ s. HeardInSteps net most_routes most_services server (at s.0) (host s) (After s) run steps) (history_of run.histories r)
+          → Q (seconds_of r steps) (λ s. HeardWithin net most_routes most_services server (at s.0) (host s) (After s) run steps) (history_of run.histories r)
           → Q 0 (λ s. After s (run_of net most_routes most_services run steps)) (history_of (run_of net most_routes most_services run steps).histories r)
-      steps_track [] run are leave say names going After state = state
-      steps_track (step ∷ steps) run are leave say names going After state =
+      steps_track [] run are leave say names surely going After state = state
+      steps_track (step ∷ steps) run are leave say names surely going After state =
           let next = stepped net most_routes most_services run step in
-          steps_track steps next are.1 leave.1 say.1 names.1
-          (step_goes net laws is most_routes most_services up server L ticks step steps run are.0 leave.0 say.0 names.0 going) After
-          (step_tracks step steps run leave.0 say.0 names.0 going (λ s. HeardInSteps net most_routes most_services server (at s.0) (host s) (After s) next steps) state)
+          let next_sure = at_first net most_routes most_services server (λ now. N now.histories) next steps surely.1 in
+          steps_track steps next are.1 leave.1 say.1 names.1 surely.1
+          (step_goes net laws is most_routes most_services up server L W N E ticks step steps run are.0 leave.0 say.0 names.0 surely.0 next_sure going) After
+          (step_tracks step steps run leave.0 say.0 names.0 going (λ s. HeardWithin net most_routes most_services server (at s.0) (host s) (After s) next steps) state)
+
+      -- and at each moment of them, once each of them was heard
+      steps_right : (steps : List Step) (run : Run) → AllByRecursion (IsStep net) steps → AllByRecursion LeavesPorts steps
+          → AllByRecursion (SaysNoFalse net server) steps → AllByRecursion (SaysOnly (NamesOnly L)) steps → Surely run steps → Goes ticks (left_of steps) run
+          → Q (seconds_of r steps) (λ s. ⊥) (history_of run.histories r) → AtEach net most_routes most_services server IsRight run steps
+      steps_right [] run are leave say names surely going state = right_now (Young top 0) run state
+      steps_right (step ∷ steps) run are leave say names surely going state =
+          let next = stepped net most_routes most_services run step in
+          let left = seconds_of r (step ∷ steps) in
+          let next_sure = at_first net most_routes most_services server (λ now. N now.histories) next steps surely.1 in (
+            right_now (Young top left) run state,
+            steps_right steps next are.1 leave.1 say.1 names.1 surely.1
+                (step_goes net laws is most_routes most_services up server L W N E ticks step steps run are.0 leave.0 say.0 names.0 surely.0 next_sure going)
+                (step_tracks step steps run leave.0 say.0 names.0 going (λ s. ⊥)
+                (passes_by (Young top left) (Young top left) (λ s. ⊥) (λ s. Heard_by run step s ⊎ ⊥) (service_facts ports (history_of run.histories r))
+                (λ age young. young) (λ s none. absurd none) state)),
+          )
 
   -- ---- ticks
 
   abbrev Waiting_for : Run → List (List Step) → Source → Type 0
-  Waiting_for run ticks s = HeardInTicks net most_routes most_services server (at s.0) (host s) run ticks
+  Waiting_for run ticks s = HeardWithinTicks net most_routes most_services server (at s.0) (host s) run ticks
 
   ticks_track : (so_far top : ℕ) (run : Run) (ticks : List (List Step)) → most_ticks_gone ≤ so_far → top + length ticks ≤ 60
       → Rests net laws is most_routes most_services up server L so_far run → EachTick net most_routes most_services (IsBusyTick net most_routes most_services) run ticks
       → AllByRecursion (AllByRecursion LeavesPorts) ticks → AllByRecursion (AllByRecursion (SaysNoFalse net server)) ticks
-      → AllByRecursion (AllByRecursion (SaysOnly (NamesOnly L))) ticks
+      → AllByRecursion (AllByRecursion (SaysOnly (NamesOnly L))) ticks → EachTick net most_routes most_services Surely run ticks
       → S (λ age. age ≤ top) (Waiting_for run ticks) (Missing (Waiting_for run ticks)) (service_facts ports (history_of run.histories r))
       → S (λ age. age ≤ 60) (λ s. ⊥) (Missing (λ s. ⊥)) (service_facts ports (history_of (ticked net most_routes most_services run ticks).histories r))
-  ticks_track so_far top run [] long few rests busy leave say names state =
+  ticks_track so_far top run [] long few rests busy leave say names surely state =
       passes_by (λ age. age ≤ top) (λ age. age ≤ 60) (Waiting_for run []) (λ s. ⊥) (service_facts ports (history_of run.histories r))
       (λ age young. omega (arith, young, few)) (λ s late. late) state
-  ticks_track so_far top run (steps ∷ ticks) long few rests busy leave say names state =
+  ticks_track so_far top run (steps ∷ ticks) long few rests busy leave say names surely state =
       let next = run_of net most_routes most_services run steps in
       let one_second = busy.0.each r inside in
-      let going = begins net laws is most_routes most_services up server L so_far run steps rests busy.0 in
+      let going = begins net laws is most_routes most_services up server L W N E so_far run steps rests busy.0 in
       let begun : S (Young (suc top) (seconds_of r steps)) (Waiting_for run (steps ∷ ticks)) (Missing (Waiting_for run (steps ∷ ticks)))
       (service_facts ports (history_of run.histories r)) =
       passes_by (λ age. age ≤ top) (Young (suc top) (seconds_of r steps)) (Waiting_for run (steps ∷ ticks)) (Waiting_for run (steps ∷ ticks))
       (service_facts ports (history_of run.histories r)) (λ age young. omega (arith, young, one_second)) (λ s late. late) state in
-      let done = steps_track (suc top) (omega (arith, few)) (omega arith) (suc so_far) (omega (arith, long)) steps run busy.0.happens leave.0 say.0 names.0 going
-      (λ s after. HeardInTicks net most_routes most_services server (at s.0) (host s) after ticks) begun in
+      let done = steps_track (suc top) (omega (arith, few)) (omega arith) (suc so_far) (omega (arith, long)) steps run busy.0.happens leave.0 say.0 names.0 surely.0 going
+      (λ s after. HeardWithinTicks net most_routes most_services server (at s.0) (host s) after ticks) begun in
       ticks_track (suc so_far) (suc top) next ticks (omega (arith, long)) (omega (arith, few))
-      (tick_rests net laws is most_routes most_services up server L so_far run steps rests busy.0 leave.0 say.0 names.0) busy.1 leave.1 say.1 names.1
+      (tick_rests net laws is most_routes most_services up server L so_far run steps rests busy.0 leave.0 say.0 names.0) busy.1 leave.1 say.1 names.1 surely.1
       (passes_by (Young (suc top) 0) (λ age. age ≤ suc top) (Waiting_for next ticks) (Waiting_for next ticks) (service_facts ports (history_of next.histories r))
       (λ age young. omega (arith, young)) (λ s late. late) done)
 
   -- so it is known then, from one of them
-  pub known_right : (so_far : ℕ) (run : Run) (window : List (List Step)) → most_ticks_gone ≤ so_far → length window ≤ 60
-      → Rests net laws is most_routes most_services up server L so_far run → EachTick net most_routes most_services (IsBusyTick net most_routes most_services) run window
-      → AllByRecursion (AllByRecursion LeavesPorts) window → AllByRecursion (AllByRecursion (SaysNoFalse net server)) window
-      → AllByRecursion (AllByRecursion (SaysOnly (NamesOnly L))) window
-      → ((g : ServiceOffer) → G g → HeardInTicks net most_routes most_services server (at g.port) (host (g.port, g.node)) run window) → (g : ServiceOffer) → G g
-      → known_of server (offers (services_held ports most_services (history_of (ticked net most_routes most_services run window).histories r)))
-      ≡ Some (at_hops server hops)
-  known_right so_far run window long few rests busy leave say names in_time g good = elim done.holds [
-    | inr missing ↦ absurd missing.2
-    | inl held ↦
-        ap (option_map (λ s. s.service))
-        (among_alive service_reading service_order service_total most_services ss K last ∙ ap (option_map (λ h. h.offer)) held.1)
-        ∙ ap (λ (s : Service). Some s) held.2.said
-  ]
-    where
-      last : List (Fact ServiceOffer)
-      last = service_facts ports (history_of (ticked net most_routes most_services run window).histories r)
+  module _ (so_far : ℕ) (run : Run) (window : List (List Step)) (long : most_ticks_gone ≤ so_far) (few : length window ≤ 60)
+      (rests : Rests net laws is most_routes most_services up server L so_far run)
+      (busy : EachTick net most_routes most_services (IsBusyTick net most_routes most_services) run window)
+      (leave : AllByRecursion (AllByRecursion LeavesPorts) window) (say : AllByRecursion (AllByRecursion (SaysNoFalse net server)) window)
+      (named : AllByRecursion (AllByRecursion (SaysOnly (NamesOnly L))) window)
+      (surely : EachTick net most_routes most_services Surely run window)
+      (in_time : (g : ServiceOffer) → G g → HeardWithinTicks net most_routes most_services server (at g.port) (host (g.port, g.node)) run window)
+      (g : ServiceOffer) (good : G g) where
+    abbrev last : Run
+    last = ticked net most_routes most_services run window
 
-      done : S (λ age. age ≤ 60) (λ s. ⊥) (Missing (λ s. ⊥)) last
-      done = ticks_track so_far 0 run window long (omega (arith, few)) rests busy leave say names (record {
-        aged = λ h e good. inr (in_time h.offer good);
-        holds = inr (g, good, in_time g good);
-      })
+    all_heard : S (λ age. age ≤ 60) (λ s. ⊥) (Missing (λ s. ⊥)) (service_facts ports (history_of last.histories r))
+    all_heard = ticks_track so_far 0 run window long (omega (arith, few)) rests busy leave say named surely (record {
+      aged = λ h e is_good. inr (in_time h.offer is_good);
+      holds = inr (g, good, in_time g good);
+    })
+
+    pub known_right : IsRight last
+    known_right = right_now (λ age. age ≤ 60) last all_heard
+
+    -- and at each moment of one tick more
+    pub known_each : (steps : List Step) → IsBusyTick net most_routes most_services last steps → AllByRecursion LeavesPorts steps
+        → AllByRecursion (SaysNoFalse net server) steps → AllByRecursion (SaysOnly (NamesOnly L)) steps → Surely last steps
+        → AtEach net most_routes most_services server IsRight last steps
+    known_each steps tick leaves says naming sure_then =
+        let begun : ℕ = length window + so_far in
+        let one_second = tick.each r inside in
+        let rests_then = ticks_rest net laws is most_routes most_services up server L so_far run window rests busy leave say named in
+        steps_right 61 (omega arith) (omega arith) (suc begun) (omega (arith, long)) steps last tick.happens leaves says naming sure_then
+        (begins net laws is most_routes most_services up server L W N E begun last steps rests_then tick)
+        (passes_by (λ age. age ≤ 60) (Young 61 (seconds_of r steps)) (λ s. ⊥) (λ s. ⊥) (service_facts ports (history_of last.histories r))
+        (λ age young. omega (arith, young, one_second)) (λ s none. none) all_heard)

@@ -1,20 +1,18 @@
--- A router beside the nearest of the hosts that announce a service: what these hosts say is the best that it may know, and there is room for it.
-use Rattle.std.proofs.Common.{◌≡◌, refl, sym, ap, ap₂, ◌∙◌, subst, ◌⊎◌, ℕ, ◌+◌, ◌*◌, ◌<◌, ◌≤◌, ◌==◌, nat_eq, nat_le, true, false, List, [], ◌∷◌, ◌++◌, find, length, map, None, Some, inl, inr, arith, true≢false, Ordering, Less, Equal, Greater, is_eq, slice_get}
+-- What is best of all that a router may know of a service: what the nearest hosts beside it say, and neighbours that are one hop nearer. There is
+-- room for it.
+use Rattle.std.proofs.Common.{◌≡◌, refl, sym, ap, ap₂, ◌∙◌, subst, ◌⊎◌, ℕ, suc, ◌+◌, ◌*◌, ◌<◌, ◌≤◌, ◌==◌, nat_eq, nat_le, true, false, List, [], ◌∷◌, ◌++◌, find, length, map, None, Some, inl, inr, arith, is_eq, slice_get}
 use Rattle.std.specs.List.{AllByRecursion}
 use Rattle.std.specs.Cmp.Lexicographic.{pointwise}
-use Rattle.std.specs.Ordering.{nat_cmp, is_gt, ordering_then}
-use Rattle.std.proofs.lemmas.Bool.{cases_Bool, and_parts, eqb-true, leb-true, leb-false}
+use Rattle.std.specs.Ordering.{is_gt}
+use Rattle.std.proofs.lemmas.Bool.{cases_Bool, cases_eq, and_parts, eqb-true, leb-true, leb-false}
 use Rattle.ipx_table.specs.Facts.{Fact, Offered}
 use Rattle.ipx_table.specs.Reading.{one_source, rank_order, rules_of}
 use Rattle.ipx_table.specs.declared.held.Held.{Held}
 use Rattle.ipx_table.proofs.Living.{kept}
-use Rattle.ipx_table.proofs.Order.{is_equal}
 use Rattle.ipx_table.proofs.Standing.{rules_total}
-use Rattle.ipx_wire.specs.Name.{name_order}
 use Rattle.ipx_wire.specs.declared.node.Node.{Node}
 use Rattle.ipx_wire.specs.declared.sap_entries.SapEntry.{SapEntry}
 use Rattle.ipx_wire.specs.declared.service.Service.{Service}
-use Rattle.ipx_wire.proofs.NameOrder.{equal_is}
 use Rattle.ipx_router.specs.Numbers.{unreachable}
 use Rattle.ipx_router.specs.Port.{broadcast, is_up}
 use Rattle.ipx_router.specs.Services.{service_reading, service_order}
@@ -22,35 +20,27 @@ use Rattle.ipx_router.specs.declared.service_offer.ServiceOffer.{ServiceOffer}
 use Rattle.ipx_router.proofs.bounds.PacketsOfEachEvent.{service_total}
 use Rattle.ipx_router.proofs.lists.EachElement.{all_both}
 use Rattle.ipx_internet.specs.Announces.{service_of}
-use Rattle.ipx_internet.specs.Internet.{Internet, Place, ports_of, network_of}
+use Rattle.ipx_internet.specs.Internet.{Internet, Place, NodesDiffer, IsPlace, ports_of, port_of, network_of}
 use Rattle.ipx_internet.specs.Least.{Way}
 use Rattle.ipx_internet.specs.Regular.{HostsApart, HasRoomFor, IsListedName}
-use Rattle.ipx_internet.specs.Servers.{Announcer, Server, IsOf, at_hops, IsAnnouncedOn, IsServed, IsAway, announced, passed_on, beside, beyond}
+use Rattle.ipx_internet.specs.Servers.{Announcer, Server, IsOf, at_hops, IsAnnouncedOn, IsServed, IsFewest}
 use Rattle.ipx_internet.specs.Ticks.{most_ticks_gone}
-use Rattle.ipx_internet.proofs.lists.EachElement.{all_then, all_mapped, all_at}
+use Rattle.ipx_internet.proofs.lists.EachElement.{all_then, all_mapped, all_at, holds_of}
 use Rattle.ipx_internet.proofs.lists.SomeElement.{found_with}
 use Rattle.ipx_internet.proofs.records.BestIsKept.{AreBest, IsSteady, HasPlace, records, known}
 use Rattle.ipx_internet.proofs.records.KeysHaveRoom.{AreSingle, admits, replaces}
 use Rattle.ipx_internet.proofs.records.RecordsGrowOld.{IsOld, IsNear, near_young, after_offers}
+use Rattle.ipx_internet.proofs.services.ExactWords.{one_name, Words}
+use Rattle.ipx_internet.proofs.services.FewestHops.{Link, PassedOn, of_fewest}
 use Rattle.ipx_internet.proofs.services.ServedOrSoonEnded.{Fine, ServicesAged, ServiceOld}
 use Rattle.ipx_internet.proofs.services.ServicesBecomeReal.{has_way}
 use Rattle.ipx_internet.proofs.services.SpokenOfAServer.{EntrySaid, Who}
 use Rattle.ipx_internet.proofs.records.HeardChangesItsKeys.{service_offer}
+use Rattle.ipx_internet.proofs.ticks.RealOrSoonEnded.{Reaches}
 use Rattle.ipx_internet.proofs.tables.GoodRoutesStay.{same_bytes}
-use Rattle.ipx_internet.proofs.tables.RoomForEachNetwork.{same_where_equal, not_worse, worse}
+use Rattle.ipx_internet.proofs.tables.RoomForEachNetwork.{not_worse, worse}
 
 -- ---- keys, sources and ranks of services
-
-pub one_name : (a b : ℕ × List ℕ) → is_eq (service_order a b) ≡ true → a ≡ b
-one_name a b e = by (nat_cmp a.0 b.0) refl
-  where
-    by : (r : Ordering) → nat_cmp a.0 b.0 ≡ r → a ≡ b
-    by Less is = absurd (true≢false (sym e ∙ ap (λ (o : Ordering). is_eq (ordering_then o (name_order a.1 b.1))) is))
-    by Greater is = absurd (true≢false (sym e ∙ ap (λ (o : Ordering). is_eq (ordering_then o (name_order a.1 b.1))) is))
-    by Equal is =
-        let kinds : a.0 ≡ b.0 = same_where_equal a.0 b.0 (ap is_eq is) in
-        let names : is_eq (name_order a.1 b.1) ≡ true = sym (ap (λ (o : Ordering). is_eq (ordering_then o (name_order a.1 b.1))) is) ∙ e in
-        ap₂ (λ (kind : ℕ) (name : List ℕ). (kind, name)) kinds (equal_is a.1 b.1 (is_equal (name_order a.1 b.1) names))
 
 pub source_parts : (a b : ServiceOffer) → one_source (a.port, a.node) (b.port, b.node) ≡ true → (a.port ≡ b.port) × (a.node ≡ b.node)
 source_parts a b e =
@@ -67,8 +57,9 @@ no_worse a b less = elim (cases_Bool (is_gt (rank_order (a, 0) (b, 0)))) [
   | inl e ↦ absurd (worse (as_way a) (as_way b) e (record { ticks = less; hops = λ same. omega arith }))
 ]
 
-module _ (net : Internet) (up : ℕ → List ℕ) (server : Server) (names : List (ℕ × List ℕ)) (most_services r : ℕ) (apart : HostsApart net server) (hops : ℕ)
-    (reached : hops < unreachable) (least : (which : ℕ) (host : Announcer) → slice_get server.announcers which ≡ Some host → hops ≤ host.hops) where
+module _ (net : Internet) (up : ℕ → List ℕ) (server : Server) (names : List (ℕ × List ℕ)) (most_services r : ℕ) (apart : HostsApart net server)
+    (in_ports : (router : ℕ) → AllByRecursion (λ j. j < length (ports_of net router)) (up router)) (hops : ℕ) (reached : hops < unreachable)
+    (unlike : (router less : ℕ) → hops ≡ suc less → IsFewest net up server router less → NodesDiffer net) (fewest : IsFewest net up server r hops) where
   abbrev pub here : ℕ → Place
   here port = record { router = r; port = port }
 
@@ -84,42 +75,67 @@ module _ (net : Internet) (up : ℕ → List ℕ) (server : Server) (names : Lis
   abbrev pub Real : ServiceOffer → Type 0
   Real o = IsServed net up server r o
 
-  -- the host of a source that says so many hops
+  -- what routers say that have it with fewer hops
+  abbrev pub Says : ℕ → Service → Type 0
+  Says = Words net up server most_services hops reached
+
+  -- who says so many hops, as a host would
   abbrev pub host_of : ℕ × Node → Announcer
   host_of source = record { network = network_of net (here source.0); node = source.1; hops = hops }
 
   -- such a host announces it so
-  pub record Good (o : ServiceOffer) : Type 0 where
+  pub record OfHost (source : ℕ × Node) : Type 0 where
     pub which : ℕ
-    pub listed : slice_get server.announcers which ≡ Some (host_of (o.port, o.node))
+    pub listed : slice_get server.announcers which ≡ Some (host_of source)
+
+  -- a neighbour has it with one hop less
+  pub record OfNeighbour (source : ℕ × Node) : Type 0 where
+    pub from : Place
+    pub less : ℕ
+    pub more : hops ≡ suc less
+    pub link : Link net up server r source.0 from
+    pub node : source.1 ≡ (port_of net from).node
+    pub nearer : IsFewest net up server from.router less
+
+  -- such a host, or such a neighbour
+  abbrev pub SaidBy : ℕ × Node → Type 0
+  SaidBy source = OfHost source ⊎ OfNeighbour source
+
+  -- it is said so by one of them
+  pub record Good (o : ServiceOffer) : Type 0 where
+    pub who : SaidBy (o.port, o.node)
     pub on : is_up (up r) o.port ≡ true
     pub said : o.service ≡ at_hops server hops
 
   -- ---- nobody is nearer
 
-  no_nearer : {router more : ℕ} → IsAway net up server router more → hops ≤ more
-  no_nearer (beside port which host on listed network) = least which host listed
-  no_nearer (beyond port from other on there network way) = let less = no_nearer way in omega (arith, less)
+  no_nearer : {s : ServiceOffer} → IsServed net up server r s → hops ≤ s.service.hops
+  no_nearer served = fewest.1 _ (has_way net up server served).1
 
   good_hops : (g : ServiceOffer) → Good g → g.service.hops ≡ hops
   good_hops g good = ap (λ (s : Service). s.hops) good.said
 
-  -- what is as near is announced
-  as_near : {router : ℕ} {s : ServiceOffer} → IsServed net up server router s → s.service.hops ≤ hops
-      → (is_up (up router) s.port ≡ true) × IsAnnouncedOn server (network_of net (record { router = router; port = s.port })) s.node s.service
-  as_near (announced on is) few = (on, is)
-  as_near (passed_on from other off on there network node same near served) few =
-      let less = no_nearer (has_way net up server served).1 in
-      let more = ap (λ (s : Service). s.hops) same in
-      absurd (omega (arith, less, more, few))
+  -- what is as near is said by such a one
+  as_near : (o : ServiceOffer) → Real o → o.service.hops ≡ hops → Good o
+  as_near o real same = by (of_fewest net up server (subst (λ (n : ℕ). IsFewest net up server r n) (sym same) fewest) real)
+    where
+      said : o.service ≡ at_hops server hops
+      said = (has_way net up server real).0 ∙ ap (at_hops server) same
 
-  good_where : (o : ServiceOffer) → is_up (up r) o.port ≡ true → IsAnnouncedOn server (network_of net (here o.port)) o.node o.service → o.service.hops ≡ hops → Good o
-  good_where o on is same = record {
-    which = is.which;
-    listed = subst (λ (n : ℕ). slice_get server.announcers is.which ≡ Some (record { network = network_of net (here o.port); node = o.node; hops = n })) same is.listed;
-    on = on;
-    said = is.addressed ∙ ap (at_hops server) same;
-  }
+      by : ((is_up (up r) o.port ≡ true) × IsAnnouncedOn server (network_of net (here o.port)) o.node o.service) ⊎ PassedOn net up server r o → Good o
+      by (inl (on, is)) = record {
+        who = inl (record {
+          which = is.which;
+          listed = subst (λ (n : ℕ). slice_get server.announcers is.which ≡ Some (record { network = network_of net (here o.port); node = o.node; hops = n })) same is.listed;
+        });
+        on = on;
+        said = said;
+      }
+      by (inr p) = record {
+        who = inr (record { from = p.from; less = p.hops; more = sym same ∙ p.more; link = p.link; node = p.node; nearer = p.fewest });
+        on = p.link.here;
+        said = said;
+      }
 
   pub best : AreBest service_reading service_order service_total most_services shares key (λ k. one_name k key) Real Good
   best = record {
@@ -132,15 +148,14 @@ module _ (net : Internet) (up : ℕ → List ℕ) (server : Server) (names : Lis
           absurd (omega (arith, far, is, reached))
     ];
     first = λ g o good real named.
-        let less = no_nearer (has_way net up server real).1 in
+        let less = no_nearer real in
         let is = good_hops g good in
         no_worse g.service.hops o.service.hops (omega (arith, less, is));
     equal = λ g o good real named as_good.
-        let less = no_nearer (has_way net up server real).1 in
+        let less = no_nearer real in
         let is = good_hops g good in
         let few = (not_worse (as_way o.service.hops) (as_way g.service.hops) as_good).ticks in
-        let both = as_near real (omega (arith, few, is)) in
-        good_where o both.0 both.1 (omega (arith, few, is, less));
+        as_near o real (omega (arith, few, is, less));
   }
 
   -- ---- what may be heard of it
@@ -148,26 +163,63 @@ module _ (net : Internet) (up : ℕ → List ℕ) (server : Server) (names : Lis
   of_key : (kind : ℕ) (name : List ℕ) → ◌≡◌ {A = ℕ × List ℕ} (kind, name) key → (kind ≡ server.kind) × (name ≡ server.name)
   of_key kind name same = (ap (λ (k : ℕ × List ℕ). k.0) same, ap (λ (k : ℕ × List ℕ). k.1) same)
 
+  there : (place : Place) → is_up (up place.router) place.port ≡ true → IsPlace net place
+  there place on = holds_of (λ j. j < length (ports_of net place.router)) place.port (up place.router) (in_ports place.router) on
+
   module _ (begun : ℕ) (long : most_ticks_gone ≤ begun) (number : ℕ) (on : is_up (up r) number ≡ true) (node : Node) (e : SapEntry)
-      (said : EntrySaid net up server Listed begun (here number) node e) (name : List ℕ) (is : e.name ≡ Some name) where
+      (said : EntrySaid net up server Listed Says begun (here number) node e) (name : List ℕ) (is : e.name ≡ Some name) where
     abbrev o : ServiceOffer
     o = service_offer number node e name
 
+    -- who says it where a good one was said
+    module _ (of : IsOf server o.service) (g : ServiceOffer) (source : (g.port ≡ number) × (g.node ≡ node)) where
+      network : network_of net (here g.port) ≡ network_of net (here number)
+      network = ap (λ (k : ℕ). network_of net (here k)) source.0
+
+      same_source : ◌≡◌ {A = ℕ × Node} (g.port, g.node) (number, node)
+      same_source = ap₂ (λ (p : ℕ) (n : Node). (p, n)) source.0 source.1
+
+      of_host : OfHost (g.port, g.node) → IsAnnouncedOn server (network_of net (here number)) node (service_of e name) → Good o
+      of_host host is_said = record {
+        who = inl (record { which = host.which; listed = subst (λ (x : ℕ × Node). slice_get server.announcers host.which ≡ Some (host_of x)) same_source host.listed });
+        on = on;
+        said =
+            is_said.addressed
+            ∙ ap (at_hops server) (sym (apart.one_voice host.which is_said.which (host_of (g.port, g.node)) _ host.listed is_said.listed network source.1));
+      }
+
+      of_neighbour : OfNeighbour (g.port, g.node) → (from : Place) → Reaches net up from (here number) → node ≡ (port_of net from).node
+          → Says from.router (service_of e name) → Good o
+      of_neighbour n from reaches from_node says = record {
+        who = inr (subst OfNeighbour same_source n);
+        on = on;
+        said = says (record { hops = n.less; near = omega (arith, more); fewest = nearer }) of ∙ ap (at_hops server) (sym more);
+      }
+        where
+          more : hops ≡ suc n.less
+          more = n.more
+
+          same_router : n.from.router ≡ from.router
+          same_router = elim (cases_eq n.from.router from.router) [
+            | inl same ↦ same
+            | inr off ↦
+                absurd (unlike n.from.router n.less n.more n.nearer n.from from (there n.from n.link.there) (there from reaches.on) off
+                (sym n.link.network ∙ network ∙ reaches.network) (sym n.node ∙ source.1 ∙ from_node))
+          ]
+
+          nearer : IsFewest net up server from.router n.less
+          nearer = subst (λ (k : ℕ). IsFewest net up server k n.less) same_router n.nearer
+
+      by_who : SaidBy (g.port, g.node) → Who net up server Listed Says (here number) node (service_of e name) → Good o
+      by_who (inl host) (inl announces) = of_host host announces
+      by_who (inl host) (inr (from, reaches, from_node, says)) =
+          absurd (apart.from_routers host.which (host_of (g.port, g.node)) from host.listed (sym reaches.network ∙ sym network) (sym from_node ∙ sym source.1))
+      by_who (inr n) (inl announces) =
+          absurd (apart.from_routers announces.which _ n.from announces.listed (sym n.link.network ∙ network) (sym n.node ∙ source.1))
+      by_who (inr n) (inr (from, reaches, from_node, says)) = of_neighbour n from reaches from_node says
+
     honest : IsOf server o.service → (g : ServiceOffer) → Good g → one_source (g.port, g.node) (number, node) ≡ true → Good o
-    honest of g good same = by (said.who name is of)
-      where
-        source : (g.port ≡ number) × (g.node ≡ node)
-        source = source_parts g o same
-
-        network : network_of net (here g.port) ≡ network_of net (here number)
-        network = ap (λ (k : ℕ). network_of net (here k)) source.0
-
-        by : Who net up server Listed (here number) node (service_of e name) → Good o
-        by (inl announces) =
-            good_where o on announces
-            (sym (apart.one_voice good.which announces.which (host_of (g.port, g.node)) _ good.listed announces.listed network source.1))
-        by (inr (from, reaches, from_node)) =
-            absurd (apart.from_routers good.which (host_of (g.port, g.node)) from good.listed (sym reaches.network ∙ sym network) (sym from_node ∙ sym source.1))
+    honest of g good same = by_who of g (source_parts g o same) good.who (said.who name is of)
 
     pub steady : ◌≡◌ {A = ℕ × List ℕ} (e.kind, name) key
         → IsSteady service_reading service_order service_total most_services shares key (λ k. one_name k key) Real Good o

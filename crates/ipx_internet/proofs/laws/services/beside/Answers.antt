@@ -1,4 +1,7 @@
 use Rattle.std.proofs.Common.{refl, []}
+use Rattle.ipx_router.proofs.port_values.PortOfEachNumber.{ports_up-within}
+use Rattle.ipx_internet.specs.Internet.{ports_of}
+use Rattle.ipx_internet.specs.Queue.{history_of}
 use Rattle.ipx_internet.specs.Regular.{IsListedName}
 use Rattle.ipx_internet.specs.Run.{begun, run_of}
 use Rattle.ipx_internet.specs.Ticks.{ups}
@@ -35,7 +38,8 @@ pub returns-clause-has : goal.returns-clause-has
 returns-clause-has c net most_routes most_services server names histories ticks place which host is are apart room listed busy leave say named in_time long inside on announces network reached least =
     let rests = rested net (layouts c) is most_routes most_services (ups net histories) server (IsListedName names) (begun histories) [] are (λ router within. refl) refl
     tt tt tt tt in
-    has net (layouts c) is most_routes most_services (ups net histories) server names apart room listed place inside which host announces reached network on least
+    has net (layouts c) is most_routes most_services (ups net histories) server names apart
+    (λ router. ports_up-within (ports_of net router) (history_of histories router)) room listed place inside which host announces reached network on least
     (begun histories) rests ticks long busy leave say named in_time
 
 pub returns-clause-whatever_waits : goal.returns-clause-whatever_waits
@@ -44,5 +48,6 @@ returns-clause-whatever_waits c net most_routes most_services server names run f
     let begins = begins_after net (layouts c) is most_routes most_services run are waits first busy.0 leave.0 in
     let rests = rested net (layouts c) is most_routes most_services (ups net run.histories) server (IsListedName names) next [] begins.are
     (λ router within. (begins.routers router within).ups) begins.quiet tt tt tt tt in
-    has net (layouts c) is most_routes most_services (ups net run.histories) server names apart room listed place inside which host announces reached network on least
+    has net (layouts c) is most_routes most_services (ups net run.histories) server names apart
+    (λ router. ports_up-within (ports_of net router) (history_of run.histories router)) room listed place inside which host announces reached network on least
     next rests ticks long busy.1 leave.1 say named in_time
