@@ -5,7 +5,10 @@ pub mod FewestHops
 pub mod HeardAtAStep
 pub mod HeardInAMinute
 pub mod HostTickAfterTick
+pub mod NearerIsHeard
 pub mod NearestHost
+pub mod NeighbourIsHeard
 pub mod ServedOrSoonEnded
+pub mod ServiceIsTold
 pub mod ServicesBecomeReal
 pub mod SpokenOfAServer

@@ -117,6 +117,14 @@ found_with P test (y ∷ ys) x all e = elim (cases_Bool (test y)) [
   | inr other ↦ found_with P test ys x all.1 (rw other at e)
 ]
 
+-- what is found is in the list
+pub find_any : {X : Type 0} (test : X → Bool) (xs : List X) (x : X) → find test xs ≡ Some x → AnyIs (λ y. y ≡ x) xs
+find_any test [] x e = nothing e
+find_any test (y ∷ ys) x e = elim (cases_Bool (test y)) [
+  | inl passes ↦ inl (it_is (λ z. y ≡ z) x y (rw passes at e) refl)
+  | inr other ↦ inr (find_any test ys x (rw other at e))
+]
+
 -- something is where something passes
 pub found_some : {X : Type 0} (test : X → Bool) (xs : List X) → AnyIs (λ x. test x ≡ true) xs → find test xs ≡ None → ⊥
 found_some test [] any e = any

@@ -1,21 +1,25 @@
--- A router hears what another one broadcasts on a common network.
-use Rattle.std.proofs.Common.{◌≡◌, ◌≢◌, refl, ap, ◌∙◌, ℕ, ◌==◌, ◌||◌, true, false, List, [], ◌∷◌, ◌++◌, Option, Some, None, Result, Ok, Err, inl, inr}
+-- A router hears what another one broadcasts on a common network: a page of entries, or of services.
+use Rattle.std.proofs.Common.{◌≡◌, ◌≢◌, refl, ap, ◌∙◌, ℕ, ◌==◌, ◌||◌, true, false, List, [], ◌∷◌, ◌++◌, map, Option, Some, None, Result, Ok, Err, inl, inr}
 use Rattle.std.proofs.lemmas.Bool.{cases_Bool, or_right, eq-eqb}
 use Rattle.ipx_wire.specs.Packet.{Parts}
 use Rattle.ipx_wire.specs.Rip.{rip_of}
+use Rattle.ipx_wire.specs.Sap.{sap_of}
 use Rattle.ipx_wire.specs.Write.{rip_packet_parts, rip_payload}
+use Rattle.ipx_wire.specs.WriteServices.{entry_of, sap_packet_parts, sap_payload}
 use Rattle.ipx_wire.specs.declared.network.Network.{Network}
 use Rattle.ipx_wire.specs.declared.node.Node.{Node}
 use Rattle.ipx_wire.specs.declared.rip.Operation.TheVariants.{Response}
 use Rattle.ipx_wire.specs.declared.rip.RipEntry.{RipEntry}
+use Rattle.ipx_wire.specs.declared.sap.Sap.TheVariants.{Response as SapResponse}
+use Rattle.ipx_wire.specs.declared.service.Service.{Service}
 use Rattle.ipx_wire.specs.declared.packet.PacketFault.{PacketFault}
-use Rattle.ipx_router.specs.Heard.{Heard, HeardRip, heard, heard_near}
-use Rattle.ipx_router.specs.Port.{Port, broadcast, port_at, is_up, is_local, same_node, own_address, everyone}
+use Rattle.ipx_router.specs.Heard.{Heard, HeardRip, HeardSap, heard, heard_near}
+use Rattle.ipx_router.specs.Port.{Port, broadcast, port_at, is_up, is_local, same_node, own_address, everyone, own_services, every_server}
 use Rattle.ipx_router.specs.Why.{checks, first_of, when, is_stopped, is_down_port}
 use Rattle.ipx_router.specs.declared.why.Why.{Why}
 use Rattle.ipx_router.specs.declared.why.Why.TheVariants.{NotRunning, Malformed, DownPort}
 use Rattle.ipx_router.proofs.verdicts.SentOnPassesChecks.{all_checks}
-use Rattle.ipx_internet.proofs.packets.PagesReadAgain.{IsRipPage}
+use Rattle.ipx_internet.proofs.packets.PagesReadAgain.{IsRipPage, IsSapPage}
 use Rattle.ipx_internet.proofs.tables.GoodRoutesStay.{same_bytes}
 
 -- nodes that differ aren't the same
@@ -70,3 +74,29 @@ module _ (ports : List Port) (up : List ℕ) (number : ℕ) (on : is_up up numbe
   heard_page P bytes is =
       let p = rip_packet_parts (own_address from) (everyone from) Response is.page in
       ap heard_by is.read ∙ ap (λ o. judged_by o p) (near_passes is.page is.says) ∙ near_heard is.page is.says
+
+  -- ---- services
+
+  services_pass : (page : List Service) → sap_of (sap_payload false page) ≡ Ok (SapResponse false (map entry_of page))
+      → first_of (all_checks ports up [] (port_at ports number) number (sap_packet_parts (own_services from) (every_server from) false page)) ≡ None
+  services_pass page says =
+      let local = here in
+      let all = for_all in
+      let echo = nodes_apart from.node (port_at ports number).node other in
+      let bad = nodes_apart from.node broadcast one in
+      rw (local, echo, bad, all, says, on) refl
+
+  services_near : (page : List Service) → sap_of (sap_payload false page) ≡ Ok (SapResponse false (map entry_of page))
+      → heard_near (port_at ports number) (sap_packet_parts (own_services from) (every_server from) false page)
+      ≡ Some (HeardSap (own_services from) (SapResponse false (map entry_of page)))
+  services_near page says =
+      let local = here in
+      rw (local, says) refl
+
+  -- a page of services
+  pub heard_services : (Q : Service → Type 0) (bytes : List ℕ) → (is : IsSapPage Q (own_services from) (every_server from) false bytes)
+      → heard ports up true number bytes ≡ Some (HeardSap (own_services from) (SapResponse false (map entry_of is.page)))
+  unfolding judged_by heard_by
+  heard_services Q bytes is =
+      let p = sap_packet_parts (own_services from) (every_server from) false is.page in
+      ap heard_by is.read ∙ ap (λ o. judged_by o p) (services_pass is.page is.says) ∙ services_near is.page is.says

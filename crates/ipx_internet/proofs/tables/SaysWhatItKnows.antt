@@ -1,5 +1,5 @@
 -- A router that holds a route of its least way: what it says of the network to its neighbours, and what waits for them.
-use Rattle.std.proofs.Common.{◌≡◌, ◌≢◌, refl, sym, ap, ◌∙◌, subst, ℕ, zero, suc, ◌+◌, ◌*◌, ◌<◌, ◌≤◌, ◌==◌, ◌||◌, nat_lt, Bool, true, false, not, List, [], ◌∷◌, length, map, filter, flat_map, find, Option, None, Some, option_map, inl, inr, arith, is_eq}
+use Rattle.std.proofs.Common.{◌≡◌, ◌≢◌, refl, sym, ap, ◌∙◌, subst, ℕ, zero, suc, ◌+◌, ◌*◌, ◌<◌, ◌≤◌, ◌==◌, ◌||◌, nat_lt, true, false, not, List, [], ◌∷◌, length, map, filter, flat_map, find, Option, None, Some, option_map, inl, inr, arith, is_eq}
 use Rattle.std.specs.List.{AllByRecursion}
 use Rattle.std.proofs.lemmas.Bool.{eqb-true, cases_Bool, ne_eqb, eq-eqb, lt-ltb, both_ways, or_right}
 use Rattle.ipx_table.specs.Facts.{Fact}
@@ -28,7 +28,7 @@ use Rattle.ipx_internet.specs.Queue.{Delivery, deliveries_of}
 use Rattle.ipx_internet.specs.Rounds.{IsDelivery}
 use Rattle.ipx_internet.proofs.lists.EachElement.{all_or, all_then, all_of}
 use Rattle.ipx_internet.proofs.lists.FoundInAList.{nothing, it_is}
-use Rattle.ipx_internet.proofs.lists.SomeElement.{any_passes, AnyIs, any_then, any_and_all, any-map, any-filter, any-flat_map}
+use Rattle.ipx_internet.proofs.lists.SomeElement.{any_passes, find_any, AnyIs, any_then, any_and_all, any-map, any-filter, any-flat_map}
 use Rattle.ipx_internet.proofs.packets.PagesReadAgain.{IsRipPage}
 use Rattle.ipx_internet.proofs.packets.SentOnOrReply.{Layouts}
 use Rattle.ipx_internet.proofs.places.OneReceiverOfANode.{one_port, apart_at, port_is}
@@ -39,14 +39,6 @@ use Rattle.ipx_internet.proofs.tables.NoRouteIsBetter.{Source, most, elsewhere, 
 use Rattle.ipx_internet.proofs.tables.RoomForEachNetwork.{equal_where_same}
 use Rattle.ipx_internet.proofs.tables.SaysItsLeastWay.{IsWord, HasWay, told_words, news_words, told_route, told_direct, Tells}
 use Rattle.ipx_internet.proofs.ticks.RealOrSoonEnded.{Reaches, RouteSaid}
-
--- what is found is in the list
-find_any : {X : Type 0} (test : X → Bool) (xs : List X) (x : X) → find test xs ≡ Some x → AnyIs (λ y. y ≡ x) xs
-find_any test [] x e = nothing e
-find_any test (y ∷ ys) x e = elim (cases_Bool (test y)) [
-  | inl passes ↦ inl (it_is (λ z. y ≡ z) x y (rw passes at e) refl)
-  | inr other ↦ inr (find_any test ys x (rw other at e))
-]
 
 module _ (net : Internet) (laws : Layouts) (is : IsInternet net) (differ : NodesDiffer net) (cheap : AreCheap net) (up : ℕ → List ℕ)
     (in_ports : (router : ℕ) → AllByRecursion (λ j. j < length (ports_of net router)) (up router)) (most_routes most_services : ℕ) (room : HasRoom net most_routes)

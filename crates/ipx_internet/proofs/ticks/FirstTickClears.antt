@@ -20,7 +20,7 @@ module _ (net : Internet) (laws : Layouts) (is : IsInternet net) (most_routes mo
   -- ---- ports
 
   module _ (up : ℕ → List ℕ) where
-    abbrev Stay : List History → Type 0
+    abbrev pub Stay : List History → Type 0
     Stay histories = (router : ℕ) → ups net histories router ≡ up router
 
     -- an event that changes no port
@@ -30,7 +30,7 @@ module _ (net : Internet) (laws : Layouts) (is : IsInternet net) (most_routes mo
         each_so (λ k h. ports_up (ports_of net k) h ≡ up k) histories router event listed other
         (λ same. ports_stay (ports_of net router) (history_of histories router) event no_start on untaken unbrought ∙ stay router) (λ off. stay other)
 
-    record Kept (q : Queued) : Type 0 where
+    pub record Kept (q : Queued) : Type 0 where
       pub sound : Sound net laws is most_routes most_services q
       pub stay : Stay q.histories
 
@@ -61,7 +61,7 @@ module _ (net : Internet) (laws : Layouts) (is : IsInternet net) (most_routes mo
         subst (λ (q : Queued). Stay q.histories) (sym (deliveries net most_routes most_services run))
         (settles_stay run.histories (map (λ w. w.delivery) run.waiting) kept)
 
-    steps_keep : (run : Run) (steps : List Step) → AllByRecursion (IsStep net) steps → AllByRecursion LeavesPorts steps → Kept (forgotten run)
+    pub steps_keep : (run : Run) (steps : List Step) → AllByRecursion (IsStep net) steps → AllByRecursion LeavesPorts steps → Kept (forgotten run)
         → Kept (forgotten (run_of net most_routes most_services run steps))
     steps_keep run [] all leave kept = kept
     steps_keep run (step ∷ steps) all leave kept =
