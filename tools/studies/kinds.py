@@ -123,7 +123,7 @@ def at_once(case):
     return case.until({"gone": (case.reached(), GONE), "right": (case.right(), RIGHT)})
 
 
-# ---- services: no law says these bounds
+# ---- services: the bound of the law grows with the hops, and isn't waited for
 
 
 @study("service", "from tables of anything; a server announces itself each minute: seconds until all know it, by the fewest hops")

@@ -12,6 +12,7 @@ pub mod Logs
 pub mod Loops
 pub mod Losing
 pub mod Meanwhile
+pub mod Neighbours
 pub mod Premises
 pub mod Rights
 pub mod Rings

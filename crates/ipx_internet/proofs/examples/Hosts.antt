@@ -41,7 +41,7 @@ use Rattle.ipx_internet.proofs.lists.FoundInAList.{it_is, nothing}
 abbrev address : ℕ → Address
 address n = record { network = network n; node = node 0xAA; socket = record { 0 = 0x451 } }
 
-abbrev server : ℕ → Server
+abbrev pub server : ℕ → Server
 server n = record {
   kind = 4;
   name = 0x46 ∷ [];
@@ -53,15 +53,15 @@ server n = record {
 abbrev said_to : ℕ → Address → List ℕ
 said_to n to = sap_packet (own_services (port_on n 0xAA)) to false (at_hops (server n) 1 ∷ [])
 
-abbrev said : ℕ → List ℕ
+abbrev pub said : ℕ → List ℕ
 said n = said_to n (every_server (port_on n 0xAA))
 
 -- both routers run
-abbrev start : Run
+abbrev pub start : Run
 start = begun ((Start ∷ []) ∷ (Start ∷ []) ∷ [])
 
 -- a tick in which a packet comes to a port of the first router
-abbrev tick : ℕ → List ℕ → List Step
+abbrev pub tick : ℕ → List ℕ → List Step
 tick port bytes = Happens 0 Second ∷ Happens 0 (Packet port bytes) ∷ Happens 1 Second ∷ Settles ∷ []
 
 -- what a router has after it
@@ -69,7 +69,7 @@ abbrev known : ℕ → List ℕ → ℕ → List ServiceOffer
 known port bytes router =
     offers (services_held (ports_of segment router) 8 (history_of (run_of segment 8 8 start (tick port bytes)).histories router))
 
-abbrev offer : ℕ → ℕ → ℕ → ℕ → ServiceOffer
+abbrev pub offer : ℕ → ℕ → ℕ → ℕ → ServiceOffer
 offer n hops port k = record { service = at_hops (server n) hops; port = port; node = node k }
 
 -- ---- the host on 10h is heard by all routers there are
@@ -166,7 +166,7 @@ other_node (suc zero) (suc zero) e = absurd (omega (arith, e))
 other_node (suc zero) (suc (suc port)) e = absurd (omega (arith, e))
 other_node (suc (suc router)) port e = absurd (omega (arith, e))
 
-the_host : (which : ℕ) (host : Announcer) → slice_get (server 0x10).announcers which ≡ Some host → host ≡ record { network = network 0x10; node = node 0xAA; hops = 1 }
+pub the_host : (which : ℕ) (host : Announcer) → slice_get (server 0x10).announcers which ≡ Some host → host ≡ record { network = network 0x10; node = node 0xAA; hops = 1 }
 the_host zero host e = it_is (λ (h : Announcer). h ≡ record { network = network 0x10; node = node 0xAA; hops = 1 }) host (record { network = network 0x10; node = node 0xAA; hops = 1 }) e refl
 the_host (suc which) host e = nothing e
 

@@ -119,15 +119,14 @@ pub fn beside()
     ipx_router::laws::packets();
 }
 
-/// Each router that has a way to a service, of fewer than 16 hops, comes to have the service at its address, with the fewest hops of all its
-/// ways there, whatever it had before: after the 2,880 ticks in which what is false of it goes (`served`), 60 in which each host
-/// is heard, and 60 for each hop (`has`). From then on it has it so: at the end of every tick, and after each step in a tick, so wherever
+/// Each router with a way to a service of fewer than 16 hops comes to have the service, at its address and with the fewest hops of all its
+/// ways there, whatever it had before. It has it after 2,880 ticks, in which what is false of it goes (`served`), 60 in which each host is
+/// heard, and 60 for each hop (`has`). From then on it keeps it: it has it at the end of each tick and after each step in one, so wherever
 /// nothing waits (`meanwhile`). Whatever waits when the ticks begin, one tick more is enough, in which hosts may say anything
 /// (`whatever_waits`, `whatever_waits_meanwhile`).
 ///
-/// It asks for what `beside` asks of hosts and of room, and that ports of two routers on one network have different nodes.
-/// Nothing is asked of costs, nor of how many routers there are. A router without such a way hasn't got the service
-/// (`served`, `none`).
+/// It asks for what `beside` asks of hosts and of room, and that ports of two routers on one network have different nodes. Nothing is asked
+/// of costs, nor of how many routers there are. A router without such a way hasn't got the service (`served`, `none`).
 pub fn everywhere()
     ensures has { (net : Internet) (most_routes most_services : ℕ) (server : Server) (names : List (ℕ × List ℕ)) (histories : List History) (ticks : List (List Step))
         (router hops : ℕ)
