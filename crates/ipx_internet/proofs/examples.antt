@@ -1,4 +1,5 @@
 -- Worked examples: each is checked by computing it.
+pub mod Announcing
 pub mod Arrivals
 pub mod Branches
 pub mod Changes

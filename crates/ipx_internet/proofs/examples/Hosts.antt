@@ -78,7 +78,7 @@ pub both_have : known 0 (said 0x10) 0 ∷ known 0 (said 0x10) 1 ∷ [] ≡ (offe
 unfolding header_bytes address_bytes network_bytes service_bytes name_field packet_of header_at address_at items network_at entry_bytes entry_at rip_of sap_of sap_entry_at name_of
 both_have = refl
 
-bytes : IsBytes (said 0x10)
+pub bytes : IsBytes (said 0x10)
 unfolding header_bytes address_bytes network_bytes service_bytes name_field
 bytes = are_bytes (said 0x10) refl
 
@@ -139,7 +139,7 @@ second_may = passed_on (at 0 1) (offer 0x10 1 0 0xAA) (λ e. absurd (omega (arit
 
 -- ---- the host is heard, apart, and there is room
 
-abbrev names : List (ℕ × List ℕ)
+abbrev pub names : List (ℕ × List ℕ)
 names = (4, 0x46 ∷ []) ∷ []
 
 pub room : HasRoomFor segment 8 names

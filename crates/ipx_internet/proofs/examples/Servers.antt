@@ -1,6 +1,6 @@
 -- Two routers on one segment. A host on 10h announces a file server. The first router has it then, one hop away as it was said, and the second
 -- one two hops away.
-use Rattle.std.proofs.Common.{◌≡◌, ◌≢◌, refl, sym, ap, ℕ, false, List, [], ◌∷◌, map, inl, inr, is_some, true≢false, arith}
+use Rattle.std.proofs.Common.{◌≡◌, refl, sym, ap, ℕ, false, List, [], ◌∷◌, map, inl, inr, is_some, true≢false, arith}
 use Rattle.ipx_wire.specs.Address.{address_bytes, address_at}
 use Rattle.ipx_wire.specs.Crossed.{network_bytes, network_at}
 use Rattle.ipx_wire.specs.Header.{header_bytes, header_at}
