@@ -1,5 +1,5 @@
 -- Hosts that are heard again and again while they announce a service, each apart from the others, where tables have room.
-use Rattle.std.specs.Prelude.{◌≡◌, ◌≢◌, ◌⊎◌, ℕ, suc, ◌+◌, ◌*◌, ◌≤◌, true, List, [], ◌∷◌, ◌++◌, length, Some, slice_get}
+use Rattle.std.specs.Prelude.{◌≡◌, ◌≢◌, ◌⊎◌, ℕ, suc, ◌+◌, ◌-◌, ◌*◌, ◌≤◌, true, List, [], ◌∷◌, ◌++◌, length, Some, slice_get}
 use Rattle.std.specs.List.{AllByRecursion}
 use Rattle.ipx_wire.specs.WriteServices.{entry_of}
 use Rattle.ipx_wire.specs.declared.sap.Sap.TheVariants.{Query, Response}
@@ -64,7 +64,11 @@ pub record HasRoomFor (net : Internet) (most_services : ℕ) (names : List (ℕ 
   pub table : length names ≤ most_services
   pub shares : AllByRecursion (λ ports. AllByRecursion (λ p. length names ≤ p.service_share) ports) net
 
--- the ticks after which a router has a service whose fewest hops there are so many: those after which what is false of it is gone, 60 in which the
--- hosts are heard, and 60 for each hop
-abbrev pub most_ticks_known : ℕ → ℕ
-most_ticks_known hops = most_ticks_gone + period * suc hops
+-- the ticks after which a router has a service whose fewest hops there are so many, where each host says that many hops at least: those after which
+-- what is false of it is gone, and 60 for each router on the way
+abbrev pub most_ticks_known : ℕ → ℕ → ℕ
+most_ticks_known nearest hops = most_ticks_gone + period * suc (hops - nearest)
+
+-- each host that announces it says that many hops at least
+abbrev pub NoneNearer : Server → ℕ → Type 0
+NoneNearer server nearest = (which : ℕ) (host : Announcer) → slice_get server.announcers which ≡ Some host → nearest ≤ host.hops

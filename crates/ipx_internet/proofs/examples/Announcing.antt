@@ -1,5 +1,5 @@
 -- The host of `Hosts` on 10h announces its file server in each of as many ticks as one likes: so what the laws of services ask for is met by
--- 3,060 ticks as by one, and after these the second router has the server, two hops away.
+-- 3,000 ticks as by one, and after these the second router has the server, two hops away.
 use Rattle.std.proofs.Common.{◌≡◌, refl, sym, ap, ◌∙◌, subst, ℕ, zero, suc, ◌<◌, ◌≤◌, Bool, true, false, List, [], ◌∷◌, ◌++◌, length, replicate, Some, inl, inr, arith, append_assoc, true≢false}
 use Rattle.std.specs.List.{AllByRecursion}
 use Rattle.std.proofs.lemmas.Bool.{cases_Bool}
@@ -200,15 +200,15 @@ module _ (laws : Layouts) where
       }
 
   -- so the second router has it then
-  pub second_has : (n : ℕ) → most_ticks_known 2 ≤ n → (it : Announced n)
+  pub second_has : (n : ℕ) → most_ticks_known 1 2 ≤ n → (it : Announced n)
       → known_of (server 0x10) (offers (services_held (ports_of segment 1) 8 (history_of (ticked segment 8 8 start it.ticks).histories 1)))
       ≡ Some (at_hops (server 0x10) 2)
   second_has n long it =
       let rests = rested segment laws made 8 8 up (server 0x10) (IsListedName names) start [] are (λ k within. refl) refl tt tt tt tt in
       let count = it.as_many in
-      known_last segment laws made 8 8 up (server 0x10) names apart differ (λ k. ports_up-within (ports_of segment k) (history_of start.histories k)) room (0, refl)
-      start rests 2 (omega arith) it.ticks (omega (arith, count, long))
+      known_last segment laws made 8 8 up (server 0x10) names apart differ (λ k. ports_up-within (ports_of segment k) (history_of start.histories k)) room (0, refl) 1
+      (λ which other listed. let one = ap (λ (h : Announcer). h.hops) (the_host which other listed) in omega (arith, one)) start rests 2 (omega arith) it.ticks (omega (arith, count, long))
       (record { busy = it.busy; leave = it.leave; say = it.say; named = it.name; in_time = it.in_time }) 1 (omega arith) second_fewest
 
-  pub enough : most_ticks_known 2 ≡ 3060
+  pub enough : most_ticks_known 1 2 ≡ 3000
   enough = refl

@@ -13,10 +13,11 @@ use Rattle.ipx_internet.specs.Meanwhile.{LeavesPorts, SaysOnly, IsBusyTick, Each
 use Rattle.ipx_internet.specs.Queue.{history_of}
 use Rattle.ipx_internet.specs.Regular.{HostsApart, HasRoomFor, IsListedName, AreInTime}
 use Rattle.ipx_internet.specs.Run.{Step, Run}
-use Rattle.ipx_internet.specs.Servers.{Announcer, Server, at_hops, known_of, SaysNoFalse, NamesOnly, IsAway, beside, beyond, IsFewest}
+use Rattle.ipx_internet.specs.Servers.{Announcer, Server, at_hops, known_of, SaysNoFalse, NamesOnly, IsAway, beside, IsFewest}
 use Rattle.ipx_internet.specs.Ticks.{ticked, most_ticks_gone}
 use Rattle.ipx_internet.proofs.packets.SentOnOrReply.{Layouts}
 use Rattle.ipx_internet.proofs.services.ExactWords.{NearerRight}
+use Rattle.ipx_internet.proofs.services.FewestHops.{no_nearer}
 use Rattle.ipx_internet.proofs.services.HeardAtAStep.{HeardWithinTicks, outside_ticks, AtEach, at_each_all, each_tick_all}
 use Rattle.ipx_internet.proofs.services.HeardInAMinute.{G, known_right}
 use Rattle.ipx_internet.proofs.services.HostTickAfterTick.{Rests, ticks_rest}
@@ -35,22 +36,21 @@ module _ (net : Internet) (laws : Layouts) (is : IsInternet net) (most_routes mo
     (reached : host.hops < unreachable) (network : network_of net place ≡ host.network) (on : is_up (up place.router) place.port ≡ true)
     (least : (which : ℕ) (other : Announcer) → slice_get server.announcers which ≡ Some other → host.hops ≤ other.hops) where
   -- nobody is nearer than that host says
-  no_nearer : {router more : ℕ} → IsAway net up server router more → host.hops ≤ more
-  no_nearer (beside port number other other_on is_listed on_network) = least number other is_listed
-  no_nearer (beyond port from off here_on there_on on_network way) = let less = no_nearer way in omega (arith, less)
+  none_less : {router more : ℕ} → IsAway net up server router more → host.hops ≤ more
+  none_less way = no_nearer net up server host.hops least way
 
   fewest : IsFewest net up server place.router host.hops
-  fewest = (beside place.port which host on announces network, λ others way. no_nearer way)
+  fewest = (beside place.port which host on announces network, λ others way. none_less way)
 
   unlike : (router less : ℕ) → host.hops ≡ suc less → IsFewest net up server router less → NodesDiffer net
-  unlike router less more nearer = let some = no_nearer nearer.0 in absurd (omega (arith, some, more))
+  unlike router less more nearer = let some = none_less nearer.0 in absurd (omega (arith, some, more))
 
   abbrev AreRight : Run → Type 0
   AreRight now = NearerRight net up server most_services host.hops reached now.histories
 
   none_nearer : (histories : List History) → NearerRight net up server most_services host.hops reached histories
   none_nearer histories router within nearer =
-      let some = no_nearer nearer.fewest.0 in
+      let some = none_less nearer.fewest.0 in
       let less = nearer.near in
       absurd (omega (arith, some, less))
 
@@ -107,7 +107,7 @@ module _ (net : Internet) (laws : Layouts) (is : IsInternet net) (most_routes mo
                 (record { network = network_of net (record { router = place.router; port = g.port }); node = g.node; hops = host.hops })
                 (ticked net most_routes most_services start before) window
             by (inr n) =
-                let some = no_nearer n.nearer.0 in
+                let some = none_less n.nearer.0 in
                 let more = n.more in
                 absurd (omega (arith, some, more))
             by (inl one) =

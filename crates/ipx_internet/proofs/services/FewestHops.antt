@@ -6,6 +6,7 @@ use Rattle.ipx_wire.specs.declared.service.Service.{Service}
 use Rattle.ipx_router.specs.Port.{is_up}
 use Rattle.ipx_router.specs.declared.service_offer.ServiceOffer.{ServiceOffer}
 use Rattle.ipx_internet.specs.Internet.{Internet, Place, port_of, network_of}
+use Rattle.ipx_internet.specs.Regular.{NoneNearer}
 use Rattle.ipx_internet.specs.Servers.{Announcer, Server, IsAnnouncedOn, IsServed, announced, passed_on, IsAway, beside, beyond, IsFewest}
 use Rattle.ipx_internet.proofs.services.ServicesBecomeReal.{has_way}
 
@@ -25,6 +26,11 @@ module _ (net : Internet) (up : ℕ → List ℕ) (server : Server) where
         let less = fewest.1 (suc others) (beyond port from link.other link.here link.there link.network way) in
         omega (arith, less),
   )
+
+  -- nobody is nearer than the nearest host says
+  pub no_nearer : (nearest : ℕ) → NoneNearer server nearest → {router hops : ℕ} → IsAway net up server router hops → nearest ≤ hops
+  no_nearer nearest least (beside port which host on listed network) = least which host listed
+  no_nearer nearest least (beyond port from other here there network way) = let less = no_nearer nearest least way in omega (arith, less)
 
   -- the neighbour that passes a service on
   pub record PassedOn (router : ℕ) (s : ServiceOffer) : Type 0 where

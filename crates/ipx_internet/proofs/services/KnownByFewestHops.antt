@@ -12,7 +12,7 @@ use Rattle.ipx_router.specs.declared.service_offer.ServiceOffer.{ServiceOffer}
 use Rattle.ipx_internet.specs.Internet.{Internet, Place, IsInternet, NodesDiffer, ports_of, port_of, network_of}
 use Rattle.ipx_internet.specs.Meanwhile.{LeavesPorts, SaysOnly, IsBusyTick, EachTick}
 use Rattle.ipx_internet.specs.Queue.{history_of}
-use Rattle.ipx_internet.specs.Regular.{HostsApart, HasRoomFor, IsListedName, AreInTime, most_ticks_known}
+use Rattle.ipx_internet.specs.Regular.{HostsApart, HasRoomFor, IsListedName, AreInTime, most_ticks_known, NoneNearer}
 use Rattle.ipx_internet.specs.Run.{Step, Run}
 use Rattle.ipx_internet.specs.Servers.{Server, at_hops, known_of, SaysNoFalse, NamesOnly, IsAway, beside, beyond, IsFewest}
 use Rattle.ipx_internet.specs.Ticks.{ticked, most_ticks_gone}
@@ -20,7 +20,7 @@ use Rattle.ipx_internet.proofs.lists.EachElement.{holds_of}
 use Rattle.ipx_internet.proofs.packets.SentOnOrReply.{Layouts}
 use Rattle.ipx_internet.proofs.services.BesideHosts.{parted}
 use Rattle.ipx_internet.proofs.services.ExactWords.{IsNearer, NearerRight}
-use Rattle.ipx_internet.proofs.services.FewestHops.{Link, neighbour}
+use Rattle.ipx_internet.proofs.services.FewestHops.{Link, neighbour, no_nearer}
 use Rattle.ipx_internet.proofs.services.HeardAtAStep.{HeardWithinTicks, outside_ticks, AtEach, at_each_then, at_each_of, each_tick_then}
 use Rattle.ipx_internet.proofs.services.HeardInAMinute.{G, known_right, known_each}
 use Rattle.ipx_internet.proofs.services.HostTickAfterTick.{Rests, ticks_rest}
@@ -58,7 +58,7 @@ module _ (net : Internet) (up : ℕ → List ℕ) (server : Server) where
 module _ (net : Internet) (laws : Layouts) (is : IsInternet net) (most_routes most_services : ℕ) (up : ℕ → List ℕ) (server : Server)
     (names : List (ℕ × List ℕ)) (apart : HostsApart net server) (differ : NodesDiffer net)
     (in_ports : (router : ℕ) → AllByRecursion (λ j. j < length (ports_of net router)) (up router)) (room : HasRoomFor net most_services names)
-    (listed : IsListedName names (server.kind, server.name))
+    (listed : IsListedName names (server.kind, server.name)) (nearest : ℕ) (least : NoneNearer server nearest)
     (start : Run) (rests : Rests net laws is most_routes most_services up server (IsListedName names) 0 start) where
   -- a router with a port up is one that there is
   inside : (router port : ℕ) → is_up (up router) port ≡ true → router < length net
@@ -99,7 +99,7 @@ module _ (net : Internet) (laws : Layouts) (is : IsInternet net) (most_routes mo
   -- at each moment of a tick then
   abbrev pub Known : ℕ → Type 0
   Known hops =
-      (ticks : List (List Step)) (tick : List Step) → most_ticks_known hops ≤ length ticks → Passes (ticks ++ tick ∷ [])
+      (ticks : List (List Step)) (tick : List Step) → most_ticks_known nearest hops ≤ length ticks → Passes (ticks ++ tick ∷ [])
       → (router : ℕ) → router < length net → IsFewest net up server router hops
       → AtEach net most_routes most_services server (Has router hops) (ticked net most_routes most_services start ticks) tick
 
@@ -116,7 +116,7 @@ module _ (net : Internet) (laws : Layouts) (is : IsInternet net) (most_routes mo
       pub within : router < length net
       pub nearer : IsNearer net up server most_services far reached router
 
-    tick_right : (ticks : List (List Step)) (tick : List Step) → most_ticks_gone + period * far ≤ length ticks → Passes (ticks ++ tick ∷ [])
+    tick_right : (ticks : List (List Step)) (tick : List Step) → most_ticks_gone + period * (far - nearest) ≤ length ticks → Passes (ticks ++ tick ∷ [])
         → AtEach net most_routes most_services server Right (ticked net most_routes most_services start ticks) tick
     tick_right ticks tick long passes =
         at_each_then net most_routes most_services server (λ now. (x : Near) → Has x.router x.nearer.hops now) Right
@@ -124,9 +124,10 @@ module _ (net : Internet) (laws : Layouts) (is : IsInternet net) (most_routes mo
         (at_each_of net most_routes most_services server (λ (x : Near) now. Has x.router x.nearer.hops now) (ticked net most_routes most_services start ticks) tick
         (λ x.
         let less : x.nearer.hops < far = x.nearer.near in
-        below x.nearer.hops less ticks tick (omega (arith, less, long)) passes x.router x.within x.nearer.fewest))
+        let some : nearest ≤ x.nearer.hops = no_nearer net up server nearest least x.nearer.fewest.0 in
+        below x.nearer.hops less ticks tick (omega (arith, less, some, long)) passes x.router x.within x.nearer.fewest))
 
-    ticks_right : (ticks window : List (List Step)) → most_ticks_gone + period * far ≤ length ticks → Passes (ticks ++ window)
+    ticks_right : (ticks window : List (List Step)) → most_ticks_gone + period * (far - nearest) ≤ length ticks → Passes (ticks ++ window)
         → EachTick net most_routes most_services (AtEach net most_routes most_services server Right) (ticked net most_routes most_services start ticks) window
     ticks_right ticks [] long passes = tt
     ticks_right ticks (tick ∷ window) long passes =
@@ -167,7 +168,7 @@ module _ (net : Internet) (laws : Layouts) (is : IsInternet net) (most_routes mo
                 nearer = neighbour net up server router said.port less from link (subst (λ (n : ℕ). IsFewest net up server router n) more fewest) way;
               })
 
-      module _ (before window further : List (List Step)) (long : most_ticks_gone + period * far ≤ length before) (minute : length window ≡ period)
+      module _ (before window further : List (List Step)) (long : most_ticks_gone + period * (far - nearest) ≤ length before) (minute : length window ≡ period)
           (passes : Passes (before ++ (window ++ further))) where
         abbrev middle : Run
         middle = ticked net most_routes most_services start before
@@ -251,7 +252,7 @@ module _ (net : Internet) (laws : Layouts) (is : IsInternet net) (most_routes mo
             known_right net laws is most_routes most_services up server names router apart in_ports far reached unlike fewest room within listed
             (length before + 0) middle window (omega (arith, long)) (omega (arith, minute)) then_rests busy.0 leave.0 say.0 named.0 right.0 heard one.0 one.1
 
-      at_each : (before window : List (List Step)) (tick : List Step) → most_ticks_gone + period * far ≤ length before → length window ≡ period
+      at_each : (before window : List (List Step)) (tick : List Step) → most_ticks_gone + period * (far - nearest) ≤ length before → length window ≡ period
           → Passes (before ++ (window ++ tick ∷ []))
           → AtEach net most_routes most_services server (Has router far)
           (ticked net most_routes most_services (ticked net most_routes most_services start before) window) tick
@@ -272,11 +273,11 @@ module _ (net : Internet) (laws : Layouts) (is : IsInternet net) (most_routes mo
     record Parts (ticks : List (List Step)) : Type 0 where
       pub before : List (List Step)
       pub window : List (List Step)
-      pub long : most_ticks_gone + period * far ≤ length before
+      pub long : most_ticks_gone + period * (far - nearest) ≤ length before
       pub minute : length window ≡ period
       pub whole : before ++ window ≡ ticks
 
-    parts : (ticks : List (List Step)) → most_ticks_known far ≤ length ticks → Parts ticks
+    parts : (ticks : List (List Step)) → most_ticks_known nearest far ≤ length ticks → Parts ticks
     parts ticks long =
         let count : ℕ = length ticks - 60 in
         let whole = take-append-drop count ticks in
@@ -299,7 +300,7 @@ module _ (net : Internet) (laws : Layouts) (is : IsInternet net) (most_routes mo
         subst (λ (r : Run). AtEach net most_routes most_services server (Has router far) r tick) (same_run ticks p)
         (at_each router within fewest p.before p.window tick p.long p.minute (subst Passes (same_ticks ticks (tick ∷ []) p) passes))
 
-    known_end : (ticks : List (List Step)) → most_ticks_known far ≤ length ticks → Passes ticks → (router : ℕ) → router < length net
+    known_end : (ticks : List (List Step)) → most_ticks_known nearest far ≤ length ticks → Passes ticks → (router : ℕ) → router < length net
         → IsFewest net up server router far → Has router far (ticked net most_routes most_services start ticks)
     known_end ticks long passes router within fewest =
         let p = parts ticks long in
@@ -324,6 +325,6 @@ module _ (net : Internet) (laws : Layouts) (is : IsInternet net) (most_routes mo
   known hops near = below (suc hops) hops (omega arith) near
 
   -- and when they end
-  pub known_last : (hops : ℕ) → hops < unreachable → (ticks : List (List Step)) → most_ticks_known hops ≤ length ticks → Passes ticks → (router : ℕ) → router < length net
+  pub known_last : (hops : ℕ) → hops < unreachable → (ticks : List (List Step)) → most_ticks_known nearest hops ≤ length ticks → Passes ticks → (router : ℕ) → router < length net
       → IsFewest net up server router hops → Has router hops (ticked net most_routes most_services start ticks)
   known_last hops near = known_end hops near (λ nearer few. known nearer (omega (arith, few, near)))

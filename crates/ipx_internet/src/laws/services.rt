@@ -9,7 +9,7 @@ ghost use Rattle.ipx_internet.specs.Internet.{Internet, Place, IsInternet, Nodes
 ghost use Rattle.ipx_internet.specs.Least.{most_ticks_right};
 ghost use Rattle.ipx_internet.specs.Meanwhile.{LeavesPorts, SaysOnly, IsBusyTick, EachTick};
 ghost use Rattle.ipx_internet.specs.Queue.{history_of};
-ghost use Rattle.ipx_internet.specs.Regular.{HostsApart, HasRoomFor, IsListedName, AreInTime, most_ticks_known};
+ghost use Rattle.ipx_internet.specs.Regular.{HostsApart, HasRoomFor, IsListedName, AreInTime, NoneNearer, most_ticks_known};
 ghost use Rattle.ipx_internet.specs.Rounds.{IsDelivery};
 ghost use Rattle.ipx_internet.specs.Run.{Step, AreHistories, Run, begun, run_of};
 ghost use Rattle.ipx_internet.specs.Servers.{Announcer, Server, IsOf, at_hops, known_of, SaysNoFalse, NamesOnly, IsServed, IsAway, IsFewest};
@@ -120,63 +120,67 @@ pub fn beside()
 }
 
 /// Each router with a way to a service of fewer than 16 hops comes to have the service, at its address and with the fewest hops of all its
-/// ways there, whatever it had before. It has it after 2,880 ticks, in which what is false of it goes (`served`), 60 in which each host is
-/// heard, and 60 for each hop (`has`). From then on it keeps it: it has it at the end of each tick and after each step in one, so wherever
-/// nothing waits (`meanwhile`). Whatever waits when the ticks begin, one tick more is enough, in which hosts may say anything
-/// (`whatever_waits`, `whatever_waits_meanwhile`).
+/// ways there, whatever it had before. It has it after 2,880 ticks, in which what is false of it goes (`served`), and 60 for each router on
+/// the way, itself too, where each host says at least `nearest` hops (`has`). From then on it keeps it: it has it at the end of each tick
+/// and after each step in one, so wherever nothing waits (`meanwhile`). Whatever waits when the ticks begin, one tick more is enough, in
+/// which hosts may say anything (`whatever_waits`, `whatever_waits_meanwhile`).
 ///
 /// It asks for what `beside` asks of hosts and of room, and that ports of two routers on one network have different nodes. Nothing is asked
 /// of costs, nor of how many routers there are. A router without such a way hasn't got the service (`served`, `none`).
 pub fn everywhere()
-    ensures has { (net : Internet) (most_routes most_services : ℕ) (server : Server) (names : List (ℕ × List ℕ)) (histories : List History) (ticks : List (List Step))
+    ensures has { (net : Internet) (most_routes most_services : ℕ) (server : Server) (names : List (ℕ × List ℕ)) (nearest : ℕ) (histories : List History) (ticks : List (List Step))
         (router hops : ℕ)
         → IsInternet net → NodesDiffer net → AreHistories net histories
         → HostsApart net server → HasRoomFor net most_services names → IsListedName names (server.kind, server.name)
+        → NoneNearer server nearest
         → EachTick net most_routes most_services (IsBusyTick net most_routes most_services) (begun histories) ticks
         → AllByRecursion (AllByRecursion LeavesPorts) ticks → AllByRecursion (AllByRecursion (SaysNoFalse net server)) ticks
         → AllByRecursion (AllByRecursion (SaysOnly (NamesOnly (IsListedName names)))) ticks
-        → AreInTime net most_routes most_services server (ups net histories) (begun histories) ticks → most_ticks_known hops ≤ length ticks
+        → AreInTime net most_routes most_services server (ups net histories) (begun histories) ticks → most_ticks_known nearest hops ≤ length ticks
         → router < length net → hops < unreachable → IsFewest net (ups net histories) server router hops
         → known_of server (offers (services_held (ports_of net router) most_services
         (history_of (ticked net most_routes most_services (begun histories) ticks).histories router)))
         ≡ Some (at_hops server hops) }
-    ensures meanwhile { (net : Internet) (most_routes most_services : ℕ) (server : Server) (names : List (ℕ × List ℕ)) (histories : List History)
+    ensures meanwhile { (net : Internet) (most_routes most_services : ℕ) (server : Server) (names : List (ℕ × List ℕ)) (nearest : ℕ) (histories : List History)
         (ticks : List (List Step)) (steps rest : List Step) (router hops : ℕ)
         → IsInternet net → NodesDiffer net → AreHistories net histories
         → HostsApart net server → HasRoomFor net most_services names → IsListedName names (server.kind, server.name)
+        → NoneNearer server nearest
         → EachTick net most_routes most_services (IsBusyTick net most_routes most_services) (begun histories) (ticks ++ (steps ++ rest) ∷ [])
         → AllByRecursion (AllByRecursion LeavesPorts) (ticks ++ (steps ++ rest) ∷ [])
         → AllByRecursion (AllByRecursion (SaysNoFalse net server)) (ticks ++ (steps ++ rest) ∷ [])
         → AllByRecursion (AllByRecursion (SaysOnly (NamesOnly (IsListedName names)))) (ticks ++ (steps ++ rest) ∷ [])
         → AreInTime net most_routes most_services server (ups net histories) (begun histories) (ticks ++ (steps ++ rest) ∷ [])
-        → most_ticks_known hops ≤ length ticks
+        → most_ticks_known nearest hops ≤ length ticks
         → router < length net → hops < unreachable → IsFewest net (ups net histories) server router hops
         → known_of server (offers (services_held (ports_of net router) most_services
         (history_of (run_of net most_routes most_services (ticked net most_routes most_services (begun histories) ticks) steps).histories router)))
         ≡ Some (at_hops server hops) }
-    ensures whatever_waits { (net : Internet) (most_routes most_services : ℕ) (server : Server) (names : List (ℕ × List ℕ)) (run : Run) (first : List Step)
+    ensures whatever_waits { (net : Internet) (most_routes most_services : ℕ) (server : Server) (names : List (ℕ × List ℕ)) (nearest : ℕ) (run : Run) (first : List Step)
         (ticks : List (List Step)) (router hops : ℕ)
         → IsInternet net → NodesDiffer net → AreHistories net run.histories → AllByRecursion (λ w. IsDelivery net w.delivery) run.waiting
         → HostsApart net server → HasRoomFor net most_services names → IsListedName names (server.kind, server.name)
+        → NoneNearer server nearest
         → EachTick net most_routes most_services (IsBusyTick net most_routes most_services) run (first ∷ ticks)
         → AllByRecursion (AllByRecursion LeavesPorts) (first ∷ ticks) → AllByRecursion (AllByRecursion (SaysNoFalse net server)) ticks
         → AllByRecursion (AllByRecursion (SaysOnly (NamesOnly (IsListedName names)))) ticks
         → AreInTime net most_routes most_services server (ups net run.histories) (run_of net most_routes most_services run first) ticks
-        → most_ticks_known hops ≤ length ticks
+        → most_ticks_known nearest hops ≤ length ticks
         → router < length net → hops < unreachable → IsFewest net (ups net run.histories) server router hops
         → known_of server (offers (services_held (ports_of net router) most_services
         (history_of (ticked net most_routes most_services run (first ∷ ticks)).histories router)))
         ≡ Some (at_hops server hops) }
-    ensures whatever_waits_meanwhile { (net : Internet) (most_routes most_services : ℕ) (server : Server) (names : List (ℕ × List ℕ)) (run : Run) (first : List Step)
+    ensures whatever_waits_meanwhile { (net : Internet) (most_routes most_services : ℕ) (server : Server) (names : List (ℕ × List ℕ)) (nearest : ℕ) (run : Run) (first : List Step)
         (ticks : List (List Step)) (steps rest : List Step) (router hops : ℕ)
         → IsInternet net → NodesDiffer net → AreHistories net run.histories → AllByRecursion (λ w. IsDelivery net w.delivery) run.waiting
         → HostsApart net server → HasRoomFor net most_services names → IsListedName names (server.kind, server.name)
+        → NoneNearer server nearest
         → EachTick net most_routes most_services (IsBusyTick net most_routes most_services) run (first ∷ ticks ++ (steps ++ rest) ∷ [])
         → AllByRecursion (AllByRecursion LeavesPorts) (first ∷ ticks ++ (steps ++ rest) ∷ [])
         → AllByRecursion (AllByRecursion (SaysNoFalse net server)) (ticks ++ (steps ++ rest) ∷ [])
         → AllByRecursion (AllByRecursion (SaysOnly (NamesOnly (IsListedName names)))) (ticks ++ (steps ++ rest) ∷ [])
         → AreInTime net most_routes most_services server (ups net run.histories) (run_of net most_routes most_services run first) (ticks ++ (steps ++ rest) ∷ [])
-        → most_ticks_known hops ≤ length ticks
+        → most_ticks_known nearest hops ≤ length ticks
         → router < length net → hops < unreachable → IsFewest net (ups net run.histories) server router hops
         → known_of server (offers (services_held (ports_of net router) most_services
         (history_of (run_of net most_routes most_services (ticked net most_routes most_services run (first ∷ ticks)) steps).histories router)))
