@@ -1,5 +1,5 @@
-// The first wrong line of a script, in plain words: which of its words is wrong, and what was expected there. docs/SCRIPTS.md has the checks
-// and their order; `ipxr` makes them too, and says the number of the line and a word.
+// The first wrong line of a script, in plain words: which of its words is wrong, and what was expected there. docs/SCRIPTS.md has the
+// checks and their order; `ipxr` makes them too, and says the number of the line and a word.
 
 const LONGEST_LINE = 131_200;
 const [MOST_PORTS, MOST_ROUTERS] = [8, 32];
@@ -32,7 +32,8 @@ function bytesWanted(word) {
     return `the bytes of a packet, an even number of hexadecimal digits${why}, or - for none`;
 }
 
-// The words by the names that docs/SCRIPTS.md gives them. (A cost of 0 and a shorter packet are numbers all the same, and are faults of their own.)
+// The words by the names that docs/SCRIPTS.md gives them. (A cost of 0 and a shorter packet are numbers all the same, and are faults of
+// their own.)
 const NET = { name: "NET", ...digits("network", 8, "a network, eight hexadecimal digits", "00000010") };
 const NODE = { name: "NODE", ...digits("node", 12, "a node, twelve hexadecimal digits", "000000000001") };
 const COST = { name: "COST", ...number(0, 65535), wanted: () => "the cost in ticks, 1 to 65535" };
@@ -52,11 +53,13 @@ const OF_PORT = [[NET, NODE, COST, LONGEST], [NET, NODE, COST, LONGEST, ROUTES, 
 
 // The commands of `replay` and of `internet`, with the words that may stand behind each.
 const REPLAY = {
-    port: OF_PORT, start: [[]], stop: [[]], second: [[SECONDS]], in: [[PORT, HEX]], down: [[PORT]], up: [[PORT]], routes: [[]], services: [[]],
+    port: OF_PORT, start: [[]], stop: [[]], second: [[SECONDS]], in: [[PORT, HEX]], down: [[PORT]], up: [[PORT]], routes: [[]],
+    services: [[]],
 };
 const INTERNET = {
-    router: [[]], port: OF_PORT, start: [[ROUTER]], stop: [[ROUTER]], second: [[SECONDS]], in: [[ROUTER, PORT, HEX]], down: [[ROUTER, PORT]],
-    up: [[ROUTER, PORT]], settle: [[DELIVERIES]], trace: [[ROUTER, PORT, RECEPTIONS, HEX]], routes: [[ROUTER]], services: [[ROUTER]],
+    router: [[]], port: OF_PORT, start: [[ROUTER]], stop: [[ROUTER]], second: [[SECONDS]], in: [[ROUTER, PORT, HEX]],
+    down: [[ROUTER, PORT]], up: [[ROUTER, PORT]], settle: [[DELIVERIES]], trace: [[ROUTER, PORT, RECEPTIONS, HEX]], routes: [[ROUTER]],
+    services: [[ROUTER]],
 };
 
 // ---- Words of the explanation ----
@@ -108,7 +111,8 @@ function makingFault(routers, there, isInternet) {
     const pair = alike(routers.flatMap((it) => it.ports), (it) => `${it.network}.${it.node}`);
     if (!pair) return null;
     const [one, other] = pair;
-    return wrong("samenode", there, `ports with different addresses before it: lines ${one.line} and ${other.line} both have ${one.network}.${one.node}`);
+    const both = `lines ${one.line} and ${other.line} both have ${one.network}.${one.node}`;
+    return wrong("samenode", there, `ports with different addresses before it: ${both}`);
 }
 
 function routerFault(router, there, isInternet) {
@@ -126,7 +130,8 @@ function routerFault(router, there, isInternet) {
 
 class Script {
     constructor(isInternet) {
-        Object.assign(this, { isInternet, forms: isInternet ? INTERNET : REPLAY, others: isInternet ? REPLAY : INTERNET, made: 0, maker: "" });
+        const [forms, others] = isInternet ? [INTERNET, REPLAY] : [REPLAY, INTERNET];
+        Object.assign(this, { isInternet, forms, others, other: isInternet ? "replay" : "internet", made: 0, maker: "" });
         this.routers = isInternet ? [] : [{ line: 0, ports: [] }];
     }
 
@@ -151,8 +156,7 @@ class Script {
     }
 
     commandFault(command) {
-        const other = this.isInternet ? "replay" : "internet";
-        const hint = Object.hasOwn(this.others, command) ? ` (ipxr ${other} has it)` : "";
+        const hint = Object.hasOwn(this.others, command) ? ` (ipxr ${this.other} has it)` : "";
         return wrong("command", quoted(command), `a command: ${listed(Object.keys(this.forms))}${hint}`);
     }
 
@@ -161,7 +165,7 @@ class Script {
         const forms = this.forms[command];
         const form = forms.find((it) => it.length > values.length);
         const isOther = (it) => it.length === values.length && it.every((word, k) => word.fits(values[k]));
-        const hint = Object.hasOwn(this.others, command) && this.others[command].some(isOther) ? ` (ipxr ${this.isInternet ? "replay" : "internet"} takes this)` : "";
+        const hint = Object.hasOwn(this.others, command) && this.others[command].some(isOther) ? ` (ipxr ${this.other} takes this)` : "";
         const whole = [command, ...(form ?? forms[forms.length - 1]).map((it) => it.name)].join(" ");
         if (!form) return wrong("words", quoted(values[forms[forms.length - 1].length]), `nothing more than '${whole}'${hint}`);
         const at = form.findIndex((it, k) => k === values.length || !it.fits(values[k]));
@@ -172,7 +176,9 @@ class Script {
     // Whether a router or a port may be named here.
     placeFault(command) {
         if (this.made) return wrong("late", quoted(command), `it before line ${this.made}, where '${this.maker}' made what was named`);
-        if (command === "router") return this.routers.length < MOST_ROUTERS ? null : wrong("routers", quoted(command), `at most ${MOST_ROUTERS} routers`);
+        if (command === "router") {
+            return this.routers.length < MOST_ROUTERS ? null : wrong("routers", quoted(command), `at most ${MOST_ROUTERS} routers`);
+        }
         if (!this.routers.length) return wrong("router", quoted(command), "a router line before it");
         const { ports } = this.routers[this.routers.length - 1];
         return ports.length < MOST_PORTS ? null : wrong("many", quoted(command), `at most ${MOST_PORTS} ports of a router`);

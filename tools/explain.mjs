@@ -5,9 +5,9 @@ import { wrongLine } from "../page/wrong_line.mjs";
 
 const HELP = `tools/explain says which line of a script is wrong, and what was expected there:
 
-    tools/explain FILE..               scripts of ipxr internet if they are called NAME.internet, or have a line 'router'; else of ipxr replay
-    tools/explain internet FILE..      scripts of ipxr internet
-    tools/explain replay FILE..        scripts of ipxr replay
+    tools/explain FILE..            scripts of ipxr internet if they are called NAME.internet, or have a line 'router'; else of ipxr replay
+    tools/explain internet FILE..   scripts of ipxr internet
+    tools/explain replay FILE..     scripts of ipxr replay
 
 It reads a script, plays nothing, and needs Node alone. It names the first wrong line, as ipxr does, whose own words stand in parentheses.
 The exit status is 0 if no line is wrong, 2 if one is, 1 if a file can't be read, and 64 if the words are wrong.
@@ -30,7 +30,8 @@ function verbOf(file, content) {
 function explain(verb, file) {
     const content = readFileSync(file);
     const found = wrongLine(content, (verb ?? verbOf(file, content)) === "internet");
-    process.stdout.write(found ? `${file}:${found.line}: ${found.text} (line ${found.line}: ${found.fault})\n` : `${file}: no line is wrong\n`);
+    const told = found ? `${found.line}: ${found.text} (line ${found.line}: ${found.fault})` : " no line is wrong";
+    process.stdout.write(`${file}:${told}\n`);
     return found ? WRONG : RIGHT;
 }
 

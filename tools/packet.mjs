@@ -10,8 +10,9 @@ const HELP = `tools/packet turns words into the digits that a script has for a p
     tools/packet fill SCRIPT                                     prints the script with the digits of each packet that a comment tells
     tools/packet comment SCRIPT                                  prints the script with such a comment above each packet
 
-It needs Node; the library for JavaScript (make page or make web builds it), whose proved writers write the bytes; and to show and comment
-the program ipxr (make run), which reads them. Behind the kind of a packet stands from whom it is, NETWORK.NODE or NETWORK.NODE.SOCKET; then, in any order:
+It needs Node; the library as WebAssembly (make page or make web builds it), whose proved writers write the bytes; and to show and comment
+the program ipxr (make run), which reads them. Behind the kind of a packet stands who sends it, NETWORK.NODE or NETWORK.NODE.SOCKET, and
+then in any order:
 
     rip request           network=NET                  each network that is asked for; without one, for all of them
     rip response          network=NET hops=N ticks=N   each route
@@ -21,8 +22,8 @@ the program ipxr (make run), which reads them. Behind the kind of a packet stand
     sap nearest-response  the same
     netbios               crossed=NET,NET data=DATA    the networks crossed, and the data
     data                  type=N data=DATA             a packet of any type
-    to=NET.NODE           or NET.NODE.SOCKET: for whom it is; without it, for all nodes of the network that it is from
-    control=N checksum=DIGITS length=N padding=DATA    what stands there instead, or behind the packet
+    to=NET.NODE           or NET.NODE.SOCKET: who receives it; without it, all nodes of the sender's network
+    control=N checksum=DIGITS length=N padding=DATA    what stands there instead, or follows the packet
 
     bytes DATA            bytes that are no packet, or - for none
 

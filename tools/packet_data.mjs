@@ -1,7 +1,9 @@
-// Bytes in words: hexadecimal digits, pieces of which may be repeated. 00x47 is 47 zeros; 0002,[0030,00x3]x2 is 0002, and twice 0030 and three zeros.
+// Bytes in words: hexadecimal digits, pieces of which may be repeated. 00x47 is 47 zeros; 0002,[0030,00x3]x2 is 0002, and twice 0030 and
+// three zeros.
 import { Fault } from "./program.mjs";
 
 const MOST_BYTES = 65535;
+const SHOWN = 16;
 const [SHORTEST_SAVING, LONGEST_PIECE] = [12, 64];
 
 // ---- Words to digits ----
@@ -12,7 +14,8 @@ class Reader {
     }
 
     fail() {
-        throw new Fault(`${this.name}: expected hexadecimal digits by twos, such as 0002 or 00x47, at '${this.text.slice(this.at, this.at + 16)}'`);
+        const there = this.text.slice(this.at, this.at + SHOWN);
+        throw new Fault(`${this.name}: expected hexadecimal digits by twos, such as 0002 or 00x47, at '${there}'`);
     }
 
     // What fits here, which is then read.

@@ -1,5 +1,5 @@
-// The packets of scripts, with their words in comments: `# packet WORDS` stands above the command whose packet they tell. Prose and a colon may
-// stand before it, and | between the words of several packets, whose commands follow.
+// The packets of scripts, with their words in comments: `# packet WORDS` stands above the command whose packet they tell. Prose and a colon
+// may stand before it, and | between the words of several packets, whose commands follow.
 import { readFileSync } from "node:fs";
 import { isOfInternet } from "../page/script.mjs";
 import { Fault } from "./program.mjs";
@@ -42,7 +42,8 @@ function* told(lines, isInternet) {
         const comment = TOLD.exec(withoutReturn(line));
         const words = line.startsWith("#") ? [] : wordsOf(withoutReturn(line));
         const isPacket = hasPacket(words, isInternet);
-        if (waiting.length && (comment || (words.length && !isPacket))) throw new Fault(`line ${k + 1}: expected the packet of '${waiting[0]}' before it`);
+        const mayWait = isPacket || (!comment && !words.length);
+        if (waiting.length && !mayWait) throw new Fault(`line ${k + 1}: expected the packet of '${waiting[0]}' before it`);
         if (comment) waiting = comment[1].split(" | ").map((it) => it.trim());
         const isTold = isPacket && words[words.length - 1] !== NO_BYTES && waiting.length > 0;
         yield { line, number: k + 1, isPacket, words: isTold ? wordsOf(waiting.shift()) : null };
@@ -68,5 +69,6 @@ export function commented(text, isInternet) {
 // The packets of a script, with the line and, where they are told, the words of each.
 export function packetsOf(text, isInternet) {
     const lines = [...told(text.split("\n"), isInternet)].filter((it) => it.isPacket);
-    return lines.map(({ number, line, words }) => ({ number, words, digits: inLine(number, () => checkedDigits(digitsIn(withoutReturn(line)))) }));
+    const digitsOfLine = ({ number, line }) => inLine(number, () => checkedDigits(digitsIn(withoutReturn(line))));
+    return lines.map((it) => ({ number: it.number, words: it.words, digits: digitsOfLine(it) }));
 }

@@ -1,5 +1,6 @@
-// The words of a packet to its bytes, and back. The library's proved writers write the bytes, and the program's proved reader, `ipxr decode`, says
-// what bytes mean. Here the words are read, and what no writer writes is put over the bytes: a wrong length, a checksum, padding.
+// The words of a packet to its bytes, and back. The library's proved writers write the bytes, and the program's proved reader,
+// `ipxr decode`, says what bytes mean. Here the words are read, and what no writer writes is put over the bytes: a wrong length, a checksum,
+// padding.
 import { existsSync } from "node:fs";
 import { fileURLToPath } from "node:url";
 import { bytesOf, EVERYONE, hexOf, isHex, padded, short } from "../page/bytes.mjs";
@@ -34,7 +35,8 @@ export async function load() {
 // ---- A word ----
 
 function hexadecimal(name, word, bytes) {
-    if (!/^[0-9A-Fa-f]+$/.test(word) || word.length > 2 * bytes) throw new Fault(`${name}: expected at most ${2 * bytes} hexadecimal digits`);
+    const isIt = /^[0-9A-Fa-f]+$/.test(word) && word.length <= 2 * bytes;
+    if (!isIt) throw new Fault(`${name}: expected at most ${2 * bytes} hexadecimal digits`);
     return padded(word, 2 * bytes);
 }
 
@@ -47,7 +49,9 @@ function decimal(name, word, bytes) {
 // An address: NETWORK.NODE or NETWORK.NODE.SOCKET, in which the node may be `all`.
 function address(name, word, socket) {
     const [network, node, own, ...more] = word.split(".");
-    if (node === undefined || more.length || !(own ?? socket)) throw new Fault(`${name}: expected NETWORK.NODE${socket ? "" : ".SOCKET"}, such as 10.AA${socket ? "" : ".451"}`);
+    if (node === undefined || more.length || !(own ?? socket)) {
+        throw new Fault(`${name}: expected ${socket ? "NETWORK.NODE, such as 10.AA" : "NETWORK.NODE.SOCKET, such as 10.AA.451"}`);
+    }
     const whose = node === "all" ? EVERYONE : hexadecimal(name, node, 6);
     return { network: hexadecimal(name, network, 4), node: whose, socket: hexadecimal(name, own ?? socket, 2) };
 }
@@ -84,7 +88,8 @@ const rip = (operation, entry, missing) => ({
     socket: RIP, entry, missing, write: (ends, entries) => writeRip(...ends, operation, entries),
 });
 const query = (isNearest) => ({
-    socket: SAP, own: { type: { ...SERVICE.type, missing: numberOf(ALL_SERVICES) } }, write: (ends, it) => writeQuery(...ends, isNearest, it.type),
+    socket: SAP, own: { type: { ...SERVICE.type, missing: numberOf(ALL_SERVICES) } },
+    write: (ends, it) => writeQuery(...ends, isNearest, it.type),
 });
 const response = (isNearest) => ({
     socket: SAP, entry: SERVICE, write: (ends, entries) => writeSap(...ends, isNearest, entries.map(({ at, ...it }) => ({ ...it, ...at }))),
@@ -220,7 +225,8 @@ const addressWords = ({ network, node, socket }, expected) =>
 function bodyOf(digits) {
     const [length, size] = [numberOf(fieldOf(digits, LENGTH)), digits.length / 2];
     const isRight = length >= HEADER && length <= size;
-    return { body: isRight ? digits.slice(0, 2 * length) : digits, padding: isRight ? digits.slice(2 * length) : "", wrong: isRight ? null : length };
+    const end = isRight ? 2 * length : digits.length;
+    return { body: digits.slice(0, end), padding: digits.slice(end), wrong: isRight ? null : length };
 }
 
 // What `ipxr decode` reads of packets, whose length counts all of their bytes.
@@ -255,7 +261,8 @@ function specific(record, body) {
     const [head = [], ...entries] = details;
     const kind = head[0] === "crossed" ? "netbios" : `${head[0]} ${head[1]}`;
     if (!Object.hasOwn(KINDS, kind) || head[1] === "bad" || entries.some((it) => it[1] === "bad")) return null;
-    if (kind === "netbios") return { kind, own: [...listWords("crossed", head.slice(1)), ...dataWords(body.slice(2 * (HEADER + CROSSED * NETWORK)))] };
+    const behind = body.slice(2 * (HEADER + CROSSED * NETWORK));
+    if (kind === "netbios") return { kind, own: [...listWords("crossed", head.slice(1)), ...dataWords(behind)] };
     if (kind.endsWith("query")) return { kind, own: head[2] === ALL_SERVICES ? [] : [`type=${short(head[2])}`] };
     if (kind === "rip request") return { kind, own: entries.flatMap((it) => askedWords(it, entries.length === 1)) };
     return { kind, own: entries.flatMap(kind.startsWith("rip") ? routeWords : serviceWords) };

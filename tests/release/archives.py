@@ -13,6 +13,7 @@ import zipfile
 import binaries
 import contents
 import layout
+import outputs
 import pictures
 from pages import UNRELEASED, broken_links
 from systems import ARM, LINUX, PORTABLE, PORTABLE_SOURCE, SYSTEMS, WINDOWS
@@ -231,6 +232,7 @@ def try_packed(folder):
                 tell(f"{name}: its program plays its examples", plays([f"{root}/bin/ipxr"], root))
                 try_first_commands(name, packed)
                 pictures.try_unpacked(name, root)
+                outputs.try_unpacked(name, root)
             if name == ARM.name and has("the program for 64-bit ARM", "qemu-aarch64"):
                 tell(f"{name}: its program plays its examples", plays(["qemu-aarch64", f"{root}/bin/ipxr"], root))
 

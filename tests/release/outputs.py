@@ -1,4 +1,5 @@
-"""What is made of the program's output: JSON, captures, and the commands of a page."""
+"""What is made of the program's output: JSON, captures, and the commands of a page; and what writes and explains scripts, where it is
+unpacked."""
 import glob
 import json
 import os
@@ -52,3 +53,21 @@ def try_commands():
     found = [*commands(text_of("docs/CAPTURES.md"))]
     wrong = [f"    {line}\n{why}" for line, said in found if (why := differs(run("bash", "-c", line, env=asked), (0, said)))]
     tell(f"{len(found)} commands of the page for captures print what it says", "\n".join(wrong) if found else "    there are none")
+
+
+# ---- Scripts ----
+
+
+def try_unpacked(name, root):
+    """What an archive has for scripts runs there."""
+    if not has("what writes and explains scripts, from an archive", "node"):
+        return
+    said = run(f"{root}/tools/explain", "examples/drops.script", cwd=root)
+    last = text_of("examples/drops.out").splitlines()[-1]
+    wanted = (2, f"examples/drops.script:57: '2': expected a port of the router, 0 to 1 ({last})\n")
+    tell(f"{name}: it explains a script as it is unpacked", differs(said, wanted))
+    if not os.path.exists(f"{root}/examples/embed/web/libipxr.wasm"):
+        print("left out: packets from words, from an archive (it has no libipxr.wasm)")
+        return
+    said = [run(f"{root}/tools/packet", act, "examples/services.script", cwd=root) for act in ("fill", "comment")]
+    tell(f"{name}: it writes packets as it is unpacked", differs(said, [(0, text_of("examples/services.script"))] * 2))
