@@ -28,8 +28,8 @@ build:
 embed:
 	@tools/embed
 
-# The program, the library for C and the gateway for 64-bit Linux on ARM, and for Windows: build/aarch64, build/windows. Needs a compiler for
-# it; docs/EMBED.md.
+# The program, the library for C and the gateway for 64-bit Linux on ARM, and for Windows: build/aarch64, build/windows. Needs a compiler
+# for it; docs/EMBED.md.
 aarch64 windows:
 	@tools/platforms $@
 
@@ -67,8 +67,8 @@ edits:
 fuzz: build embed
 	@tools/fuzz $(MINUTES)
 
-# Plays everything at once to the gateway, under the sanitizers, for SOAK minutes, while players play, who may lose 2 % at most. Needs Linux, a
-# C compiler, Python and the right to make networks. The last line is 'N datagrams, M faults'; docs/GATEWAY.md.
+# Plays everything at once to the gateway, under the sanitizers, for SOAK minutes, while players play, who may lose 2 % at most. Needs Linux,
+# a C compiler, Python and the right to make networks. The last line is 'N datagrams, M faults'; docs/GATEWAY.md.
 soak:
 	@tools/gateway soak $(SOAK)
 
@@ -76,14 +76,14 @@ soak:
 bench:
 	@tools/bench
 
-# Puts what the gate proved and built into dist/, and what is compiled from it for other systems: archives and Debian's packages, with their sums;
-# docs/authors/RELEASING.md. DRAFT=1 makes a draft where the gate wasn't run on this commit.
+# Puts what the gate proved and built into dist/, and what is compiled from it for other systems: archives and Debian's packages, with their
+# sums; docs/authors/RELEASING.md. DRAFT=1 makes a draft where the gate wasn't run on this commit.
 dist:
 	@$(if $(DRAFT),,tools/platforms all)
 	@tools/dist $(if $(DRAFT),--draft)
 
-# What make test leaves out since it takes long: the programs for other systems, played there; then two copies that give one sum, lintian, and the
-# packages and archives in fresh roots.
+# What make test leaves out since it takes long: the programs for other systems, played there; then two copies that give one sum, lintian,
+# and the packages and archives in fresh roots.
 release-test:
 	@tools/platforms test-aarch64
 	@tools/platforms test-windows

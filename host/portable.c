@@ -1,4 +1,5 @@
-/* What the program asks of the system, done by what C has everywhere, and by calls for files that every system has by one name or another. */
+/* What the program asks of the system, done by what C has everywhere, and by calls for files that every system has by one name or
+ * another. */
 #ifdef _WIN32
 #include <io.h>
 #define SYSTEM_OPEN(name) _open(name, _O_RDONLY | _O_BINARY)

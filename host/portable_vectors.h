@@ -1,5 +1,5 @@
-/* Vectors of sixteen bytes, by the names that WebAssembly has for what works on them. Where the compiler has vectors of its own they are these, and
- * it does with them what the processor can; elsewhere they are arrays. */
+/* Vectors of sixteen bytes, by the names that WebAssembly has for what works on them. Where the compiler has vectors of its own they are
+ * these, and it does with them what the processor can; elsewhere they are arrays. */
 #ifdef __GNUC__
 #define LANES(type) typedef type type##_lanes __attribute__((vector_size(16)));
 LANES(u8) LANES(s8) LANES(u16) LANES(s16) LANES(u32) LANES(s32) LANES(u64) LANES(s64)

@@ -36,7 +36,8 @@ export function timePassed(name, typed) {
 // ---- Choices of a form ----
 
 const routers = (script) => script.routers.map((it, k) => [String(k), it.name]);
-const ports = (script) => script.routers.flatMap((it, k) => it.ports.map((port, n) => [`${k} ${n}`, `${it.name} port ${n}, net ${port.network}`]));
+const ports = (script) => script.routers.flatMap((it, k) =>
+    it.ports.map((port, n) => [`${k} ${n}`, `${it.name} port ${n}, net ${port.network}`]));
 const hostLabel = (it) => `${it.node} on net ${it.network}${it.isForged ? " (forged)" : ""}`;
 const hosts = (script) => script.hosts.map((it) => [`${it.network}.${it.node}`, hostLabel(it)]);
 const networks = (script) => script.networks.map((it) => [it, `net ${it}`]);
@@ -96,9 +97,9 @@ function forgerLine(script, net, node) {
 
 // ---- The acts ----
 
-// Of each: its label, the fields of its form, and its lines: `fixed` go behind a line, `now` behind the command that is shown. What it `needs`,
-// where it can be done at all, and what is said where that `lacks`. Of a field `picked` is what is chosen on the map; where an act `remembers`,
-// what was typed last stands there otherwise.
+// Of each: its label, the fields of its form, and its lines: `fixed` go behind a line, `now` behind the command that is shown. What it
+// `needs`, where it can be done at all, and what is said where that `lacks`. Of a field `picked` is what is chosen on the map; where an act
+// `remembers`, what was typed last stands there otherwise.
 export const ACTS = {
     router: {
         isFixed: true, label: "+ Router", title: "Add a router",
@@ -135,7 +136,8 @@ export const ACTS = {
             name: "router", label: "Router", choices: [[ALL, "all"], ...routers(script)],
             value: state.some((it) => it.runs) ? chosenFirst("router", chosen) : ALL,
         }],
-        lines: (script, it) => ({ now: [...(it.router === ALL ? script.routers.map((_, k) => `start ${k}`) : [`start ${it.router}`]), SETTLE] }),
+        lines: (script, it) => ({ now: [...(it.router === ALL ? script.routers.map((_, k) => `start ${k}`) : [`start ${it.router}`]),
+            SETTLE] }),
     },
     stop: {
         label: "Stop", title: "Stop a router", needs: routers,
@@ -167,7 +169,8 @@ export const ACTS = {
         label: "Send", title: "Send a packet from here to there", needs: hosts, lacks: "add hosts first", remembers: true,
         fields: (script, chosen) => [
             { name: "from", label: "From host", choices: hosts(script), picked: chosenFirst("host", chosen) },
-            { name: "to", label: "To host", choices: hosts(script), value: script.hosts[1] && `${script.hosts[1].network}.${script.hosts[1].node}` }],
+            { name: "to", label: "To host", choices: hosts(script),
+                value: script.hosts[1] && `${script.hosts[1].network}.${script.hosts[1].node}` }],
         lines(script, it, state) {
             const [fromNetwork, fromNode] = it.from.split(".");
             const [toNetwork, toNode] = it.to.split(".");

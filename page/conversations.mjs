@@ -23,7 +23,8 @@ function knownParties(found) {
     };
 }
 
-// Conversations of nodes that are known, those put together that are the same; `joined` are the parties that were also told without a network.
+// Conversations of nodes that are known, those put together that are the same; `joined` are the parties that were also told without a
+// network.
 function together(all) {
     const known = knownParties(all);
     const found = new Map();

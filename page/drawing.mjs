@@ -5,12 +5,13 @@ const SIZE = 13;
 const ARROW = "M0,1 L10,5 L0,9 z";
 export const FONT = "system-ui, 'DejaVu Sans', Verdana, sans-serif";
 
-// How each colour looks on white paper, as in a file; and how the names of heads of arrows begin, which differ from one drawing of a page to
-// the next.
+// How each colour looks on white paper, as in a file; and how the names of heads of arrows begin, which differ from one drawing of a page
+// to the next.
 export const PAPER = {
     ids: "arrow-",
     ink: "#20242a", quiet: "#6b7280", pale: "#c3c8d0", paper: "#ffffff", router: "#e4ecf8", network: "#ffffff", alarm: "#c0262d",
-    off: "#e5e7eb", chosen: "#0b5394", rip: "#0b5394", sap: "#23794a", crossed: "#8e44ad", data: "#8a5a2b", way: "#d9480f", changed: "#b8860b",
+    off: "#e5e7eb", chosen: "#0b5394", rip: "#0b5394", sap: "#23794a", crossed: "#8e44ad", data: "#8a5a2b", way: "#d9480f",
+    changed: "#b8860b",
 };
 
 // About how wide a word is.
@@ -86,9 +87,11 @@ const ELEMENTS = {
         ...(it.halo && { stroke: palette.paper, "stroke-width": 4, "stroke-linejoin": "round", "paint-order": "stroke" }),
     }, [it.text]],
     // (in a file nothing can be chosen)
-    thing: (it, palette) => ["g", { ...(palette !== PAPER && { tabindex: "0", role: "button" }), "aria-label": it.label, "data-key": it.key },
+    thing: (it, palette) => ["g", { ...(palette !== PAPER && { tabindex: "0", role: "button" }), "aria-label": it.label,
+        "data-key": it.key },
         it.shapes.map((inner) => element(inner, palette))],
-    group: (it, palette) => ["g", { transform: `translate(${number(it.x)} ${number(it.y)})` }, it.shapes.map((inner) => element(inner, palette))],
+    group: (it, palette) => ["g", { transform: `translate(${number(it.x)} ${number(it.y)})` },
+        it.shapes.map((inner) => element(inner, palette))],
 };
 
 const element = (it, palette) => ELEMENTS[it.kind](it, palette);

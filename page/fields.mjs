@@ -1,5 +1,5 @@
-// The fields of a packet, each with the bytes in which it stands. What a packet says, and whether it is one, `ipxr decode` tells; this shows
-// which bytes it speaks of.
+// The fields of a packet, each with the bytes in which it stands. What a packet says, and whether it is one, `ipxr decode` tells; this
+// shows which bytes it speaks of.
 import { EVERYONE, padded } from "./bytes.mjs";
 import { SOCKETS } from "./records.mjs";
 
@@ -97,7 +97,8 @@ function takeSap(cut) {
 }
 
 function takeCrossed(cut, control) {
-    for (let k = 0; k < MOST_CROSSED && cut.left() > 0; k++) cut.take(k < control ? `crossed ${k + 1}` : `free ${k + 1}`, NETWORK, undefined, 1);
+    for (let k = 0; k < MOST_CROSSED && cut.left() > 0; k++) cut.take(k < control ? `crossed ${k + 1}` : `free ${k + 1}`, NETWORK,
+        undefined, 1);
 }
 
 // Which of the further layouts the data has, as `ipxr decode` chooses it.

@@ -3,7 +3,8 @@ import { made } from "./dom.mjs";
 import { Wrong } from "./words.mjs";
 
 function input({ name, choices, value, hint }) {
-    if (!choices) return made("input", { name, ".value": value ?? "", placeholder: hint ?? false, autocomplete: "off", spellcheck: "false" });
+    if (!choices) return made("input", { name, ".value": value ?? "", placeholder: hint ?? false, autocomplete: "off",
+        spellcheck: "false" });
     const it = made("select", { name }, choices.map(([word, label]) => made("option", { value: word }, label)));
     if (value !== undefined && choices.some(([word]) => word === value)) it.value = value;
     return it;
@@ -14,7 +15,8 @@ export function openForm(title, fields, done, note = "") {
     const fault = made("p", { class: "fault", role: "alert" });
     const close = () => dialog.close();
     const inputs = fields.map((it) => [it, input(it)]);
-    const buttons = [made("button", { type: "submit", class: "main" }, "Do it"), made("button", { type: "button", onclick: close }, "Cancel")];
+    const buttons = [made("button", { type: "submit", class: "main" }, "Do it"),
+        made("button", { type: "button", onclick: close }, "Cancel")];
     const rows = inputs.map(([it, element]) => made("label", {}, made("span", {}, it.label), element));
     const below = note ? made("p", { class: "none" }, note) : null;
     const form = made("form", { method: "dialog" }, made("h2", {}, title), ...rows, below, fault, made("div", { class: "bar" }, buttons));

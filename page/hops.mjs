@@ -1,5 +1,5 @@
-// Where traced packets were sent that no router received. A trace tells who received a packet, not where it was sent; so the routers are asked
-// for their routes there.
+// Where traced packets were sent that no router received. A trace tells who received a packet, not where it was sent; so the routers are
+// asked for their routes there.
 import { receptions, sentOn } from "./traces.mjs";
 import { short } from "./bytes.mjs";
 

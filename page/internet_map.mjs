@@ -15,11 +15,13 @@ const SHARES = [0.25, 0.5, 0.1, 0.75];
 // As many sentences stand below each other.
 const MOST_LINES = 8;
 
-const labelOf = { router: (it) => it.name, network: (it) => `net ${it.network}`, host: (it) => `${it.node}${it.isForged ? " (forged)" : ""}` };
+const labelOf = { router: (it) => it.name, network: (it) => `net ${it.network}`,
+    host: (it) => `${it.node}${it.isForged ? " (forged)" : ""}` };
 
 function sized(kind, it) {
     const label = labelOf[kind](it);
-    return { kind, it, label, wide: Math.max(widthOf(label, kind === "router" ? 14 : 12) + 16, kind === "router" ? 44 : 30), high: HIGH[kind] };
+    return { kind, it, label, wide: Math.max(widthOf(label, kind === "router" ? 14 : 12) + 16, kind === "router" ? 44 : 30),
+        high: HIGH[kind] };
 }
 
 // The points and lines of a script's map, with a place for each point. It changes with routers, ports and hosts alone; a tall one is for a
@@ -131,7 +133,8 @@ class InternetMap {
     spoken(it) {
         if (it.kind === "network") return `network ${it.it.network}`;
         if (it.kind === "host") return `${it.it.isForged ? "forged host" : "host"} ${it.it.node} on network ${it.it.network}`;
-        return `router ${it.label}, ${this.state?.[it.number]?.runs ? "running" : "stopped"}${this.changed[it.number] ? ", its tables changed" : ""}`;
+        const runs = this.state?.[it.number]?.runs ? "running" : "stopped";
+        return `router ${it.label}, ${runs}${this.changed[it.number] ? ", its tables changed" : ""}`;
     }
 
     drawPoint({ kind, key, label, wide, high, number, place: [x, y] }) {

@@ -2,7 +2,8 @@
 
 // Each line: its words, with the names of its values in braces; of several that fit, the first one counts.
 const FORMS = [
-    "service bad", "service {type} {name} {network} {node} {socket} {hops:n}", "record {record:n}: {fault}", "record {record:n} {kind} bad {fault}",
+    "service bad", "service {type} {name} {network} {node} {socket} {hops:n}", "record {record:n}: {fault}",
+    "record {record:n} {kind} bad {fault}",
     "record {record:n} {kind} {source} {destination} tc {control:n} type {type:n} length {length:n}", "record {record:n} {kind}",
     "crossed bad {fault}", "crossed{networks:l}", "rip bad {fault}", "rip {operation}", "net {network} hops {hops:n} ticks {ticks:n}",
     "sap bad {fault}", "sap {operation} {type}", "sap {operation}",

@@ -1,5 +1,5 @@
-// A ladder: who sent what to whom, and when. Each party has a line downwards, each packet an arrow. It goes by the routers that carry it: theirs
-// are the nodes of its frame where they aren't those of the packet.
+// A ladder: who sent what to whom, and when. Each party has a line downwards, each packet an arrow. It goes by the routers that carry it:
+// theirs are the nodes of its frame where they aren't those of the packet.
 import { EVERYONE, short } from "./bytes.mjs";
 import { Drawing, widthOf } from "./drawing.mjs";
 import { FRAMES } from "./records.mjs";
@@ -62,7 +62,8 @@ export function ofRecords(records) {
 // ---- Scripts of a router ----
 
 const [SOURCE, PACKET] = [36, 60];
-const heard = (hex) => (hex.length >= PACKET ? `${short(hex.slice(SOURCE, SOURCE + 8))}.${short(hex.slice(SOURCE + 8, SOURCE + 20))}` : "?");
+const heard = (hex) => (hex.length >= PACKET ? `${short(hex.slice(SOURCE, SOURCE + 8))}.${short(hex.slice(SOURCE + 8, SOURCE + 20))}`
+    : "?");
 
 // What is said of a wrong line, which does nothing.
 const wrongOf = (step) => step.said.find((it) => it.startsWith("line "));
@@ -185,7 +186,8 @@ export function drawLadder({ rows, parties, routers = new Set() }, chosen = "") 
     let last = null;
     rows.forEach((row, k) => {
         const y = TOP + ROW * k + 16;
-        if (row.key === chosen) drawing.box((LEFT + right) / 2, y - 4, right - LEFT + 20, ROW - 4, { fill: "router", colour: "router", thick: 0 });
+        if (row.key === chosen) drawing.box((LEFT + right) / 2, y - 4, right - LEFT + 20, ROW - 4,
+            { fill: "router", colour: "router", thick: 0 });
         if (row.second !== last) drawing.words(LEFT - 14, y, atSecond(row.second), { size: 11, colour: "quiet", anchor: "end" });
         last = row.second;
         drawing.thing(row.key, spoken(row), () => drawRow(drawing, row, y, place, right));

@@ -1,5 +1,5 @@
-// Where to draw the points of a graph: as far from each other as there are lines between them, as nearly as can be (stress majorization, which
-// is what graphviz' neato does too). The same graph always gives the same places.
+// Where to draw the points of a graph: as far from each other as there are lines between them, as nearly as can be (stress majorization,
+// which is what graphviz' neato does too). The same graph always gives the same places.
 
 const ROUNDS = 300;
 // From how many places it is begun, of which the best is taken; of many points from two, since each takes long.
@@ -90,7 +90,8 @@ function turned(places) {
     if (places.length < 2) return places;
     const [a, b] = places;
     const [x, y, length] = [b[0] - a[0], b[1] - a[1], gap(a, b)];
-    const spun = places.map((it) => [((it[0] - a[0]) * x + (it[1] - a[1]) * y) / length, ((it[1] - a[1]) * x - (it[0] - a[0]) * y) / length]);
+    const spun = places.map((it) => [((it[0] - a[0]) * x + (it[1] - a[1]) * y) / length,
+        ((it[1] - a[1]) * x - (it[0] - a[0]) * y) / length]);
     const sign = spun.slice(2).reduce((sum, it) => sum + it[1], 0) < 0 ? -1 : 1;
     return spun.map((it) => [it[0], it[1] * sign]);
 }

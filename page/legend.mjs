@@ -4,7 +4,8 @@ import { made } from "./dom.mjs";
 const COLOURS = [["rip", "→", "routes (RIP)"], ["sap", "→", "services (SAP)"], ["crossed", "→", "propagated packets (NetBIOS)"],
     ["data", "→", "all others"]];
 const LOST = ["alarm", "✕", "a packet is lost here, or a port is down"];
-const TABLES = [["new", "new", "a record that came now"], ["changed", "changed", "one that became another"], ["gone", "gone", "one that ended"],
+const TABLES = [["new", "new", "a record that came now"], ["changed", "changed", "one that became another"],
+    ["gone", "gone", "one that ended"],
     ["stale", "stale", "nobody has said it for more than a minute"]];
 
 export const LEGENDS = {
@@ -21,11 +22,14 @@ export const LEGENDS = {
 export function legendButton(legend) {
     const open = () => {
         const close = made("button", { type: "button", class: "main", onclick: () => dialog.close() }, "Close");
-        const row = ([kind, sign, words]) => made("tr", {}, made("td", {}, made("span", { class: `sign ${kind}` }, sign)), made("td", {}, words));
+        const row = ([kind, sign, words]) => made("tr", {}, made("td", {}, made("span", { class: `sign ${kind}` }, sign)),
+            made("td", {}, words));
         const dialog = made("dialog", { class: "legend", "aria-label": "legend", onclose: () => dialog.remove() },
-            made("h2", {}, "What the signs mean"), made("table", {}, made("tbody", {}, legend.map(row))), made("div", { class: "bar" }, close));
+            made("h2", {}, "What the signs mean"), made("table", {}, made("tbody", {}, legend.map(row))),
+                made("div", { class: "bar" }, close));
         document.body.append(dialog);
         dialog.showModal();
     };
-    return made("button", { type: "button", class: "help", title: "what the signs mean", "aria-label": "what the signs mean", onclick: open }, "?");
+    return made("button", { type: "button", class: "help", title: "what the signs mean", "aria-label": "what the signs mean",
+        onclick: open }, "?");
 }

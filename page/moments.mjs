@@ -1,5 +1,5 @@
-// The moments of a run that are shown side by side: before something fails, as it fails, and later, whenever a traced packet fares otherwise
-// than the last one did. A port that goes down or up is such an event, and a router that stops, or starts again.
+// The moments of a run that are shown side by side: before something fails, as it fails, and later, whenever a traced packet fares
+// otherwise than the last one did. A port that goes down or up is such an event, and a router that stops, or starts again.
 import { outcome } from "./traces.mjs";
 
 // The steps at which something changes that was running.

@@ -1,6 +1,6 @@
 // Which packets move between the routers of an internet. `ipxr internet` tells only how many wait; so each router is played for itself by
-// `ipxr replay`, which tells what it sends, and this brings it to whom it is for: first in first out, as docs/SCRIPTS.md says. What waits after
-// each settle must be what `ipxr internet` says of it; from the first settle where it isn't, nothing is shown.
+// `ipxr replay`, which tells what it sends, and this brings it to whom it is for: first in first out, as docs/SCRIPTS.md says. What waits
+// after each settle must be what `ipxr internet` says of it; from the first settle where it isn't, nothing is shown.
 import { answers } from "./timeline.mjs";
 import { EVERYONE, short } from "./bytes.mjs";
 
@@ -94,8 +94,8 @@ class Traffic {
 
 const leftOf = (said) => (said?.[0] === "quiet" ? 0 : +(/^left (\d+)$/.exec(said?.[0] ?? "")?.[1] ?? -1));
 
-// The packets that each settle of a script hands out, by its line. `said` are the answers of `ipxr internet` to each line; `play` plays a text
-// to `ipxr replay`.
+// The packets that each settle of a script hands out, by its line. `said` are the answers of `ipxr internet` to each line; `play` plays a
+// text to `ipxr replay`.
 export function moves(script, said, play) {
     const traffic = new Traffic(script, play);
     for (const { line, words } of script.acts) {

@@ -45,7 +45,8 @@ export class CapturePane {
         const menu = made("select", { "aria-label": "example", onchange: () => this.example(menu.value) },
             made("option", { value: "" }, "Examples"), Object.keys(this.kind.examples).map((it) => made("option", { value: it }, it)));
         this.menu = menu;
-        return made("div", { class: "drop" }, made("label", { for: "file" }, "Drop a capture here, or choose one:"), file, menu, this.about);
+        return made("div", { class: "drop" }, made("label", { for: "file" }, "Drop a capture here, or choose one:"), file, menu,
+            this.about);
     }
 
     filters() {
@@ -70,7 +71,8 @@ export class CapturePane {
 
     cells(it) {
         const ends = it.isPacket ? [shown(it.from), shown(it.to)] : ["", ""];
-        return [String(it.number), it.time.toFixed(3), ...ends, FRAMES[it.frame] ?? it.frame, it.silence ? `✕ no answer · ${it.text}` : it.text];
+        return [String(it.number), it.time.toFixed(3), ...ends, FRAMES[it.frame] ?? it.frame,
+            it.silence ? `✕ no answer · ${it.text}` : it.text];
     }
 
     // ---- Opening ----

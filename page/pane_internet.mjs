@@ -24,7 +24,8 @@ export class InternetPane extends ScriptPane {
     right() {
         const it = super.right();
         this.beside = made("input", { type: "checkbox", onchange: () => this.draw(...this.last) });
-        const label = made("label", { class: "fine", title: "before something fails, as it fails, and afterwards" }, this.beside, "side by side");
+        const label = made("label", { class: "fine", title: "before something fails, as it fails, and afterwards" }, this.beside,
+            "side by side");
         it.querySelector(".fine").after(label);
         return it;
     }
@@ -42,7 +43,8 @@ export class InternetPane extends ScriptPane {
     // The plan changes only with routers, ports and hosts, so that the map stays as it is while a script is typed.
     plan() {
         const isTall = isNarrow();
-        const shape = JSON.stringify([isTall, this.script.routers.map((it) => [it.name, it.ports.map((port) => port.network)]), this.script.hosts]);
+        const shape = JSON.stringify([isTall, this.script.routers.map((it) => [it.name, it.ports.map((port) => port.network)]),
+            this.script.hosts]);
         if (shape === this.shape) return;
         this.shape = shape;
         this.found = this.script.routers.length ? plan(this.script, isTall) : null;
@@ -97,7 +99,8 @@ export class InternetPane extends ScriptPane {
 
     told(packets, labels) {
         const nameOf = (it) => this.script.routers[it].name;
-        const lines = labels.map((it, k) => `${nameOf(packets[k].from)} to ${nameOf(packets[k].to)}, net ${packets[k].network}: ${it.text}`);
+        const lines = labels.map((it, k) =>
+            `${nameOf(packets[k].from)} to ${nameOf(packets[k].to)}, net ${packets[k].network}: ${it.text}`);
         return packets.length > labels.length ? [...lines, `and ${packets.length - labels.length} more`] : lines;
     }
 
@@ -131,10 +134,12 @@ export class InternetPane extends ScriptPane {
 
     // Who is on a network, and whether the ports there are up.
     drawNetwork(network, step) {
-        const all = this.script.routers.flatMap((it, k) => it.ports.map((port, n) => ({ ...port, name: it.name, isUp: step.state[k].up[n] })));
+        const all = this.script.routers.flatMap((it, k) =>
+            it.ports.map((port, n) => ({ ...port, name: it.name, isUp: step.state[k].up[n] })));
         const ports = all.filter((it) => it.network === network);
         const lines = ports.map((it) => `${it.name}, node ${it.node}, cost ${it.cost}: ${it.isUp ? "up" : "down"}`);
         const hosts = this.script.hosts.filter((it) => it.network === network).map((it) => `host ${it.node}`);
-        this.tables.replaceChildren(made("h2", {}, `Network ${network}`), made("ul", {}, [...lines, ...hosts].map((it) => made("li", {}, it))));
+        this.tables.replaceChildren(made("h2", {}, `Network ${network}`),
+            made("ul", {}, [...lines, ...hosts].map((it) => made("li", {}, it))));
     }
 }

@@ -1,5 +1,5 @@
-// The pane Packet: words to bytes and back. The bytes are written by the library's proved writers (words.mjs), and read back by the program's
-// proved reader: a capture is made with the packet in it, and `ipxr decode` says what the packet is.
+// The pane Packet: words to bytes and back. The bytes are written by the library's proved writers (words.mjs), and read back by the
+// program's proved reader: a capture is made with the packet in it, and `ipxr decode` says what the packet is.
 import { DEFAULTS, KINDS, packetOf, valuesOf, Wrong } from "./words.mjs";
 import { faultOf, packetFields } from "./fields.mjs";
 import { bytesView } from "./bytes_view.mjs";

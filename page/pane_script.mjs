@@ -29,7 +29,8 @@ export class ScriptPane {
         Object.assign(this, { program, kind, changed: page.changed, tell: page.tell, at: 0, steps: [], undone: [], round: 0, chosen: "" });
         this.remembered = new Map();
         this.editor = new Editor(`script of ${kind.verb}`, () => this.play());
-        this.slider = made("input", { type: "range", min: 0, max: 0, value: 0, "aria-label": "time", oninput: () => this.show(+this.slider.value) });
+        this.slider = made("input", { type: "range", min: 0, max: 0, value: 0, "aria-label": "time",
+            oninput: () => this.show(+this.slider.value) });
         this.moment = made("output", { class: "moment" });
         this.said = made("pre", { class: "said", tabindex: "0", "aria-label": "what ipxr answers" });
         this.picture = made("div", { class: "picture" });
@@ -45,11 +46,13 @@ export class ScriptPane {
         const names = Object.keys(this.kind.examples);
         this.menu = made("select", { "aria-label": "example", onchange: () => this.example(this.menu.value) },
             made("option", { value: "" }, "Examples"), names.map((it) => made("option", { value: it }, it)));
-        const file = made("input", { type: "file", hidden: true, onchange: () => this.opened(file.files[0]).then(() => (file.value = "")) });
+        const file = made("input", { type: "file", hidden: true,
+            onchange: () => this.opened(file.files[0]).then(() => (file.value = "")) });
         this.undo = this.button("Undo", () => this.back(), "undo the last act");
         this.undo.disabled = true;
         this.about = made("p", { class: "none about" });
-        const bar = made("div", { class: "bar" }, this.menu, this.button("New", () => this.replace(EMPTY)), this.button("Open", () => file.click()),
+        const bar = made("div", { class: "bar" }, this.menu, this.button("New", () => this.replace(EMPTY)),
+            this.button("Open", () => file.click()),
             this.button("Save", () => save(`script.${this.kind.end}`, this.editor.text)), this.undo, file);
         const all = made("details", { class: "all", ontoggle: () => this.showAll() }, made("summary", {}, "All that ipxr writes"),
             (this.all = made("pre", { class: "said", tabindex: "0" })));
@@ -69,7 +72,8 @@ export class ScriptPane {
     }
 
     acts() {
-        const buttons = Object.entries(this.kind.acts).map(([name, it]) => made("button", { type: "button", title: it.title, "data-act": name,
+        const buttons = Object.entries(this.kind.acts).map(([name, it]) =>
+            made("button", { type: "button", title: it.title, "data-act": name,
             onclick: () => this.act(it) }, it.label));
         return [made("div", { class: "bar acts", role: "toolbar", "aria-label": "build" }, buttons)];
     }

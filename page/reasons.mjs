@@ -7,7 +7,8 @@ const REASONS = {
     OtherSocket: "it is for this network, and for no socket of a router", NotNeighbour: "it is from another network",
     NearestReply: "routers don't ask for the nearest service", TooManyRouters: "it came through sixteen routers",
     FarSide: "it is for another port of this router", NoRoute: "no route to its network", TooLong: "it is too long for the network",
-    DownPort: "the port is down", Malformed: "it is no whole packet", BadRip: "its routes can't be read", BadSap: "its services can't be read",
+    DownPort: "the port is down", Malformed: "it is no whole packet", BadRip: "its routes can't be read",
+    BadSap: "its services can't be read",
 };
 
 // The reason of a word, or nothing; with the network that a packet is for, where that is known.

@@ -56,7 +56,8 @@ export function recordOf(lines) {
         return { number: +head[1], frame: head[2], isPacket: false, kind: "none", text: text || "no IPX", lines };
     }
     return {
-        number: +head[1], frame: head[2], isPacket: true, from: addressOf(head[3]), to: addressOf(head[4]), control: +head[6], type: +head[8],
+        number: +head[1], frame: head[2], isPacket: true, from: addressOf(head[3]), to: addressOf(head[4]), control: +head[6],
+        type: +head[8],
         length: +head[10], ...told(head, lines.slice(1)), lines,
     };
 }

@@ -11,7 +11,8 @@ const downPorts = (script, state) => ports(script).filter(([it]) => state[0].up[
 // A packet of a node on the network of a port.
 function came(script, it, kind, more) {
     const network = networkOf(script, it);
-    return { now: [`in ${it.port} ${packetOf(kind, { toNetwork: network, fromNetwork: network, fromNode: digits("node", it.node, 6), ...more })}`] };
+    const hex = packetOf(kind, { toNetwork: network, fromNetwork: network, fromNode: digits("node", it.node, 6), ...more });
+    return { now: [`in ${it.port} ${hex}`] };
 }
 
 const node = (value) => ({ name: "node", label: "From node", value });
@@ -62,7 +63,8 @@ export const ROUTER_ACTS = {
     },
     bytes: {
         label: "Bytes", title: "Any bytes come in", needs: ports,
-        fields: (script, chosen, packet) => [here(script, chosen), { name: "hex", label: "Bytes", value: packet, hint: "those of the pane Packet" }],
+        fields: (script, chosen, packet) => [here(script, chosen),
+            { name: "hex", label: "Bytes", value: packet, hint: "those of the pane Packet" }],
         lines: (_, it) => ({ now: [`in ${it.port} ${bytesTyped("hex", it.hex) || "-"}`] }),
     },
 };

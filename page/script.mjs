@@ -1,5 +1,5 @@
-// What the text of a script says: its lines, its routers with their ports, hosts, and the commands that act. This only reads the words; whether a
-// line is right, and what it does, says the program.
+// What the text of a script says: its lines, its routers with their ports, hosts, and the commands that act. This only reads the words;
+// whether a line is right, and what it does, says the program.
 import { EVERYONE, short } from "./bytes.mjs";
 
 const [DESTINATION, SOURCE, PACKET] = [12, 36, 60];
@@ -39,8 +39,8 @@ function nameAll(routers, lines, isInternet) {
 // Whose address stands in the digits of a packet.
 const addressAt = (hex, at) => ({ network: short(hex.slice(at, at + 8)), node: short(hex.slice(at + 8, at + 20)) });
 
-// The hosts: those of comments `# host NETWORK.NODE`, and who packets come from or are for, on networks of the routers. Behind such a comment
-// `(forged)` may stand.
+// The hosts: those of comments `# host NETWORK.NODE`, and who packets come from or are for, on networks of the routers. Behind such a
+// comment `(forged)` may stand.
 function hostsOf(lines, routers, isInternet) {
     const ports = new Set(routers.flatMap((it) => it.ports.map((port) => `${port.network}.${port.node}`)));
     const networks = new Set(routers.flatMap((it) => it.ports.map((port) => port.network)));
@@ -66,7 +66,8 @@ export function parsed(text, isInternet = true) {
     const lines = text.split("\n").map((it) => ({ text: it.replace(/\r$/, ""), words: wordsOf(it.replace(/\r$/, "")) }));
     const routers = routersOf(lines, isInternet);
     nameAll(routers, lines, isInternet);
-    const acts = lines.flatMap((it, line) => (it.words.length && !["router", "port"].includes(it.words[0]) ? [{ line, words: it.words }] : []));
+    const acts = lines.flatMap((it, line) => (it.words.length
+        && !["router", "port"].includes(it.words[0]) ? [{ line, words: it.words }] : []));
     return {
         text, lines, routers, acts, isInternet, hosts: hostsOf(lines, routers, isInternet),
         networks: [...new Set(routers.flatMap((it) => it.ports.map((port) => port.network)))],

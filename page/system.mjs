@@ -6,8 +6,8 @@ const [INPUT, OUTPUT] = [3, 1];
 const LINE_FEED = 10;
 
 // Gives input in pieces: as much as is asked for; or at most one line, and notes how much had been written when the next was asked for. The
-// program answers each line before it asks for more, so that is where the answer to a line ends. (It answers a last one without a line feed when
-// it has heard that nothing follows.)
+// program answers each line before it asks for more, so that is where the answer to a line ends. (It answers a last one without a line feed
+// when it has heard that nothing follows.)
 class Reader {
     constructor(input, isByLine, tell) {
         Object.assign(this, { input, isByLine, tell, at: 0, told: 0, ends: [] });

@@ -55,8 +55,8 @@ function queries(script) {
     return script.routers.flatMap((_, k) => [`routes ${k}`, `services ${k}`]);
 }
 
-// The script up to a line, with questions for all tables before and after that line, or before an earlier one; and which lines of it are the
-// questions.
+// The script up to a line, with questions for all tables before and after that line, or before an earlier one; and which lines of it are
+// the questions.
 export function asking(script, line, since = line) {
     const asked = queries(script);
     const first = script.acts.length ? script.acts[0].line : script.lines.length;
@@ -122,8 +122,9 @@ export function finer(script) {
     script.lines.forEach(({ text: line, words }, k) => {
         const [command, count] = words;
         const times = Math.min(+count || 0, MOST);
-        if (command === "second" && times > 1 && /^\d{1,7}$/.test(count) && +count <= MOST) for (let n = 0; n < times; n++) add("second 1", k);
-        else if (command === "settle" && times > 1 && /^\d{1,7}$/.test(count)) {
+        if (command === "second" && times > 1 && /^\d{1,7}$/.test(count) && +count <= MOST) {
+            for (let n = 0; n < times; n++) add("second 1", k);
+        } else if (command === "settle" && times > 1 && /^\d{1,7}$/.test(count)) {
             for (let n = 0; n < times; n++) add("settle 1", k);
             if (+count > times) add(`settle ${+count - times}`, k);
         } else add(line, k);

@@ -17,8 +17,8 @@ function hostAt(hex, at, network) {
     return `host ${named === "0" ? network : named}.${short(hex.slice(at + 8, at + 20))}`;
 }
 
-// The ways of a trace: from which router (-1: from outside, and from which host then) over which network to which router, and the numbers of
-// the receptions.
+// The ways of a trace: from which router (-1: from outside, and from which host then) over which network to which router, and the numbers
+// of the receptions.
 export function ways(copies, routers) {
     const found = new Map();
     for (const it of copies) {
@@ -57,7 +57,8 @@ export function waysOf(moved, kinds) {
 }
 
 // Numbers in few words: the first two and the last.
-export const listed = (numbers) => (numbers.length <= 3 ? numbers.join(" ") : `${numbers[0]} ${numbers[1]} … ${numbers[numbers.length - 1]}`);
+export const listed = (numbers) => (numbers.length <= 3 ? numbers.join(" ")
+    : `${numbers[0]} ${numbers[1]} … ${numbers[numbers.length - 1]}`);
 
 // ---- In words ----
 
@@ -66,7 +67,8 @@ const networkOf = (it, script) => script.routers[it.router]?.ports[it.port]?.net
 export const isLost = (it) => !["Forwarded", "Propagated", "Local"].includes(it.outcome);
 
 // The network and the node that a packet is for.
-const target = ({ hex }) => ({ network: short(hex.slice(DESTINATION, DESTINATION + 8)), node: short(hex.slice(DESTINATION + 8, DESTINATION + 20)) });
+const target = ({ hex }) => ({ network: short(hex.slice(DESTINATION, DESTINATION + 8)),
+    node: short(hex.slice(DESTINATION + 8, DESTINATION + 20)) });
 
 const reasonOf = (it) => reason(it.outcome, target(it).network);
 
@@ -138,7 +140,8 @@ const nobody = ({ network, node }) => (
 function endOf(it, copies, step, script) {
     const name = nameOf(it, script);
     if (isLost(it)) return { text: `lost at ${name}: ${reasonOf(it) || it.outcome}`, isLost: true };
-    if (it.outcome !== "Forwarded") return { text: `${it.outcome === "Local" ? "arrived at" : "propagated by"} router ${name}`, isLost: false };
+    if (it.outcome !== "Forwarded") return { text: `${it.outcome === "Local" ? "arrived at" : "propagated by"} router ${name}`,
+        isLost: false };
     const to = leftFor(it, step, script);
     if (!to.isThere) return { text: `lost behind ${name}: ${nobody(to)}`, isLost: true };
     const count = before(it, copies).length;

@@ -1,5 +1,5 @@
-// Words to the bytes of a packet, and back. The bytes are written by the library's proved writers; here the fields are read that were typed.
-// What was written, the program's proved reader says, which reads it back (pane_packet.mjs).
+// Words to the bytes of a packet, and back. The bytes are written by the library's proved writers; here the fields are read that were
+// typed. What was written, the program's proved reader says, which reads it back (pane_packet.mjs).
 import { bytesOf, EVERYONE, hexOf, isHex, padded } from "./bytes.mjs";
 import { IpxrError, Rip, words as faultWords, writePacket, writeQuery, writeRip, writeSap } from "./ipxr.mjs";
 
@@ -63,7 +63,8 @@ const services = (text) => lines(text).map((line) => {
     const [type, name, network, at, socket, hops, ...more] = words(line);
     if (hops === undefined || more.length) throw new Wrong("services", `not type name network node socket hops: ${line}`);
     return {
-        type: number("services", type, 2), name: nameTyped("services", name), network: number("services", network, 4), node: node("services", at),
+        type: number("services", type, 2), name: nameTyped("services", name), network: number("services", network, 4),
+        node: node("services", at),
         socket: number("services", socket, 2), hops: decimal("services", hops, 2),
     };
 });
@@ -108,7 +109,8 @@ export const KINDS = {
 
 // What stands in each field before anything is typed.
 export const DEFAULTS = {
-    toNetwork: "10", toNode: EVERYONE, toSocket: RIP, fromNetwork: "10", fromNode: "AA", fromSocket: OTHER, networks: "FFFFFFFF", routes: "20 1 2",
+    toNetwork: "10", toNode: EVERYONE, toSocket: RIP, fromNetwork: "10", fromNode: "AA", fromSocket: OTHER, networks: "FFFFFFFF",
+    routes: "20 1 2",
     nearest: "general", service: "4", services: "4 SERVER 20 1 451 1", crossed: "", data: "", type: "0", control: "0",
 };
 
@@ -132,7 +134,8 @@ export function packetOf(kind, values) {
 // The digits of a response by a node of a network that offers one route, as it was typed in a form.
 export function offerOf(net, { node: from, network, hops, ticks }) {
     const route = [digits("network", network, 4), decimal("hops", hops, 2), decimal("ticks", ticks, 2)].join(" ");
-    return packetOf("rip-response", { toNetwork: net, fromNetwork: net, fromNode: digits("node", from, 6), fromSocket: "453", routes: route });
+    return packetOf("rip-response", { toNetwork: net, fromNetwork: net, fromNode: digits("node", from, 6), fromSocket: "453",
+        routes: route });
 }
 
 // ---- Back ----
@@ -160,7 +163,8 @@ export function valuesOf(record, hex) {
     if (kind === "rip-response") values.routes = nets.map((it) => `${it[1]} ${it[3]} ${it[5]}`).join("\n");
     if (kind.startsWith("sap")) values.nearest = details[0][1].startsWith("nearest") ? "nearest" : "general";
     if (kind === "sap-query") values.service = details[0][2];
-    if (kind === "sap-response") values.services = details.filter((it) => it[0] === "service").map((it) => it.slice(1).join(" ")).join("\n");
+    if (kind === "sap-response") values.services = details.filter((it) => it[0] === "service").map((it) =>
+        it.slice(1).join(" ")).join("\n");
     if (kind === "netbios") values.crossed = details[0].slice(1).join(" ");
     return { kind, values };
 }

@@ -1,4 +1,5 @@
-// The worker: it plays runs of the program, and keeps an opened capture, of which it hands out what is looked at. The page never waits for it.
+// The worker: it plays runs of the program, and keeps an opened capture, of which it hands out what is looked at. The page never waits for
+// it.
 import { answers } from "./timeline.mjs";
 import { moves } from "./moves.mjs";
 import { openCapture } from "./capture.mjs";

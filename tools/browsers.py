@@ -1,5 +1,5 @@
-"""Real browsers that are driven from here, without a screen: Chromium and WebKit by their drivers, Firefox by the protocol that it speaks itself
-(Marionette). All know the commands of WebDriver; only how they are brought there differs."""
+"""Real browsers that are driven from here, without a screen: Chromium and WebKit by their drivers, Firefox by the protocol that it speaks
+itself (Marionette). All know the commands of WebDriver; only how they are brought there differs."""
 import base64
 import glob
 import json
@@ -48,7 +48,8 @@ class ByDriver:
 
     def __init__(self, words, capabilities, environment=None):
         self.port = free_port()
-        self.process = subprocess.Popen([*words, f"--port={self.port}"], env=environment, stdout=subprocess.DEVNULL, stderr=subprocess.DEVNULL)
+        self.process = subprocess.Popen([*words, f"--port={self.port}"], env=environment, stdout=subprocess.DEVNULL,
+            stderr=subprocess.DEVNULL)
         until(self.listens, words[0])
         made = self.ask("POST", "/session", {"capabilities": {"alwaysMatch": capabilities}})
         self.session = f"/session/{made['sessionId']}"
@@ -92,7 +93,8 @@ class ByMarionette:
         os.makedirs(self.profile, exist_ok=True)
         with open(f"{self.profile}/user.js", "w", encoding="ascii") as it:
             it.write(f'user_pref("marionette.port", {self.port});\nuser_pref("datareporting.policy.dataSubmissionEnabled", false);\n')
-        self.process = subprocess.Popen([*words, "--marionette", "--headless", "--no-remote", "-profile", self.profile], stdout=subprocess.DEVNULL,
+        self.process = subprocess.Popen([*words, "--marionette", "--headless", "--no-remote", "-profile", self.profile],
+            stdout=subprocess.DEVNULL,
                                         stderr=subprocess.DEVNULL, env={**os.environ, "HOME": folder})
         self.wire = until(self.connected, "firefox")
         self.wire.settimeout(4 * PATIENCE)
@@ -184,7 +186,8 @@ class Browser:
     def dark(self, is_dark):
         """Lets the page be dark, in Chromium."""
         feature = {"name": "prefers-color-scheme", "value": "dark" if is_dark else "light"}
-        self.way.ask("POST", f"{self.way.session}/goog/cdp/execute", {"cmd": "Emulation.setEmulatedMedia", "params": {"features": [feature]}})
+        self.way.ask("POST", f"{self.way.session}/goog/cdp/execute",
+            {"cmd": "Emulation.setEmulatedMedia", "params": {"features": [feature]}})
 
     def looks(self, file):
         with open(file, "wb") as it:

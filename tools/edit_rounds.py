@@ -13,7 +13,8 @@ from dataclasses import dataclass, field
 UNPROVED = re.compile(r"note: (?:\./)?(src/\S+?):(\d+):\d+: it is not proved that")
 # What is said of a word that a proof cites and the text has no longer, and of a check that met a limit of its own and found nothing.
 NAMES = "|".join((
-    "not in scope", "has no field", r"\(nearest: ", "has no `", "is no name", "is private", "is no constructor", "operand is missing", "expected the end",
+    "not in scope", "has no field", r"\(nearest: ", "has no `", "is no name", "is private", "is no constructor", "operand is missing",
+    "expected the end",
     "cannot continue",
 ))
 # What only follows from another error.

@@ -1,9 +1,9 @@
 #!/usr/bin/env python3
 """The libraries that the gate left, and the prover's words for a crate over them.
 
-`rt ci` leaves what it proved in crates/NAME/out/rlib, without the stamp by which rt's other commands would take it, so that they prove all of it
-again. `make test` notes the sum of each library, and of what it was made of, once the gate has passed. A tool may build over the libraries as long
-as these sums are still the same; where one is not, it proves what it needs by rt.
+`rt ci` leaves what it proved in crates/NAME/out/rlib, without the stamp by which rt's other commands would take it, so that they prove all
+of it again. `make test` notes the sum of each library, and of what it was made of, once the gate has passed. A tool may build over the
+libraries as long as these sums are still the same; where one is not, it proves what it needs by rt.
 """
 import functools
 import glob
@@ -39,7 +39,8 @@ def places():
     """How many checks there are processors and memory for, within what the control group allows."""
     with open("/proc/meminfo", encoding="ascii") as it:
         free = 1024 * int(re.search(r"MemAvailable:\s+(\d+)", it.read())[1])
-    processors, quota, most, held = len(os.sched_getaffinity(0)), numbers_in("cpu.max"), numbers_in("memory.max"), numbers_in("memory.current")
+    processors, quota = len(os.sched_getaffinity(0)), numbers_in("cpu.max")
+    most, held = numbers_in("memory.max"), numbers_in("memory.current")
     if quota:
         processors = min(processors, quota[0] // quota[1])
     if most and held:

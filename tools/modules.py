@@ -1,12 +1,13 @@
 #!/usr/bin/env python3
 """The compiler's LLVM module of the program (ipxr) and of the library for C (ipx_c): tools/modules.py CRATE..
 
-The toolchain compiles a crate by the clang of a folder that it is told. Here this is a folder of links to the toolchain's own, and its clang first
-copies the module, and the words that it is given. What is built so must be, byte for byte, what was built without it: the program's object,
-the library's archive. Else nothing is kept, and it says so.
+The toolchain compiles a crate by the clang of a folder that it is told. Here this is a folder of links to the toolchain's own, and its
+clang first copies the module, and the words that it is given. What is built so must be, byte for byte, what was built without it: the
+program's object, the library's archive. Else nothing is kept, and it says so.
 
-build/modules/CRATE.bc is the module for Linux on x86-64, before any optimization, and CRATE.words has the words by which clang compiled it, one a
-line. They are made anew where the toolchain, a source or the library's archive has changed. tools/targets.py compiles them for other systems.
+build/modules/CRATE.bc is the module for Linux on x86-64, before any optimization, and CRATE.words has the words by which clang compiled it,
+one a line. They are made anew where the toolchain, a source or the library's archive has changed. tools/targets.py compiles them for other
+systems.
 """
 import contextlib
 import filecmp

@@ -1,6 +1,6 @@
 // The words of a packet to its bytes, and back. The library's proved writers write the bytes, and the program's proved reader,
-// `ipxr decode`, says what bytes mean. Here the words are read, and what no writer writes is put over the bytes: a wrong length, a checksum,
-// padding.
+// `ipxr decode`, says what bytes mean. Here the words are read, and what no writer writes is put over the bytes: a wrong length, a
+// checksum, padding.
 import { existsSync } from "node:fs";
 import { fileURLToPath } from "node:url";
 import { bytesOf, EVERYONE, hexOf, isHex, padded, short } from "../page/bytes.mjs";

@@ -84,7 +84,8 @@ def chosen(b, selector, file):
         return
     b.run("const bytes = Uint8Array.from(atob(given[1]), (it) => it.charCodeAt(0)); const box = new DataTransfer();"
           "box.items.add(new File([bytes], given[2])); const input = document.querySelector(given[0]); input.files = box.files;"
-          "input.dispatchEvent(new Event('change'));", selector, base64.b64encode(page_inputs.content(file)).decode(), os.path.basename(file))
+          "input.dispatchEvent(new Event('change'));", selector, base64.b64encode(page_inputs.content(file)).decode(),
+          os.path.basename(file))
 
 
 def captured(b, file):
@@ -163,7 +164,8 @@ def filters(b, _):
     """Capture: filters by address, type, socket and word leave the records that they name"""
     opened(b)
     shows(b, "capture")
-    wanted = [("sockets", {"socket": "453"}), ("sockets", {"type": "4"}), ("kinds", {"address": "000000000001"}), ("services", {"word": "bad"}),
+    wanted = [("sockets", {"socket": "453"}), ("sockets", {"type": "4"}), ("kinds", {"address": "000000000001"}),
+        ("services", {"word": "bad"}),
               ("crossed", {"type": "20", "word": "crossed bad"}), ("routes", {"socket": "0452"})]
     for name, filter_by in wanted:
         lines = page_inputs.content(f"{TOP}/tests/decode/{name}.out").decode()
@@ -219,7 +221,8 @@ def dropped(b, _):
     shows(b, "capture")
     b.run("const bytes = Uint8Array.from(atob(given[0]), (it) => it.charCodeAt(0)); const box = new DataTransfer();"
           "box.items.add(new File([bytes], 'new.pcapng'));"
-          "document.querySelector('#pane-capture').dispatchEvent(new DragEvent('drop', { dataTransfer: box, bubbles: true, cancelable: true }));",
+          "const how = { dataTransfer: box, bubbles: true, cancelable: true };"
+          "document.querySelector('#pane-capture').dispatchEvent(new DragEvent('drop', how));",
           base64.b64encode(page_inputs.pcapng()).decode())
     b.waits("document.querySelector('#told').textContent.startsWith('new.pcapng')")
     same(b.run("return page.programs[1].ask('text')"), page_inputs.content(f"{TOP}/examples/nearest-server.out").decode(), "text")
@@ -242,7 +245,8 @@ def large(b, folder):
               "window.large = new Uint8Array(24 + given[1] * records.length); large.set(one);"
               "for (let k = 0; k < given[1]; k++) large.set(records, 24 + k * records.length);",
               base64.b64encode(page_inputs.content(f"{TOP}/examples/nearest-server.pcap")).decode(), records // 5)
-        took = b.run("const start = performance.now(); await page.panes.capture.open('large.pcap', large); return performance.now() - start;")
+        took = b.run("const start = performance.now(); await page.panes.capture.open('large.pcap', large);"
+                     "return performance.now() - start;")
     else:
         b.run("const open = page.panes.capture.open; page.panes.capture.open = async function (...given) { const start = performance.now();"
               "await open.apply(this, given); window.took = performance.now() - start; };")
@@ -251,7 +255,8 @@ def large(b, folder):
     decoded = b.run("const bytes = window.large; return page.panes.capture.opened.took")
     print(f"        45 MB: the program ran {decoded / 1000:.2f} s, all was shown after {took / 1000:.2f} s")
     same(told(b), f"large.pcap: {records} records", "told")
-    b.run("const it = document.querySelector('#pane-capture .scroller'); it.focus(); it.dispatchEvent(new KeyboardEvent('keydown', { key: 'End' }));")
+    b.run("const it = document.querySelector('#pane-capture .scroller'); it.focus();"
+          "it.dispatchEvent(new KeyboardEvent('keydown', { key: 'End' }));")
     b.waits("document.querySelector('#pane-capture .scroller [aria-selected=true] span')?.textContent === given[0]", str(records))
     typed(b, "#pane-capture [name=address]", "BEEF")
     b.waits("document.querySelector('#pane-capture output').textContent === given[0]", f"{records // 5} of {records} records")
@@ -461,7 +466,8 @@ def packet(b, _):
     read = "document.querySelector('#pane-packet .read .good, #pane-packet .read .fault')?.textContent"
 
     def pasted(digits, wanted):
-        b.run("const it = document.querySelector('#pane-packet .hexline'); it.value = given[0]; it.dispatchEvent(new Event('input'))", digits)
+        b.run("const it = document.querySelector('#pane-packet .hexline'); it.value = given[0]; it.dispatchEvent(new Event('input'))",
+            digits)
         b.waits(f"{read}?.includes(given[0])", wanted)
 
     b.run("const it = document.querySelector('#pane-packet [name=kind]'); it.value = 'rip-response'; it.dispatchEvent(new Event('change'))")
@@ -473,10 +479,12 @@ def packet(b, _):
         b.run("const it = document.querySelector('#pane-packet [name=routes]'); it.value = given[0]; it.dispatchEvent(new Event('input', "
               "{ bubbles: true }))", routes)
         same(text(b, "#pane-packet form .fault"), why, "what the library says")
-    kinds = {"rip-request": "RIP request all", "sap-query": "SAP query type 4", "sap-response": "SAP response SERVER", "netbios": "crossed nothing",
+    kinds = {"rip-request": "RIP request all", "sap-query": "SAP query type 4", "sap-response": "SAP response SERVER",
+        "netbios": "crossed nothing",
              "data": "data, 30 bytes"}
     for kind, wanted in kinds.items():
-        b.run("const it = document.querySelector('#pane-packet [name=kind]'); it.value = given[0]; it.dispatchEvent(new Event('change'))", kind)
+        b.run("const it = document.querySelector('#pane-packet [name=kind]'); it.value = given[0]; it.dispatchEvent(new Event('change'))",
+            kind)
         b.waits(f"{read}?.includes(given[0])", wanted)
     query = "FFFF0022000400000010FFFFFFFFFFFF0452000000100000000000AA400300030004"
     pasted(query, "SAP nearest query type 4")
@@ -505,7 +513,8 @@ def back_and_forth(b, _):
             if (document.querySelector('#pane-packet .read .fault') || !document.querySelector('#pane-packet .read .good')) continue;
             pane.typedWords();
             await new Promise((it) => setTimeout(it, 0));
-            if (pane.hex.value !== hex && !hex.startsWith(pane.hex.value)) wrong.push(hex + ' ' + pane.hex.value + ' ' + pane.fault.textContent);
+            if (pane.hex.value !== hex && !hex.startsWith(pane.hex.value)) wrong.push(hex + ' ' + pane.hex.value + ' '
+                + pane.fault.textContent);
         }
         return wrong;""", [it for it in lines if it.startswith("FFFF") and len(it) > 60])
     same(wrong, [], "written otherwise")
@@ -520,7 +529,8 @@ def shared(b, _):
     want(link.startswith("#internet="), f"the address: {link[:60]}")
     opened(b, link)
     settled(b, "internet")
-    same(b.run("return page.panes.internet.editor.text"), "# two (router 0)\nrouter\nport 00000010 000000000001 1 576\nstart 0\n", "the shared text")
+    same(b.run("return page.panes.internet.editor.text"), "# two (router 0)\nrouter\nport 00000010 000000000001 1 576\nstart 0\n",
+        "the shared text")
     shows(b, "packet")
     b.run("const it = document.querySelector('#pane-packet .hexline'); it.value = given[0]; it.dispatchEvent(new Event('input'))", FAR)
     link = b.run("return location.hash")
@@ -554,7 +564,8 @@ def long(b, folder):
     settled(b, "internet")
     steps = b.run("return page.panes.internet.steps.length")
     want(steps > 9900, f"{steps} steps")
-    took = b.run("const pane = page.panes.internet; const start = performance.now(); await pane.show(9000); return performance.now() - start;")
+    took = b.run("const pane = page.panes.internet; const start = performance.now(); await pane.show(9000);"
+                 "return performance.now() - start;")
     print(f"        10,000 lines: a move of the slider took {took / 1000:.2f} s")
 
 
@@ -576,7 +587,8 @@ def stopped(b, folder):
 
 
 EVERYWHERE = [
-    texts, silent, capture, filters, fields_agree, dropped, large, internet, quick, moving, wrong_line, built, keyboard, router, router_built,
+    texts, silent, capture, filters, fields_agree, dropped, large, internet, quick, moving, wrong_line, built, keyboard, router,
+    router_built,
     packet, back_and_forth, shared, harmless, long, stopped,
 ]
 

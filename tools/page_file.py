@@ -52,7 +52,8 @@ def names_of(text):
 
 
 def one_module(name):
-    """The text of a module in a scope of its own, which hands out what it exports. Modules are many, and some of their inner names are the same."""
+    """The text of a module in a scope of its own, which hands out what it exports. Modules are many, and some of their inner names are the
+    same."""
     text = read(name)
     exported = [it for one in EXPORT.split(text)[1:] for it in names_of(one)[:1]]
     taken = "".join(f"const {{{what.replace(' as ', ': ')}}} = {scope_of(other)};\n" for what, other in IMPORT.findall(text))
@@ -81,7 +82,8 @@ def examples():
         for file in sorted(glob.glob(f"{TOP}/examples/*{end}")):
             with open(file, "rb") as it:
                 content = it.read()
-            found[kind][os.path.basename(file).removesuffix(end)] = base64.b64encode(content).decode() if end == ".pcap" else content.decode("utf-8")
+            text = base64.b64encode(content).decode() if end == ".pcap" else content.decode("utf-8")
+            found[kind][os.path.basename(file).removesuffix(end)] = text
     return json.dumps(found, ensure_ascii=True).replace("<", "\\u003c")
 
 

@@ -22,7 +22,8 @@ port <img/src=x/onerror=harmed=1> <b>A</b> 1 576
 <img src=x onerror=window.harmed=1>
 """
 HARMFUL_LINKS = [
-    "#internet=%3Cimg%20src=x%20onerror=window.harmed=1%3E", "#__proto__=QUJD", "#internet=____", "#constructor", "#packet=PGltZz4", "#<img>",
+    "#internet=%3Cimg%20src=x%20onerror=window.harmed=1%3E", "#__proto__=QUJD", "#internet=____", "#constructor", "#packet=PGltZz4",
+    "#<img>",
 ]
 
 

@@ -1,4 +1,5 @@
-"""What must be plain to who uses the page: where a packet got to and why not, what a form proposes, what is marked. Checks as in page_checks.py."""
+"""What must be plain to who uses the page: where a packet got to and why not, what a form proposes, what is marked. Checks as in
+page_checks.py."""
 from page_checks import act, captured, count, opened, same, script, settled, shows, text, told, typed, want
 from page_file import TOP
 
@@ -58,7 +59,8 @@ def lost(b, _):
         11: ("0. West, from net A: NoRoute (no route to net 2)\nlost at West: no route to net 2", ["router 0"], 1),
         13: ("0. West, from net A: Forwarded\n1. East, from net 1: Forwarded\narrived at BB on net 2 after 2 routers",
              ["router 0", "router 1", "host 2.BB"], 0),
-        16: ("0. West, from net A: Forwarded\nlost behind West: sent on to EE on net 1, which is no router", ["router 0", "host 1.EE lost"], 1),
+        16: ("0. West, from net A: Forwarded\nlost behind West: sent on to EE on net 1, which is no router", ["router 0", "host 1.EE lost"],
+            1),
     }
     for line, (words, ways, marks) in wanted.items():
         step(b, "internet", line)
@@ -88,7 +90,8 @@ def forged(b, _):
     script(b, "internet", FALSE.split("in 0 1")[0])
     step(b, "internet", -1)
     opens(b, "forge")
-    wrong = {"network": ("XY", "It offers network"), "hops": ("many", "Hops"), "ticks": ("-1", "Ticks"), "node": ("!", "In the name of node")}
+    wrong = {"network": ("XY", "It offers network"), "hops": ("many", "Hops"), "ticks": ("-1", "Ticks"),
+        "node": ("!", "In the name of node")}
     for field, (value, name) in wrong.items():
         before = b.run("const it = document.querySelector(given[0]); const was = it.value; it.value = given[1]; return was",
                        f"dialog [name={field}]", value)
@@ -109,7 +112,8 @@ def forged(b, _):
         const pane = page.panes.internet;
         const [line] = pane.drawing.shapes.filter((it) => it.colour === 'rip' && it.arrow);
         const [start, end] = [line.points[0], line.points[line.points.length - 1]];
-        const far = ([x, y], key) => { const it = pane.found.points[pane.found.at.get(key)]; return Math.hypot(x - it.place[0], y - it.place[1]); };
+        const far = ([x, y], key) => { const it = pane.found.points[pane.found.at.get(key)]; return Math.hypot(x - it.place[0],
+            y - it.place[1]); };
         return [far(start, 'host 1.EE') < 70, far(end, 'router 0') < 40];""")
     same(way, [True, True], "from the forging host to the router")
     act(b, "forge", {"link": "0 1", "node": "EE", "network": "3"})
@@ -153,7 +157,8 @@ def proposed(b, _):
         same(opens(b, "host")["node"], node, "a fresh node")
         closes(b)
         act(b, "host", {"network": "10"})
-    same(b.run("return page.panes.internet.script.hosts.map((it) => it.node).join()"), "AA,BB,CC", "hosts in the order in which they were added")
+    same(b.run("return page.panes.internet.script.hosts.map((it) => it.node).join()"), "AA,BB,CC",
+        "hosts in the order in which they were added")
     same(opens(b, "start")["router"], "all", "all routers")
     want("inserts" not in text(b, "dialog"), "at the end nothing is inserted")
     closes(b)
@@ -170,14 +175,15 @@ def proposed(b, _):
 
 
 def chosen_example(b, name):
-    b.run("const it = document.querySelector('#pane-capture .drop select'); it.value = given[0]; it.dispatchEvent(new Event('change'))", name)
+    b.run("const it = document.querySelector('#pane-capture .drop select'); it.value = given[0]; it.dispatchEvent(new Event('change'))",
+        name)
     b.waits("document.querySelector('#told').textContent.startsWith(given[0]) && !page.programs[1].isBusy", name)
 
 
 def columns(b, number):
     """What stands in a column of the list."""
-    return b.run("return [...document.querySelectorAll(`#pane-capture .scroller .row span:nth-child(${given[0]})`)].map((it) => it.textContent)",
-                 number)
+    return b.run("const all = document.querySelectorAll(`#pane-capture .scroller .row span:nth-child(${given[0]})`);"
+                 "return [...all].map((it) => it.textContent)", number)
 
 
 def framed(b, _):
@@ -241,7 +247,8 @@ def named(b, _):
     captured(b, f"{TOP}/tests/decode/kinds.pcap")
     same(b.run(shown, "capture"), ["", ""], "a file")
     labels = b.run("return [...document.querySelectorAll('button')].map((it) => it.textContent)")
-    want(labels.count("Save picture") == 3 and "Copy link" in labels and "Cancel" in labels and not {"Picture", "Link"} & set(labels), str(labels))
+    want(labels.count("Save picture") == 3 and "Copy link" in labels and "Cancel" in labels and not {"Picture", "Link"} & set(labels),
+        str(labels))
 
 
 def narrow(b, _):
@@ -267,7 +274,8 @@ def narrow(b, _):
     settled(b, "router")
     want(b.run("""
         const picture = document.querySelector('#pane-router .picture').getBoundingClientRect();
-        const head = [...document.querySelectorAll('#pane-router .picture text')].find((it) => it.textContent === 'router').getBoundingClientRect();
+        const words = [...document.querySelectorAll('#pane-router .picture text')];
+        const head = words.find((it) => it.textContent === 'router').getBoundingClientRect();
         return head.left >= picture.left && head.right <= picture.right;"""), "the router is out of sight")
     b.resize(1280, 940)
 

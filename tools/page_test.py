@@ -27,7 +27,8 @@ def pictures(b, _):
             page_checks.shows(b, pane)
             b.run("await new Promise((it) => setTimeout(it, 400))")
             b.waits("!page.programs.some((it) => it.isBusy)")
-            page_checks.want(b.run("return document.documentElement.scrollWidth <= innerWidth"), f"{pane} is wider than the window ({name})")
+            page_checks.want(b.run("return document.documentElement.scrollWidth <= innerWidth"),
+                f"{pane} is wider than the window ({name})")
             b.looks(f"{PICTURES}/{pane}-{name}.png")
     b.dark(False)
     b.resize(*WIDE)

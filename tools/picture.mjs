@@ -137,7 +137,8 @@ const PORTS = ["port 00000010 000000000001 1 576", "port 00000020 000000000002 1
 const RESPONSE = "FFFF0028000100000020FFFFFFFFFFFF0453000000200000000000BB045300020000003000010002";
 const PACKET = "FFFF001E0000000000200000000000CC4003000000100000000000AA4003";
 
-// A script of one router, and one of an internet, of so many lines each, in which in turn time passes, packets come, and ports go down and up.
+// A script of one router, and one of an internet, of so many lines each, in which in turn time passes, packets come, and ports go down and
+// up.
 const LONG = {
     script: (count) => [...PORTS, "start", ...filled(count - 3, ["second 20", `in 1 ${RESPONSE}`, `in 0 ${PACKET}`])],
     internet: (count) => ["router", ...PORTS, "router", "port 00000020 000000000003 1 576", "start 0", "start 1",

@@ -1,5 +1,6 @@
 /* What `ipxr replay FILE` writes for lines `in 0 DIGITS` of packets for network 20, by a plain program with buffers of bytes: what
- * tools/text_speed compares with. It forwards them to the node on port 1 that they are for, proves nothing, and passes over all other lines. */
+ * tools/text_speed compares with. It forwards them to the node on port 1 that they are for, proves nothing, and passes over all other
+ * lines. */
 #include <fcntl.h>
 #include <stdint.h>
 #include <stdlib.h>

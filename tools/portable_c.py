@@ -1,7 +1,7 @@
 """One file of portable C of the program: what wasm2c makes of its WebAssembly, and what stands around that in host/.
 
-wasm2c's code asks a runtime of its own for the memory, and hands an instance from function to function. Here there is one instance: the memory and
-the globals are static, and host/portable.h has what is left of the runtime.
+wasm2c's code asks a runtime of its own for the memory, and hands an instance from function to function. Here there is one instance: the
+memory and the globals are static, and host/portable.h has what is left of the runtime.
 """
 import os
 import re

@@ -1,7 +1,7 @@
 // What the built program says of a script, command by command, and of a capture.
 //
-// A script is played whole, so that it takes time as its length. Between any two commands stand marks: lines that do nothing, and whose answer
-// is known. So it is known which answer is of which command.
+// A script is played whole, so that it takes time as its length. Between any two commands stand marks: lines that do nothing, and whose
+// answer is known. So it is known which answer is of which command.
 import { existsSync } from "node:fs";
 import { fileURLToPath } from "node:url";
 import { spawnSync } from "node:child_process";

@@ -48,8 +48,8 @@ class Commit:
 
 
 def processors():
-    """For which processors the gate built the programs: as its log tells, or where it took them over from an earlier run, as the toolchain does it
-    by itself."""
+    """For which processors the gate built the programs: as its log tells, or where it took them over from an earlier run, as the toolchain
+    does it by itself."""
     if not os.path.isfile(f"{layout.TOP}/{LOG}"):
         return "not told: the gate's log isn't here"
     told = set(re.findall(r"\bcpu=(\S+)", layout.content(LOG).decode(errors="replace")))

@@ -1,6 +1,7 @@
-/* Linked into a program in the place of include/heap.c, and between it and its reads and writes, it does what tools/refuse.c does where a library
- * can't be preloaded: one request for memory is refused, one read or one write fails, or every read and write moves one byte. The variable REFUSE
- * says which; REFUSE_TELL names a file that is made where a refusal came. The system's own calls are real_read and real_write. */
+/* Linked into a program in the place of include/heap.c, and between it and its reads and writes, it does what tools/refuse.c does where a
+ * library can't be preloaded: one request for memory is refused, one read or one write fails, or every read and write moves one byte. The
+ * variable REFUSE says which; REFUSE_TELL names a file that is made where a refusal came. The system's own calls are real_read and
+ * real_write. */
 #include <errno.h>
 #include <stdbool.h>
 #include <stdint.h>

@@ -1,11 +1,11 @@
 #!/usr/bin/env python3
 """Compiles the program (ipxr) or the library for C (ipx_c) for another system than Linux on x86-64: targets.py CRATE SYSTEM FILE.o
 
-For 64-bit ARM the toolchain has a target of its own, and is given that: it knows faults of LLVM there, and writes around them. For Windows a kept
-module (tools/modules.py) is compiled by the toolchain's own clang, by the words that compiled it for Linux, but for the target's own. Such a system
-has 64 bits, its lowest byte first, and types that lie in memory as they do on Linux. All that a module knows of its target is the layout of its
-types, the attributes of its functions, and how C hands over a small struct. These are written anew in its text; its code is not. A module with what
-only Linux on x86-64 has, as assembly, is refused.
+For 64-bit ARM the toolchain has a target of its own, and is given that: it knows faults of LLVM there, and writes around them. For Windows
+a kept module (tools/modules.py) is compiled by the toolchain's own clang, by the words that compiled it for Linux, but for the target's
+own. Such a system has 64 bits, its lowest byte first, and types that lie in memory as they do on Linux. All that a module knows of its
+target is the layout of its types, the attributes of its functions, and how C hands over a small struct. These are written anew in its text;
+its code is not. A module with what only Linux on x86-64 has, as assembly, is refused.
 """
 import os
 import re
@@ -84,7 +84,8 @@ def text_of(module):
 
 def layout_of(triple):
     """How types lie in memory there, by clang's own word."""
-    return re.search(r'(?m)^target datalayout = "(.*)"$', clang(f"--target={triple}", "-S", "-emit-llvm", "-x", "c", os.devnull, "-o", "-"))[1]
+    return re.search(r'(?m)^target datalayout = "(.*)"$',
+        clang(f"--target={triple}", "-S", "-emit-llvm", "-x", "c", os.devnull, "-o", "-"))[1]
 
 
 def replaced_once(pattern, by, text):

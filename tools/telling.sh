@@ -17,8 +17,8 @@ prove() {
 # with_heap FOLDER AR: the library with the allocator that was compiled there.
 with_heap() { cp "$1/libipx_c.a" "$1/libipxr.a" && "$2" rs "$1/libipxr.a" "$1/heap.o" 2>build/log; }
 
-# shared FOLDER COMPILER: the shared library, whose name for programs (its soname) has the first number of the release; it shows the calls of the
-# header alone.
+# shared FOLDER COMPILER: the shared library, whose name for programs (its soname) has the first number of the release; it shows the calls
+# of the header alone.
 shared() {
     local release
     release=$(cat VERSION)

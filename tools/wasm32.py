@@ -3,17 +3,17 @@
 
     tools/wasm32.py [--checked] [--tables] IN.wasm OUT.wasm
 
-Numbers that hold an address stay 64 bits wide, and so do the parameters of functions that are imported and exported. An address is cut to its
-lower 32 bits where it is used: by a load or a store, by what copies or fills, and by a call through a table. The size of a memory or table is
-widened where it is asked for, and so is the -1 of a growth that is refused. Limits and the places of segments are written anew.
+Numbers that hold an address stay 64 bits wide, and so do the parameters of functions that are imported and exported. An address is cut to
+its lower 32 bits where it is used: by a load or a store, by what copies or fills, and by a call through a table. The size of a memory or
+table is widened where it is asked for, and so is the -1 of a growth that is refused. Limits and the places of segments are written anew.
 
-What is assumed: an address that is used, or a count of bytes, is below 2^32. A larger one traps with 64 bits, since no memory reaches that far; here
-its upper half is cut off. With --checked it traps here too, for which each access pays. An access whose offset, as the instruction has it,
-is 2^32 or more always traps, in both; and to grow by so much is refused, in both.
+What is assumed: an address that is used, or a count of bytes, is below 2^32. A larger one traps with 64 bits, since no memory reaches that
+far; here its upper half is cut off. With --checked it traps here too, for which each access pays. An access whose offset, as the
+instruction has it, is 2^32 or more always traps, in both; and to grow by so much is refused, in both.
 
 With --tables only the tables are lowered, for engines that know no wide ones. An engine checks all types before it runs a module, and so
-refuses one in which an address is left that should have been cut. Custom sections are left out, but for the names. It stops at whatever it doesn't
-know.
+refuses one in which an address is left that should have been cut. Custom sections are left out, but for the names. It stops at whatever it
+doesn't know.
 """
 import sys
 

@@ -142,8 +142,8 @@ class Body:
         return bytes([LOCAL_TEE]) + whole + most + bytes([LOCAL_GET]) + whole + most + I64_LT_U + SELECT + WRAP
 
     def narrow(self, operands):
-        """Cuts what is wide among the operands, of which the last is on top. Those above the lowest of these step aside for it; where that is one,
-        and the instruction before did nothing but to put it there, this comes first."""
+        """Cuts what is wide among the operands, of which the last is on top. Those above the lowest of these step aside for it; where that
+        is one, and the instruction before did nothing but to put it there, this comes first."""
         if WIDE not in operands:
             return b""
         above = operands[operands.index(WIDE) + 1 :]

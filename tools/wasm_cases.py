@@ -1,7 +1,7 @@
 """The small modules of tests/wasm, which tools/wasm lowers and plays.
 
-Each is text for the toolchain's assembler. A line `#> NAME ARGUMENT.. = RESULT` in it is a call of a function, and what it returns as JavaScript
-writes it; `trap` where it traps, and nothing where it returns nothing. Where 64 bits trap and an address that is cut doesn't,
+Each is text for the toolchain's assembler. A line `#> NAME ARGUMENT.. = RESULT` in it is a call of a function, and what it returns as
+JavaScript writes it; `trap` where it traps, and nothing where it returns nothing. Where 64 bits trap and an address that is cut doesn't,
 `= trap, cut RESULT` tells both.
 A line `#! FLAG..` has flags for the linker. The calls of a module are made one after the other.
 """
@@ -92,7 +92,8 @@ def code(*content):
 def segments():
     """A module with what the linker doesn't make: segments that are there to be copied, and one that names its memory."""
     names = ("init", "drop", "word", "put", "forget", "call")
-    three, data, exports = (0x20, 0, 0x20, 1, 0x20, 2), b"SEGMENTS", [bytes([len(it)]) + it.encode() + bytes([0, at]) for at, it in enumerate(names)]
+    three, data = (0x20, 0, 0x20, 1, 0x20, 2), b"SEGMENTS"
+    exports = [bytes([len(it)]) + it.encode() + bytes([0, at]) for at, it in enumerate(names)]
     codes = [code(*three, 0xFC, 8, 0, 0), code(0xFC, 9, 0), code(0x20, 0, 0x29, 0, 0), code(*three, 0xFC, 12, 0, 0), code(0xFC, 13, 0),
              code(0x42, 20, 0x20, 0, 0x11, 2, 0), code(0x20, 0, 0x42, 1, 0x7C)]
     return b"".join([
@@ -141,7 +142,8 @@ REFUSED = {
     HEAD + section(5, b"\4" + unsigned(65537)): "section 5, byte 5: at least 65537, which 32 bits don't reach",
     HEAD + section(5, b"\4\1", b"\4\1"): "section 5, byte 3: a second memory",
     HEAD + section(5, b"\4\1") + section(11, b"\0\x23\0\x0b\0"): "section 11, byte 3: a segment that doesn't begin at a constant",
-    HEAD + section(5, b"\4\1") + section(11, b"\0\x42\1\x42\1\x7c\x0b\0"): "section 11, byte 5: a segment that doesn't begin at one constant",
+    HEAD + section(5, b"\4\1") + section(11, b"\0\x42\1\x42\1\x7c\x0b\0"):
+        "section 11, byte 5: a segment that doesn't begin at one constant",
     HEAD + section(5, b"\4\1") + section(11, b"\0\x42\x7f\x0b\0"): "section 11, byte 5: a segment at -1, which 32 bits don't reach",
     HEAD + section(4, b"\x70\4\1") + section(9, b"\5\x70\0"): "section 9, byte 2: a segment of kind 5",
     function(0x12, 0): "function 0, byte 2: an instruction 0x12",

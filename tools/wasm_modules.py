@@ -55,7 +55,8 @@ def module(name, keeps_names=False):
     os.makedirs(FOLDER, exist_ok=True)
     made, strips = f"{FOLDER}/linked.wasm", "--strip-debug" if keeps_names else "--strip-all"
     exports = [f"--export={it}" for it in exported(name)]
-    tool("ld.lld", *LINKER, "-z", f"stack-size={STACKS[name]}", strips, *exports, f"--allow-undefined-file={HOST}/imports", compiled(name), *host(), "-o", made)
+    tool("ld.lld", *LINKER, "-z", f"stack-size={STACKS[name]}", strips, *exports, f"--allow-undefined-file={HOST}/imports", compiled(name),
+        *host(), "-o", made)
     with open(made, "rb") as it:
         return it.read()
 

@@ -1,8 +1,8 @@
 """Writes a module's vectors as calls of functions that are imported, for what knows no vectors: wasm2c of these days.
 
-A vector becomes an f32, a type that the module has no other use for; whoever reads the calls takes it for a vector again. What works on vectors
-becomes a call: i8x16.add of `vectors.i8x16_add`, with what else stands in the instruction as arguments: an offset, a lane. A shuffle's
-name has its sixteen lanes in hexadecimal digits. It stops at whatever it doesn't know.
+A vector becomes an f32, a type that the module has no other use for; whoever reads the calls takes it for a vector again. What works on
+vectors becomes a call: i8x16.add of `vectors.i8x16_add`, with what else stands in the instruction as arguments: an offset, a lane. A
+shuffle's name has its sixteen lanes in hexadecimal digits. It stops at whatever it doesn't know.
 """
 from wasm32 import ELEMENT, EXPORT, FUNCTION_FORM, IMPORT, IS_FUNCTION, START, TABLE, TYPE, Lowering, rewritten
 from wasm32_code import SIMD_ACCESSES, WITH_LANE, Body
@@ -48,7 +48,8 @@ def of_memory():
 def of_lanes():
     """The same for what takes a lane out, or puts one in."""
     found = [(shape, name) for shape, names in LANES.items() for name in names]
-    ends = [([V128, I32], [SHAPES[shape][2]]) if name.startswith("extract") else ([V128, SHAPES[shape][2], I32], [V128]) for shape, name in found]
+    ends = [([V128, I32], [SHAPES[shape][2]]) if name.startswith("extract") else ([V128, SHAPES[shape][2], I32], [V128])
+        for shape, name in found]
     return {21 + at: (f"{shape}_{name}", end) for at, ((shape, name), end) in enumerate(zip(found, ends))}
 
 

@@ -9,8 +9,8 @@ wine_ends() {
 
 # Makes Wine's folder anew, and says whether a program of Wine's own runs there; where none does, build/log has Wine's words.
 #
-# Its server stays until the end: one that ends between two programs may refuse the second. The first program starts services, which keep that
-# program's output open as long as they run.
+# Its server stays until the end: one that ends between two programs may refuse the second. The first program starts services, which keep
+# that program's output open as long as they run.
 wine_begins() {
     export WINEDEBUG=-all WINEPREFIX=$PWD/build/wine LC_ALL=C.UTF-8
     wine_ends

@@ -1,5 +1,5 @@
-/* Where the program gets its memory in WebAssembly, which has pages that are added at its end and nothing else. A block has a length that is
- * a power of two, with what stands before it; one that is given back waits for the next request of its length. */
+/* Where the program gets its memory in WebAssembly, which has pages that are added at its end and nothing else. A block has a length that
+ * is a power of two, with what stands before it; one that is given back waits for the next request of its length. */
 typedef __SIZE_TYPE__ size_t;
 
 enum { HEAD = 16, LEAST = 5, POWERS = 64, PAGE = 65536, SPARE = 8 };

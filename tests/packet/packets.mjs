@@ -1,5 +1,6 @@
 // Words of packets to digits and back, for tools/packet: packets of each kind, all of examples/ and of the transcripts, packets that are
-// changed at random, and words that are wrong. What is written is compared with the packets of tests/web, which that makes by itself, byte by byte.
+// changed at random, and words that are wrong. What is written is compared with the packets of tests/web, which that makes by itself, byte
+// by byte.
 import { readdirSync, readFileSync } from "node:fs";
 import { fileURLToPath } from "node:url";
 import { packetsOf, scriptOf } from "../../tools/packet_scripts.mjs";

@@ -1,5 +1,5 @@
-/* A program as Microsoft's compiler makes one, with the DLL and nothing of a C library. It ends with 0 where a router of two networks starts, sends
- * six packets, copies one out, learns a route and tells it. */
+/* A program as Microsoft's compiler makes one, with the DLL and nothing of a C library. It ends with 0 where a router of two networks
+ * starts, sends six packets, copies one out, learns a route and tells it. */
 #include "ipxr.h"
 
 __declspec(dllimport) void ExitProcess(unsigned status);

@@ -1,5 +1,5 @@
-"""How the program of another system is called: called.py PROGRAM [RUNNER..]. Words that are no command, files that are there and aren't, names of
-other scripts: status, text and standard error are those of the program of this machine. The last line is 'N passed, M failed'."""
+"""How the program of another system is called: called.py PROGRAM [RUNNER..]. Words that are no command, files that are there and aren't,
+names of other scripts: status, text and standard error are those of the program of this machine. The last line is 'N passed, M failed'."""
 import os
 import shutil
 import subprocess

@@ -1,7 +1,7 @@
 /* Types at a console of Windows what a user would, while a program reads there: console KEYS OUTPUT PROGRAM WORD..
  *
- * In KEYS a | is the key Enter, and ^ with a letter is that letter with Ctrl. Ctrl-C is pressed once the program has taken all that was typed before.
- * The program writes into the file OUTPUT; OUTPUT.status gets its exit status. */
+ * In KEYS a | is the key Enter, and ^ with a letter is that letter with Ctrl. Ctrl-C is pressed once the program has taken all that was
+ * typed before. The program writes into the file OUTPUT; OUTPUT.status gets its exit status. */
 #include <stdio.h>
 #include <wchar.h>
 #include <windows.h>

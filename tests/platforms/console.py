@@ -12,7 +12,8 @@ import tempfile
 HERE = os.path.dirname(os.path.realpath(__file__))
 PORT = "port 00000010 000000000001 1 576"
 RESPONSE = "out 0 FFFFFFFFFFFF "
-# Each with its name, the keys, what is answered as a pattern, and the status; none where the system ends the program: Windows has C000013Ah, Wine 0.
+# Each with its name, the keys, what is answered as a pattern, and the status; none where the system ends the program: Windows has
+# C000013Ah, Wine 0.
 TRIED = [
     ("lines are answered, and Ctrl-Z ends the input", f"{PORT}|start|^Z|", rf"(?:{RESPONSE}\w+\n)+", 0),
     ("Ctrl-Z within a line is a letter like any other", f"{PORT}|start^Z|", r"line 2: \w+\n", 2),

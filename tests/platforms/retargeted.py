@@ -1,5 +1,5 @@
-"""Which modules are compiled for another system, by small ones: one that asks for what only Linux on x86-64 has is refused. The last line is
-'N passed, M failed'."""
+"""Which modules are compiled for another system, by small ones: one that asks for what only Linux on x86-64 has is refused. The last line
+is 'N passed, M failed'."""
 import os
 import sys
 
@@ -11,11 +11,13 @@ HEAD = 'target datalayout = ""\ntarget triple = ""\n'
 PAIR = "declare { i64, i64 } @f(i64 noundef) #0"
 # Each with its name, the module, and what its text then has; nothing where it is refused.
 TRIED = [
-    ("a call of the host by another name", "declare i64 @read(i32, ptr, i64)\ndefine i64 @main() {\n  %r = call i64 @read(i32 0, ptr null, i64 0)",
+    ("a call of the host by another name",
+        "declare i64 @read(i32, ptr, i64)\ndefine i64 @main() {\n  %r = call i64 @read(i32 0, ptr null, i64 0)",
      "call i64 @host_read("),
     ("its place as well", "declare i64 @read(i32, ptr, i64)\ndefine ptr @main() {\n  ret ptr @read", "ret ptr @host_read"),
     ("a name that only begins so stays", "declare i64 @read_all(i32)", "@read_all("),
-    ("two words that come back", f"{PAIR}\ndefine i64 @g() {{\n  %r = call {{ i64, i64 }} @f(i64 1)", '%r = call { i64, i64 } @"f by pointer"(i64 1)'),
+    ("two words that come back", f"{PAIR}\ndefine i64 @g() {{\n  %r = call {{ i64, i64 }} @f(i64 1)",
+        '%r = call { i64, i64 } @"f by pointer"(i64 1)'),
     ("two words that come back otherwise", f"{PAIR}\ndefine i64 @g() {{\n  %r = call fastcc {{ i64, i64 }} @f(i64 1)", ""),
     ("the place of what gives two words back", f"{PAIR}\n@place = global ptr @f", ""),
     ("two other values that come back", "declare { ptr, i64 } @f(i64)", ""),

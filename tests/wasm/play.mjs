@@ -1,5 +1,5 @@
-// Plays a module: node play.mjs MODULE.wasm <CALLS. Each line of the calls is a function's name and its arguments, as JavaScript writes them.
-// Prints a line for each: what it returned, nothing where that is nothing, or trap.
+// Plays a module: node play.mjs MODULE.wasm <CALLS. Each line of the calls is a function's name and its arguments, as JavaScript writes
+// them. Prints a line for each: what it returned, nothing where that is nothing, or trap.
 import { readFileSync } from "node:fs";
 
 // A memory of a page, with wide addresses where the module asks for them. (The words for these changed with the engines.)

@@ -7,9 +7,11 @@ import { address, EVERYONE, hex, packet, routeRequest, routes, serviceQuery, ser
 
 const HEADER = readFileSync("include/ipxr.h", "utf8");
 // (those of a tunnel, which has a header of its own, aren't the module's)
-const ANSWERS = readFileSync("examples/embed/c/header.out", "utf8").trim().split("\n").map((line) => line.match(/^IPXR_(\w+): (-?\d+) (.*)$/))
+const ANSWERS = readFileSync("examples/embed/c/header.out",
+    "utf8").trim().split("\n").map((line) => line.match(/^IPXR_(\w+): (-?\d+) (.*)$/))
     .filter(([, name]) => HEADER.includes(`#define IPXR_${name} `));
-const CALLS = Array.from(HEADER.matchAll(/^IPXR_CALL \w+ (ipxr_\w+)\(([^)]*)\)/gm), ([, name, of]) => [name, of.split(",").map((it) => it.trim())]);
+const CALLS = Array.from(HEADER.matchAll(/^IPXR_CALL \w+ (ipxr_\w+)\(([^)]*)\)/gm),
+    ([, name, of]) => [name, of.split(",").map((it) => it.trim())]);
 // The places of buffers, and their room, are the module's own.
 const OWN = /\*(?!router)|\[6\]|size_t room/;
 const PORTS = [
@@ -25,7 +27,8 @@ const seen = watched((name, given) => {
 const it = await fresh();
 const { Router, Outcome, Drop, Fault, Frame, IpxrError, words } = it;
 
-const fault = (number) => (why) => why instanceof IpxrError && why instanceof Error && why.number === number && why.message === words(number);
+const fault = (number) => (why) => why instanceof IpxrError && why instanceof Error && why.number === number
+    && why.message === words(number);
 const defined = (pattern) => Object.fromEntries(Array.from(HEADER.matchAll(pattern), ([, name, value]) => [name, Number(value)]));
 const told = (happened) => words(happened.outcome);
 
@@ -55,7 +58,8 @@ await check("events and questions", () => {
     assert.deepEqual(router.start(), { outcome: Outcome.ALREADY_RUNNING, sent: [] });
     assert.equal(router.isRunning() && other.isRunning(), true);
     assert.equal(told(router.packet(1, routes(0x20, "0000000000BB", [[0x30, 1, 2], [0x31, 2, 3]]))), "learned");
-    const offers = [[4, "FILES", 0x451], [7, "PRINT", 0x452]].map(([type, name, socket]) => [type, name, address(0x30, "000000000001", socket), 1]);
+    const offers = [[4, "FILES", 0x451], [7, "PRINT", 0x452]].map(([type, name, socket]) =>
+        [type, name, address(0x30, "000000000001", socket), 1]);
     assert.equal(told(router.packet(1, services(0x20, "0000000000BB", offers))), "learned");
     assert.equal(told(other.packet(0, routes(0x20, "0000000000BB", [[0x40, 1, 2]]))), "learned");
     assert.equal(told(other.packet(0, services(0x20, "0000000000BB", offers.slice(1)))), "learned");
@@ -77,7 +81,8 @@ await check("events and questions", () => {
         assert.equal(told(router.portUp(port)), "came up");
         assert.equal(told(router.portUp(port)), "already up");
     }
-    assert.deepEqual([other.portDown(0), other.isUp(0), other.portUp(0)].map((one) => one.outcome ?? one), [Outcome.WENT_DOWN, false, Outcome.CAME_UP]);
+    assert.deepEqual([other.portDown(0), other.isUp(0), other.portUp(0)].map((one) => one.outcome ?? one),
+        [Outcome.WENT_DOWN, false, Outcome.CAME_UP]);
     for (const one of [router, other]) {
         assert.equal(told(one.stop()), "stopped");
         one.free();
@@ -97,7 +102,8 @@ await check("a packet that was returned stays, whatever comes after it", () => {
 await check("faults are thrown, with the header's numbers and words", () => {
     const router = new Router(PORTS);
     router.start();
-    for (const call of [() => router.packet(2, new Uint8Array(30)), () => router.portDown(2), () => router.portUp(255), () => router.isUp(2)])
+    for (const call of [() => router.packet(2, new Uint8Array(30)), () => router.portDown(2), () => router.portUp(255),
+        () => router.isUp(2)])
         assert.throws(call, fault(Fault.NO_PORT));
     const spoiled = (what) => () => new Router([PORTS[0], { ...PORTS[1], ...what }]);
     assert.throws(() => new Router([]), fault(Fault.NO_PORTS));
@@ -150,7 +156,8 @@ await check("frames of each kind are written and read", () => {
 await check("the numbers of packets that are written are the header's", () => {
     const { RIP_SOCKET, SAP_SOCKET, PACKET_ROUTES, PACKET_SERVICES } = it;
     const numbers = defined(/^#define IPXR_(RIP_\w+|SAP_SOCKET|PACKET_\w+) (\w+)/gm);
-    assert.deepEqual({ RIP_SOCKET, SAP_SOCKET, RIP_REQUEST: it.Rip.REQUEST, RIP_RESPONSE: it.Rip.RESPONSE, PACKET_ROUTES, PACKET_SERVICES }, numbers);
+    assert.deepEqual({ RIP_SOCKET, SAP_SOCKET, RIP_REQUEST: it.Rip.REQUEST, RIP_RESPONSE: it.Rip.RESPONSE, PACKET_ROUTES, PACKET_SERVICES },
+        numbers);
 });
 
 await check("packets are written as docs/PACKETS.md has them", () => {
@@ -158,7 +165,8 @@ await check("packets are written as docs/PACKETS.md has them", () => {
     const all = (network, socket) => ({ network, node: it.BROADCAST, socket });
     const [rip, sap] = [it.RIP_SOCKET, it.SAP_SOCKET];
     const ways = [[0x30, 1, 2], [0x31, 16, 3]].map(([network, hops, ticks]) => ({ network, hops, ticks }));
-    assert.equal(hex(it.writeRip(end(0x20, 0xbb, rip), all(0x20, rip), it.Rip.RESPONSE, ways)), hex(routes(0x20, "0000000000BB", [[0x30, 1, 2], [0x31, 16, 3]])));
+    assert.equal(hex(it.writeRip(end(0x20, 0xbb, rip), all(0x20, rip), it.Rip.RESPONSE, ways)),
+        hex(routes(0x20, "0000000000BB", [[0x30, 1, 2], [0x31, 16, 3]])));
     const asked = { network: 0xffffffff, hops: 0xffff, ticks: 0xffff };
     assert.equal(hex(it.writeRip(end(0x10, 0xaa, rip), all(0x10, rip), it.Rip.REQUEST, [asked])), hex(routeRequest(0x10, "0000000000AA")));
     assert.equal(hex(it.writeQuery(end(0x10, 0xaa, sap), all(0x10, sap), false, 0xffff)), hex(serviceQuery(0x10, "0000000000AA")));
@@ -188,12 +196,14 @@ await check("what isn't written is a fault, with the header's number and words",
     const many = (count, one) => Array(count).fill(one);
     assert.throws(() => it.writeRip(here, here, 3, []), fault(Fault.BAD_OPERATION));
     assert.throws(() => it.writeRip(here, here, 1, []), fault(Fault.NO_ENTRIES));
-    for (const count of [51, 8191, 8192, 10000]) assert.throws(() => it.writeRip(here, here, 2, many(count, way)), fault(Fault.MANY_ENTRIES));
+    for (const count of [51, 8191, 8192, 10000]) assert.throws(() => it.writeRip(here, here, 2, many(count, way)),
+        fault(Fault.MANY_ENTRIES));
     assert.throws(() => it.writeSap(here, here, true, []), fault(Fault.NO_ENTRIES));
     for (const count of [8, 1024]) assert.throws(() => it.writeSap(here, here, false, many(count, offer)), fault(Fault.MANY_ENTRIES));
     for (const length of [0, 48, 49, 1000])
         assert.throws(() => it.writeSap(here, here, false, [offer, { ...offer, name: "A".repeat(length) }]), fault(Fault.BAD_NAME));
-    for (const length of [65506, 65536, 200000]) assert.throws(() => it.writePacket(here, here, 0, 0, new Uint8Array(length)), fault(Fault.LONG_PACKET));
+    for (const length of [65506, 65536, 200000]) assert.throws(() => it.writePacket(here, here, 0, 0, new Uint8Array(length)),
+        fault(Fault.LONG_PACKET));
     assert.equal(it.writeRip(here, here, 2, many(50, way)).length, 432);
     assert.equal(it.writeSap(here, here, false, many(7, { ...offer, name: "A".repeat(47) })).length, 480);
 });

@@ -1,4 +1,5 @@
-// What the tests for JavaScript have in common. Each is started with the folder of ipxr.mjs and libipxr.wasm, and prints a line for each check.
+// What the tests for JavaScript have in common. Each is started with the folder of ipxr.mjs and libipxr.wasm, and prints a line for each
+// check.
 import { spawn } from "node:child_process";
 import { once } from "node:events";
 import { resolve } from "node:path";

@@ -18,12 +18,15 @@ const TURNS = 20000;
 // What is no number of a field of so many bytes; no node; and no bytes.
 const NOTHING = [undefined, null, true, "1", "", 1n, {}, [], [1], () => 1, Symbol("1"), new Date(1), Object(1)];
 const noNumber = (size) => [...NOTHING, NaN, Infinity, -Infinity, -1, 0.5, 2 ** (8 * size), 2 ** 53, -(2 ** 53)];
-const NO_NODE = [...NOTHING, 1, NODE.slice(1), [...NODE, 0], "000000000001", [0, 0, 0, 0, 0, 256], [0, 0, 0, 0, 0, -1], [0, 0, 0, 0, 0, "1"], Array(6),
+const NO_NODE = [...NOTHING, 1, NODE.slice(1), [...NODE, 0], "000000000001", [0, 0, 0, 0, 0, 256], [0, 0, 0, 0, 0, -1],
+    [0, 0, 0, 0, 0, "1"], Array(6),
     new Uint16Array(6), new Uint8Array(5), new ArrayBuffer(6), { length: 6 }];
-const NO_BYTES = [...NOTHING, 1, NODE, new ArrayBuffer(30), new DataView(new ArrayBuffer(30)), new Uint16Array(30), new Uint8ClampedArray(30),
+const NO_BYTES = [...NOTHING, 1, NODE, new ArrayBuffer(30), new DataView(new ArrayBuffer(30)), new Uint16Array(30),
+    new Uint8ClampedArray(30),
     new Int8Array(30), { length: 30 }];
 
-const refuses = (values, call) => values.forEach((value) => assert.throws(() => call(value), TypeError, `${typeof value} ${String(value)}`));
+const refuses = (values, call) => values.forEach((value) =>
+    assert.throws(() => call(value), TypeError, `${typeof value} ${String(value)}`));
 
 // Numbers below a bound that look random, the same each time.
 function random(seed) {
@@ -82,7 +85,8 @@ await check("ports of wrong types are TypeErrors", () => {
     refuses(noNumber(4), (network) => new Router([{ ...PORT, network }]));
     refuses(NO_NODE, (node) => new Router([{ ...PORT, node }]));
     for (const name of ["cost", "longest"]) refuses(noNumber(2), (value) => new Router([{ ...PORT, [name]: value }]));
-    for (const name of ["routes", "services"]) refuses(noNumber(2).filter((value) => value != null), (value) => new Router([{ ...PORT, [name]: value }]));
+    for (const name of ["routes", "services"]) refuses(noNumber(2).filter((value) => value != null),
+        (value) => new Router([{ ...PORT, [name]: value }]));
     assert.throws(() => Router([PORT]), TypeError);
     assert.throws(() => Router.prototype.start.call({}), TypeError);
 });
@@ -136,13 +140,15 @@ await check(`${TURNS} packets and frames of random bytes have outcomes that have
 });
 
 await check("the library is loaded from whatever has it", async () => {
-    const server = createServer(({ url }, response) => response.writeHead(url === "/libipxr.wasm" ? 200 : 404).end(bytes)).listen(0, "127.0.0.1");
+    const server = createServer(({ url }, response) => response.writeHead(url === "/libipxr.wasm" ? 200 : 404).end(bytes)).listen(0,
+        "127.0.0.1");
     await new Promise((resolve) => server.once("listening", resolve));
     const at = `http://127.0.0.1:${server.address().port}`;
     const path = `${folder}/libipxr.wasm`;
     const module = await WebAssembly.compile(bytes);
     const sources = [undefined, path, pathToFileURL(path), `${pathToFileURL(path)}`, bytes, Uint8Array.from(bytes).buffer,
-        module, Promise.resolve(bytes), `${at}/libipxr.wasm`, fetch(`${at}/libipxr.wasm`), `data:application/wasm;base64,${bytes.toString("base64")}`];
+        module, Promise.resolve(bytes), `${at}/libipxr.wasm`, fetch(`${at}/libipxr.wasm`),
+            `data:application/wasm;base64,${bytes.toString("base64")}`];
     try {
         for (const source of sources) assert.equal((await fresh(source)).words(Outcome.STARTED), "started", String(source).slice(0, 80));
         await assert.rejects(fresh(`${at}/elsewhere`), /404/);

@@ -39,7 +39,8 @@ export function limited(more) {
         if (bytes[at] === MEMORY_SECTION) {
             const [least] = read(start + 2);
             const content = [1, HAS_MOST, ...written(least), ...written(least + more)];
-            return Buffer.concat([bytes.subarray(0, at), Uint8Array.of(MEMORY_SECTION, ...written(content.length), ...content), bytes.subarray(start + size)]);
+            return Buffer.concat([bytes.subarray(0, at), Uint8Array.of(MEMORY_SECTION, ...written(content.length), ...content),
+                bytes.subarray(start + size)]);
         }
         at = start + size;
     }

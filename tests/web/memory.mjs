@@ -5,7 +5,8 @@ import { bytes, fresh, limited, watched } from "./library.mjs";
 import { routes } from "./packets.mjs";
 
 // A port on each of some networks.
-const portsOf = (count) => Array.from({ length: count }, (_, k) => ({ network: 0x10 + k, node: [0, 0, 0, 0, 0, 1], cost: 1, longest: 576 }));
+const portsOf = (count) => Array.from({ length: count },
+    (_, k) => ({ network: 0x10 + k, node: [0, 0, 0, 0, 0, 1], cost: 1, longest: 576 }));
 const MANY = portsOf(32);
 // Pages that are enough for the library and a few routers.
 const FEW = 40;

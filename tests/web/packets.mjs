@@ -49,7 +49,8 @@ export function routeRequest(network, node) {
 
 // Services, each a type with its name, its address and its hops, that a node of a network advertises.
 export function services(network, node, entries) {
-    const data = entries.map(([type, name, at, hops]) => number(type, 2) + hex(Buffer.from(name.padEnd(NAME, "\0"), "latin1")) + at + number(hops, 2));
+    const data = entries.map(([type, name, at, hops]) => number(type, 2) + hex(Buffer.from(name.padEnd(NAME, "\0"), "latin1")) + at
+        + number(hops, 2));
     return toAll(SAP, network, node, SAP_SOCKET, number(RESPONSE, 2) + data.join(""));
 }
 

@@ -1,5 +1,5 @@
-// Opens pages in a browser: pages.mjs FOLDER NAME COMMAND.. One page comes from a server, and one is a single file. Both play two_networks.mjs, and
-// tell what it printed; the first one also speaks to the relay.
+// Opens pages in a browser: pages.mjs FOLDER NAME COMMAND.. One page comes from a server, and one is a single file. Both play
+// two_networks.mjs, and tell what it printed; the first one also speaks to the relay.
 import assert from "node:assert/strict";
 import { once } from "node:events";
 import { mkdtempSync, readFileSync, rmSync, writeFileSync } from "node:fs";

@@ -1,9 +1,11 @@
 // Uses all that ipxr.d.mts has: tsc takes it.
 import {
-    BROADCAST, Drop, Fault, Frame, IpxrError, LONGEST_FRAME, NO_LIMIT, Outcome, PACKET_ROUTES, PACKET_SERVICES, RIP_SOCKET, Rip, Router, SAP_SOCKET,
+    BROADCAST, Drop, Fault, Frame, IpxrError, LONGEST_FRAME, NO_LIMIT, Outcome, PACKET_ROUTES, PACKET_SERVICES, RIP_SOCKET, Rip, Router,
+        SAP_SOCKET,
     SHORTEST_FRAME, isDrop, readFrame, version, words, writeFrame, writePacket, writeQuery, writeRip, writeSap,
 } from "../../examples/embed/web/ipxr.mjs";
-import type { Address, Happened, NodeBytes, Packet, Port, Route, RouteEntry, Service, ServiceEntry, Source } from "../../examples/embed/web/ipxr.mjs";
+import type { Address, Happened, NodeBytes, Packet, Port, Route, RouteEntry, Service, ServiceEntry,
+    Source } from "../../examples/embed/web/ipxr.mjs";
 
 const node: NodeBytes = Uint8Array.of(0, 0, 0, 0, 0, 1);
 const ports: readonly Port[] = [
@@ -12,7 +14,8 @@ const ports: readonly Port[] = [
 ];
 
 async function load(module: WebAssembly.Module): Promise<void> {
-    const sources: Source[] = [new Uint8Array(), new ArrayBuffer(0), "libipxr.wasm", new URL("http://localhost/libipxr.wasm"), await fetch("libipxr.wasm"), module];
+    const sources: Source[] = [new Uint8Array(), new ArrayBuffer(0), "libipxr.wasm", new URL("http://localhost/libipxr.wasm"),
+        await fetch("libipxr.wasm"), module];
     await Router.load(sources[0]);
     await Router.load(fetch("libipxr.wasm"));
     return Router.load();
@@ -36,8 +39,10 @@ function play(router: Router): string {
 }
 
 function known(router: Router): string {
-    const routes: string[] = router.routes().map((it: Route) => `${it.network} ${it.hops} ${it.ticks} ${it.node.length} ${it.port} ${it.age}`);
-    const services = router.services().map((it: Service) => `${it.name.trim()} ${it.network} ${it.node.length} ${it.socket} ${it.type} ${it.hops}`);
+    const routes: string[] = router.routes().map((it: Route) =>
+        `${it.network} ${it.hops} ${it.ticks} ${it.node.length} ${it.port} ${it.age}`);
+    const services = router.services().map((it: Service) =>
+        `${it.name.trim()} ${it.network} ${it.node.length} ${it.socket} ${it.type} ${it.hops}`);
     const neighbours = router.services().map((it) => it.neighbour.length + it.port + it.age);
     return [...routes, ...services, ...neighbours, router.isRunning() && router.isUp(0)].join("\n");
 }

@@ -1,5 +1,6 @@
 // Uses what ipxr.d.mts has as it isn't meant: tsc refuses each line that says so, and no other.
-import { BROADCAST, Fault, Frame, Outcome, Router, readFrame, words, writeFrame, writeQuery, writeRip, writeSap } from "../../examples/embed/web/ipxr.mjs";
+import { BROADCAST, Fault, Frame, Outcome, Router, readFrame, words, writeFrame, writeQuery, writeRip,
+    writeSap } from "../../examples/embed/web/ipxr.mjs";
 
 const node = [0, 0, 0, 0, 0, 1];
 const router = new Router([{ network: 0x10, node, cost: 1, longest: 576 }]);

@@ -1,5 +1,5 @@
-// How long it takes to forward a packet through a router in JavaScript, as forward.c does through the calls of C: the same router, packets and
-// rounds. Prints nanoseconds a packet, the fewest of several runs. The argument is the folder of ipxr.mjs and libipxr.wasm.
+// How long it takes to forward a packet through a router in JavaScript, as forward.c does through the calls of C: the same router, packets
+// and rounds. Prints nanoseconds a packet, the fewest of several runs. The argument is the folder of ipxr.mjs and libipxr.wasm.
 import { resolve } from "node:path";
 import { pathToFileURL } from "node:url";
 

@@ -1,5 +1,5 @@
-// A cable of Ethernet in messages: a message is a frame without its checksum. Each frame, of whatever protocol, goes to all others, whose cards
-// see by themselves what is for them. The router hears the packets of frames of one kind that are for its node, or for many.
+// A cable of Ethernet in messages: a message is a frame without its checksum. Each frame, of whatever protocol, goes to all others, whose
+// cards see by themselves what is for them. The router hears the packets of frames of one kind that are for its node, or for many.
 import { readFrame, writeFrame } from "./ipxr.mjs";
 
 const ADDRESS = 6;

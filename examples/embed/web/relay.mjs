@@ -2,8 +2,8 @@
 //
 //    js-dos ---- ws://HOST:PORT/ipx ---- network 10 ---- [ router ] ---- network 20 ---- ws://HOST:PORT/ethernet ---- v86
 //
-// Behind each address is a network of its own: of packets as DOSBox' IPXNET has them, and of frames of Ethernet. The router joins them. README.md
-// says what of the emulators was tried.
+// Behind each address is a network of its own: of packets as DOSBox' IPXNET has them, and of frames of Ethernet. The router joins them.
+// README.md says what of the emulators was tried.
 import { createServer } from "node:http";
 import { Frame, Router } from "./ipxr.mjs";
 import { Cable } from "./cable.mjs";
@@ -66,7 +66,8 @@ class Relay {
 
 await Router.load();
 const relay = new Relay();
-const server = createServer((_, response) => response.writeHead(426, { Upgrade: "websocket" }).end("here are WebSockets: /ipx and /ethernet\n"));
+const server = createServer((_, response) => response.writeHead(426,
+    { Upgrade: "websocket" }).end("here are WebSockets: /ipx and /ethernet\n"));
 server.on("upgrade", (request, socket, head) => relay.join(request, socket, head));
 server.listen(Number(process.argv[2] ?? DEFAULT_PORT), process.argv[3] ?? DEFAULT_HOST, () => {
     const { address, port } = server.address();

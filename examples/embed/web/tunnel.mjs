@@ -1,8 +1,8 @@
 // A network of IPX in messages, as DOSBox' IPXNET has it in datagrams: a message is a packet from its checksum on.
 //
-// A client registers by a packet to socket 2 of no node; the answer's destination tells it its network and its node. A packet for a node of this
-// network goes to that node's client, and one for all nodes to all others. The router hears what is for its own node, for all, or for another
-// network.
+// A client registers by a packet to socket 2 of no node; the answer's destination tells it its network and its node. A packet for a node of
+// this network goes to that node's client, and one for all nodes to all others. The router hears what is for its own node, for all, or for
+// another network.
 
 const HEADER = 30;
 const NODE = 6;

@@ -1,5 +1,5 @@
-// Joins two networks, plays a few packets to the router, and prints what it sends; ../c/two_networks.c draws the networks. It runs in Node and
-// in a page.
+// Joins two networks, plays a few packets to the router, and prints what it sends; ../c/two_networks.c draws the networks. It runs in Node
+// and in a page.
 import { Router, words } from "./ipxr.mjs";
 
 const PACKETS = [
