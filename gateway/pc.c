@@ -6,6 +6,7 @@
 #include <errno.h>
 
 #include "clock.h"
+#include "fault.h"
 #include "note.h"
 #include "sockets.h"
 #include "system.h"
@@ -55,12 +56,6 @@ static bool has_more(const cable *it)
 static bool is_out_of_reach(cable *it)
 {
     return it->stream.is_connected && (connection_is_dead(it->fd) || !stream_push(&it->stream, it->fd));
-}
-
-/* Whether the system has no room for one more connection, by its fault. */
-static bool is_for_want_of_room(int fault)
-{
-    return fault == EMFILE || fault == ENFILE || fault == ENOBUFS || fault == ENOMEM;
 }
 
 /* Waits for a second, since the system has no room for one more connection, which it would tell at once, again and again. */

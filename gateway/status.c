@@ -1,19 +1,24 @@
 #include "status.h"
 
+#include <errno.h>
 #include <stdio.h>
 #include <string.h>
 
 #include "clock.h"
 #include "events.h"
+#include "fault.h"
 #include "local.h"
+#include "note.h"
 #include "reload.h"
 #include "sockets.h"
+#include "system.h"
 #include "viewer.h"
 
 enum {
     MOST_STATUS_WORDS = 4,
     TIME_TO_ASK = 10000,  /* milliseconds in which somebody asks who has connected */
     TIME_TO_TAKE = 60000, /* and in which he takes something of what is for him */
+    REST = 1000,          /* and for which nobody is taken where the system has no room for one more connection */
 };
 
 /* (there is one gateway in a program) */
@@ -22,6 +27,8 @@ static struct {
     int listener;
     viewer viewers[MOST_VIEWERS];
     size_t turn; /* whose turn it is to be shown something */
+    bool rests;           /* the system had no room for one more connection, which was told, */
+    uint64_t rests_since; /* when it was asked last */
 } the = {.listener = -1};
 
 bool status_open(const char *path)
@@ -124,9 +131,21 @@ static viewer *place_for_one(void)
     return NULL;
 }
 
+/* Nobody is taken for a while, where the system has no room for one more connection; it is told once. */
+static void rest(int fault)
+{
+    bool is_told = the.rests;
+    the.rests = is_for_want_of_room(fault);
+    the.rests_since = clock_now();
+    errno = fault;
+    if (the.rests && !is_told)
+        event("nobody can ask at %s now: %s", the.path, fault_words());
+}
+
 static void take_one(void)
 {
     int fd = local_take(the.listener);
+    rest(fd < 0 ? errno : 0);
     viewer *v = place_for_one();
     if (fd >= 0 && v != NULL) {
         viewer_begin(v, fd);
@@ -178,7 +197,7 @@ size_t status_waits(watch *list)
         if (v->state != ABSENT)
             list[count++] = (watch){.fd = v->fd, .sends = viewer_pending(v) > 0 || waits_for_piece(v)};
     }
-    if (the.listener >= 0)
+    if (the.listener >= 0 && (!the.rests || clock_now() - the.rests_since >= REST))
         list[count++] = (watch){.fd = the.listener};
     return count;
 }

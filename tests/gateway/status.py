@@ -3,11 +3,13 @@ import contextlib
 import json
 import os
 import re
+import resource
 import shutil
 import socket
 import stat
 import subprocess
 import tempfile
+import time
 
 from lab import (ALL_THERE_IS, EVERYONE, GAME, LIMIT, NOBODY, Client, Counts, Gateway, address, left_out, packet, reaches,
                  rip_response, text_of, tunnels, until)
@@ -18,6 +20,7 @@ HOSTILE = [b'"', b"\\", b"\x1b[2J\x07", b"a b\tc\r\nd", b"\xff\xfe\x80", b"\x7f"
            bytes(range(200, 247)), "größe".encode()]
 ROUTES = 2048  # that fill the table
 MOST_ASKED = 8  # at once
+RESTED = 2  # seconds in which nobody can be taken
 
 
 def asked(path, *words, program=None):
@@ -240,6 +243,31 @@ def many_ask():
             it.close()
 
 
+def processor_time(process):
+    """Seconds of a processor that a process has used."""
+    with open(f"/proc/{process}/stat", encoding="ascii") as it:
+        words = it.read().rpartition(")")[2].split()
+    return (int(words[11]) + int(words[12])) / os.sysconf("SC_CLK_TCK")
+
+
+def no_room_to_ask():
+    """Where the system has no room for one who asks, the gateway says so once, rests, and answers him once there is room."""
+    with Watched(tunnels(1)) as gate:
+        process = gate.run.process()
+        files = len(os.listdir(f"/proc/{process}/fd"))
+        before = resource.prlimit(process, resource.RLIMIT_NOFILE, (files, resource.getrlimit(resource.RLIMIT_NOFILE)[1]))
+        with gate.connects(b"show links\n") as late:
+            assert gate.told("nobody can ask at").endswith(" now: Too many open files")
+            used = processor_time(process)
+            time.sleep(RESTED)
+            used = processor_time(process) - used
+            assert used < RESTED / 10, f"{used} s of a processor"
+            gate.report()
+            assert sum("nobody can ask at" in line for line in gate.lines) == 1
+            resource.prlimit(process, resource.RLIMIT_NOFILE, before)
+            assert answer_of(late).startswith(b"+")
+
+
 def nobody_reads():
     """Who asks for much and reads nothing holds up nobody: packets pass, and others are answered."""
     with Watched(tunnels(2, shares=ALL_THERE_IS, extra="rate none\n")) as gate:
@@ -257,7 +285,8 @@ def main():
     if SYSTEM is Windows:
         left_out("the status socket", "it is Linux' own")
         return counts
-    for test in (seen, all_of_it, as_the_report, hostile_names, full_tables, metrics, wrong_questions, who_may_ask, many_ask, nobody_reads):
+    for test in (seen, all_of_it, as_the_report, hostile_names, full_tables, metrics, wrong_questions, who_may_ask, many_ask,
+                 no_room_to_ask, nobody_reads):
         counts.run(test)
     return counts
 
