@@ -79,7 +79,7 @@ int32_t tunnel_again(gateway *it, network *on)
     static const network NONE = {.tunnel = IPXR_TUNNEL_NONE};
     network old = *on;
     take_tunnel(on, &NONE);
-    int32_t made = tunnel_open(on);
+    int32_t made = tunnel_open(it, on);
     if (made < 0) {
         tunnel_close(on);
         take_tunnel(on, &old);

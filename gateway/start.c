@@ -83,7 +83,7 @@ static int32_t open_tunnels(gateway *it)
     int32_t made = 0;
     for (size_t k = 0; made >= 0 && k < it->count; k++)
         if (it->networks[k].set->type == LINK_DOSBOX)
-            made = tunnel_open(&it->networks[k]);
+            made = tunnel_open(it, &it->networks[k]);
     return made;
 }
 

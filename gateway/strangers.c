@@ -8,6 +8,9 @@
 /* One address gets one part in so many of what goes to all; at once half of what all get. */
 enum { PART_OF_ONE = 8, PART_AT_ONCE = 2 };
 
+/* Bytes of a place that are its address. */
+enum { HOST = 4 };
+
 /* How many at once, in seconds of what goes to all. */
 enum { BURST = 2 };
 
@@ -15,9 +18,10 @@ enum { BURST = 2 };
  * passed; and places of the list for one address. */
 enum { AGAIN = 2, ONCE_MORE = 4, MOST_OF_ONE = 16 };
 
-bool strangers_make(strangers *it, uint32_t rate)
+bool strangers_make(strangers *it, uint32_t rate, const uint8_t key[SIPHASH_KEY])
 {
     memset(it, 0, sizeof *it);
+    memcpy(it->key, key, sizeof it->key);
     it->hosts = malloc(MOST_HOSTS * sizeof *it->hosts);
     if (it->hosts == NULL)
         return false;
@@ -36,11 +40,18 @@ void strangers_free(strangers *it)
     it->hosts = NULL;
 }
 
+/* What an address has been sent. (with a hash that can be told beforehand somebody would choose an address that has a newcomer's) */
+static meter *of_host(strangers *it, const uint8_t place[6])
+{
+    return &it->hosts[siphash(it->key, place, HOST) % MOST_HOSTS];
+}
+
 bool strangers_let(strangers *it, const uint8_t place[6], uint32_t count)
 {
-    meter *host = &it->hosts[get32(place) % MOST_HOSTS];
-    return it->has_no_limit ||
-           (limit_has_room(&it->one, host, count) && limit_lets(&it->all, &it->sent, count) && limit_lets(&it->one, host, count));
+    if (it->has_no_limit)
+        return true;
+    meter *host = of_host(it, place);
+    return limit_has_room(&it->one, host, count) && limit_lets(&it->all, &it->sent, count) && limit_lets(&it->one, host, count);
 }
 
 /* Whether the place of a ping waits already, or as many of its address do as may. */

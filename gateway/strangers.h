@@ -6,9 +6,10 @@
 #include "ipxr_tunnel.h"
 #include "limit.h"
 #include "roster.h"
+#include "siphash.h"
 
 enum {
-    MOST_HOSTS = 4096, /* addresses that are told apart, by their last bits */
+    MOST_HOSTS = 4096, /* addresses that are told apart, by a hash that nobody can tell beforehand */
     MOST_NEW = 64,     /* who registered last, and is pinged again */
 };
 
@@ -23,13 +24,15 @@ typedef struct strangers {
     bool has_no_limit;
     limit all, one;
     meter sent;              /* to all */
+    uint8_t key[SIPHASH_KEY]; /* of that hash */
     meter *hosts;            /* to the addresses */
     newcomer list[MOST_NEW]; /* the oldest is overwritten */
     size_t next;             /* that one */
 } strangers;
 
-/* Makes it for so many datagrams a second, 0 for any number. Returns false where there is no memory. */
-bool strangers_make(strangers *it, uint32_t rate);
+/* Makes it for so many datagrams a second, 0 for any number, with a key of the system's random bytes. Returns false where there is no
+ * memory. */
+bool strangers_make(strangers *it, uint32_t rate, const uint8_t key[SIPHASH_KEY]);
 void strangers_free(strangers *it);
 
 /* Whether so many datagrams may go to a stranger now; they are counted then. */

@@ -25,12 +25,12 @@ enum { MINUTE = 60 };
 
 /* ---- Beginning and end ---- */
 
-int32_t tunnel_open(network *on)
+int32_t tunnel_open(const gateway *it, network *on)
 {
     ipxr_tunnel_setting set = {.network = on->set->network, .capacity = on->set->clients, .share = on->set->per_address};
     memcpy(set.node, on->node, NODE);
     throttle_set(&on->throttle, on->set);
-    if (!roster_make(&on->roster, on->set->clients) || !strangers_make(&on->strangers, on->set->strangers))
+    if (!roster_make(&on->roster, on->set->clients) || !strangers_make(&on->strangers, on->set->strangers, it->key))
         return IPXR_OUT_OF_MEMORY;
     return ipxr_tunnel_make(&on->tunnel, &set);
 }

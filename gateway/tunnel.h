@@ -5,7 +5,7 @@
 #include "gateway.h"
 
 /* Makes the tunnel of a network. Returns 0, or the library's fault. */
-int32_t tunnel_open(network *on);
+int32_t tunnel_open(const gateway *it, network *on);
 void tunnel_close(network *on);
 
 /* A datagram came on a network of the tunnel. Its bytes stay where they are until gateway_flush. */

@@ -29,6 +29,8 @@ FLOOD = 8000  # packets a second
 CROWD, FIRST = 200, 20000  # clients of one host, and the first of their ports
 FILLS_TABLES = 147  # packets that answer a question, where the tables are full
 STRANGERS_A_SECOND = 100
+ALIKE = ("10.79.0.5", "10.79.16.5")  # two addresses with the same last twelve bits
+PORTS_THAT_REGISTER = 64  # more than are answered at once at one address
 PINGS_LOST = 10  # or questions, of a flood, on their way to the gateway
 MOST_AHEAD = 1.5  # seconds by which a look at the clock may be late here
 
@@ -198,6 +200,18 @@ def forged_strangers():
 
 
 @played_anew
+def an_address_like_a_newcomers():
+    """Whoever chooses an address with the same last bits as a newcomer's takes none of what that newcomer is answered."""
+    with Playground(numbers=(0, 0, 0), clock=Clock()) as it:
+        flood(it.gate, "sockets", "register", count=2 * PORTS_THAT_REGISTER, host=ALIKE[0], first=3000, ports=PORTS_THAT_REGISTER).end()
+        assert it.gate.counted(NETWORK, "too many strangers") > 0, it.gate.report()
+        newcomer = Player(ALIKE[1], GATEWAY)
+        it.party.put_in("newcomer", newcomer)
+        newcomer.register()
+        assert it.party.until(lambda: newcomer.network, LIMIT), "a newcomer isn't answered"
+
+
+@played_anew
 def a_narrow_line():
     """By a line of 1 Mbit/s strangers who register 1,000 times a second cost the players nothing."""
     with Playground(numbers=(1, 1, 2)) as it:
@@ -352,6 +366,7 @@ TESTS = [
     named("with full tables SAP's queries in a player's name, 50 a second", questions_in_its_name, "sap"),
     named("with full tables RIP's requests in a player's name, 50 a second", questions_in_its_name, "rip"),
     forged_strangers,
+    an_address_like_a_newcomers,
     a_narrow_line,
     an_address_is_one,
     many_at_once_count,
