@@ -48,5 +48,5 @@ void speaker_leave(speaker *it)
 
 void speaker_forget(speaker *it)
 {
-    it->said = it->handed = it->advertised = 0;
+    it->said = it->asked = it->handed = it->advertised = 0;
 }

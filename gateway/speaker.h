@@ -12,6 +12,7 @@ typedef struct speaker {
     uint8_t host[4];
     size_t clients;
     meter said;
+    meter asked;      /* of the router */
     meter handed;     /* to the router */
     meter advertised; /* of these, what routers tell */
     struct speaker *next;

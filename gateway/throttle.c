@@ -49,8 +49,10 @@ void throttle_set(throttle *it, const network_setting *set)
     it->advertisements = limit_of(ADVERTISEMENTS, 1, advertisements_at_once(set));
     it->received = limit_of(rate, 1, BURST);
     it->received_with_pings = limit_of(rate, 1, BURST_WITH_PINGS);
-    for (uint32_t k = 0; k < HOUSEHOLD; k++)
+    for (uint32_t k = 0; k < HOUSEHOLD; k++) {
         it->said[k] = limit_of(share * (k + 1), 1, share * (k + 1));
+        it->all_questions[k] = limit_of(QUESTIONS * (k + 1), 1, QUESTIONS_AT_ONCE * (k + 1));
+    }
     it->handed = limit_of(rate, 2, BURST);
     it->handed_with_pings = limit_of(rate, 2, BURST_WITH_PINGS);
     it->pings = limit_of(PINGS, 1, PINGS_AT_ONCE);
@@ -93,13 +95,18 @@ static bool is_question(const uint8_t *packet, size_t length)
     }
 }
 
+/* The limit of an address that has as many clients, or more than a household. */
+static const limit *of_household(const limit list[HOUSEHOLD], const speaker *from)
+{
+    return &list[(from->clients < HOUSEHOLD ? from->clients : HOUSEHOLD) - 1];
+}
+
 /* What a packet weighs of an address. (others make clients answer pings, so answers don't count as said) */
 static weight weigh(const throttle *it, speaker *from, const uint8_t *packet)
 {
-    size_t shares = from->clients < HOUSEHOLD ? from->clients : HOUSEHOLD;
     if (is_of_pings(packet))
         return OF_PINGS;
-    return limit_lets(&it->said[shares - 1], &from->said, 1) ? OF_LITTLE : OF_MUCH;
+    return limit_lets(of_household(it->said, from), &from->said, 1) ? OF_LITTLE : OF_MUCH;
 }
 
 /* ---- What clients say ---- */
@@ -124,6 +131,13 @@ reason throttle_weigh(throttle *it, member *from, const uint8_t *packet, weight 
     return REASONS;
 }
 
+/* Whether a client may ask the router now, and its address may. */
+static bool lets_ask(throttle *it, member *from)
+{
+    return limit_has_room(&it->questions, &from->asked, 1) && limit_lets(of_household(it->all_questions, from->speaks), &from->speaks->asked, 1) &&
+           limit_lets(&it->questions, &from->asked, 1);
+}
+
 bool throttle_lets_answer(throttle *it, member *to)
 {
     bool lets = it->is_off || limit_lets(&it->answers, &to->answered, 1);
@@ -144,7 +158,7 @@ reason throttle_hands(throttle *it, member *from, const uint8_t *packet, size_t 
 {
     if (it->is_off)
         return REASONS;
-    if (is_question(packet, length) && !limit_lets(&it->questions, &from->asked, 1)) {
+    if (is_question(packet, length) && !lets_ask(it, from)) {
         from->dropped[DROPPED_QUESTIONS]++;
         return TOO_MANY_QUESTIONS;
     }

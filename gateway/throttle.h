@@ -26,7 +26,8 @@ typedef struct throttle {
     limit handed_with_pings; /* beyond which no answers to pings are, by the same meter */
     limit pings;     /* of a client */
     limit all_pings; /* of all clients together: each of them answers each ping */
-    limit questions; /* of a client, to the router */
+    limit questions; /* of a client, to the router; */
+    limit all_questions[HOUSEHOLD]; /* and of an address with one client, or two, .. */
     limit advertisements; /* of an address, to the router: what changes by them it says to all other networks at once */
     limit answers;   /* of the gateway, to what a client says to it, or somebody in its name */
     meter pinged;

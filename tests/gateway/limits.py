@@ -12,7 +12,7 @@ import sys
 import time
 
 from attacks import LONG_SHARES, OTHER_PORT, QUIET, TUNNEL_LINE, Playground, during, figures, fill, flood, named, none
-from lab import EVERYONE, GAME, LIMIT, Clock, Counts, address, left_out, packet, played_anew, rip_response, until
+from lab import EVERYONE, GAME, LIMIT, SAP, Clock, Counts, address, left_out, packet, played_anew, rip_response, until
 from players import NETWORK, NUMBERED, Party, Player, Slow
 from spaces import GATEWAY, INSIDE, STRANGERS, build_flood, host, tried_inside
 from systems import SYSTEM
@@ -20,8 +20,11 @@ from systems import SYSTEM
 SECONDS = 6  # that a flood lasts: each client is pinged meanwhile
 RATE, SHARE, BURST = 800, 50, 64  # packets a second that a client receives, of who says little, and at once
 TWO = f"{TUNNEL_LINE}network 20 1 1424 dosbox 0.0.0.0:{OTHER_PORT}\n"
+FULL = f"{TUNNEL_LINE.replace('dosbox', LONG_SHARES)}rate none\n"  # a network whose clients may fill the tables
 CHAT = 0x4004  # the socket of what no player says
 PING = 2  # the socket of pings, and of their answers
+ASKING = 300  # clients of an address that ask the router
+QUESTIONS_AT_ONCE = 4  # of one client
 ADVERTISED, ADVERTISED_AT_ONCE = 4, 32  # packets of an address that tell of routes and services, a second and at once
 PORTS = {NETWORK: GATEWAY[1], 0x20: OTHER_PORT}
 HOUSEHOLD = 4  # clients of an address that have a share each
@@ -160,8 +163,7 @@ def pings_in_its_name():
 @played_anew
 def questions_in_its_name(kind):
     """With full tables somebody asks the router in a player's name, 50 times a second."""
-    text = f"{TUNNEL_LINE.replace('dosbox', LONG_SHARES)}rate none\nnetwork 20 1 1424 dosbox 0.0.0.0:{OTHER_PORT}\n"
-    with Playground(text, numbers=(1, 0, 1), more=5) as it:
+    with Playground(f"{FULL}network 20 1 1424 dosbox 0.0.0.0:{OTHER_PORT}\n", numbers=(1, 0, 1), more=5) as it:
         fill(it)
         far = Party(it.free[:4], (GATEWAY[0], OTHER_PORT), numbers=(1, 1, 2))
         victim = Slow(it.free[4], (GATEWAY[0], OTHER_PORT))
@@ -279,6 +281,35 @@ def answers_to_pings_come_last():
             assert it.gate.counted(NETWORK, "drop NoRoute") == heard, it.gate.report()
 
 
+def asks_for_all(player):
+    """A client asks for all services of all types."""
+    player.send(packet(address(player.network, EVERYONE, SAP), player.at(SAP), struct.pack(">HH", 1, 0xFFFF)))
+
+
+def questions_of_an_address():
+    """With full tables 300 clients of an address ask the router for all services: it answers 16 at once, and four a second later."""
+    text = f"{FULL}network 20 1 1424 dosbox 0.0.0.0:{OTHER_PORT}\nstrangers none\nclients {ASKING}\n"
+    with Playground(text, numbers=(1, 0, 1), more=1, clock=Clock()) as it:
+        fill(it)
+        asking = [Player(it.free[0], (GATEWAY[0], OTHER_PORT)) for _ in range(ASKING)]
+        for player in asking:
+            it.party.put_in("asks", player)
+            player.register()
+        until(lambda: it.party.hear() or it.gate.counted(0x20, "clients") == ASKING, "all clients")
+        for passed, answered in (0, QUESTIONS_AT_ONCE * HOUSEHOLD), (1, HOUSEHOLD):
+            it.let_pass(passed)
+            before, sent = it.gate.counted(0x20, "too many questions"), it.gate.counted(0x20, "out")
+            for player in asking:
+                asks_for_all(player)
+                it.party.hear()
+            until(lambda: it.party.hear() or it.gate.counted(0x20, "too many questions") - before >= ASKING - answered, "all ask")
+            it.party.until(lambda: False, QUIET)
+            lost = it.gate.counted(0x20, "too many questions") - before
+            assert lost == ASKING - answered, f"{ASKING - lost} are answered, not {answered}"
+            sent = it.gate.counted(0x20, "out") - sent
+            assert sent <= ASKING + answered * FILLS_TABLES, f"{sent} packets"
+
+
 def advertise_in_turns(it, router, count):
     """A route comes and goes, so many times."""
     for k in range(count):
@@ -371,6 +402,7 @@ TESTS = [
     an_address_is_one,
     many_at_once_count,
     answers_to_pings_come_last,
+    questions_of_an_address,
     a_route_that_comes_and_goes,
     a_forged_complaint,
     a_port_that_is_there,
