@@ -187,7 +187,7 @@ static void change_tunnel(gateway *it, network *on, const network *was, changed 
         tunnel_end(on);
     if (!is_tunnel)
         return;
-    throttle_set(&on->throttle, on->set); /* (what may be advertised at once follows the shares) */
+    throttle_set(&on->throttle, on->set, (size_t)(on - it->networks)); /* (what may be advertised at once follows the shares) */
     if (was_tunnel && has_same_clients(was->set, on->set) && has_same_link(was->set, on->set))
         return;
     what->clients += was_tunnel && !has_same_clients(was->set, on->set);
@@ -197,6 +197,7 @@ static void change_tunnel(gateway *it, network *on, const network *was, changed 
 
 static void change_tunnels(gateway *it, changed *what)
 {
+    speakers_forget();
     for (size_t k = 0; k < it->count; k++) {
         network *on = &it->networks[k];
         const network *was = network_before(on->set->network);

@@ -40,15 +40,18 @@ static bool is_heard_beside(const gateway *it, const cable *on, uint8_t kind)
     return false;
 }
 
-/* A packet came for the gateway or for all. */
+/* A packet came for the gateway or for all. (clients of DOSBox' receive of all who are there as much as of one household) */
 static void hear_packet(gateway *it, network *on, const uint8_t *packet, size_t length)
 {
+    on->speaks.clients = HOUSEHOLD;
     if (has_length(packet, length)) {
+        throttle_bring(&on->speaks, packet);
         length = get16(packet + AT_LENGTH);
         if (is_broadcast(packet + AT_TO_NODE) && is_for_here(on, packet) && length <= LONGEST)
             extend(it, on, packet, length);
     }
     gateway_hear(it, on, packet, length);
+    throttle_bring(NULL, NULL);
 }
 
 void ether_hear(gateway *it, cable *on, const uint8_t *frame, size_t length)

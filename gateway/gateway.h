@@ -30,6 +30,7 @@ typedef struct network {
     throttle throttle;   /* within limits, */
     strangers strangers; /* and who isn't one */
     outgoing outgoing;   /* what waits to be sent to clients */
+    speaker speaks;      /* all who are there, where it isn't one */
 } network;
 
 typedef struct gateway {

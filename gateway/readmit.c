@@ -42,14 +42,13 @@ static void keep_newcomers(network *on, const strangers *old)
     }
 }
 
-/* A client stays in the list of clients, with what was counted of it; its meters begin anew. */
+/* A client stays in the list of clients, with what was counted of it. */
 static void keep_client(roster *list, const known_client *client)
 {
     roster_add(list, client->place);
     member *kept = roster_find(list, client->place);
     if (kept == NULL)
         return;
-    speaker_forget(kept->speaks);
     kept->refused = client->refused;
     memcpy(kept->dropped, client->dropped, sizeof kept->dropped);
 }

@@ -46,7 +46,15 @@ void speaker_leave(speaker *it)
     free(it);
 }
 
-void speaker_forget(speaker *it)
+static void forget(speaker *it)
 {
-    it->said = it->asked = it->handed = it->advertised = 0;
+    memset(it->said, 0, sizeof it->said);
+    it->asked = it->handed = it->advertised = 0;
+}
+
+void speakers_forget(void)
+{
+    forget(&spare);
+    for (speaker *it = speakers; it != NULL; it = it->next)
+        forget(it);
 }

@@ -1,17 +1,19 @@
-/* Addresses that clients have, one list for the whole gateway: whoever has clients on several networks has one share of their limits. */
+/* Addresses that clients have, one list for the whole gateway: whoever has clients on several networks has one share of their limits. A
+ * network of another kind is one that speaks, too. */
 #ifndef SPEAKER_H
 #define SPEAKER_H
 
 #include <stddef.h>
 #include <stdint.h>
 
+#include "ipxr.h"
 #include "limit.h"
 
-/* An address that clients have, and what they said together. */
+/* An address that clients have, and what they said together. Or a network that isn't of DOSBox', and what came from there. */
 typedef struct speaker {
     uint8_t host[4];
     size_t clients;
-    meter said;
+    meter said[IPXR_MOST_PORTS]; /* to the clients of each network, by its number among the gateway's */
     meter asked;      /* of the router */
     meter handed;     /* to the router */
     meter advertised; /* of these, what routers tell */
@@ -24,7 +26,7 @@ speaker *speaker_join(const uint8_t host[4]);
 /* One fewer has it. */
 void speaker_leave(speaker *it);
 
-/* What its clients said until now isn't held against them. */
-void speaker_forget(speaker *it);
+/* What was said from all addresses until now isn't held against anybody. */
+void speakers_forget(void);
 
 #endif

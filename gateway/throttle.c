@@ -17,8 +17,8 @@ enum { ADVERTISEMENTS = 4, ADVERTISEMENTS_AT_ONCE = 32, ROUTES_IN_PACKET = 50, S
  * to what a client says to it. */
 enum { BURST_WITH_PINGS = BURST / 2, ANSWERS = 2, ANSWERS_AT_ONCE = 8 };
 
-/* Sockets, and the words of routers that ask. */
-enum { PING_SOCKET = 2, SAP_SOCKET = 0x452, RIP_SOCKET = 0x453, RIP_REQUEST = 1, SAP_QUERY = 1, SAP_NEAREST_QUERY = 3 };
+/* Bytes of a socket; sockets; and the words of routers that ask. */
+enum { SOCKET = 2, PING_SOCKET = 2, SAP_SOCKET = 0x452, RIP_SOCKET = 0x453, RIP_REQUEST = 1, SAP_QUERY = 1, SAP_NEAREST_QUERY = 3 };
 
 static uint32_t least(uint32_t a, uint32_t b)
 {
@@ -39,10 +39,11 @@ static uint32_t advertisements_at_once(const network_setting *set)
     return twice > ADVERTISEMENTS_AT_ONCE ? twice : ADVERTISEMENTS_AT_ONCE;
 }
 
-void throttle_set(throttle *it, const network_setting *set)
+void throttle_set(throttle *it, const network_setting *set, size_t number)
 {
     uint32_t rate = set->rate, share = set->share;
     memset(it, 0, sizeof *it);
+    it->number = number;
     it->is_off = rate == 0;
     if (it->is_off)
         return;
@@ -101,12 +102,14 @@ static const limit *of_household(const limit list[HOUSEHOLD], const speaker *fro
     return &list[(from->clients < HOUSEHOLD ? from->clients : HOUSEHOLD) - 1];
 }
 
-/* What a packet weighs of an address. (others make clients answer pings, so answers don't count as said) */
-static weight weigh(const throttle *it, speaker *from, const uint8_t *packet)
+/* (others make clients answer pings, so answers don't count as said) */
+weight throttle_weigh(throttle *it, speaker *from, const uint8_t *packet)
 {
+    if (it->is_off)
+        return OF_LITTLE;
     if (is_of_pings(packet))
         return OF_PINGS;
-    return limit_lets(of_household(it->said, from), &from->said, 1) ? OF_LITTLE : OF_MUCH;
+    return limit_lets(of_household(it->said, from), &from->said[it->number], 1) ? OF_LITTLE : OF_MUCH;
 }
 
 /* ---- What clients say ---- */
@@ -118,17 +121,12 @@ static bool lets_ping(throttle *it, member *from)
            limit_lets(&it->all_pings, &it->pinged, 1);
 }
 
-reason throttle_weigh(throttle *it, member *from, const uint8_t *packet, weight *weighs)
+reason throttle_lets_say(throttle *it, member *from, const uint8_t *packet)
 {
-    *weighs = OF_LITTLE;
-    if (it->is_off)
+    if (it->is_off || !is_ping(packet) || lets_ping(it, from))
         return REASONS;
-    if (is_ping(packet) && !lets_ping(it, from)) {
-        from->dropped[DROPPED_PINGS]++;
-        return TOO_MANY_PINGS;
-    }
-    *weighs = weigh(it, from->speaks, packet);
-    return REASONS;
+    from->dropped[DROPPED_PINGS]++;
+    return TOO_MANY_PINGS;
 }
 
 /* Whether a client may ask the router now, and its address may. */
@@ -175,16 +173,24 @@ reason throttle_hands(throttle *it, member *from, const uint8_t *packet, size_t 
 
 /* ---- What they receive ---- */
 
-static weight brought = OF_LITTLE;
+/* Whose packet the router hears, and from which node and socket it comes. */
+static struct {
+    speaker *from;
+    uint8_t source[NODE + SOCKET];
+} brought;
 
-void throttle_bring(weight weighs)
+void throttle_bring(speaker *from, const uint8_t *packet)
 {
-    brought = weighs;
+    brought.from = from;
+    if (from != NULL)
+        memcpy(brought.source, packet + AT_FROM_NODE, sizeof brought.source);
 }
 
-weight throttle_weigh_routed(const uint8_t own[6], const uint8_t *packet)
+/* (what goes on keeps its source; so nobody passes for the router by naming its node) */
+weight throttle_weigh_routed(throttle *it, const uint8_t *packet)
 {
-    return same_node(packet + AT_FROM_NODE, own) ? OF_LITTLE : brought;
+    bool is_brought = brought.from != NULL && memcmp(packet + AT_FROM_NODE, brought.source, sizeof brought.source) == 0;
+    return is_brought ? throttle_weigh(it, brought.from, packet) : OF_LITTLE;
 }
 
 bool throttle_lets_receive(throttle *it, member *to, weight weighs)

@@ -19,9 +19,10 @@ enum { HOUSEHOLD = 4 };
 
 typedef struct throttle {
     bool is_off;
+    size_t number;   /* of the network, among the gateway's */
     limit received;  /* by a client */
     limit received_with_pings; /* beyond which it gets no answers to pings, by the same meter */
-    limit said[HOUSEHOLD]; /* by an address with one client, or two, .., so that it is little */
+    limit said[HOUSEHOLD]; /* to its clients, by an address with one client, or two, .., so that it is little */
     limit handed;    /* by an address, to the router */
     limit handed_with_pings; /* beyond which no answers to pings are, by the same meter */
     limit pings;     /* of a client */
@@ -36,17 +37,21 @@ typedef struct throttle {
 /* What a packet weighs where there is more than a client receives. */
 typedef enum { OF_LITTLE, OF_MUCH, OF_PINGS } weight;
 
-/* Sets the limits of a network, by its line and those below it. */
-void throttle_set(throttle *it, const network_setting *set);
+/* Sets the limits of a network, by its line and those below it; and its number among the gateway's. */
+void throttle_set(throttle *it, const network_setting *set, size_t number);
 
-/* What a client's packet weighs; or why it is dropped, REASONS where it isn't. */
-reason throttle_weigh(throttle *it, member *from, const uint8_t *packet, weight *weighs);
+/* Why a client's packet is dropped before anybody gets it; REASONS where it isn't. */
+reason throttle_lets_say(throttle *it, member *from, const uint8_t *packet);
 
-/* From now on the router hears, and other networks get, what weighs so much: OF_LITTLE where it isn't from a client of a tunnel. */
-void throttle_bring(weight weighs);
+/* What a packet weighs for the clients of a network, of one who says it. It is counted as said to them. */
+weight throttle_weigh(throttle *it, speaker *from, const uint8_t *packet);
 
-/* What a packet of the router's weighs: OF_LITTLE where the node is its own, so that it says it itself, else as much as what it heard. */
-weight throttle_weigh_routed(const uint8_t own[6], const uint8_t *packet);
+/* From now on the router hears, and other networks get, what somebody says; NULL where nobody does. */
+void throttle_bring(speaker *from, const uint8_t *packet);
+
+/* What a packet weighs that the router or `extend` sends to the clients of a network: OF_LITTLE where the router says it itself, else as
+ * much as one of him whose packet was brought. */
+weight throttle_weigh_routed(throttle *it, const uint8_t *packet);
 
 /* Whether a client receives a packet. */
 bool throttle_lets_receive(throttle *it, member *to, weight weighs);

@@ -29,7 +29,7 @@ int32_t tunnel_open(const gateway *it, network *on)
 {
     ipxr_tunnel_setting set = {.network = on->set->network, .capacity = on->set->clients, .share = on->set->per_address};
     memcpy(set.node, on->node, NODE);
-    throttle_set(&on->throttle, on->set);
+    throttle_set(&on->throttle, on->set, (size_t)(on - it->networks));
     if (!roster_make(&on->roster, on->set->clients) || !strangers_make(&on->strangers, on->set->strangers, it->key))
         return IPXR_OUT_OF_MEMORY;
     return ipxr_tunnel_make(&on->tunnel, &set);
@@ -81,7 +81,7 @@ void tunnel_send(network *on, const uint8_t *node, const uint8_t *packet, size_t
     ipxr_tunnel_send(&on->tunnel, node);
     if (ipxr_tunnel_receivers(&on->tunnel) == 0 && !is_broadcast(node))
         gateway_lose(on, NO_CLIENT);
-    (void)send_carried(on, packet, length, throttle_weigh_routed(on->node, packet));
+    (void)send_carried(on, packet, length, throttle_weigh_routed(&on->throttle, packet));
 }
 
 /* ---- Who comes and who leaves ---- */
@@ -188,33 +188,33 @@ static bool answer_stranger(network *on, const uint8_t place[NODE], bool registe
 }
 
 /* What a client said goes to the router, and to other networks where it is extended. */
-static void pass_on(gateway *it, network *on, member *from, weight weighs, const uint8_t *packet, size_t length)
+static void pass_on(gateway *it, network *on, member *from, const uint8_t *packet, size_t length)
 {
     reason why = throttle_hands(&on->throttle, from, packet, length);
     if (why != REASONS) {
         gateway_lose(on, why);
         return;
     }
-    throttle_bring(weighs);
+    throttle_bring(from->speaks, packet);
     if (is_broadcast(packet + AT_TO_NODE) && is_for_here(on, packet))
         extend(it, on, packet, length);
     gateway_hear(it, on, packet, length);
-    throttle_bring(OF_LITTLE);
+    throttle_bring(NULL, NULL);
 }
 
 /* Sends what a client said before the router, which sends too, hears it. */
 static void carry(gateway *it, network *on, member *from, const uint8_t *packet, size_t length)
 {
     bool is_heard = ipxr_tunnel_is_heard(&on->tunnel) == 1;
-    weight weighs;
-    reason why = throttle_weigh(&on->throttle, from, packet, &weighs);
+    reason why = throttle_lets_say(&on->throttle, from, packet);
     if (why != REASONS) {
         gateway_lose(on, why);
         return;
     }
-    from->dropped[DROPPED_OF_IT] += send_carried(on, packet, length, weighs);
+    if (ipxr_tunnel_receivers(&on->tunnel) > 0)
+        from->dropped[DROPPED_OF_IT] += send_carried(on, packet, length, throttle_weigh(&on->throttle, from->speaks, packet));
     if (is_heard)
-        pass_on(it, on, from, weighs, packet, length);
+        pass_on(it, on, from, packet, length);
     else
         gateway_note(on, packet, length, "handed on");
 }

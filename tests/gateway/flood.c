@@ -9,6 +9,8 @@
  *     rate=COUNT count=COUNT       datagrams a second, and in all
  *     seed=NUMBER                  what the bytes begin with that are made up
  *     for=ADDRESS:PORT             whom a packet of the kind `tell` is for
+ *     network=NUMBER               the network of the source of a `chat`, or a `frame`, else 0
+ *     size=COUNT                   bytes of a packet of the kind `chat`, or `frame`
  *     gateway=PROCESS              waits while much of it waits for the gateway: nothing is lost then since a machine is slow
  *
  * The last line is what was sent: `COUNT datagrams in SECONDS s, RATE a second`. */
@@ -32,6 +34,7 @@ enum {
     AT_TYPE = 5,
     AT_TO_NODE = 10,
     AT_TO_SOCKET = 16,
+    AT_FROM_NETWORK = 18,
     AT_FROM_NODE = 22,
     AT_FROM_SOCKET = 28,
     TUNNEL = 2, /* the socket of registrations and pings */
@@ -39,7 +42,9 @@ enum {
     RIP = 0x453,
     GAME = 0x4003,
     CHAT = 0x4004,
-    LONGEST = 1500,
+    LONGEST = 1514,
+    FRAME = 14,     /* bytes in front of a packet in a frame */
+    STATION = 0x02, /* each byte of the card's address in it */
     IP_HEADER = 20,
     UDP_HEADER = 8,
     MOST_PLACES = 4096,
@@ -57,7 +62,7 @@ typedef struct order {
     bool is_forged;
     const char *kind;
     place to, first, receiver;
-    unsigned long hosts, ports, rate, count, seed, gateway;
+    unsigned long hosts, ports, rate, count, seed, gateway, network, size;
 } order;
 
 static void stop(const char *what)
@@ -86,7 +91,8 @@ static void read_word(order *it, char *word)
         const char *name;
         unsigned long *number;
     } numbers[] = {{"hosts", &it->hosts}, {"ports", &it->ports}, {"rate", &it->rate},
-                   {"count", &it->count}, {"seed", &it->seed},   {"gateway", &it->gateway}};
+                   {"count", &it->count}, {"seed", &it->seed},   {"gateway", &it->gateway},
+                   {"size", &it->size},   {"network", &it->network}};
     char *value = strchr(word, '=');
     if (value == NULL)
         stop(word);
@@ -106,7 +112,7 @@ static void read_word(order *it, char *word)
 
 static order read_order(int count, char **words)
 {
-    order it = {.hosts = 1, .ports = 1, .rate = 1000, .count = 1, .seed = 1};
+    order it = {.hosts = 1, .ports = 1, .rate = 1000, .count = 1, .seed = 1, .size = HEADER + 16};
     if (count < 3)
         stop("flood sockets|forged KIND name=value ..");
     it.is_forged = strcmp(words[1], "forged") == 0;
@@ -173,6 +179,24 @@ static size_t to_one(uint8_t *bytes, const place *from, const place *to, unsigne
     return length;
 }
 
+/* Something that a client, or a machine on an Ethernet, says to all. */
+static size_t chat(const order *it, uint8_t *bytes, const place *from)
+{
+    size_t length = to_all(bytes, from, CHAT, 4, it->size);
+    put32(bytes + AT_FROM_NETWORK, (uint32_t)it->network);
+    return length;
+}
+
+/* The same in a frame of the kind that only has its length in front. */
+static size_t frame(const order *it, uint8_t *bytes, const place *from)
+{
+    size_t length = chat(it, bytes + FRAME, from);
+    memset(bytes, 0xFF, NODE);
+    memset(bytes + NODE, STATION, NODE);
+    put16(bytes + FRAME - 2, (unsigned)length);
+    return FRAME + length;
+}
+
 static size_t registration(uint8_t *bytes, const place *from)
 {
     size_t length = to_all(bytes, from, TUNNEL, 0, HEADER);
@@ -236,7 +260,9 @@ static size_t datagram(const order *it, const char *kind, uint8_t *bytes, const 
     if (strcmp(kind, "speak") == 0)
         return to_all(bytes, from, GAME, 4, HEADER + 16);
     if (strcmp(kind, "chat") == 0)
-        return to_all(bytes, from, CHAT, 4, HEADER + 16);
+        return chat(it, bytes, from);
+    if (strcmp(kind, "frame") == 0)
+        return frame(it, bytes, from);
     if (strcmp(kind, "tell") == 0)
         return to_one(bytes, from, &it->receiver, CHAT);
     if (strcmp(kind, "ping") == 0)

@@ -71,10 +71,10 @@ def too_many(players, seconds):
     return f"{most} packets in {seconds:.1f} s" if most > most_of(seconds) else ""
 
 
-def stands(it, sent, players):
+def stands(it, sent, players, meanwhile=lambda: None):
     """Plays while a flood lasts. Players lose nothing, get no more than they may, and stay."""
     began = time.monotonic()
-    lost = it.play(sent.lasts)
+    lost = it.play(lambda: meanwhile() or sent.lasts())
     figures(sent.end())
     seconds = time.monotonic() - began
     none(lost, too_many(players, seconds), are_answering(it, players))
@@ -98,6 +98,26 @@ def floods(kind):
         report = it.gate.report()
         told = rf"{guilty.node.hex().upper()}, answered \d+ s ago\n      dropped: \d+ copies of what it said"
         assert re.search(told, report), report
+
+
+@played_anew
+def floods_from_elsewhere(kind, link):
+    """Somebody on another network says 8,000 packets a second to all, by a socket that is extended: players lose nothing, since the limits
+    of the network where they are hold."""
+    text = f"{TUNNEL_LINE}extend {CHAT:X}\nnetwork 20 1 1424 {link}\nextend {CHAT:X}\n"
+    with Playground(text, more=2, begins=False) as it:
+        slow_one(it)
+        it.party.enter()
+        there = Party([], (GATEWAY[0], OTHER_PORT), numbers=(0, 0, 0))
+        if kind == "chat":
+            there.put_in("floods", Player(it.free[0], (GATEWAY[0], OTHER_PORT), port=FIRST))
+            there.all[0].register()
+            assert there.until(lambda: there.all[0].network, LIMIT), "a registration isn't answered"
+        way = "sockets" if kind == "frame" else "forged"
+        sent = flood(it.gate, way, kind, FLOOD, count=FLOOD * SECONDS, port=OTHER_PORT, network=0x20, host=it.free[0], first=FIRST)
+        stands(it, sent, it.party.all, there.hear)
+        assert it.gate.counted(NETWORK, "extended") > FLOOD, it.gate.report()
+        there.close()
 
 
 class Crowd:
@@ -392,6 +412,10 @@ TESTS = [
     honest_players,
     named("a client says 8,000 packets a second to all", floods, "chat"),
     named("a client says 8,000 packets a second to one, who reads as slowly as a DOSBox", floods, "tell"),
+    named("a client of a network with no limit says 8,000 packets a second to all, and to another network", floods_from_elsewhere, "chat",
+          f"dosbox 0.0.0.0:{OTHER_PORT}\nrate none"),
+    named("8,000 packets a second come from QEMU's network", floods_from_elsewhere, "frame",
+          f"qemu-udp {GATEWAY[0]}:{OTHER_PORT} {host(8)}:{FIRST} raw"),
     a_crowd_floods,
     pings_in_its_name,
     named("with full tables SAP's queries in a player's name, 50 a second", questions_in_its_name, "sap"),
