@@ -26,7 +26,7 @@ typedef struct member {
     uint64_t refused; /* datagrams for it that the system didn't take */
     uint64_t dropped[DROPS];
     speaker *speaks;  /* its address */
-    meter received, pinged, asked, answered;
+    meter received, received_bytes, pinged, asked, answered;
 } member;
 
 typedef struct roster {

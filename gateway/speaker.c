@@ -49,6 +49,7 @@ void speaker_leave(speaker *it)
 static void forget(speaker *it)
 {
     memset(it->said, 0, sizeof it->said);
+    memset(it->said_bytes, 0, sizeof it->said_bytes);
     it->asked = it->handed = it->advertised = 0;
 }
 

@@ -13,7 +13,8 @@
 typedef struct speaker {
     uint8_t host[4];
     size_t clients;
-    meter said[IPXR_MOST_PORTS]; /* to the clients of each network, by its number among the gateway's */
+    meter said[IPXR_MOST_PORTS]; /* to the clients of each network, by its number among the gateway's: packets, */
+    meter said_bytes[IPXR_MOST_PORTS]; /* and bytes */
     meter asked;      /* of the router */
     meter handed;     /* to the router */
     meter advertised; /* of these, what routers tell */

@@ -7,6 +7,10 @@
 /* Packets that come at once, of a client that receives them, and of an address that hands them to the router. */
 enum { BURST = 64 };
 
+/* Bytes are counted by the piece, and so many are the longest packet of DOSBox'. At once come at most so many of these: as on Windows a
+ * system keeps 64 KB for a program that hasn't read them. */
+enum { PIECE = 16, LONGEST_PIECES = 89, LONGEST_AT_ONCE = 32 };
+
 /* Pings of a client, and of all together, and questions to the router: a second, and at once. */
 enum { PINGS = 1, PINGS_AT_ONCE = 2, ALL_PINGS = 4, ALL_PINGS_AT_ONCE = 8, QUESTIONS = 1, QUESTIONS_AT_ONCE = 4 };
 
@@ -39,6 +43,17 @@ static uint32_t advertisements_at_once(const network_setting *set)
     return twice > ADVERTISEMENTS_AT_ONCE ? twice : ADVERTISEMENTS_AT_ONCE;
 }
 
+/* The limit of bytes with which so many packets a second have room, of any length. */
+static limit bytes_of(uint32_t rate)
+{
+    return limit_of(rate * LONGEST_PIECES, 1, LONGEST_AT_ONCE * LONGEST_PIECES);
+}
+
+static uint32_t pieces(size_t length)
+{
+    return (uint32_t)((length + PIECE - 1) / PIECE);
+}
+
 void throttle_set(throttle *it, const network_setting *set, size_t number)
 {
     uint32_t rate = set->rate, share = set->share;
@@ -49,9 +64,11 @@ void throttle_set(throttle *it, const network_setting *set, size_t number)
         return;
     it->advertisements = limit_of(ADVERTISEMENTS, 1, advertisements_at_once(set));
     it->received = limit_of(rate, 1, BURST);
+    it->received_bytes = bytes_of(rate);
     it->received_with_pings = limit_of(rate, 1, BURST_WITH_PINGS);
     for (uint32_t k = 0; k < HOUSEHOLD; k++) {
         it->said[k] = limit_of(share * (k + 1), 1, share * (k + 1));
+        it->said_bytes[k] = bytes_of(share * (k + 1));
         it->all_questions[k] = limit_of(QUESTIONS * (k + 1), 1, QUESTIONS_AT_ONCE * (k + 1));
     }
     it->handed = limit_of(rate, 2, BURST);
@@ -109,7 +126,13 @@ weight throttle_weigh(throttle *it, speaker *from, const uint8_t *packet)
         return OF_LITTLE;
     if (is_of_pings(packet))
         return OF_PINGS;
-    return limit_lets(of_household(it->said, from), &from->said[it->number], 1) ? OF_LITTLE : OF_MUCH;
+    uint32_t count = pieces(get16(packet + AT_LENGTH));
+    meter *bytes = &from->said_bytes[it->number];
+    if (!limit_has_room(of_household(it->said_bytes, from), bytes, count) ||
+        !limit_lets(of_household(it->said, from), &from->said[it->number], 1))
+        return OF_MUCH;
+    limit_count(of_household(it->said_bytes, from), bytes, count);
+    return OF_LITTLE;
 }
 
 /* ---- What clients say ---- */
@@ -193,15 +216,23 @@ weight throttle_weigh_routed(throttle *it, const uint8_t *packet)
     return is_brought ? throttle_weigh(it, brought.from, packet) : OF_LITTLE;
 }
 
-bool throttle_lets_receive(throttle *it, member *to, weight weighs)
+/* Whether a client has room for what isn't of those who say little. */
+static bool has_room_for_much(const throttle *it, const member *to, weight weighs, uint32_t count)
 {
+    const limit *most = weighs == OF_PINGS ? &it->received_with_pings : &it->received;
+    return limit_has_room(most, &to->received, 1) && limit_has_room(&it->received_bytes, &to->received_bytes, count);
+}
+
+bool throttle_lets_receive(throttle *it, member *to, weight weighs, size_t length)
+{
+    uint32_t count = pieces(length);
     if (it->is_off || to == NULL)
         return true;
-    const limit *most = weighs == OF_PINGS ? &it->received_with_pings : &it->received;
-    bool lets = weighs == OF_LITTLE || limit_has_room(most, &to->received, 1);
-    if (lets)
-        limit_count(&it->received, &to->received, 1);
-    else
+    if (weighs != OF_LITTLE && !has_room_for_much(it, to, weighs, count)) {
         to->dropped[DROPPED_FOR_IT]++;
-    return lets;
+        return false;
+    }
+    limit_count(&it->received, &to->received, 1);
+    limit_count(&it->received_bytes, &to->received_bytes, count);
+    return true;
 }

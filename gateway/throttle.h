@@ -20,9 +20,11 @@ enum { HOUSEHOLD = 4 };
 typedef struct throttle {
     bool is_off;
     size_t number;   /* of the network, among the gateway's */
-    limit received;  /* by a client */
+    limit received;  /* by a client, */
+    limit received_bytes; /* of which it keeps no more at once than its system does; */
     limit received_with_pings; /* beyond which it gets no answers to pings, by the same meter */
-    limit said[HOUSEHOLD]; /* to its clients, by an address with one client, or two, .., so that it is little */
+    limit said[HOUSEHOLD]; /* to its clients, by an address with one client, or two, .., so that it is little, */
+    limit said_bytes[HOUSEHOLD]; /* and no more at once than a client keeps */
     limit handed;    /* by an address, to the router */
     limit handed_with_pings; /* beyond which no answers to pings are, by the same meter */
     limit pings;     /* of a client */
@@ -53,8 +55,8 @@ void throttle_bring(speaker *from, const uint8_t *packet);
  * much as one of him whose packet was brought. */
 weight throttle_weigh_routed(throttle *it, const uint8_t *packet);
 
-/* Whether a client receives a packet. */
-bool throttle_lets_receive(throttle *it, member *to, weight weighs);
+/* Whether a client receives a packet of so many bytes. */
+bool throttle_lets_receive(throttle *it, member *to, weight weighs, size_t length);
 
 /* Whether the gateway answers a client's registration or ping. */
 bool throttle_lets_answer(throttle *it, member *to);

@@ -67,7 +67,7 @@ static size_t send_carried(network *on, const uint8_t *packet, size_t length, we
     size_t dropped = 0;
     outgoing_begin(on, packet, length);
     for (size_t k = 0; ipxr_tunnel_receiver(&on->tunnel, k, place) == 0; k++) {
-        if (throttle_lets_receive(&on->throttle, roster_find(&on->roster, place), weighs))
+        if (throttle_lets_receive(&on->throttle, roster_find(&on->roster, place), weighs, length))
             outgoing_copy(on, place);
         else
             dropped++;

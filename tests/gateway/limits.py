@@ -27,6 +27,7 @@ ASKING = 300  # clients of an address that ask the router
 QUESTIONS_AT_ONCE = 4  # of one client
 ADVERTISED, ADVERTISED_AT_ONCE = 4, 32  # packets of an address that tell of routes and services, a second and at once
 PORTS = {NETWORK: GATEWAY[1], 0x20: OTHER_PORT}
+LONGEST, LONGEST_AT_ONCE = 1424, 32  # bytes of the longest packet, and how many of these a client receives at once
 HOUSEHOLD = 4  # clients of an address that have a share each
 FLOOD = 8000  # packets a second
 CROWD, FIRST = 200, 20000  # clients of one host, and the first of their ports
@@ -291,6 +292,20 @@ def many_at_once_count():
         assert listener.beside == heard, f"{listener.beside} packets"
 
 
+def long_packets_at_once():
+    """A client is given no more at once than what its system keeps: 32 of the longest packets, and 64 short ones."""
+    with Playground(TWO, numbers=(0, 0, 0), more=2, clock=Clock()) as it:
+        listener, says = come(it, it.free, [GATEWAY[1]] * 2)
+        for size, heard in (LONGEST, LONGEST_AT_ONCE), (100, BURST):
+            before = listener.beside
+            for _ in range(BURST):
+                says.send(packet(address(0, EVERYONE, CHAT), says.at(CHAT), bytes(size - 30)))
+            it.gate.report()
+            it.party.until(lambda: listener.beside - before > heard, QUIET)
+            assert listener.beside - before == heard, f"{listener.beside - before} packets of {size} bytes"
+            it.let_pass(2)
+
+
 def answers_to_pings_come_last():
     """Who answers pings of another network can say half as much as without to other networks, however many these are."""
     with Playground(TWO, numbers=(0, 0, 0), more=1, clock=Clock()) as it:
@@ -425,6 +440,7 @@ TESTS = [
     a_narrow_line,
     an_address_is_one,
     many_at_once_count,
+    long_packets_at_once,
     answers_to_pings_come_last,
     questions_of_an_address,
     a_route_that_comes_and_goes,
