@@ -84,12 +84,18 @@ static bool read_share(reader *r, network_setting *it)
     return true;
 }
 
+static bool read_household(reader *r, network_setting *it)
+{
+    return read_rate_or_none(r, "the packets that all clients of an address receive", &it->household);
+}
+
 static void read_rate(reader *r, network_setting *it)
 {
     if (!is_first_line(r, it->rate_line) || !read_rate_or_none(r, "the packets that a client receives", &it->rate))
         return;
     it->share = it->rate < USUAL_SHARE ? it->rate : USUAL_SHARE;
-    if ((r->next == r->count || read_share(r, it)) && reader_ends(r))
+    it->household = USUAL_HOUSEHOLD * it->rate;
+    if ((r->next == r->count || read_share(r, it)) && (r->next == r->count || read_household(r, it)) && reader_ends(r))
         it->rate_line = r->line;
 }
 

@@ -33,7 +33,7 @@ member *roster_find(roster *it, const uint8_t place[6])
     return NULL;
 }
 
-void roster_add(roster *it, const uint8_t place[6])
+void roster_add(roster *it, const uint8_t place[6], bool is_trusted)
 {
     if (it->count == it->room)
         return;
@@ -41,6 +41,7 @@ void roster_add(roster *it, const uint8_t place[6])
     memset(added, 0, sizeof *added);
     memcpy(added->place, place, NODE);
     added->speaks = speaker_join(place);
+    added->is_trusted = is_trusted;
 }
 
 void roster_remove(roster *it, const uint8_t place[6])

@@ -26,6 +26,7 @@ typedef struct member {
     uint64_t refused; /* datagrams for it that the system didn't take */
     uint64_t dropped[DROPS];
     speaker *speaks;  /* its address */
+    bool is_trusted;  /* whether that needn't answer pings */
     meter received, received_bytes, pinged, asked, answered;
 } member;
 
@@ -43,7 +44,7 @@ void roster_free(roster *it);
 /* The client at a place, or NULL. Who asks for one behind the other, in their order, is answered at once. */
 member *roster_find(roster *it, const uint8_t place[6]);
 
-void roster_add(roster *it, const uint8_t place[6]);
+void roster_add(roster *it, const uint8_t place[6], bool is_trusted);
 void roster_remove(roster *it, const uint8_t place[6]);
 
 #endif

@@ -158,6 +158,7 @@ static void choose_defaults(network_setting *it)
     it->clients = it->per_address = USUAL_CLIENTS;
     it->rate = USUAL_RATE;
     it->share = USUAL_SHARE;
+    it->household = USUAL_HOUSEHOLD * USUAL_RATE;
     it->strangers = USUAL_STRANGERS;
     if (it->has_shares)
         return;

@@ -15,6 +15,7 @@
 enum {
     MOST_RATE = 1000000, /* that a line may say */
     USUAL_SHARE = 50,    /* packets a second of who says little, where no line says it: games say some 35 */
+    USUAL_HOUSEHOLD = 16, /* clients, as much as all of an address receive where no line says it */
     MOST_SOCKETS = 16, /* that a network's `extend` may name */
     NAME_ROOM = 16,    /* bytes of the name of a TAP or an interface, with the 0 behind */
 };
@@ -49,9 +50,10 @@ typedef struct network_setting {
     size_t clients_line;       /* the number of the line that says these two, or 0 */
     uint16_t clients;          /* most clients of DOSBox' */
     uint16_t per_address;      /* and most of one address */
-    size_t rate_line;          /* the number of the line that says these two, or 0 */
+    size_t rate_line;          /* the number of the line that says these three, or 0 */
     uint32_t rate;             /* packets a second that a client receives, 0 for any number */
     uint32_t share;            /* and those of an address that says little */
+    uint32_t household;        /* and those that all clients of an address receive, 0 for any number */
     size_t strangers_line;     /* the number of the line that says this, or 0 */
     uint32_t strangers;        /* datagrams a second for strangers, 0 for any number */
     ranges allowed;            /* who may be a client; none where all may */

@@ -15,6 +15,7 @@ typedef struct speaker {
     size_t clients;
     meter said[IPXR_MOST_PORTS]; /* to the clients of each network, by its number among the gateway's: packets, */
     meter said_bytes[IPXR_MOST_PORTS]; /* and bytes */
+    meter received;   /* by all its clients */
     meter asked;      /* of the router */
     meter handed;     /* to the router */
     meter advertised; /* of these, what routers tell */

@@ -17,6 +17,9 @@ enum { PINGS = 1, PINGS_AT_ONCE = 2, ALL_PINGS = 4, ALL_PINGS_AT_ONCE = 8, QUEST
 /* Packets a second of what an address tells as a router, and at least so many at once; and what one has. */
 enum { ADVERTISEMENTS = 4, ADVERTISEMENTS_AT_ONCE = 32, ROUTES_IN_PACKET = 50, SERVICES_IN_PACKET = 7 };
 
+/* So many times a second, and no fewer, what an address' limit is at once. */
+enum { HOUSEHOLD_PART = 8, HOUSEHOLD_AT_ONCE = 2 * BURST };
+
 /* Answers to pings may use so much of the burst that a client receives, or that its address hands to the router; and answers of the gateway
  * to what a client says to it. */
 enum { BURST_WITH_PINGS = BURST / 2, ANSWERS = 2, ANSWERS_AT_ONCE = 8 };
@@ -54,6 +57,17 @@ static uint32_t pieces(size_t length)
     return (uint32_t)((length + PIECE - 1) / PIECE);
 }
 
+/* The limits of what all clients of an address receive: half of what may come at once is kept for those who say little. */
+static void set_household(throttle *it, uint32_t household)
+{
+    uint32_t part = household / HOUSEHOLD_PART, burst = part > HOUSEHOLD_AT_ONCE ? part : HOUSEHOLD_AT_ONCE;
+    it->has_household = household > 0;
+    if (!it->has_household)
+        return;
+    it->household = limit_of(household, 1, burst);
+    it->household_of_much = limit_of(household, 1, burst / 2);
+}
+
 void throttle_set(throttle *it, const network_setting *set, size_t number)
 {
     uint32_t rate = set->rate, share = set->share;
@@ -71,6 +85,7 @@ void throttle_set(throttle *it, const network_setting *set, size_t number)
         it->said_bytes[k] = bytes_of(share * (k + 1));
         it->all_questions[k] = limit_of(QUESTIONS * (k + 1), 1, QUESTIONS_AT_ONCE * (k + 1));
     }
+    set_household(it, set->household);
     it->handed = limit_of(rate, 2, BURST);
     it->handed_with_pings = limit_of(rate, 2, BURST_WITH_PINGS);
     it->pings = limit_of(PINGS, 1, PINGS_AT_ONCE);
@@ -223,16 +238,25 @@ static bool has_room_for_much(const throttle *it, const member *to, weight weigh
     return limit_has_room(most, &to->received, 1) && limit_has_room(&it->received_bytes, &to->received_bytes, count);
 }
 
-bool throttle_lets_receive(throttle *it, member *to, weight weighs, size_t length)
+/* Whether an address has room for a copy for one of its clients. */
+static bool household_has_room(const throttle *it, const member *to, weight weighs)
+{
+    const limit *most = weighs == OF_LITTLE ? &it->household : &it->household_of_much;
+    return !it->has_household || to->is_trusted || limit_has_room(most, &to->speaks->received, 1);
+}
+
+reason throttle_receives(throttle *it, member *to, weight weighs, size_t length)
 {
     uint32_t count = pieces(length);
     if (it->is_off || to == NULL)
-        return true;
-    if (weighs != OF_LITTLE && !has_room_for_much(it, to, weighs, count)) {
-        to->dropped[DROPPED_FOR_IT]++;
-        return false;
-    }
+        return REASONS;
+    if (weighs != OF_LITTLE && !has_room_for_much(it, to, weighs, count))
+        return TOO_MUCH_FOR_CLIENT;
+    if (!household_has_room(it, to, weighs))
+        return TOO_MUCH_FOR_ADDRESS;
     limit_count(&it->received, &to->received, 1);
     limit_count(&it->received_bytes, &to->received_bytes, count);
-    return true;
+    if (it->has_household && !to->is_trusted)
+        limit_count(&it->household, &to->speaks->received, 1);
+    return REASONS;
 }

@@ -1,6 +1,7 @@
 /* What clients of a tunnel receive and say within limits, so that who floods loses, and not who plays. A client receives so many packets a
  * second. Beyond that it receives only what comes from those who say little: from an address that said no more than its share. An address
- * is one, and has the shares of up to four clients, however many it has. Answers to pings are dropped first.
+ * is one, and has the shares of up to four clients, however many it has. Answers to pings are dropped first. What all clients of an address
+ * receive has a limit too: else whoever has many that only listen would make each packet cost a copy for each of them.
  *
  * All of this stands behind the library, which has said who is a client and who gets what: who answers the gateway's pings stays, whatever
  * is dropped here. */
@@ -25,6 +26,9 @@ typedef struct throttle {
     limit received_with_pings; /* beyond which it gets no answers to pings, by the same meter */
     limit said[HOUSEHOLD]; /* to its clients, by an address with one client, or two, .., so that it is little, */
     limit said_bytes[HOUSEHOLD]; /* and no more at once than a client keeps */
+    bool has_household;
+    limit household; /* by an address, of all its clients on any network, */
+    limit household_of_much; /* beyond which they get nothing but of those who say little, by the same meter */
     limit handed;    /* by an address, to the router */
     limit handed_with_pings; /* beyond which no answers to pings are, by the same meter */
     limit pings;     /* of a client */
@@ -55,8 +59,8 @@ void throttle_bring(speaker *from, const uint8_t *packet);
  * much as one of him whose packet was brought. */
 weight throttle_weigh_routed(throttle *it, const uint8_t *packet);
 
-/* Whether a client receives a packet of so many bytes. */
-bool throttle_lets_receive(throttle *it, member *to, weight weighs, size_t length);
+/* Why a client doesn't receive a packet of so many bytes; REASONS where it does. */
+reason throttle_receives(throttle *it, member *to, weight weighs, size_t length);
 
 /* Whether the gateway answers a client's registration or ping. */
 bool throttle_lets_answer(throttle *it, member *to);

@@ -59,6 +59,18 @@ static void send_own(network *on, bool are_clients)
         send_one(on, &own, are_clients);
 }
 
+/* Why a client doesn't get the copy of a packet; REASONS where it does. What it doesn't get is counted. */
+static reason why_not(network *on, const uint8_t place[NODE], weight weighs, size_t length)
+{
+    member *to = roster_find(&on->roster, place);
+    reason why = throttle_receives(&on->throttle, to, weighs, length);
+    if (why == REASONS)
+        return why;
+    to->dropped[DROPPED_FOR_IT]++;
+    on->counts.lost[why]++;
+    return why;
+}
+
 /* Sends a packet to the clients that get it, as the tunnel said, and as far as each receives it. Returns to how many it doesn't go
  * since they received too much. */
 static size_t send_carried(network *on, const uint8_t *packet, size_t length, weight weighs)
@@ -67,12 +79,11 @@ static size_t send_carried(network *on, const uint8_t *packet, size_t length, we
     size_t dropped = 0;
     outgoing_begin(on, packet, length);
     for (size_t k = 0; ipxr_tunnel_receiver(&on->tunnel, k, place) == 0; k++) {
-        if (throttle_lets_receive(&on->throttle, roster_find(&on->roster, place), weighs, length))
+        if (why_not(on, place, weighs, length) == REASONS)
             outgoing_copy(on, place);
         else
             dropped++;
     }
-    on->counts.lost[TOO_MUCH_FOR_CLIENT] += dropped;
     return dropped;
 }
 
@@ -89,7 +100,8 @@ void tunnel_send(network *on, const uint8_t *node, const uint8_t *packet, size_t
 void tunnel_tell_comes(network *on, const uint8_t place[NODE])
 {
     char words[WORDS];
-    roster_add(&on->roster, place);
+    address at = address_of(place);
+    roster_add(&on->roster, place, ranges_have(&on->set->trusted, &at));
     event("client %s comes to %08" PRIX32, node_words(place, words), on->set->network);
     events_client(on, place, true);
 }

@@ -31,6 +31,7 @@ LONGEST, LONGEST_AT_ONCE = 1424, 32  # bytes of the longest packet, and how many
 HOUSEHOLD = 4  # clients of an address that have a share each
 FLOOD = 8000  # packets a second
 CROWD, FIRST = 200, 20000  # clients of one host, and the first of their ports
+LISTENING, HOUSEHOLD_RATE = 800, 16  # clients of one host that only listen, and as much as how many they receive
 FILLS_TABLES = 147  # packets that answer a question, where the tables are full
 STRANGERS_A_SECOND = 100
 ALIKE = ("10.79.0.5", "10.79.16.5")  # two addresses with the same last twelve bits
@@ -122,18 +123,18 @@ def floods_from_elsewhere(kind, link):
 
 
 class Crowd:
-    """200 clients of one host, each of which answers pings: in a process of their own, so that they hold up no player."""
+    """200 clients of one host, or more, each of which answers pings: in a process of their own, so that they hold up no player."""
 
-    def __init__(self, it, host):
-        self.run = multiprocessing.get_context("fork").Process(target=self.live, args=(host,), daemon=True)
+    def __init__(self, it, host, count=CROWD):
+        self.run = multiprocessing.get_context("fork").Process(target=self.live, args=(host, count), daemon=True)
         self.run.start()
-        until(lambda: it.party.hear() or it.gate.counted(NETWORK, "clients") == CROWD + len(it.party.all), "the crowd comes in")
+        until(lambda: it.party.hear() or it.gate.counted(NETWORK, "clients") == count + len(it.party.all), "the crowd comes in")
 
     @staticmethod
-    def live(host):
+    def live(host, count):
         os.nice(10)
         crowd = Party([], GATEWAY, numbers=(0, 0, 0))
-        for k in range(CROWD):
+        for k in range(count):
             crowd.put_in("crowd", Player(host, GATEWAY, port=FIRST + k))
             crowd.all[-1].register()
         while True:
@@ -161,6 +162,24 @@ def a_crowd_floods():
         with Crowd(it, it.free[0]):
             sent = flood(it.gate, "forged", "chat", FLOOD, count=FLOOD // 4, host=it.free[0], first=FIRST, ports=CROWD)
             stands(it, sent, it.party.all)
+
+
+@played_anew
+def many_that_listen():
+    """800 clients of one host only listen, while a client says 400 packets a second: their address receives as much as 16 clients may, and
+    players lose nothing."""
+    text = f"{TUNNEL_LINE}strangers none\nclients {LISTENING + CROWD}\n"
+    with Playground(text, more=3, begins=False, program=SYSTEM.delivered) as it:
+        guilty = flooder(it)
+        slow_one(it)
+        it.party.enter()
+        with Crowd(it, it.free[1], LISTENING):
+            before = it.gate.counted(NETWORK, "too much for an address")
+            stands(it, flood(it.gate, "forged", "chat", RATE // 2, count=RATE // 2 * SECONDS, **place_of(guilty)), it.party.all)
+            dropped = it.gate.counted(NETWORK, "too much for an address") - before
+        most = (LISTENING - HOUSEHOLD_RATE * RATE / (RATE // 2) * 2) * RATE // 2 * SECONDS
+        figures(f"{dropped} copies weren't sent")
+        assert dropped > most, f"{dropped} copies weren't sent"
 
 
 @played_anew
@@ -290,6 +309,20 @@ def many_at_once_count():
         heard = (HOUSEHOLD + 1) * SHARE + int(0.11 * SHARE)  # (the flood's own share too, and what it may say of it again)
         it.party.until(lambda: listener.beside > heard, QUIET)
         assert listener.beside == heard, f"{listener.beside} packets"
+
+
+def what_an_address_receives():
+    """20 clients of an address receive 128 packets at once together, and 160 a second; another client, and 20 of a trusted address, all."""
+    below = f"strangers none\nrate {RATE} {SHARE} 160\ntrust {host(4)}\n"
+    with Playground(TWO.replace("network 20", below + "network 20"), numbers=(0, 0, 0), more=4, clock=Clock()) as it:
+        says, *others = come(it, [*it.free[:2], *it.free[2:] * 20], [GATEWAY[1]] * 42)
+        for seconds, now in (0, 2 * BURST), (0.1, 16), (2, 2 * BURST):
+            it.let_pass(seconds)
+            before = [player.beside for player in others]
+            chatter(it, says, 10)
+            it.party.until(lambda: False, QUIET)
+            heard = [player.beside - old for player, old in zip(others, before)]
+            assert [heard[0], sum(heard[1::2]), sum(heard[2::2])] == [10, now, 200], heard
 
 
 def long_packets_at_once():
@@ -432,6 +465,7 @@ TESTS = [
     named("8,000 packets a second come from QEMU's network", floods_from_elsewhere, "frame",
           f"qemu-udp {GATEWAY[0]}:{OTHER_PORT} {host(8)}:{FIRST} raw"),
     a_crowd_floods,
+    many_that_listen,
     pings_in_its_name,
     named("with full tables SAP's queries in a player's name, 50 a second", questions_in_its_name, "sap"),
     named("with full tables RIP's requests in a player's name, 50 a second", questions_in_its_name, "rip"),
@@ -440,6 +474,7 @@ TESTS = [
     a_narrow_line,
     an_address_is_one,
     many_at_once_count,
+    what_an_address_receives,
     long_packets_at_once,
     answers_to_pings_come_last,
     questions_of_an_address,
