@@ -105,6 +105,34 @@ static void read_strangers(reader *r, network_setting *it)
         it->strangers_line = r->line;
 }
 
+/* The line by which another network is reached, as it was said there; NULL where none is. */
+static const network_setting *by_line(const reader *r)
+{
+    for (size_t k = 0; k < r->into->count; k++)
+        if (r->into->networks[k].kilobits > 0)
+            return &r->into->networks[k];
+    return NULL;
+}
+
+/* (all networks that are reached by a line share one) */
+static void read_kilobits(reader *r, network_setting *it)
+{
+    uint32_t kilobits = 0;
+    if (!is_first_line(r, it->kilobits_line))
+        return;
+    const network_setting *other = by_line(r);
+    const char *word = reader_word(r);
+    if (word == NULL || !is_number(word, MOST_KILOBITS, &kilobits) || kilobits == 0)
+        reader_fault(r, word, "expected the kilobits a second of the line to the clients, 1 to %d", MOST_KILOBITS);
+    else if (other != NULL && other->kilobits != kilobits)
+        reader_fault(r, word, "expected %lu, as line %zu says: all networks share one", (unsigned long)other->kilobits,
+                     other->kilobits_line);
+    else if (reader_ends(r)) {
+        it->kilobits_line = r->line;
+        it->kilobits = kilobits;
+    }
+}
+
 static bool read_range(reader *r, ranges *into)
 {
     range found;
@@ -148,6 +176,7 @@ static const struct {
     {"trust", true, read_trusted},
     {"rate", true, read_rate},
     {"strangers", true, read_strangers},
+    {"line", true, read_kilobits},
 };
 enum { LINE_COUNT = sizeof LINES / sizeof *LINES };
 

@@ -50,7 +50,7 @@ static bool same_ranges(const ranges *a, const ranges *b)
 static bool has_same_clients(const network_setting *a, const network_setting *b)
 {
     return a->clients == b->clients && a->per_address == b->per_address && a->rate == b->rate && a->share == b->share &&
-           a->household == b->household && a->strangers == b->strangers && same_ranges(&a->allowed, &b->allowed) && same_ranges(&a->trusted, &b->trusted);
+           a->household == b->household && a->kilobits == b->kilobits && a->strangers == b->strangers && same_ranges(&a->allowed, &b->allowed) && same_ranges(&a->trusted, &b->trusted);
 }
 
 static bool has_same_sockets(const network_setting *a, const network_setting *b)
@@ -195,9 +195,10 @@ static void change_tunnel(gateway *it, network *on, const network *was, changed 
         complain("ipxr-gateway: line %zu: no memory for other clients", on->set->line);
 }
 
-static void change_tunnels(gateway *it, changed *what)
+static void change_tunnels(gateway *it, const settings *set, changed *what)
 {
     speakers_forget();
+    line_set(set);
     for (size_t k = 0; k < it->count; k++) {
         network *on = &it->networks[k];
         const network *was = network_before(on->set->network);
@@ -244,7 +245,7 @@ changed gateway_change(gateway *it, const settings *set)
     move_networks(it, set);
     close_cables();
     begin_links(it, &what);
-    change_tunnels(it, &what);
+    change_tunnels(it, set, &what);
     for (size_t k = 0; k < it->count; k++)
         what.is_new_router = what.is_new_router || has_new_address(&it->networks[k]);
     gateway_renew(it);

@@ -24,6 +24,8 @@ static const char *const LINES[] = {
     "# datagrams a second for those who aren't clients.",
     "#   rate 800 50 12800",
     "#   strangers 100",
+    "# How many kilobits a second the line to the clients has, where it is narrow, as the upload of a home: then all addresses share it alike.",
+    "#   line 1000",
     "",
     "# What follows is for more than that: take the first # of such a line away, where what it names is yours.",
     "#",

@@ -15,22 +15,31 @@ void limits_look_at_clock(void)
     now = clock_nanoseconds();
 }
 
-/* Nanoseconds that a meter is ahead of the clock. */
-static uint64_t ahead(const meter *used)
+uint64_t limit_ahead(const meter *used)
 {
     return *used > now ? *used - now : 0;
 }
 
+static void move(meter *used, uint64_t nanoseconds, uint64_t most)
+{
+    uint64_t after = limit_ahead(used) + nanoseconds;
+    *used = now + (after < most ? after : most);
+}
+
+void limit_move(meter *used, uint64_t nanoseconds)
+{
+    move(used, nanoseconds, SECOND_NS);
+}
+
 bool limit_has_room(const limit *it, const meter *used, uint32_t count)
 {
-    return ahead(used) + count * it->between <= it->burst;
+    return limit_ahead(used) + count * it->between <= it->burst;
 }
 
 /* (whoever is sent more than may pass owes no more than a second's, or a burst: else he would hear nothing for long) */
 void limit_count(const limit *it, meter *used, uint32_t count)
 {
-    uint64_t after = ahead(used) + count * it->between, most = it->burst > SECOND_NS ? it->burst : SECOND_NS;
-    *used = now + (after < most ? after : most);
+    move(used, count * it->between, it->burst > SECOND_NS ? it->burst : SECOND_NS);
 }
 
 bool limit_lets(const limit *it, meter *used, uint32_t count)

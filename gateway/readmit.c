@@ -43,10 +43,10 @@ static void keep_newcomers(network *on, const strangers *old)
 }
 
 /* A client stays in the list of clients, with what was counted of it. */
-static void keep_client(roster *list, const ranges *trusted, const known_client *client)
+static void keep_client(network *on, const known_client *client)
 {
-    roster_add(list, client->place, ranges_have(trusted, &client->at));
-    member *kept = roster_find(list, client->place);
+    tunnel_list(on, client->place);
+    member *kept = roster_find(&on->roster, client->place);
     if (kept == NULL)
         return;
     kept->refused = client->refused;
@@ -59,7 +59,7 @@ static void keep_clients(const gateway *it, network *on, network *old)
     known_client client;
     for (size_t k = 0; tunnel_client(old, k, &client); k++)
         if (is_let_in(it, on, &client))
-            keep_client(&on->roster, &on->set->trusted, &client);
+            keep_client(on, &client);
         else
             tunnel_tell_leaves(on, client.place);
 }

@@ -13,10 +13,17 @@ bool roster_make(roster *it, size_t room)
     return it->list != NULL;
 }
 
+static void leave(member *it)
+{
+    if (it->is_by_line)
+        line_leave(&it->speaks->line);
+    speaker_leave(it->speaks);
+}
+
 void roster_free(roster *it)
 {
     for (size_t k = 0; k < it->count; k++)
-        speaker_leave(it->list[k].speaks);
+        leave(&it->list[k]);
     free(it->list);
     memset(it, 0, sizeof *it);
 }
@@ -33,7 +40,7 @@ member *roster_find(roster *it, const uint8_t place[6])
     return NULL;
 }
 
-void roster_add(roster *it, const uint8_t place[6], bool is_trusted)
+void roster_add(roster *it, const uint8_t place[6], bool is_trusted, bool is_by_line)
 {
     if (it->count == it->room)
         return;
@@ -42,6 +49,9 @@ void roster_add(roster *it, const uint8_t place[6], bool is_trusted)
     memcpy(added->place, place, NODE);
     added->speaks = speaker_join(place);
     added->is_trusted = is_trusted;
+    added->is_by_line = is_by_line;
+    if (is_by_line)
+        line_join(&added->speaks->line);
 }
 
 void roster_remove(roster *it, const uint8_t place[6])
@@ -49,7 +59,7 @@ void roster_remove(roster *it, const uint8_t place[6])
     member *gone = roster_find(it, place);
     if (gone == NULL)
         return;
-    speaker_leave(gone->speaks);
+    leave(gone);
     it->count--;
     memmove(gone, gone + 1, (size_t)(it->list + it->count - gone) * sizeof *gone);
     it->next = 0;

@@ -27,6 +27,7 @@ typedef struct member {
     uint64_t dropped[DROPS];
     speaker *speaks;  /* its address */
     bool is_trusted;  /* whether that needn't answer pings */
+    bool is_by_line;  /* whether it is reached by the narrow line */
     meter received, received_bytes, pinged, asked, answered;
 } member;
 
@@ -44,7 +45,8 @@ void roster_free(roster *it);
 /* The client at a place, or NULL. Who asks for one behind the other, in their order, is answered at once. */
 member *roster_find(roster *it, const uint8_t place[6]);
 
-void roster_add(roster *it, const uint8_t place[6], bool is_trusted);
+/* A client comes, whose address is trusted or not, and which is reached by the narrow line or not. */
+void roster_add(roster *it, const uint8_t place[6], bool is_trusted, bool is_by_line);
 void roster_remove(roster *it, const uint8_t place[6]);
 
 #endif

@@ -14,6 +14,7 @@
 
 enum {
     MOST_RATE = 1000000, /* that a line may say */
+    MOST_KILOBITS = 10000000, /* alike: ten gigabits */
     USUAL_SHARE = 50,    /* packets a second of who says little, where no line says it: games say some 35 */
     USUAL_HOUSEHOLD = 16, /* clients, as much as all of an address receive where no line says it */
     MOST_SOCKETS = 16, /* that a network's `extend` may name */
@@ -54,6 +55,8 @@ typedef struct network_setting {
     uint32_t rate;             /* packets a second that a client receives, 0 for any number */
     uint32_t share;            /* and those of an address that says little */
     uint32_t household;        /* and those that all clients of an address receive, 0 for any number */
+    size_t kilobits_line;      /* the number of the line that says this, or 0 */
+    uint32_t kilobits;         /* a second, of the line by which the network is reached; 0 where that isn't narrow */
     size_t strangers_line;     /* the number of the line that says this, or 0 */
     uint32_t strangers;        /* datagrams a second for strangers, 0 for any number */
     ranges allowed;            /* who may be a client; none where all may */

@@ -8,6 +8,7 @@
 
 #include "ipxr.h"
 #include "limit.h"
+#include "line.h"
 
 /* An address that clients have, and what they said together. Or a network that isn't of DOSBox', and what came from there. */
 typedef struct speaker {
@@ -19,6 +20,7 @@ typedef struct speaker {
     meter asked;      /* of the router */
     meter handed;     /* to the router */
     meter advertised; /* of these, what routers tell */
+    line_use line;    /* what it uses of a line that is narrow */
     struct speaker *next;
 } speaker;
 

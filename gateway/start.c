@@ -35,6 +35,7 @@ static cable *cable_of(gateway *it, const network_setting *set)
 bool gateway_open(gateway *it, const settings *set)
 {
     memset(it, 0, sizeof *it);
+    line_set(set);
     for (size_t k = 0; k < set->count; k++) {
         network *on = &it->networks[it->count++];
         on->set = &set->networks[k];

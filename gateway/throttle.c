@@ -137,7 +137,7 @@ static const limit *of_household(const limit list[HOUSEHOLD], const speaker *fro
 /* (others make clients answer pings, so answers don't count as said) */
 weight throttle_weigh(throttle *it, speaker *from, const uint8_t *packet)
 {
-    if (it->is_off)
+    if (it->is_off || from == NULL)
         return OF_LITTLE;
     if (is_of_pings(packet))
         return OF_PINGS;
@@ -170,7 +170,8 @@ reason throttle_lets_say(throttle *it, member *from, const uint8_t *packet)
 /* Whether a client may ask the router now, and its address may. */
 static bool lets_ask(throttle *it, member *from)
 {
-    return limit_has_room(&it->questions, &from->asked, 1) && limit_lets(of_household(it->all_questions, from->speaks), &from->speaks->asked, 1) &&
+    const limit *of_all = of_household(it->all_questions, from->speaks);
+    return limit_has_room(&it->questions, &from->asked, 1) && limit_lets(of_all, &from->speaks->asked, 1) &&
            limit_lets(&it->questions, &from->asked, 1);
 }
 
@@ -225,10 +226,9 @@ void throttle_bring(speaker *from, const uint8_t *packet)
 }
 
 /* (what goes on keeps its source; so nobody passes for the router by naming its node) */
-weight throttle_weigh_routed(throttle *it, const uint8_t *packet)
+speaker *throttle_brought(const uint8_t *packet)
 {
-    bool is_brought = brought.from != NULL && memcmp(packet + AT_FROM_NODE, brought.source, sizeof brought.source) == 0;
-    return is_brought ? throttle_weigh(it, brought.from, packet) : OF_LITTLE;
+    return memcmp(packet + AT_FROM_NODE, brought.source, sizeof brought.source) == 0 ? brought.from : NULL;
 }
 
 /* Whether a client has room for what isn't of those who say little. */

@@ -49,15 +49,14 @@ void throttle_set(throttle *it, const network_setting *set, size_t number);
 /* Why a client's packet is dropped before anybody gets it; REASONS where it isn't. */
 reason throttle_lets_say(throttle *it, member *from, const uint8_t *packet);
 
-/* What a packet weighs for the clients of a network, of one who says it. It is counted as said to them. */
+/* What a packet weighs for the clients of a network, of one who says it, or of the router where that is NULL. It is counted as said. */
 weight throttle_weigh(throttle *it, speaker *from, const uint8_t *packet);
 
 /* From now on the router hears, and other networks get, what somebody says; NULL where nobody does. */
 void throttle_bring(speaker *from, const uint8_t *packet);
 
-/* What a packet weighs that the router or `extend` sends to the clients of a network: OF_LITTLE where the router says it itself, else as
- * much as one of him whose packet was brought. */
-weight throttle_weigh_routed(throttle *it, const uint8_t *packet);
+/* Who says a packet that the router or `extend` sends: NULL where that is the router itself, else he whose packet was brought. */
+speaker *throttle_brought(const uint8_t *packet);
 
 /* Why a client doesn't receive a packet of so many bytes; REASONS where it does. */
 reason throttle_receives(throttle *it, member *to, weight weighs, size_t length);

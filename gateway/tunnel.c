@@ -47,6 +47,8 @@ void tunnel_close(network *on)
 /* Sends a datagram of the gateway's own. */
 static void send_one(network *on, const ipxr_own *own, bool is_client)
 {
+    if (on->set->kilobits > 0)
+        line_send_own(sizeof own->bytes);
     outgoing_own(on, own->place, own->bytes, sizeof own->bytes, is_client);
     capture_packet(own->bytes, sizeof own->bytes, on->node);
 }
@@ -63,20 +65,30 @@ static void send_own(network *on, bool are_clients)
 static reason why_not(network *on, const uint8_t place[NODE], weight weighs, size_t length)
 {
     member *to = roster_find(&on->roster, place);
-    reason why = throttle_receives(&on->throttle, to, weighs, length);
-    if (why == REASONS)
-        return why;
-    to->dropped[DROPPED_FOR_IT]++;
-    on->counts.lost[why]++;
+    if (to == NULL)
+        return REASONS;
+    bool has_room = !to->is_by_line || line_has_room(&to->speaks->line);
+    reason why = has_room ? throttle_receives(&on->throttle, to, weighs, length) : TOO_MUCH_FOR_LINE;
+    if (why != REASONS) {
+        to->dropped[DROPPED_FOR_IT]++;
+        on->counts.lost[why]++;
+    } else if (to->is_by_line) {
+        line_send(&to->speaks->line);
+    }
     return why;
 }
 
-/* Sends a packet to the clients that get it, as the tunnel said, and as far as each receives it. Returns to how many it doesn't go
- * since they received too much. */
-static size_t send_carried(network *on, const uint8_t *packet, size_t length, weight weighs)
+/* Sends what somebody says, or the router itself where that is NULL, to the clients that get it, as the tunnel said, and as far as each
+ * receives it. Returns to how many it doesn't go since they received too much. */
+static size_t send_carried(network *on, speaker *from, const uint8_t *packet, size_t length)
 {
     uint8_t place[NODE];
     size_t dropped = 0;
+    if (ipxr_tunnel_receivers(&on->tunnel) == 0)
+        return 0;
+    weight weighs = throttle_weigh(&on->throttle, from, packet);
+    if (on->set->kilobits > 0)
+        line_begin(from != NULL ? &from->line : NULL, length);
     outgoing_begin(on, packet, length);
     for (size_t k = 0; ipxr_tunnel_receiver(&on->tunnel, k, place) == 0; k++) {
         if (why_not(on, place, weighs, length) == REASONS)
@@ -92,16 +104,21 @@ void tunnel_send(network *on, const uint8_t *node, const uint8_t *packet, size_t
     ipxr_tunnel_send(&on->tunnel, node);
     if (ipxr_tunnel_receivers(&on->tunnel) == 0 && !is_broadcast(node))
         gateway_lose(on, NO_CLIENT);
-    (void)send_carried(on, packet, length, throttle_weigh_routed(&on->throttle, packet));
+    (void)send_carried(on, throttle_brought(packet), packet, length);
 }
 
 /* ---- Who comes and who leaves ---- */
 
+void tunnel_list(network *on, const uint8_t place[NODE])
+{
+    address at = address_of(place);
+    roster_add(&on->roster, place, ranges_have(&on->set->trusted, &at), on->set->kilobits > 0);
+}
+
 void tunnel_tell_comes(network *on, const uint8_t place[NODE])
 {
     char words[WORDS];
-    address at = address_of(place);
-    roster_add(&on->roster, place, ranges_have(&on->set->trusted, &at));
+    tunnel_list(on, place);
     event("client %s comes to %08" PRIX32, node_words(place, words), on->set->network);
     events_client(on, place, true);
 }
@@ -223,8 +240,7 @@ static void carry(gateway *it, network *on, member *from, const uint8_t *packet,
         gateway_lose(on, why);
         return;
     }
-    if (ipxr_tunnel_receivers(&on->tunnel) > 0)
-        from->dropped[DROPPED_OF_IT] += send_carried(on, packet, length, throttle_weigh(&on->throttle, from->speaks, packet));
+    from->dropped[DROPPED_OF_IT] += send_carried(on, from->speaks, packet, length);
     if (is_heard)
         pass_on(it, on, from, packet, length);
     else

@@ -23,6 +23,9 @@ void tunnel_send(network *on, const uint8_t *node, const uint8_t *packet, size_t
 bool tunnel_lets_in(const network_setting *set, const address *from);
 ipxr_sender tunnel_sender(const gateway *it, const network *on, const address *from);
 
+/* Puts a client into the list of clients. */
+void tunnel_list(network *on, const uint8_t place[6]);
+
 /* Tells that somebody comes, or leaves, and keeps the list of clients so. */
 void tunnel_tell_comes(network *on, const uint8_t place[6]);
 void tunnel_tell_leaves(network *on, const uint8_t place[6]);

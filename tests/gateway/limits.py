@@ -253,12 +253,31 @@ def an_address_like_a_newcomers():
         assert it.party.until(lambda: newcomer.network, LIMIT), "a newcomer isn't answered"
 
 
+def narrow(it):
+    """The gateway's cards have a line of 1 Mbit/s from now on."""
+    for card in "g0", "g1":
+        it.field.gate.run("tc", "qdisc", "add", "dev", card, "root", "tbf", "rate", "1mbit", "burst", "5kb", "latency", "100ms")
+
+
+@played_anew
+def a_line_is_shared(kind, rate, size, listening):
+    """By a line of 1 Mbit/s that the gateway knows a client says packets of a size to four players who say 35 a second each, and to as many
+    clients of his own address that only listen; or to one of the players: these lose nothing."""
+    text = f"{TUNNEL_LINE}line 1000\nstrangers none\n"
+    with Playground(text, numbers=(0, 0, 4), more=1, program=SYSTEM.delivered) as it:
+        with Crowd(it, it.free[0], 1 + listening):
+            narrow(it)
+            to = "{}:{}".format(*it.party.all[0].udp.getsockname())
+            places = {"for": to, "host": it.free[0], "first": FIRST}
+            stands(it, flood(it.gate, "forged", kind, rate, count=rate * SECONDS, size=size, **places), it.party.all)
+        assert it.gate.counted(NETWORK, "too much for the line") > 0, it.gate.report()
+
+
 @played_anew
 def a_narrow_line():
     """By a line of 1 Mbit/s strangers who register 1,000 times a second cost the players nothing."""
     with Playground(numbers=(1, 1, 2)) as it:
-        for card in "g0", "g1":
-            it.field.gate.run("tc", "qdisc", "add", "dev", card, "root", "tbf", "rate", "1mbit", "burst", "5kb", "latency", "100ms")
+        narrow(it)
         sent = flood(it.gate, "sockets", "register", 1000, count=1000 * SECONDS, host="10.79.0.1", hosts=512, first=3000)
         lost = it.play(sent.lasts)
         figures(sent.end())
@@ -472,6 +491,10 @@ TESTS = [
     forged_strangers,
     an_address_like_a_newcomers,
     a_narrow_line,
+    named("by a line of 1 Mbit/s that the gateway knows a client says 22 long packets a second", a_line_is_shared, "chat", 22, LONGEST, 0),
+    named("by such a line somebody has 16 clients that only listen", a_line_is_shared, "chat", SHARE, 46, 16),
+    named("by such a line he floods, by long packets", a_line_is_shared, "chat", FLOOD, LONGEST, 16),
+    named("by such a line somebody floods one player", a_line_is_shared, "tell", FLOOD, 46, 0),
     an_address_is_one,
     many_at_once_count,
     what_an_address_receives,
