@@ -50,7 +50,7 @@ static void forget(speaker *it)
 {
     memset(it->said, 0, sizeof it->said);
     memset(it->said_bytes, 0, sizeof it->said_bytes);
-    it->received = it->asked = it->handed = it->advertised = 0;
+    it->received = it->asked = it->answered = it->handed = it->advertised = 0;
 }
 
 void speakers_forget(void)

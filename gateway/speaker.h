@@ -18,6 +18,7 @@ typedef struct speaker {
     meter said_bytes[IPXR_MOST_PORTS]; /* and bytes */
     meter received;   /* by all its clients */
     meter asked;      /* of the router */
+    meter answered;   /* by the gateway */
     meter handed;     /* to the router */
     meter advertised; /* of these, what routers tell */
     line_use line;    /* what it uses of a line that is narrow */

@@ -84,6 +84,7 @@ void throttle_set(throttle *it, const network_setting *set, size_t number)
         it->said[k] = limit_of(share * (k + 1), 1, share * (k + 1));
         it->said_bytes[k] = bytes_of(share * (k + 1));
         it->all_questions[k] = limit_of(QUESTIONS * (k + 1), 1, QUESTIONS_AT_ONCE * (k + 1));
+        it->all_answers[k] = limit_of(ANSWERS * (k + 1), 1, ANSWERS_AT_ONCE * (k + 1));
     }
     set_household(it, set->household);
     it->handed = limit_of(rate, 2, BURST);
@@ -152,11 +153,16 @@ weight throttle_weigh(throttle *it, speaker *from, const uint8_t *packet)
 
 /* ---- What clients say ---- */
 
+/* Whether something may pass by two limits, of a client and of its address; it is counted by both then. */
+static bool both_let(const limit *one, meter *of_one, const limit *all, meter *of_all)
+{
+    return limit_has_room(one, of_one, 1) && limit_lets(all, of_all, 1) && limit_lets(one, of_one, 1);
+}
+
 /* Whether a client may ping all others now, and all together may. */
 static bool lets_ping(throttle *it, member *from)
 {
-    return limit_has_room(&it->all_pings, &it->pinged, 1) && limit_lets(&it->pings, &from->pinged, 1) &&
-           limit_lets(&it->all_pings, &it->pinged, 1);
+    return both_let(&it->pings, &from->pinged, &it->all_pings, &it->pinged);
 }
 
 reason throttle_lets_say(throttle *it, member *from, const uint8_t *packet)
@@ -170,14 +176,13 @@ reason throttle_lets_say(throttle *it, member *from, const uint8_t *packet)
 /* Whether a client may ask the router now, and its address may. */
 static bool lets_ask(throttle *it, member *from)
 {
-    const limit *of_all = of_household(it->all_questions, from->speaks);
-    return limit_has_room(&it->questions, &from->asked, 1) && limit_lets(of_all, &from->speaks->asked, 1) &&
-           limit_lets(&it->questions, &from->asked, 1);
+    return both_let(&it->questions, &from->asked, of_household(it->all_questions, from->speaks), &from->speaks->asked);
 }
 
 bool throttle_lets_answer(throttle *it, member *to)
 {
-    bool lets = it->is_off || limit_lets(&it->answers, &to->answered, 1);
+    const limit *of_all = of_household(it->all_answers, to->speaks);
+    bool lets = it->is_off || both_let(&it->answers, &to->answered, of_all, &to->speaks->answered);
     to->dropped[DROPPED_ANSWERS] += !lets;
     return lets;
 }

@@ -36,7 +36,8 @@ typedef struct throttle {
     limit questions; /* of a client, to the router; */
     limit all_questions[HOUSEHOLD]; /* and of an address with one client, or two, .. */
     limit advertisements; /* of an address, to the router: what changes by them it says to all other networks at once */
-    limit answers;   /* of the gateway, to what a client says to it, or somebody in its name */
+    limit answers;   /* of the gateway, to what a client says to it, or somebody in its name; */
+    limit all_answers[HOUSEHOLD]; /* and to an address with one client, or two, .. */
     meter pinged;
 } throttle;
 

@@ -374,7 +374,8 @@ def asks_for_all(player):
 
 
 def questions_of_an_address():
-    """With full tables 300 clients of an address ask the router for all services: it answers 16 at once, and four a second later."""
+    """With full tables 300 clients of an address ask the router for all services: it answers 16 at once, and four a second later. They register
+    again: the gateway answers twice as often."""
     text = f"{FULL}network 20 1 1424 dosbox 0.0.0.0:{OTHER_PORT}\nstrangers none\nclients {ASKING}\n"
     with Playground(text, numbers=(1, 0, 1), more=1, clock=Clock()) as it:
         fill(it)
@@ -383,6 +384,7 @@ def questions_of_an_address():
             it.party.put_in("asks", player)
             player.register()
         until(lambda: it.party.hear() or it.gate.counted(0x20, "clients") == ASKING, "all clients")
+        unanswered = 0
         for passed, answered in (0, QUESTIONS_AT_ONCE * HOUSEHOLD), (1, HOUSEHOLD):
             it.let_pass(passed)
             before, sent = it.gate.counted(0x20, "too many questions"), it.gate.counted(0x20, "out")
@@ -395,6 +397,13 @@ def questions_of_an_address():
             assert lost == ASKING - answered, f"{ASKING - lost} are answered, not {answered}"
             sent = it.gate.counted(0x20, "out") - sent
             assert sent <= ASKING + answered * FILLS_TABLES, f"{sent} packets"
+            unanswered += ASKING - 2 * answered
+            for player in asking:
+                player.register()
+                it.party.hear()
+            until(lambda: it.party.hear() or it.gate.counted(0x20, "too many answers") >= unanswered, "all register")
+            it.party.until(lambda: False, QUIET)
+            assert it.gate.counted(0x20, "too many answers") == unanswered, it.gate.report()
 
 
 def advertise_in_turns(it, router, count):
