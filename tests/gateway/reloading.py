@@ -98,6 +98,23 @@ def rules_for_clients():
         assert gate.counted(0x10, "clients") == 1 and reaches(a, a)
 
 
+def a_line():
+    """A narrow line holds as soon as the file names it, and no longer than it does; who is there stays."""
+    dropped = "lost: too much for the line"
+    with Changed(tunnels(1, extra="rate none\n")) as gate:
+        a, b = Client(gate.ports[0x10]), Client(gate.ports[0x10])
+        said = gate.reload(tunnels(1, extra="rate none\nline 100\n"))
+        assert "1 with other clients" in said and "router" not in said, said
+        for _ in range(FLOOD):
+            a.say(b.at(), bytes(1000))
+        until(lambda: gate.counted(0x10, dropped) > 0, "packets that are dropped")
+        gate.reload(tunnels(1, extra="rate none\n"))
+        lost = gate.counted(0x10, dropped)
+        for _ in range(FLOOD):
+            assert reaches(a, b)
+        assert gate.counted(0x10, dropped) == lost and not is_told_to_leave(gate)
+
+
 def limits():
     """Other limits hold from then on, for those who are there too; they stay, with what was counted of them."""
     dropped = "lost: too much for a client"
@@ -267,7 +284,7 @@ def main():
     if SYSTEM is Windows:
         left_out("reading the configuration anew", "it is Linux' own")
         return counts
-    for test in (nothing_changes, wrong_file, rules_for_clients, limits, shares, sockets, a_link_is_another,
+    for test in (nothing_changes, wrong_file, rules_for_clients, limits, a_line, shares, sockets, a_link_is_another,
                  networks_come_and_go, another_address, a_link_is_taken, the_router_begins_anew, followed, at_a_terminal):
         counts.run(test)
     return counts
