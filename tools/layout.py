@@ -14,7 +14,7 @@ TOP = os.path.dirname(os.path.dirname(os.path.realpath(__file__)))
 # Sections that are never in memory: a program without them is the same program.
 DEAD_WEIGHT = "--strip-unneeded"
 # How a header says a size.
-SIZE = re.compile(r"(?m)^#define IPXR_MOST_(PORTS|ROUTES|SERVICES|CLIENTS) (\d+)$")
+SIZE = re.compile(r"(?m)^#define IPXR_MOST_(PORTS|ROUTES|SERVICES|CLIENTS|LINKS|STATIONS) (\d+)$")
 
 
 class Piece(NamedTuple):

@@ -26,9 +26,9 @@ shared() {
         -Wl,--whole-archive "$1/libipxr.a" -Wl,--no-whole-archive -o "$1/libipxr.so.$release"
 }
 
-# The calls of both headers.
+# The calls of the headers.
 calls_of_header() {
-    sed -nE 's/^IPXR_CALL [a-z0-9_]+ (ipxr_[a-z_]+)\(.*/\1/p' include/ipxr.h include/ipxr_tunnel.h | sort
+    sed -nE 's/^IPXR_CALL [a-z0-9_]+ (ipxr_[a-z_]+)\(.*/\1/p' include/ipxr.h include/ipxr_tunnel.h include/ipxr_segment.h | sort
 }
 
 # A line for what went well or badly: its name, and the status to judge.
@@ -66,7 +66,7 @@ ends() { prints /dev/null "$@" && timeout 120 "$@" </dev/null >build/log 2>&1; }
 test_c() {
     local name=$1 compiler=$2 folder=$3
     shift 3
-    for program in two_networks answers fields services tunnel tunnel_fields; do
+    for program in two_networks answers fields services tunnel tunnel_fields segment segment_fields; do
         local kept=examples/embed/c/$program.out
         [ -e $kept ] || kept=examples/embed/$program.out
         $compiler -std=c99 $FLAGS examples/embed/c/$program.c "$folder/libipxr.a" -o "$folder/$program.exe"
@@ -81,7 +81,7 @@ test_c() {
 test_counted() {
     local name=$1 compiler=$2 folder=$3 flags=$4
     shift 4
-    for program in refusals blocks tunnel_blocks; do
+    for program in refusals blocks tunnel_blocks segment_blocks; do
         $compiler -std=c99 $FLAGS $flags examples/embed/c/$program.c "$folder/libipx_c.a" -o "$folder/$program.exe"
         tell "$name: $program is built with an allocator of its own${flags:+ and the sanitizers}" $?
         prints examples/embed/c/$program.out "$@" "$folder/$program.exe"

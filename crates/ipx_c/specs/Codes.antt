@@ -14,7 +14,7 @@ use Rattle.ipx_router.specs.declared.ports_fault.PortsFault.TheVariants.{NoPort 
 use Rattle.ipx_router.specs.declared.why.Why.{Why}
 use Rattle.ipx_router.specs.declared.why.Why.TheVariants.{NotRunning, Malformed, OwnEcho, BadSource, CrossedShort, CrossedFull, CrossedSeen, Elsewhere, OtherSocket, NotNeighbour, BadRip, BadSap, NearestReply, TooManyRouters, FarSide, NoRoute, TooLong, DownPort}
 use Rattle.ipx_c.specs.declared.fault.Fault.{Fault}
-use Rattle.ipx_c.specs.declared.fault.Fault.TheVariants.{NoRouter, NoPort, NoPacket, NoRecord, ShortBuffer, OutOfMemory, NoTunnel, ManyClients, Port, Ports, Operation, NoEntries, ManyEntries, Name, LongPacket}
+use Rattle.ipx_c.specs.declared.fault.Fault.TheVariants.{NoRouter, NoPort, NoPacket, NoRecord, ShortBuffer, OutOfMemory, NoTunnel, ManyClients, NoSegment, NoLink, BadLink, ManyLinks, ManyStations, Port, Ports, Operation, NoEntries, ManyEntries, Name, LongPacket}
 
 -- ---- why an event was dropped
 
@@ -86,7 +86,12 @@ fault_number NoRecord = 4
 fault_number ShortBuffer = 5
 fault_number OutOfMemory = 6
 fault_number NoTunnel = 7
+fault_number NoSegment = 8
+fault_number NoLink = 9
+fault_number BadLink = 10
 fault_number ManyClients = 18
+fault_number ManyLinks = 19
+fault_number ManyStations = 20
 fault_number (Port Longest) = 11
 fault_number (Port Cost) = 12
 fault_number (Port Network) = 13

@@ -21,6 +21,11 @@ pub mod TunnelValues
 pub mod TunnelMakes
 pub mod TunnelEvents
 pub mod TunnelReads
+-- segments: the same
+pub mod SegmentValues
+pub mod SegmentMakes
+pub mod SegmentEvents
+pub mod SegmentReads
 -- broadcasts that are copied to another network
 pub mod Extends
 -- nothing that a public contract says

@@ -9,7 +9,7 @@ use Rattle.ipx_router.specs.declared.port.PortFault.TheVariants.{Longest, Cost, 
 use Rattle.ipx_router.specs.declared.ports_fault.PortsFault.TheVariants.{NoPort as NoPorts, TooMany as ManyPorts, SameNetwork}
 use Rattle.ipx_router.specs.declared.why.Why.TheVariants.{NotRunning, Malformed, OwnEcho, BadSource, CrossedShort, CrossedFull, CrossedSeen, Elsewhere, OtherSocket, NotNeighbour, BadRip, BadSap, NearestReply, TooManyRouters, FarSide, NoRoute, TooLong, DownPort}
 use Rattle.ipx_c.specs.Codes.{outcome_number, fault_number}
-use Rattle.ipx_c.specs.declared.fault.Fault.TheVariants.{NoRouter, NoPort, NoPacket, NoRecord, ShortBuffer, OutOfMemory, NoTunnel, ManyClients, Port, Ports, Operation, NoEntries, ManyEntries, Name, LongPacket}
+use Rattle.ipx_c.specs.declared.fault.Fault.TheVariants.{NoRouter, NoPort, NoPacket, NoRecord, ShortBuffer, OutOfMemory, NoTunnel, ManyClients, NoSegment, NoLink, BadLink, ManyLinks, ManyStations, Port, Ports, Operation, NoEntries, ManyEntries, Name, LongPacket}
 
 -- of what became of an event
 abbrev pub event_word : ℕ → List ℕ
@@ -68,6 +68,9 @@ fault_word n =
     if n == fault_number ShortBuffer then codes "short buffer" else
     if n == fault_number OutOfMemory then codes "out of memory" else
     if n == fault_number NoTunnel then codes "no tunnel" else
+    if n == fault_number NoSegment then codes "no segment" else
+    if n == fault_number NoLink then codes "no such link" else
+    if n == fault_number BadLink then codes "bad link" else
     if n == fault_number (Port Longest) then codes "bad longest packet" else
     if n == fault_number (Port Cost) then codes "bad cost" else
     if n == fault_number (Port Network) then codes "bad network" else
@@ -76,6 +79,8 @@ fault_word n =
     if n == fault_number (Ports ManyPorts) then codes "too many ports" else
     if n == fault_number (Ports SameNetwork) then codes "same network" else
     if n == fault_number ManyClients then codes "too many clients" else
+    if n == fault_number ManyLinks then codes "too many links" else
+    if n == fault_number ManyStations then codes "too many stations" else
     if n == fault_number Operation then codes "bad operation" else
     if n == fault_number NoEntries then codes "no entries" else
     if n == fault_number ManyEntries then codes "too many entries" else

@@ -7,11 +7,14 @@ ghost use Rattle.std.specs.Coded.{coded_option};
 ghost use Rattle.std.specs.Box.Ownership.{box_owns};
 ghost use Rattle.ipx_c.specs.inside.Holds.{holds};
 ghost use Rattle.ipx_c.specs.contracts.machine.Machine.{the_row as router_row};
+ghost use Rattle.ipx_c.specs.contracts.segment_machine.SegmentMachine.{the_row as segment_row};
 ghost use Rattle.ipx_c.specs.contracts.tunnel_machine.TunnelMachine.{the_row as tunnel_row};
 ghost use Rattle.ipx_c.specs.declared.machine.Machine.{Machine};
+ghost use Rattle.ipx_c.specs.declared.segment_machine.SegmentMachine.{SegmentMachine};
 ghost use Rattle.ipx_c.specs.declared.tunnel_machine.TunnelMachine.{TunnelMachine};
 
 use crate::machine::Machine;
+use crate::segment_machine::SegmentMachine;
 use crate::tunnel_machine::TunnelMachine;
 use std::alloc::{Allocator, Global};
 use std::marker::Model;
@@ -187,3 +190,41 @@ impl TunnelCell {
 }
 
 unsafe impl Send for TunnelCell {}
+
+/// The cell of a segment, as C keeps it.
+#[repr(C)]
+pub struct SegmentCell {
+    at: *mut u8,
+    alloc: Global,
+    pub ghost machine: { Option SegmentMachine } by { coded_option segment_row.coded },
+}
+
+impl Model for SegmentCell {
+    ghost also_owns = { λ c. holds segment_row c.alloc c.at c.machine };
+}
+
+impl SegmentCell {
+    /// The same cell, for C.
+    pub(crate) fn of(cell: Cell<SegmentMachine>) -> SegmentCell
+        ensures { result.machine ≡ cell.machine }
+    {
+        let Cell { at, alloc } = cell;
+        SegmentCell {
+            at: at as *mut u8,
+            alloc,
+        }
+    }
+
+    /// The same cell, from C.
+    pub(crate) fn into_cell(self) -> Cell<SegmentMachine>
+        ensures { result.machine ≡ self.machine }
+    {
+        let SegmentCell { at, alloc } = self;
+        Cell {
+            at: at as *mut SegmentMachine,
+            alloc,
+        }
+    }
+}
+
+unsafe impl Send for SegmentCell {}

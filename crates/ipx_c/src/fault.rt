@@ -29,6 +29,21 @@ pub enum Fault {
     /// A tunnel would have more clients than one can have.
     #[error("too many clients")]
     ManyClients,
+    /// The handle has no segment.
+    #[error("no segment")]
+    NoSegment,
+    /// There is no link of that number.
+    #[error("no such link")]
+    NoLink,
+    /// A link that is of no kind.
+    #[error("bad link")]
+    BadLink,
+    /// A segment would have more links than one can have.
+    #[error("too many links")]
+    ManyLinks,
+    /// A segment would have more stations than one can have.
+    #[error("too many stations")]
+    ManyStations,
     /// Values that make no port.
     #[error("{0}")]
     Port(PortFault),

@@ -2,8 +2,9 @@
 ghost use Rattle.std.specs.Prelude.{◌≡◌, Option, None, Some, is_some};
 ghost use Rattle.std.specs.Option.{option_map};
 
-use crate::cell::{Cell, RouterCell, TunnelCell};
+use crate::cell::{Cell, RouterCell, SegmentCell, TunnelCell};
 use crate::machine::Machine;
+use crate::segment_machine::SegmentMachine;
 use crate::tunnel_machine::TunnelMachine;
 use std::alloc::Global;
 use std::mem::replace;
@@ -155,6 +156,40 @@ impl Crosses for TunnelHandle {
         ensures { result.cell.machine ≡ self.cell.machine }
     {
         let TunnelHandle { made, cell } = self;
+        Handle {
+            made,
+            cell: cell.into_cell(),
+        }
+    }
+}
+
+/// The handle of a segment, as C keeps it. All bytes 0 are one without a segment.
+#[repr(C)]
+pub struct SegmentHandle {
+    made: bool,
+    pub cell: SegmentCell,
+    ghost agrees: { made ≡ is_some cell.machine },
+}
+
+impl Crosses for SegmentHandle {
+    type Machine = SegmentMachine;
+
+    ghost machine = { λ handle. handle.cell.machine };
+
+    fn of(handle: Handle<SegmentMachine>) -> SegmentHandle
+        ensures { result.cell.machine ≡ handle.cell.machine }
+    {
+        let Handle { made, cell } = handle;
+        SegmentHandle {
+            made,
+            cell: SegmentCell::of(cell),
+        }
+    }
+
+    fn into_handle(self) -> Handle<SegmentMachine>
+        ensures { result.cell.machine ≡ self.cell.machine }
+    {
+        let SegmentHandle { made, cell } = self;
         Handle {
             made,
             cell: cell.into_cell(),

@@ -1,4 +1,5 @@
-//! The router for C, and for whatever can call C: a static library, whose headers are `include/ipxr.h` and `include/ipxr_tunnel.h`.
+//! The router for C, and for whatever can call C: a static library, whose headers are `ipxr.h`, `ipxr_tunnel.h` and
+//! `ipxr_segment.h` in `include/`.
 //!
 //! - C holds a router by a `RouterHandle`: a flag and a pointer. All bytes 0 are a handle without a router.
 //! - `Handle` and `Cell` serve any machine, and are proved once. What crosses to C may have no type parameter, so each kind of machine
@@ -6,17 +7,19 @@
 //! - Each export answers a number (`specs/Codes`), and its clause says what it did, by the definitions of `ipx_router`: an event
 //!   was taken (`Happens`), a router was made (`Makes`), a packet was copied out (`Copies`), a record was read (`Reads`). Below 0
 //!   nothing happened.
-//! - How many ports, routes and services a router can have, and how many clients a tunnel, stands in `sizes`, whose constants
-//!   `specs/Sizes` names. `tools/sized` writes that file anew for a library of other sizes.
+//! - How many ports, routes and services a router can have, how many clients a tunnel, and how many links and stations a
+//!   segment, stands in `sizes`, whose constants `specs/Sizes` names. `tools/sized` writes that file anew for a library of other sizes.
 //! - A tunnel of DOSBox' is the second kind of machine: `TunnelMachine` has the tunnel of `ipx_tunnel` and the lists of what came of
 //!   its last event, which are filled where they lie (`TunnelMakes`, `TunnelEvents`, `TunnelReads`). Broadcasts are copied without
 //!   one (`Extends`).
+//! - A network over several links is the third: `SegmentMachine` has the segment of `ipx_segment` and the links that get the packet of
+//!   its last event (`SegmentMakes`, `SegmentEvents`, `SegmentReads`).
 //! - Frames of Ethernet are read and written as `ipx_capture` does, by the numbers of their kinds (`Kinds`).
 //! - Packets are written by the writers of `ipx_wire`, of values that C gives (`Writes`).
 //! - `cell` is the only place with a raw pointer; its proofs, and those alone, are walks by hand.
 //! - A handle isn't `Drop`: what doesn't hand its machine on, or put it into an empty one, doesn't compile or isn't proved. So no
 //!   call loses a router. That `ipxr_free` and `ipxr_make` free is one line in `making`, `drop(machine)`, which no clause can say; for
-//!   tunnels it is one in `tunnel_making`.
+//!   tunnels it is one in `tunnel_making`, for segments one in `segment_making`.
 #![tactic(auto)]
 
 mod cell;
@@ -26,9 +29,15 @@ mod extending;
 mod fault;
 mod frames;
 mod handle;
+mod item;
 mod machine;
 mod making;
 mod reading;
+mod segment_events;
+mod segment_machine;
+mod segment_making;
+mod segment_reading;
+mod segment_values;
 mod sending;
 mod sizes;
 mod tunnel_events;
@@ -46,12 +55,23 @@ pub use crate::events::{
 pub use crate::extending::ipxr_tunnel_extend;
 pub use crate::fault::Fault;
 pub use crate::frames::{ipxr_frame_read, ipxr_frame_write};
-pub use crate::handle::{RouterHandle, TunnelHandle};
+pub use crate::handle::{RouterHandle, SegmentHandle, TunnelHandle};
 pub use crate::machine::Machine;
 pub use crate::making::{ipxr_free, ipxr_make, ipxr_version};
 pub use crate::reading::{
     ipxr_is_running, ipxr_is_up, ipxr_route, ipxr_routes, ipxr_service, ipxr_services,
 };
+pub use crate::segment_events::{
+    ipxr_segment_change, ipxr_segment_come, ipxr_segment_hear, ipxr_segment_leave,
+    ipxr_segment_second, ipxr_segment_send,
+};
+pub use crate::segment_machine::SegmentMachine;
+pub use crate::segment_making::{ipxr_segment_free, ipxr_segment_make};
+pub use crate::segment_reading::{
+    ipxr_segment_link, ipxr_segment_next_node, ipxr_segment_receiver, ipxr_segment_receivers,
+    ipxr_segment_station, ipxr_segment_stations,
+};
+pub use crate::segment_values::{LinkValues, SegmentSetting, StationRecord};
 pub use crate::sending::{ipxr_clear, ipxr_get, ipxr_sent};
 pub use crate::tunnel_events::{ipxr_tunnel_hear, ipxr_tunnel_second, ipxr_tunnel_send};
 pub use crate::tunnel_machine::TunnelMachine;

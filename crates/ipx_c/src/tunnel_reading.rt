@@ -1,5 +1,5 @@
 //! What C reads of a tunnel: what came of its last event, and its clients.
-ghost use Rattle.std.specs.Prelude.{◌≡◌, slice_get};
+ghost use Rattle.std.specs.Prelude.{◌≡◌};
 ghost use Rattle.ipx_c.specs.Reads.{read_code};
 ghost use Rattle.ipx_c.specs.TunnelReads.{found_or, own_count, own_at, own_after, receiver_count, receiver_at, carried_size, heard_flag, leaver_count, leaver_at, place_after, client_count, client_at, client_after};
 ghost use Rattle.ipx_c.specs.TunnelValues.{own_record, client_record};
@@ -7,6 +7,7 @@ ghost use Rattle.ipx_c.specs.TunnelValues.{own_record, client_record};
 use crate::code::{DONE, fault_code};
 use crate::fault::Fault;
 use crate::handle::{TunnelHandle, put_in, taken_out};
+use crate::item::item_at;
 use crate::tunnel_values::{ClientRecord, OwnRecord};
 use ipx_tunnel::{Client, Own};
 use ipx_wire::Node;
@@ -182,13 +183,6 @@ pub extern "C" fn ipxr_tunnel_client(
     };
     *client = client_record(one);
     DONE
-}
-
-/// The item of that number, counted from 0.
-fn item_at<T: Copy>(items: &[T], index: usize) -> Option<T>
-    ensures { result ≡ slice_get items.now index }
-{
-    items.get(index).copied()
 }
 
 /// Copies a place that was found. Returns the number that C hears.

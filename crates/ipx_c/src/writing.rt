@@ -216,7 +216,7 @@ fn operation_of(number: u16) -> Option<Operation>
     }
 }
 
-fn address_of(values: &AddressValues) -> Address
+pub(crate) fn address_of(values: &AddressValues) -> Address
     ensures { result ≡ address_of values.now }
 {
     address_with(values.network, values.node, values.socket)

@@ -8,6 +8,7 @@
 #include <stdlib.h>
 #include <string.h>
 
+#include "ipxr_segment.h"
 #include "ipxr_tunnel.h"
 #include "packets.h"
 
@@ -22,6 +23,7 @@ static const uint32_t FAR = 0x10000;
 
 static ipxr router;
 static ipxr_tunnel tunnel;
+static ipxr_segment segment;
 static ipxr_sender sender;
 static unsigned char *stack;
 static uint8_t packet[LONGEST];
@@ -120,6 +122,44 @@ static void read_tunnel(void)
     ipxr_tunnel_receiver(&tunnel, 0, place);
     ipxr_tunnel_leaver(&tunnel, 0, place);
     ipxr_tunnel_client(&tunnel, 0, &client);
+}
+
+static void make_segment(void)
+{
+    const ipxr_segment_setting setting = {1, {0, 0, 0, 0, 0, 1}, IPXR_MOST_LINKS, IPXR_MOST_STATIONS};
+    answer = ipxr_segment_make(&segment, &setting);
+}
+
+static void hear_at_0(void) { answer = ipxr_segment_hear(&segment, 0, sender.place, EVERYONE); }
+static void send_over_segment(void) { answer = ipxr_segment_send(&segment, EVERYONE); }
+static void second_of_segment(void) { answer = ipxr_segment_second(&segment); }
+static void come_to_1(void) { answer = ipxr_segment_come(&segment, 1, sender.place); }
+static void leave_1(void) { answer = ipxr_segment_leave(&segment, 1, sender.place); }
+static void empty_segment(void) { ipxr_segment_free(&segment); }
+
+static void cable_0(void)
+{
+    const ipxr_link wire = {IPXR_LINK_CABLE, IPXR_MOST_STATIONS};
+    answer = ipxr_segment_change(&segment, 0, &wire);
+}
+
+static void sure_1(void)
+{
+    const ipxr_link link = {IPXR_LINK_SURE, IPXR_MOST_STATIONS};
+    answer = ipxr_segment_change(&segment, 1, &link);
+}
+
+/* Whatever reads the segment. */
+static void read_segment(void)
+{
+    const ipxr_address to = {1, {0, 0, 0, 0, 0, 1}, 2};
+    ipxr_station station;
+    ipxr_link values;
+    uint8_t link, node[6];
+    ipxr_segment_receiver(&segment, 0, &link);
+    ipxr_segment_station(&segment, 0, &station);
+    ipxr_segment_link(&segment, 0, &values);
+    ipxr_segment_next_node(&segment, &to, node);
 }
 
 /* Whatever reads the router, and the packets that it sends. */
@@ -319,6 +359,33 @@ static void play_tunnel(void)
     measure("a tunnel is freed", empty_tunnel, MOST);
 }
 
+/* As many stations as there is room for, all of one link. */
+static void fill_segment(void)
+{
+    for (uint32_t k = 0; k < IPXR_MOST_STATIONS; k++) {
+        put_number(sender.place, 4, k + 1);
+        play(hear_at_0, 1);
+    }
+}
+
+static void play_segment(void)
+{
+    measure("a segment is made", make_segment, MOST);
+    measure("a segment is made in its place", make_segment, MOST);
+    measure("a link goes up as a cable", cable_0, MOST);
+    measure("a link goes up as sure", sure_1, MOST);
+    fill_segment();
+    measure("a station is heard again", hear_at_0, MOST);
+    measure("the router sends over all links", send_over_segment, MOST);
+    measure("all of the segment is read", read_segment, MOST);
+    measure("a station comes to the sure link", come_to_1, MOST);
+    measure("it leaves", leave_1, MOST);
+    measure("a second that ages all", second_of_segment, MOST);
+    play(second_of_segment, 298);
+    measure("a second in which all are forgotten", second_of_segment, MOST);
+    measure("a segment is freed", empty_segment, MOST);
+}
+
 int main(int count, char **words)
 {
     in_figures = count > 1 && strcmp(words[1], "figures") == 0;
@@ -334,6 +401,7 @@ int main(int count, char **words)
     measure("a stop", stop, MOST);
     measure("a router is freed", empty, MOST);
     play_tunnel();
+    play_segment();
     free(stack);
     printf("faults: %d\n", faults);
     return 0;
