@@ -50,7 +50,8 @@ static bool same_ranges(const ranges *a, const ranges *b)
 static bool has_same_clients(const network_setting *a, const network_setting *b)
 {
     return a->clients == b->clients && a->per_address == b->per_address && a->rate == b->rate && a->share == b->share &&
-           a->household == b->household && a->kilobits == b->kilobits && a->strangers == b->strangers && same_ranges(&a->allowed, &b->allowed) && same_ranges(&a->trusted, &b->trusted);
+           a->household == b->household && a->kilobits == b->kilobits && a->strangers == b->strangers &&
+           same_ranges(&a->allowed, &b->allowed) && same_ranges(&a->trusted, &b->trusted);
 }
 
 static bool has_same_sockets(const network_setting *a, const network_setting *b)

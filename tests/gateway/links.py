@@ -125,6 +125,7 @@ def a_connection_comes():
 
 
 NUMBERS = [b"%d" % k for k in range(200)]
+NO_LIMIT = "rate none\n"  # below the network of whoever hears more at once than a DOSBox may
 
 
 def says_numbers(station, far):
@@ -140,7 +141,7 @@ def hears_numbers(far):
 
 def one_pc_at_a_time():
     """While a PC is connected others are refused, and told; it stays. Where it goes, the next is taken at once."""
-    with Gateway(tunnels(1) + "network 20 1 1490 qemu-tcp listen 0 raw\n") as gate:
+    with Gateway(tunnels(1, extra=NO_LIMIT) + "network 20 1 1490 qemu-tcp listen 0 raw\n") as gate:
         far = Client(gate.ports[0x10])
         station, pc = connected(gate, 0x20, "raw")
         for _ in range(50):
@@ -211,7 +212,7 @@ def reset(connection):
 
 def a_connection_is_reset():
     """What came from a PC before it reset its connection is heard whole, though what goes to it meanwhile can't be sent."""
-    with Gateway(tunnels(1) + "network 20 1 1490 qemu-tcp listen 0 raw\n") as gate:
+    with Gateway(tunnels(1, extra=NO_LIMIT) + "network 20 1 1490 qemu-tcp listen 0 raw\n") as gate:
         far = Client(gate.ports[0x10])
         for last in range(1, 4):
             station, pc = connected(gate, 0x20, "raw", last)
@@ -228,7 +229,7 @@ def a_connection_is_reset():
 
 def a_stream():
     """Frames come in pieces, and many at once; what isn't frames ends the connection."""
-    with Gateway(tunnels(1) + "network 20 1 1490 qemu-tcp listen 0 raw\n") as gate:
+    with Gateway(tunnels(1, extra=NO_LIMIT) + "network 20 1 1490 qemu-tcp listen 0 raw\n") as gate:
         far = Client(gate.ports[0x10])
         station, pc = connected(gate, 0x20, "raw")
         whole = frame("raw", station.gateway, STATION, packet(far.at(), station.at(), b"pieces"))
