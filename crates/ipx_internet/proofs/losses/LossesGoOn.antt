@@ -17,7 +17,7 @@ use Rattle.ipx_router.proofs.histories.OneEventMore.{none_up}
 use Rattle.ipx_router.proofs.lists.EachElement.{all_both}
 use Rattle.ipx_router.proofs.tables.HeldCameByPortsUp.{held_routes_up}
 use Rattle.ipx_router.proofs.tables.OffersOfAMessage.{facts_from-more}
-use Rattle.ipx_internet.specs.Internet.{Internet, Place, IsInternet, NodesDiffer, IsPlace, ports_of, port_of, network_of}
+use Rattle.ipx_internet.specs.Internet.{Internet, Place, IsInternet, IsPlace, ports_of, port_of, network_of}
 use Rattle.ipx_internet.specs.Losses.{IsLoss, IsOfLosses}
 use Rattle.ipx_internet.specs.Queue.{Delivery, Queued, deliveries_of, history_of, sends_at, queued, settled_one}
 use Rattle.ipx_internet.specs.Rounds.{IsDelivery}
@@ -30,6 +30,7 @@ use Rattle.ipx_internet.proofs.lists.EachElement.{all-append}
 use Rattle.ipx_internet.proofs.lists.FoundInAList.{nothing}
 use Rattle.ipx_internet.proofs.lists.SomeElement.{AnyIs, found_with, any_in_front, any_behind}
 use Rattle.ipx_internet.proofs.losses.EachLossIsSaid.{Says, IsLosing, AnyService, AnyEntry, stop_loses, port_down_loses, packet_loses}
+use Rattle.ipx_internet.proofs.losses.HeldFromOthers.{IsFromOther, held_from_others}
 use Rattle.ipx_internet.proofs.losses.TablesShrink.{route_at, IsDead, after, source_ends}
 use Rattle.ipx_internet.proofs.losses.WordsThatWait.{IsWordFor, word_waits}
 use Rattle.ipx_internet.proofs.packets.PagesAreHeard.{heard_page}
@@ -42,7 +43,7 @@ use Rattle.ipx_internet.proofs.rounds.RepliesTellChanges.{heard_says, heard_from
 use Rattle.ipx_internet.proofs.rounds.SentOnRunsOut.{Calm, reply_moves}
 use Rattle.ipx_internet.proofs.trees.RunIsALog.{histories_more}
 
-module _ (net : Internet) (laws : Layouts) (is : IsInternet net) (differ : NodesDiffer net) (most_routes most_services : ℕ) (last : List History) where
+module _ (net : Internet) (laws : Layouts) (is : IsInternet net) (most_routes most_services : ℕ) (last : List History) where
   -- what waits says that nothing is reached
   pub record Waits (d : Delivery) : Type 0 where
     pub delivery : IsDelivery net d
@@ -199,8 +200,9 @@ module _ (net : Internet) (laws : Layouts) (is : IsInternet net) (differ : Nodes
   -- ---- a delivery
 
   -- a route isn't held any more where its source says that its network isn't reached
-  module _ (router number : ℕ) (bytes : List ℕ) (history : History) (r : RouteOffer) (from : Place) (other : router ≢ from.router) (place : IsPlace net from)
-      (here : number < length (ports_of net router)) (one_network : network_of net (record { router = router; port = number }) ≡ network_of net from)
+  module _ (router number : ℕ) (bytes : List ℕ) (history : History) (r : RouteOffer) (from : Place) (place : IsPlace net from)
+      (apart : (port_of net from).node ≢ (port_at (ports_of net router) number).node)
+      (one_network : network_of net (record { router = router; port = number }) ≡ network_of net from)
       (port : r.port ≡ number) (node : r.node ≡ (port_of net from).node) (wanted : takes_no_route (ports_of net router) r.network ≡ false)
       (on : is_up (ports_up (ports_of net router) history) number ≡ true)
       (page : IsRipPage IsDead (own_address (port_of net from)) (everyone (port_of net from)) bytes) (has : AnyIs (λ e. e.network ≡ r.network) page.page) where
@@ -220,7 +222,7 @@ module _ (net : Internet) (laws : Layouts) (is : IsInternet net) (differ : Nodes
     heard_it =
         subst (λ (b : Bool). heard ports (ports_up ports history) b number bytes ≡ Some told_rip) (sym runs)
         (heard_page ports (ports_up ports history) number on (port_of net from) (sym one_network)
-        (differ from (record { router = router; port = number }) place here (λ e. other (sym e)) (sym one_network)) (port_is net is from place).node IsDead bytes page)
+        apart (port_is net is from place).node IsDead bytes page)
 
     source_ended : route_at r.network (after ports most_routes (route_facts ports (history ++ Packet number bytes ∷ []))) ≡ Some r → ⊥
     source_ended held =
@@ -274,19 +276,28 @@ module _ (net : Internet) (laws : Layouts) (is : IsInternet net) (differ : Nodes
         subst (λ (k : ℕ). history_of becomes.histories k ≡ history_of histories k ++ event ∷ []) same
         (get_or-set_same histories d.to.router (history_of histories d.to.router ++ event ∷ []) [] listed) in
         let held_now = subst (λ (h : History). route_at r.network (after (ports_of net router) most_routes (route_facts (ports_of net router) h)) ≡ Some r) now held in
-        source_ended router d.to.port d.bytes (history_of histories router) r stem.from stem.other stem.place
-        (subst (λ (k : ℕ). k < length (ports_of net router)) port stem.here)
+        source_ended router d.to.port d.bytes (history_of histories router) r stem.from stem.place
+        (λ e. from_other router within r held (stem.node ∙ e ∙ ap (λ k. (port_at (ports_of net router) k).node) (sym port)))
         (ap (λ k. network_of net (record { router = router; port = k })) (sym port) ∙ stem.network) port stem.node stem.wanted
         (subst (λ (k : ℕ). is_up (ports_up (ports_of net router) (history_of histories router)) k ≡ true) port (on_before router within r held))
         word.page word.has held_now
       where
+        was_there : (router : ℕ) (r : RouteOffer) → Holds becomes router r → route_at r.network (routes_of net most_routes histories router) ≡ Some r
+        was_there router r held =
+            was_held histories (d ∷ rest) rest losing d.to.router event inside first.delivery.place first.delivery.bytes losing.waiting.1 loses router r held
+
         on_before : (router : ℕ) → router < length net → (r : RouteOffer) → Holds becomes router r
             → is_up (ports_up (ports_of net router) (history_of histories router)) r.port ≡ true
         on_before router within r held =
             (found_with (λ x. is_up (ports_up (ports_of net router) (history_of histories router)) x.port ≡ true)
             (λ x. is_eq (network_order x.network r.network)) (routes_of net most_routes histories router) r
-            (held_routes_up (ports_of net router) most_routes (history_of histories router))
-            (was_held histories (d ∷ rest) rest losing d.to.router event inside first.delivery.place first.delivery.bytes losing.waiting.1 loses router r held)).0
+            (held_routes_up (ports_of net router) most_routes (history_of histories router)) (was_there router r held)).0
+
+        -- it came from another node than the port's own
+        from_other : (router : ℕ) → router < length net → (r : RouteOffer) → Holds becomes router r → IsFromOther (ports_of net router) r
+        from_other router within r held =
+            (found_with (IsFromOther (ports_of net router)) (λ x. is_eq (network_order x.network r.network)) (routes_of net most_routes histories router) r
+            (held_from_others (ports_of net router) most_routes (history_of histories router)) (was_there router r held)).0
 
     pub delivery_loses : Losing becomes
     delivery_loses =

@@ -10,7 +10,7 @@ use Rattle.ipx_router.specs.Port.{is_up}
 use Rattle.ipx_router.specs.Routes.{network_order}
 use Rattle.ipx_router.specs.declared.route_offer.RouteOffer.{RouteOffer}
 use Rattle.ipx_router.proofs.tables.HeldCameByPortsUp.{held_routes_up}
-use Rattle.ipx_internet.specs.Internet.{Internet, IsInternet, NodesDiffer, ports_of, port_of, network_of}
+use Rattle.ipx_internet.specs.Internet.{Internet, IsInternet, ports_of, port_of, network_of}
 use Rattle.ipx_internet.specs.Queue.{Queued, history_of}
 use Rattle.ipx_internet.specs.Real.{IsReal, IsTaken, next, farther}
 use Rattle.ipx_internet.specs.Tables.{routes_of, AreReal}
@@ -24,8 +24,8 @@ use Rattle.ipx_internet.proofs.packets.SentOnOrReply.{Layouts}
 use Rattle.ipx_internet.proofs.ticks.RoutesBecomeReal.{among_ups}
 use Rattle.ipx_internet.proofs.trees.RunIsALog.{router_there}
 
-module _ (net : Internet) (laws : Layouts) (is : IsInternet net) (differ : NodesDiffer net) (most_routes most_services : ℕ) (last : List History)
-    (losing : Losing net laws is differ most_routes most_services last (record { histories = last; queue = [] })) where
+module _ (net : Internet) (laws : Layouts) (is : IsInternet net) (most_routes most_services : ℕ) (last : List History)
+    (losing : Losing net laws is most_routes most_services last (record { histories = last; queue = [] })) where
   abbrev q : Queued
   q = record { histories = last; queue = [] }
 
@@ -44,7 +44,7 @@ module _ (net : Internet) (laws : Layouts) (is : IsInternet net) (differ : Nodes
   real zero router inside r less held = absurd (omega (arith, less))
   real (suc n) router inside r less held = by (real n) stem.says
     where
-      stem : Stem net laws is differ most_routes most_services last q router r
+      stem : Stem net laws is most_routes most_services last q router r
       stem = losing.stems router inside r held
 
       on : is_up (ups net last router) r.port ≡ true

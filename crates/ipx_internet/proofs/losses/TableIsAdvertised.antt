@@ -10,7 +10,7 @@ use Rattle.ipx_router.specs.Routes.{network_order}
 use Rattle.ipx_router.specs.Told.{told_at, direct_entry, entry_of}
 use Rattle.ipx_router.specs.declared.route_offer.RouteOffer.{RouteOffer}
 use Rattle.ipx_router.proofs.port_values.PortOfEachNumber.{ports_up-within}
-use Rattle.ipx_internet.specs.Internet.{Internet, Place, IsInternet, NodesDiffer, ports_of, port_of, network_of}
+use Rattle.ipx_internet.specs.Internet.{Internet, Place, IsInternet, ports_of, port_of, network_of}
 use Rattle.ipx_internet.specs.Least.{Way, is_on, least_route, way_of, AreCheap, FifteenSuffice}
 use Rattle.ipx_internet.specs.Queue.{history_of}
 use Rattle.ipx_internet.specs.Real.{IsReal, next, farther}
@@ -35,7 +35,7 @@ wanted_of : (net : Internet) (up : ℕ → List ℕ) {router : ℕ} {r : RouteOf
 wanted_of net up (next from beside on apart taken) = taken.wanted
 wanted_of net up (farther from s apart taken near real) = taken.wanted
 
-module _ (net : Internet) (laws : Layouts) (is : IsInternet net) (differ : NodesDiffer net) (cheap : AreCheap net)
+module _ (net : Internet) (laws : Layouts) (is : IsInternet net) (cheap : AreCheap net)
     (most_routes most_services : ℕ) (last histories : List History) (are : AreHistories net histories)
     (suffice : (network : Network) → FifteenSuffice net (ups net histories) network)
     (all_real : AreReal net most_routes histories (ups net histories)) (right : AreRight net most_routes histories (ups net histories)) where
@@ -166,7 +166,7 @@ module _ (net : Internet) (laws : Layouts) (is : IsInternet net) (differ : Nodes
             sym (ap (option_map way_of) some) ∙ right_at from.router there network off ∙ source.there in
             inr (by_route s some (it_is (λ (w : Way). way_of s ≡ w) source.way (way_of s) same refl))
 
-    stem : Stem net laws is differ most_routes most_services last (record { histories = histories; queue = [] }) router r
+    stem : Stem net laws is most_routes most_services last (record { histories = histories; queue = [] }) router r
     stem = record {
       from = from;
       other = λ e. source.neighbour.other (sym e);
@@ -178,5 +178,5 @@ module _ (net : Internet) (laws : Layouts) (is : IsInternet net) (differ : Nodes
       says = inl (record { on = source.neighbour.on_there; what = advertised (on_or_off net up in_ports network from.router) });
     }
 
-  pub at_first : Losing net laws is differ most_routes most_services last (record { histories = histories; queue = [] })
+  pub at_first : Losing net laws is most_routes most_services last (record { histories = histories; queue = [] })
   at_first = record { are = are; waiting = tt; stems = stem }

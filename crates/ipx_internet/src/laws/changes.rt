@@ -17,12 +17,12 @@ ghost use Rattle.ipx_internet.specs.Ticks.{AreTicks, ticked, ups};
 /// waits. Then every route is of a real way over the ports that are still up (`real`). When then nothing but seconds passes, all tables are
 /// right after 60 ticks (`right`).
 ///
-/// The internet is as for `laws::right`, for every network; tables need room for `right` alone, and there fifteen hops have to suffice in
-/// the end, too. A port that goes down while another one stays up on its network isn't such a loss: its neighbours aren't told, and believe
+/// The internet is as for `laws::right`, for every network; for `right` alone nodes have to differ and tables need room, and there fifteen
+/// hops have to suffice in the end, too. A port that goes down while another one stays up on its network isn't such a loss: its neighbours aren't told, and believe
 /// in it until their routes have expired.
 pub fn losses()
     ensures real { (net : Internet) (most_routes most_services : ℕ) (histories : List History) (steps : List Step)
-        → IsInternet net → NodesDiffer net → ((network : Network) → FifteenSuffice net (ups net histories) network) → AreCheap net → AreHistories net histories
+        → IsInternet net → ((network : Network) → FifteenSuffice net (ups net histories) network) → AreCheap net → AreHistories net histories
         → AreReal net most_routes histories (ups net histories) → AreRight net most_routes histories (ups net histories)
         → AreLosses net most_routes most_services histories steps
         → let last = (run_of net most_routes most_services (begun histories) steps).histories in AreReal net most_routes last (ups net last) }
