@@ -13,6 +13,7 @@ pub mod Logs
 pub mod Loops
 pub mod Losing
 pub mod Meanwhile
+pub mod Needed
 pub mod Neighbours
 pub mod Premises
 pub mod Rights
