@@ -46,12 +46,11 @@ use std::slice::Iter;
 pub enum Settled {
     /// None waits.
     Quiet,
-    /// So many wait, one at least.
+    /// This many wait, at least one.
     Left(usize),
 }
 
-/// Routers with at most `P` ports, `R` routes and `S` services each, and the deliveries of what they sent that wait, first
-/// in first out.
+/// Routers with at most `P` ports, `R` routes and `S` services each, and the queue of deliveries of what they sent, first in first out.
 ///
 /// Where `west` and `east` are routers:
 ///
@@ -104,8 +103,8 @@ impl<const P: usize, const R: usize, const S: usize> Internet<P, R, S> {
         }
     }
 
-    /// Adds a router behind the others, and returns its number; a router is refused, and handed back, where a port of
-    /// another has network and node of one of its ports, or where there is no memory for it.
+    /// Adds a router behind the others, and returns its number. It refuses the router and hands it back if a port of another one has
+    /// network and node of one of its ports, or if there is no memory for it.
     pub fn add(&mut self, router: Router<P, R, S>) -> Result<usize, AddRefused<P, R, S>>
         ensures number { IfOk result (λ number. number ≡ length self.old.routers) }
         ensures last { OnOk result (self.new.routers ≡ self.old.routers ++ router.entry ∷ []) }
@@ -166,8 +165,8 @@ impl<const P: usize, const R: usize, const S: usize> Internet<P, R, S> {
         self.front.len() - self.done + self.back.len()
     }
 
-    /// An event happens to a router, and the deliveries of what it sends wait behind the others. What became of it is
-    /// returned. Where there is no such router or port, or no memory for what the router may send, nothing happens.
+    /// Gives an event to a router, queues the deliveries of what it sends behind the others, and returns what became of the event. If there
+    /// is no such router or port, or no memory for what the router may send, nothing happens.
     pub fn event(&mut self, router: usize, event: Event<'_>) -> Result<Outcome, InternetFault>
         ensures net { net_at self.new ≡ net_at self.old }
         ensures stands { OnOk result ((q : Queued) → StandsFor R S self.old q → StandsFor R S self.new (queued (net_at self.old) R S q router (happened event.entry))) }
@@ -196,8 +195,8 @@ impl<const P: usize, const R: usize, const S: usize> Internet<P, R, S> {
         }
     }
 
-    /// Deliveries happen, each to its router, the first that waits first: as many as the limit says, or as there are. Where memory
-    /// runs out it stops, and the next one waits. As many as the internet weighs, or more, leave none.
+    /// Makes deliveries, each to its router, in the order of the queue: as many as the limit says, or as there are. If memory runs out it
+    /// stops, and the next one waits. A limit of what the internet weighs, or more, leaves none.
     pub fn settle(&mut self, limit: usize) -> Result<Settled, InternetFault>
         ensures net { net_at self.new ≡ net_at self.old }
         ensures settled { OnOk result (HasSettled R S limit self.old self.new) }

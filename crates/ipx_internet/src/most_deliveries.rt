@@ -18,8 +18,8 @@ use ipx_router::Router;
 use ipx_wire::{Network, Packet};
 
 impl<const P: usize, const R: usize, const S: usize> Internet<P, R, S> {
-    /// A number of deliveries that is never passed, if no event happens any more: what the internet weighs, or `usize::MAX` where it
-    /// weighs more. With it as a limit `settle` answers `Quiet`, unless it is `usize::MAX` or memory is refused.
+    /// A limit on the deliveries that can still happen without another event: what the internet weighs, or `usize::MAX` if it weighs more.
+    /// With it as a limit `settle` answers `Quiet`, unless it is `usize::MAX` or memory is refused.
     pub fn most_deliveries(&self) -> usize
         ensures value { result ≡ min (internet_weight R S self.now) (2 ^ 64 - 1) }
         ensures enough { result < 2 ^ 64 - 1 → internet_weight R S self.now ≤ result }

@@ -1,4 +1,4 @@
-//! Where a packet gets to while nothing else happens.
+//! Where a packet goes while nothing else happens.
 ghost use Rattle.std.specs.Prelude.{◌≡◌, ◌↔◌, ◌<◌, ◌≤◌, ◌==◌, true, length, map, slice_get, Some, IfOk, OnOk, IfErr, IsErrOf};
 ghost use Rattle.std.specs.List.{AllByRecursion};
 ghost use Rattle.ipx_wire.specs.Piece.{IsBytes};
@@ -22,12 +22,12 @@ use ipx_router::{Outcome, Router};
 use std::alloc::Global;
 use std::marker::Model;
 
-/// A reception of a packet: by a port of a router, of what the router of the parent sent on.
+/// A reception of a packet: a port of a router receives what the router of the parent sent on.
 ///
 /// See the example of [`Trace`].
 #[derive(Clone, Copy, Debug)]
 pub struct Reception<'a> {
-    /// The number of the reception whose router sent it on; none of the first.
+    /// The number of the reception whose router sent it on; the first reception has none.
     pub parent: Option<usize>,
     pub router: usize,
     pub port: u8,
@@ -74,7 +74,7 @@ impl<'a> Trace<'a> {
         self.listing.len()
     }
 
-    /// Whether there is none; there is always the first one.
+    /// Whether there is no reception; there is always the first one.
     pub fn is_empty(&self) -> bool
         ensures { result ≡ (length self.now == 0) }
     {
@@ -105,7 +105,7 @@ impl<'a> Trace<'a> {
 }
 
 impl<const P: usize, const R: usize, const S: usize> Internet<P, R, S> {
-    /// The tree of a packet that comes to a port now, by the tables and the ports as they are; nothing is changed.
+    /// Lists the tree of a packet that comes to a port now, by the tables and the ports as they are. It changes nothing.
     pub fn trace<'a>(
         &self,
         router: usize,
