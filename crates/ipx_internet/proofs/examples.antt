@@ -1,6 +1,7 @@
 -- Worked examples: each is checked by computing it.
 pub mod Announcing
 pub mod Arrivals
+pub mod Asking
 pub mod Branches
 pub mod Changes
 pub mod Directed

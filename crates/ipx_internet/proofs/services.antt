@@ -8,6 +8,7 @@ pub mod HostTickAfterTick
 pub mod KnownByFewestHops
 pub mod NearerIsHeard
 pub mod NearestHost
+pub mod NearestIsAnswered
 pub mod NeighbourIsHeard
 pub mod ServedOrSoonEnded
 pub mod ServiceIsTold

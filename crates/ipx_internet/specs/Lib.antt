@@ -29,6 +29,8 @@ pub mod Announces
 -- Servers, Regular
 pub mod Servers
 pub mod Regular
+-- Nearest
+pub mod Nearest
 -- Upkeep
 pub mod Upkeep
 -- Real

@@ -1,14 +1,19 @@
 //! What holds of services while hosts announce them, in every internet.
-ghost use Rattle.std.specs.Prelude.{◌≡◌, ℕ, ◌<◌, ◌≤◌, true, List, [], ◌∷◌, ◌++◌, length, Some, slice_get};
+ghost use Rattle.std.specs.Prelude.{◌≡◌, ◌≢◌, ℕ, suc, ◌<◌, ◌≤◌, true, List, [], ◌∷◌, ◌++◌, length, Some, slice_get};
 ghost use Rattle.std.specs.List.{AllByRecursion};
-ghost use Rattle.ipx_router.specs.Facts.{services_held, offers};
-ghost use Rattle.ipx_router.specs.History.{History};
-ghost use Rattle.ipx_router.specs.Numbers.{unreachable};
+ghost use Rattle.ipx_wire.specs.Piece.{IsBytes};
+ghost use Rattle.ipx_wire.specs.declared.address.Address.{Address};
+ghost use Rattle.ipx_wire.specs.declared.sap.Sap.TheVariants.{Query};
+ghost use Rattle.ipx_router.specs.Facts.{heard_after, services_held, offers};
+ghost use Rattle.ipx_router.specs.Heard.{HeardSap};
+ghost use Rattle.ipx_router.specs.History.{History, Packet};
+ghost use Rattle.ipx_router.specs.Numbers.{every_service, unreachable};
 ghost use Rattle.ipx_router.specs.Port.{is_up};
 ghost use Rattle.ipx_internet.specs.Internet.{Internet, Place, IsInternet, NodesDiffer, ports_of, network_of};
 ghost use Rattle.ipx_internet.specs.Least.{most_ticks_right};
 ghost use Rattle.ipx_internet.specs.Meanwhile.{LeavesPorts, SaysOnly, IsBusyTick, EachTick};
-ghost use Rattle.ipx_internet.specs.Queue.{history_of};
+ghost use Rattle.ipx_internet.specs.Nearest.{LeadsElsewhere, IsAnswered};
+ghost use Rattle.ipx_internet.specs.Queue.{history_of, sends_at};
 ghost use Rattle.ipx_internet.specs.Regular.{HostsApart, HasRoomFor, IsListedName, AreInTime, NoneNearer, most_ticks_known};
 ghost use Rattle.ipx_internet.specs.Rounds.{IsDelivery};
 ghost use Rattle.ipx_internet.specs.Run.{Step, AreHistories, Run, begun, run_of};
@@ -185,6 +190,58 @@ pub fn everywhere()
         → known_of server (offers (services_held (ports_of net router) most_services
         (history_of (run_of net most_routes most_services (ticked net most_routes most_services run (first ∷ ticks)) steps).histories router)))
         ≡ Some (at_hops server hops) }
+{
+    ipx_wire::laws::readings();
+    ipx_wire::laws::service_readings();
+    ipx_wire::laws::reread();
+    ipx_router::laws::packets();
+}
+
+/// A query for the nearest server of a type is answered with one, by each router that has a way to such a service. It comes to a port of the
+/// router, at any moment when the router has the service by `everywhere`, with fewer than 15 hops. Then the router sends one packet to
+/// whoever asked, with one service alone. That is of the type asked for, and of no more hops than this service as the router advertises it:
+/// one more than the fewest of its ways (`answered`). It doesn't answer with a service on the network where it may have learned it, so no way
+/// that is as short begins on that port's network (`LeadsElsewhere`): there the host answers itself, or a router that is nearer. FFFFh asks
+/// for every type and is left out. Whatever waits when the ticks begin, one tick more is enough (`whatever_waits`).
+pub fn nearest()
+    ensures answered { (net : Internet) (most_routes most_services : ℕ) (server : Server) (names : List (ℕ × List ℕ)) (nearest : ℕ) (histories : List History)
+        (ticks : List (List Step)) (steps rest : List Step) (hops : ℕ) (place : Place) (source : Address) (bytes : List ℕ)
+        → IsInternet net → NodesDiffer net → AreHistories net histories
+        → HostsApart net server → HasRoomFor net most_services names → IsListedName names (server.kind, server.name)
+        → NoneNearer server nearest
+        → EachTick net most_routes most_services (IsBusyTick net most_routes most_services) (begun histories) (ticks ++ (steps ++ rest) ∷ [])
+        → AllByRecursion (AllByRecursion LeavesPorts) (ticks ++ (steps ++ rest) ∷ [])
+        → AllByRecursion (AllByRecursion (SaysNoFalse net server)) (ticks ++ (steps ++ rest) ∷ [])
+        → AllByRecursion (AllByRecursion (SaysOnly (NamesOnly (IsListedName names)))) (ticks ++ (steps ++ rest) ∷ [])
+        → AreInTime net most_routes most_services server (ups net histories) (begun histories) (ticks ++ (steps ++ rest) ∷ [])
+        → most_ticks_known nearest hops ≤ length ticks
+        → place.router < length net → suc hops < unreachable → IsFewest net (ups net histories) server place.router hops
+        → server.kind ≢ every_service → LeadsElsewhere net (ups net histories) server place hops → IsBytes bytes
+        → heard_after (ports_of net place.router)
+        (history_of (run_of net most_routes most_services (ticked net most_routes most_services (begun histories) ticks) steps).histories place.router) place.port bytes
+        ≡ Some (HeardSap source (Query true server.kind))
+        → IsAnswered (ports_of net place.router) place.port source server.kind (suc hops)
+        (sends_at net most_routes most_services (run_of net most_routes most_services (ticked net most_routes most_services (begun histories) ticks) steps).histories
+        place.router (Packet place.port bytes)) }
+    ensures whatever_waits { (net : Internet) (most_routes most_services : ℕ) (server : Server) (names : List (ℕ × List ℕ)) (nearest : ℕ) (run : Run) (first : List Step)
+        (ticks : List (List Step)) (steps rest : List Step) (hops : ℕ) (place : Place) (source : Address) (bytes : List ℕ)
+        → IsInternet net → NodesDiffer net → AreHistories net run.histories → AllByRecursion (λ w. IsDelivery net w.delivery) run.waiting
+        → HostsApart net server → HasRoomFor net most_services names → IsListedName names (server.kind, server.name)
+        → NoneNearer server nearest
+        → EachTick net most_routes most_services (IsBusyTick net most_routes most_services) run (first ∷ ticks ++ (steps ++ rest) ∷ [])
+        → AllByRecursion (AllByRecursion LeavesPorts) (first ∷ ticks ++ (steps ++ rest) ∷ [])
+        → AllByRecursion (AllByRecursion (SaysNoFalse net server)) (ticks ++ (steps ++ rest) ∷ [])
+        → AllByRecursion (AllByRecursion (SaysOnly (NamesOnly (IsListedName names)))) (ticks ++ (steps ++ rest) ∷ [])
+        → AreInTime net most_routes most_services server (ups net run.histories) (run_of net most_routes most_services run first) (ticks ++ (steps ++ rest) ∷ [])
+        → most_ticks_known nearest hops ≤ length ticks
+        → place.router < length net → suc hops < unreachable → IsFewest net (ups net run.histories) server place.router hops
+        → server.kind ≢ every_service → LeadsElsewhere net (ups net run.histories) server place hops → IsBytes bytes
+        → heard_after (ports_of net place.router)
+        (history_of (run_of net most_routes most_services (ticked net most_routes most_services run (first ∷ ticks)) steps).histories place.router) place.port bytes
+        ≡ Some (HeardSap source (Query true server.kind))
+        → IsAnswered (ports_of net place.router) place.port source server.kind (suc hops)
+        (sends_at net most_routes most_services (run_of net most_routes most_services (ticked net most_routes most_services run (first ∷ ticks)) steps).histories
+        place.router (Packet place.port bytes)) }
 {
     ipx_wire::laws::readings();
     ipx_wire::laws::service_readings();
