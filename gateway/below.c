@@ -165,6 +165,30 @@ static void read_trusted(reader *r, network_setting *it)
 
 /* ---- Lines ---- */
 
+/* What the line that stands below them says more of: the last network or link that was read, or NULL. */
+static network_setting *last_of(reader *r)
+{
+    if (r->has_links_below && r->into->count == r->first)
+        return &r->network;
+    return r->into->count > 0 ? &r->into->networks[r->into->count - 1] : NULL;
+}
+
+static void copy_sockets(network_setting *to, const network_setting *from)
+{
+    if (to == from)
+        return;
+    memcpy(to->sockets, from->sockets, sizeof to->sockets);
+    to->socket_count = from->socket_count;
+}
+
+/* The sockets of a network are those of all its links, whichever of them the line stands below. */
+static void share_sockets(reader *r, const network_setting *from)
+{
+    copy_sockets(&r->network, from);
+    for (size_t k = r->first; k < r->into->count; k++)
+        copy_sockets(&r->into->networks[k], from);
+}
+
 static const struct {
     const char *word;
     bool is_of_tunnel; /* below a network of DOSBox' alone */
@@ -190,12 +214,14 @@ bool read_line_below(reader *r, const char *word)
         return false;
     if (r->is_below_wrong)
         return true;
-    network_setting *above = r->into->count > 0 ? &r->into->networks[r->into->count - 1] : NULL;
+    network_setting *above = last_of(r);
     if (above == NULL)
         reader_fault(r, word, "expected below the line of a network");
-    else if (LINES[k].is_of_tunnel && above->type != LINK_DOSBOX)
-        reader_fault(r, word, "expected below the line of a network of dosbox");
+    else if (LINES[k].is_of_tunnel && (above == &r->network || above->type != LINK_DOSBOX))
+        reader_fault(r, word, "expected below the line of a %s of dosbox", r->has_links_below ? "link" : "network");
     else
         LINES[k].read(r, above);
+    if (above != NULL && r->has_links_below)
+        share_sockets(r, above);
     return true;
 }

@@ -15,6 +15,21 @@ static bool is_connection(const cable *it)
     return it->set->type == LINK_QEMU_LISTEN || it->set->type == LINK_QEMU_CONNECT;
 }
 
+/* Opens an interface; where it is one of several links, the frames for nodes of the others are heard there too. */
+static const char *open_interface(cable *it)
+{
+    const network_setting *set = it->set;
+    it->fd = interface_open(set->name, set->kind, &it->index, it->card);
+    if (it->fd < 0)
+        return errno == EPROTOTYPE ? "it isn't Ethernet" : "can't open the interface";
+    if (!set->is_of_several || interface_hears_all(it->fd, it->index))
+        return NULL;
+    int why = errno;
+    close_any(&it->fd);
+    errno = why;
+    return "can't hear all frames there";
+}
+
 /* Opens it. Returns NULL, or what went wrong. */
 static const char *open_link(cable *it)
 {
@@ -35,8 +50,7 @@ static const char *open_link(cable *it)
         it->fd = tap_open(set->name, &it->index);
         return it->fd < 0 ? "can't open the TAP" : NULL;
     default:
-        it->fd = interface_open(set->name, set->kind, &it->index, it->card);
-        return it->fd >= 0 ? NULL : errno == EPROTOTYPE ? "it isn't Ethernet" : "can't open the interface";
+        return open_interface(it);
     }
 }
 
@@ -148,7 +162,8 @@ static bool interface_is_up(cable *it)
 {
     unsigned index;
     card_state state = interface_state(it->set->name, &index, it->card);
-    if (state != CARD_ABSENT && index != it->index && interface_again(it->fd, it->set->kind, index))
+    if (state != CARD_ABSENT && index != it->index && interface_again(it->fd, it->set->kind, index) &&
+        (!it->set->is_of_several || interface_hears_all(it->fd, index)))
         it->index = index;
     return card_is_up(it, index == it->index ? state : CARD_ABSENT);
 }

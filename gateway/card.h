@@ -22,6 +22,9 @@ bool tap_send(int fd, const uint8_t *frame, size_t length);
  * address. Returns it, or -1: errno is EPROTOTYPE where the interface isn't one of Ethernet. */
 int interface_open(const char *name, uint8_t kind, unsigned *index, uint8_t card[6]);
 
+/* Lets a socket of an interface hear the frames for other nodes too. Returns whether it does. */
+bool interface_hears_all(int fd, unsigned index);
+
 /* Lets a socket hear the interface that has the name now. */
 bool interface_again(int fd, uint8_t kind, unsigned index);
 

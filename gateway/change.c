@@ -8,6 +8,7 @@
 #include "note.h"
 #include "output.h"
 #include "readmit.h"
+#include "segment.h"
 #include "system.h"
 #include "words.h"
 
@@ -34,7 +35,8 @@ static bool has_same_node(const network_setting *a, const network_setting *b)
 static bool has_same_port(const network_setting *a, const network_setting *b)
 {
     return a->network == b->network && a->cost == b->cost && a->longest == b->longest && a->routes == b->routes &&
-           a->services == b->services && has_same_node(a, b) && (a->type == LINK_DOSBOX) == (b->type == LINK_DOSBOX);
+           a->services == b->services && has_same_node(a, b) && a->is_of_several == b->is_of_several &&
+           (a->is_of_several || (a->type == LINK_DOSBOX) == (b->type == LINK_DOSBOX));
 }
 
 static bool same_ranges(const ranges *a, const ranges *b)
@@ -59,13 +61,28 @@ static bool has_same_sockets(const network_setting *a, const network_setting *b)
     return a->socket_count == b->socket_count && memcmp(a->sockets, b->sockets, a->socket_count * sizeof *a->sockets) == 0;
 }
 
-/* Whether the router can stay: it has the same ports, in the same order. */
-static bool has_same_ports(const gateway *it, const settings *set)
+/* The first link of a port that there is. */
+static const network_setting *first_link(const settings *set, size_t number)
 {
     size_t k = 0;
-    while (k < it->count && k < set->count && has_same_port(it->networks[k].set, &set->networks[k]))
+    while (set->networks[k].port != number)
         k++;
-    return k == it->count && k == set->count;
+    return &set->networks[k];
+}
+
+/* Whether the router can stay: it has the same ports, in the same order. */
+static bool has_same_ports(gateway *it, const settings *set)
+{
+    size_t k = 0;
+    while (k < it->port_count && k < set->ports && has_same_port(first_of(it, &it->ports[k])->set, first_link(set, k)))
+        k++;
+    return k == it->port_count && k == set->ports;
+}
+
+/* Whether two lines say the same network; of one of several links also the same link. */
+static bool is_same(const network_setting *a, const network_setting *b)
+{
+    return a->network == b->network && a->is_of_several == b->is_of_several && (!a->is_of_several || has_same_link(a, b));
 }
 
 bool has_changed(const changed *it)
@@ -77,10 +94,10 @@ bool has_changed(const changed *it)
 
 /* The gateway as it was, while it is made what it is to be. */
 static struct {
-    network networks[IPXR_MOST_PORTS];
-    cable cables[IPXR_MOST_PORTS];
+    network networks[MOST_LINKS];
+    cable cables[MOST_LINKS];
     size_t count, cable_count;
-    cable *moved[IPXR_MOST_PORTS]; /* where each cable is now, or NULL */
+    cable *moved[MOST_LINKS]; /* where each cable is now, or NULL */
 } before;
 
 static void keep_before(gateway *it)
@@ -97,11 +114,11 @@ static void keep_before(gateway *it)
     it->count = it->cable_count = 0;
 }
 
-/* The network of that number as it was, or NULL. */
-static network *network_before(uint32_t number)
+/* A network as it was, or NULL. */
+static network *network_before(const network_setting *set)
 {
     for (size_t k = 0; k < before.count; k++)
-        if (before.networks[k].set->network == number)
+        if (is_same(before.networks[k].set, set))
             return &before.networks[k];
     return NULL;
 }
@@ -122,9 +139,10 @@ static cable *move_cable(gateway *it, const network *was, const network_setting 
 static void move_networks(gateway *it, const settings *set)
 {
     for (size_t k = 0; k < set->count; k++) {
-        network *on = &it->networks[it->count++], *was = network_before(set->networks[k].network);
+        network *on = &it->networks[it->count++], *was = network_before(&set->networks[k]);
         if (was != NULL)
             *on = *was;
+        on->segment = NULL;
         on->set = &set->networks[k];
         on->cable = was != NULL && has_same_link(was->set, on->set) ? move_cable(it, was, on->set) : NULL;
     }
@@ -159,23 +177,30 @@ static cable *new_cable(gateway *it, const network_setting *set, changed *what)
 static void begin_link(gateway *it, network *on, const network *was, changed *what)
 {
     on->cable = new_cable(it, on->set, what);
-    if (what->is_new_router)
+    if (what->is_new_router || on->set->is_of_several)
         node_choose(on->set, on->cable, on->node); /* (which the clients' tunnel has to know) */
     on->lacks = NULL;
     if (was == NULL)
         what->added++;
     else
         what->reopened++;
-    if (on->is_up && !what->is_new_router)
-        ipxr_port_down(&it->router, (uint8_t)(on - it->networks));
     on->is_up = false;
+}
+
+/* The router hears which of its ports are down now. */
+static void take_ports(gateway *it, const changed *what)
+{
+    gateway_take_ports(it);
+    for (size_t k = 0; !what->is_new_router && k < it->port_count; k++)
+        if (!it->ports[k].is_up && ipxr_is_up(&it->router, (uint8_t)k) == 1)
+            ipxr_port_down(&it->router, (uint8_t)k);
 }
 
 static void begin_links(gateway *it, changed *what)
 {
     for (size_t k = 0; k < it->count; k++)
         if (it->networks[k].cable == NULL)
-            begin_link(it, &it->networks[k], network_before(it->networks[k].set->network), what);
+            begin_link(it, &it->networks[k], network_before(it->networks[k].set), what);
 }
 
 /* ---- Clients ---- */
@@ -202,7 +227,7 @@ static void change_tunnels(gateway *it, const settings *set, changed *what)
     line_set(set);
     for (size_t k = 0; k < it->count; k++) {
         network *on = &it->networks[k];
-        const network *was = network_before(on->set->network);
+        const network *was = network_before(on->set);
         change_tunnel(it, on, was, what);
         what->sockets += was != NULL && !has_same_sockets(was->set, on->set);
     }
@@ -210,12 +235,21 @@ static void change_tunnels(gateway *it, const settings *set, changed *what)
 
 /* ---- All of it ---- */
 
-static bool stays(const settings *set, uint32_t number)
+static bool stays(const settings *set, const network_setting *one)
 {
     for (size_t k = 0; k < set->count; k++)
-        if (set->networks[k].network == number)
+        if (is_same(&set->networks[k], one))
             return true;
     return false;
+}
+
+static void tell_removed(const network *on)
+{
+    char link[LINK_ROOM];
+    if (on->set->is_of_several)
+        event("network %08" PRIX32 " has lost a link: %s", on->set->network, cable_words(on->cable, on->set, link));
+    else
+        event("network %08" PRIX32 " is removed", on->set->network);
 }
 
 /* Takes leave of networks that there are no more. */
@@ -223,11 +257,11 @@ static void remove_networks(gateway *it, const settings *set, changed *what)
 {
     for (size_t k = 0; k < it->count; k++) {
         network *on = &it->networks[k];
-        if (stays(set, on->set->network))
+        if (stays(set, on->set))
             continue;
         if (on->set->type == LINK_DOSBOX)
             tunnel_end(on);
-        event("network %08" PRIX32 " is removed", on->set->network);
+        tell_removed(on);
         what->removed++;
     }
 }
@@ -242,11 +276,16 @@ changed gateway_change(gateway *it, const settings *set)
     }
     gateway_flush(it);
     remove_networks(it, set, &what);
+    for (size_t k = 0; k < it->port_count; k++)
+        segment_close(&it->ports[k]);
     keep_before(it);
     move_networks(it, set);
     close_cables();
     begin_links(it, &what);
+    take_ports(it, &what);
     change_tunnels(it, set, &what);
+    if (gateway_open_segments(it) < 0)
+        complain("ipxr-gateway: no memory for networks of several links");
     for (size_t k = 0; k < it->count; k++)
         what.is_new_router = what.is_new_router || has_new_address(&it->networks[k]);
     gateway_renew(it);

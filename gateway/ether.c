@@ -3,17 +3,24 @@
 #include "capture.h"
 #include "extend.h"
 #include "ipx.h"
+#include "segment.h"
 
-void ether_send(network *on, const uint8_t *node, const uint8_t *packet, size_t length)
+bool ether_put(network *on, const uint8_t *from, const uint8_t *node, const uint8_t *packet, size_t length)
 {
     uint8_t frame[IPXR_LONGEST_FRAME];
-    size_t whole = ipxr_frame_write(on->set->kind, node, on->node, packet, length, frame, sizeof frame);
-    if (whole == 0 || !cable_send(on->cable, frame, whole)) {
-        gateway_lose(on, NOT_SENT);
-        return;
-    }
-    on->counts.out++;
+    size_t whole = ipxr_frame_write(on->set->kind, node, from, packet, length, frame, sizeof frame);
+    if (whole == 0 || !cable_send(on->cable, frame, whole))
+        return false;
     capture_frame(frame, whole);
+    return true;
+}
+
+void ether_send(network *on, const uint8_t *from, const uint8_t *node, const uint8_t *packet, size_t length)
+{
+    if (ether_put(on, from, node, packet, length))
+        on->counts.out++;
+    else
+        gateway_lose(on, NOT_SENT);
 }
 
 /* The network that has frames of a kind on a cable; where none has, the cable's first, and *is_there is false. */
@@ -54,6 +61,45 @@ static void hear_packet(gateway *it, network *on, const uint8_t *packet, size_t 
     throttle_bring(NULL, NULL);
 }
 
+/* Whether another link of the network has proved that a node is there: it is a client of a tunnel. */
+static bool is_client_elsewhere(gateway *it, const network *on, const uint8_t *node)
+{
+    port *at = port_of(it, on);
+    for (network *other = first_of(it, at); other < first_of(it, at) + at->count; other++)
+        if (other != on && other->set->type == LINK_DOSBOX && roster_find(&other->roster, node) != NULL)
+            return true;
+    return false;
+}
+
+/* A packet came on one of several links, from a node for a node or for all. */
+static void hear_at_link(gateway *it, network *on, const uint8_t *frame, const uint8_t *packet, size_t length)
+{
+    const uint8_t *to = frame, *from = frame + NODE;
+    bool is_whole = has_length(packet, length);
+    size_t carried = is_whole ? get16(packet + AT_LENGTH) : 0;
+    if (!is_whole || carried > on->set->longest) {
+        gateway_lose(on, is_whole ? TOO_LONG : NO_IPX);
+        return;
+    }
+    on->speaks.clients = HOUSEHOLD;
+    throttle_bring(&on->speaks, packet);
+    heard what = segment_hear(it, on, from, to, packet, carried);
+    throttle_bring(NULL, NULL);
+    if (what.by_router)
+        hear_packet(it, on, packet, length);
+    else if (what.links > 0)
+        gateway_note(on, packet, carried, "handed on");
+    else
+        gateway_lose(on, is_client_elsewhere(it, on, from) ? FALSE_SOURCE : FOR_ANOTHER);
+}
+
+/* A frame of the gateway's own came back. */
+static void hear_own(gateway *it, network *on, const uint8_t *packet, size_t length)
+{
+    if (!loop_hears(it, on, packet, length))
+        gateway_lose(on, OWN_FRAME);
+}
+
 void ether_hear(gateway *it, cable *on, const uint8_t *frame, size_t length)
 {
     bool is_there = false;
@@ -70,11 +116,14 @@ void ether_hear(gateway *it, cable *on, const uint8_t *frame, size_t length)
     else if (length > IPXR_LONGEST_FRAME)
         gateway_lose(at, TOO_LONG);
     else if (same_node(frame + NODE, at->node))
-        gateway_lose(at, OWN_FRAME);
-    else if (!is_broadcast(frame) && !same_node(frame, at->node))
+        hear_own(it, at, frame + front, length - front);
+    else if (at->segment == NULL && !is_broadcast(frame) && !same_node(frame, at->node))
         gateway_lose(at, FOR_ANOTHER);
     else {
         capture_frame(frame, length);
-        hear_packet(it, at, frame + front, length - front);
+        if (at->segment != NULL)
+            hear_at_link(it, at, frame, frame + front, length - front);
+        else
+            hear_packet(it, at, frame + front, length - front);
     }
 }

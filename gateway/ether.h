@@ -7,7 +7,10 @@
 /* A frame came on a cable; `length` is all that it had, of which the first MOST_RECEIVED bytes are there. */
 void ether_hear(gateway *it, cable *on, const uint8_t *frame, size_t length);
 
-/* Sends a packet in a frame to a node, or to all. */
-void ether_send(network *on, const uint8_t *node, const uint8_t *packet, size_t length);
+/* Sends a packet in a frame from a node to a node, or to all. */
+void ether_send(network *on, const uint8_t *from, const uint8_t *node, const uint8_t *packet, size_t length);
+
+/* The same, and nothing is counted. Returns whether it is on its way. */
+bool ether_put(network *on, const uint8_t *from, const uint8_t *node, const uint8_t *packet, size_t length);
 
 #endif

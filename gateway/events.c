@@ -5,6 +5,7 @@
 #include <string.h>
 
 #include "clock.h"
+#include "links.h"
 #include "note.h"
 #include "sheet.h"
 #include "status.h"
@@ -77,18 +78,20 @@ void events_link(const network *on)
     char link[LINK_ROOM];
     happening h;
     const cable *at = on->cable;
+    int fault;
+    const char *lacks = link_lacks(on, &fault);
     if (!status_is_followed())
         return;
     begin(&h, on->is_up ? "link up" : "link down");
     sheet_put(&h.line, "network %08" PRIX32 " is %s: %s", on->set->network, on->is_up ? "up" : "down", cable_words(at, on->set, link));
     put_network(&h, "network", on->set->network);
     put_text(&h, "link", link);
-    if (!on->is_up && at->lacks != NULL) {
-        errno = at->fault;
-        const char *why = at->fault != 0 ? fault_words() : "";
-        sheet_put(&h.line, ": %s%s%s", at->lacks, at->fault != 0 ? ": " : "", why);
-        put_text(&h, "lacks", at->lacks);
-        if (at->fault != 0)
+    if (!on->is_up && lacks != NULL) {
+        errno = fault;
+        const char *why = fault != 0 ? fault_words() : "";
+        sheet_put(&h.line, ": %s%s%s", lacks, fault != 0 ? ": " : "", why);
+        put_text(&h, "lacks", lacks);
+        if (fault != 0)
             put_text(&h, "fault", why);
     }
     tell(&h);
@@ -102,11 +105,6 @@ static struct {
     ipxr_service_record services[IPXR_MOST_SERVICES];
     size_t route_count, service_count;
 } known;
-
-static uint32_t port_network(const gateway *it, uint8_t port)
-{
-    return port < it->count ? it->networks[port].set->network : 0;
-}
 
 static void tell_route(const gateway *it, const ipxr_route_record *route, const char *what, const char *event)
 {

@@ -52,6 +52,13 @@ static const char *const LINES[] = {
     "",
     "# A TAP, as for other emulators and for bridges (on Linux; needs the right to make it, or one that is yours):",
     "#   network 60  1     1500               tap ipx0 ethernet2",
+    "",
+    "# All of them on one network, as on one cable: the line of the network names no link, and its links stand below it.",
+    "#   network 70  1     1424",
+    "#   link dosbox 127.0.0.1:2132",
+    "#   clients 32 4",
+    "#   link qemu-udp 127.0.0.1:5005 127.0.0.1:5006 raw",
+    "#   link tap ipx1 ethernet2",
 };
 
 void example_show(FILE *file)

@@ -13,9 +13,10 @@ static bool names(const network_setting *it, uint16_t socket)
 }
 
 /* Sends the copy for another network, where the library makes one. */
-static void hand_to(gateway *it, network *to, const network_setting *from, const uint8_t *packet, size_t length)
+static void hand_to(gateway *it, port *at, const network_setting *from, const uint8_t *packet, size_t length)
 {
-    if (!to->is_up)
+    network *to = first_of(it, at);
+    if (!at->is_up)
         return;
     uint8_t *copy = gateway_room(it);
     memcpy(copy, packet, length);
@@ -26,7 +27,7 @@ static void hand_to(gateway *it, network *to, const network_setting *from, const
         return;
     }
     to->counts.extended++;
-    gateway_send(to, copy + AT_TO_NODE, copy, length);
+    gateway_send(it, at, copy + AT_TO_NODE, copy, length);
 }
 
 void extend(gateway *it, network *on, const uint8_t *packet, size_t length)
@@ -38,7 +39,7 @@ void extend(gateway *it, network *on, const uint8_t *packet, size_t length)
         gateway_lose(on, NOT_EXTENDED);
         return;
     }
-    for (size_t k = 0; k < it->count; k++)
-        if (&it->networks[k] != on && names(it->networks[k].set, socket))
-            hand_to(it, &it->networks[k], on->set, packet, length);
+    for (size_t k = 0; k < it->port_count; k++)
+        if (k != on->set->port && names(first_of(it, &it->ports[k])->set, socket))
+            hand_to(it, &it->ports[k], on->set, packet, length);
 }

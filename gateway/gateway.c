@@ -9,6 +9,7 @@
 #include "ipx.h"
 #include "links.h"
 #include "note.h"
+#include "segment.h"
 #include "status.h"
 #include "tunnel.h"
 
@@ -29,20 +30,44 @@ bool is_for_here(const network *on, const uint8_t *packet)
     return to == 0 || to == EVERY_NETWORK || to == on->set->network;
 }
 
-void gateway_send(network *on, const uint8_t *node, const uint8_t *packet, size_t length)
+port *port_of(gateway *it, const network *on)
 {
-    char to[WORDS], from[WORDS];
-    if (!on->is_up)
-        return; /* (the router said it before it heard that the link is lost) */
-    if (notes_events())
-        note("out %08" PRIX32 " %s > %s type %u length %zu", on->set->network, address_at(packet + AT_FROM_NETWORK, from),
-             address_at(packet + AT_TO_NETWORK, to), packet[AT_TYPE], length);
+    return &it->ports[on->set->port];
+}
+
+network *first_of(gateway *it, const port *at)
+{
+    return &it->networks[at->first];
+}
+
+uint32_t port_network(const gateway *it, uint8_t number)
+{
+    return number < it->port_count ? it->networks[it->ports[number].first].set->network : 0;
+}
+
+void gateway_put(network *on, const uint8_t *from, const uint8_t *node, const uint8_t *packet, size_t length)
+{
     if (on->set->type == LINK_DOSBOX) {
-        capture_packet(packet, length, on->node);
+        capture_packet(packet, length, from);
         tunnel_send(on, node, packet, length);
     } else {
-        ether_send(on, node, packet, length);
+        ether_send(on, from, node, packet, length);
     }
+}
+
+void gateway_send(gateway *it, port *at, const uint8_t *node, const uint8_t *packet, size_t length)
+{
+    char to[WORDS], from[WORDS];
+    network *first = first_of(it, at);
+    if (!at->is_up)
+        return; /* (the router said it before it heard that the link is lost) */
+    if (notes_events())
+        note("out %08" PRIX32 " %s > %s type %u length %zu", first->set->network, address_at(packet + AT_FROM_NETWORK, from),
+             address_at(packet + AT_TO_NETWORK, to), packet[AT_TYPE], length);
+    if (first->set->is_of_several)
+        segment_send(it, at, node, packet, length);
+    else
+        gateway_put(first, first->node, node, packet, length);
 }
 
 void gateway_flush(gateway *it)
@@ -66,7 +91,7 @@ void gateway_send_all(gateway *it)
         ipxr_packet_sent sent;
         uint8_t *packet = gateway_room(it);
         if (ipxr_get(&it->router, k, &sent, packet, LONGEST) == 0)
-            gateway_send(&it->networks[sent.port], sent.node, packet, sent.length);
+            gateway_send(it, &it->ports[sent.port], sent.node, packet, sent.length);
     }
     ipxr_clear(&it->router);
 }
@@ -91,7 +116,7 @@ void gateway_hear(gateway *it, network *on, const uint8_t *packet, size_t length
         gateway_note(on, packet, length, "answer");
         return;
     }
-    int32_t became = ipxr_packet(&it->router, (uint8_t)(on - it->networks), packet, length);
+    int32_t became = ipxr_packet(&it->router, on->set->port, packet, length);
     if (notes_events())
         gateway_note(on, packet, length, answer_words(became, words));
     if (became < 0)
@@ -151,7 +176,7 @@ static void receive(gateway *it, cable *at)
     }
 }
 
-/* One second for the tunnels, however many have passed: who could not be asked meanwhile isn't put out. */
+/* One second for the tunnels and the segments, however many have passed: who could not be asked meanwhile isn't put out. */
 static void let_tunnels_pass(gateway *it, uint64_t passed)
 {
     if (it->looked >= passed)
@@ -161,6 +186,8 @@ static void let_tunnels_pass(gateway *it, uint64_t passed)
     for (size_t k = 0; k < it->count; k++)
         if (it->networks[k].set->type == LINK_DOSBOX)
             tunnel_second(&it->networks[k]);
+    segments_second(it);
+    loops_second(it);
 }
 
 /* Each second that passed since the last turn, late ones too. */
@@ -209,7 +236,7 @@ static void attend(gateway *it, cable *at, const watch *list, size_t count)
 void gateway_turn(gateway *it, bool waits)
 {
     watch list[MOST_WATCHED];
-    size_t first[IPXR_MOST_PORTS + 1] = {0};
+    size_t first[MOST_LINKS + 1] = {0};
     for (size_t k = 0; k < it->cable_count; k++)
         first[k + 1] = first[k] + cable_waits(&it->cables[k], list + first[k]);
     size_t of_cables = first[it->cable_count], of_status = status_waits(list + of_cables);

@@ -1,4 +1,4 @@
-/* The gateway: one router, its networks, and the cables that carry them. */
+/* The gateway: one router, its networks and their links, and the cables that carry them. */
 #ifndef GATEWAY_H
 #define GATEWAY_H
 
@@ -8,7 +8,9 @@
 #include "counts.h"
 #include "ipx.h"
 #include "ipxr.h"
+#include "ipxr_segment.h"
 #include "ipxr_tunnel.h"
+#include "loop.h"
 #include "outgoing.h"
 #include "roster.h"
 #include "settings.h"
@@ -16,7 +18,7 @@
 #include "strangers.h"
 #include "throttle.h"
 
-/* A network: the router's port of the same number. */
+/* A network on a link. A network of several links is one of these for each, which share a port of the router. */
 typedef struct network {
     const network_setting *set;
     cable *cable;
@@ -31,13 +33,25 @@ typedef struct network {
     strangers strangers; /* and who isn't one */
     outgoing outgoing;   /* what waits to be sent to clients */
     speaker speaks;      /* all who are there, where it isn't one */
+    ipxr_segment *segment; /* of its network's links, where it is one of several; */
+    uint8_t link;          /* and its number there */
+    loop loop;             /* whether it is one cable with another of them */
 } network;
+
+/* A port of the router: a network with its links. */
+typedef struct port {
+    size_t first, count;  /* in the list of networks on links */
+    bool is_up;           /* one of them is */
+    ipxr_segment segment; /* says which of several links get a packet */
+} port;
 
 typedef struct gateway {
     ipxr router;
-    network networks[IPXR_MOST_PORTS];
+    port ports[IPXR_MOST_PORTS];
+    size_t port_count;
+    network networks[MOST_LINKS]; /* in the order of their ports */
     size_t count;
-    cable cables[IPXR_MOST_PORTS];
+    cable cables[MOST_LINKS];
     size_t cable_count;
     uint64_t began; /* milliseconds of the clock at the start */
     uint64_t told;  /* seconds that the router has heard of since */
@@ -82,8 +96,23 @@ uint8_t *gateway_room(gateway *it);
 /* Sends what waits to go out together. */
 void gateway_flush(gateway *it);
 
-/* Sends a packet on a network, to a node there or to all. Its bytes stay where they are until gateway_flush. */
-void gateway_send(network *on, const uint8_t *node, const uint8_t *packet, size_t length);
+/* Sends a packet of the router's on a network, to a node there or to all. Its bytes stay where they are until gateway_flush. */
+void gateway_send(gateway *it, port *to, const uint8_t *node, const uint8_t *packet, size_t length);
+
+/* Puts a packet of a station's, or of the router's, on a link of its network, to a node there or to all; the same of its bytes. */
+void gateway_put(network *on, const uint8_t *from, const uint8_t *node, const uint8_t *packet, size_t length);
+
+/* Takes the ports from the list of networks on links; and makes the segments of those that have several. Returns 0, or the library's
+ * fault. */
+void gateway_take_ports(gateway *it);
+int32_t gateway_open_segments(gateway *it);
+
+/* The port of a network, and the first link of a port. */
+port *port_of(gateway *it, const network *on);
+network *first_of(gateway *it, const port *at);
+
+/* The number of a port's network, by the port's number; 0 where there is no such port. */
+uint32_t port_network(const gateway *it, uint8_t number);
 
 /* A packet that goes no further, and why. */
 void gateway_lose(network *on, reason why);

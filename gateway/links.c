@@ -6,8 +6,15 @@
 
 #include "events.h"
 #include "note.h"
+#include "segment.h"
 #include "system.h"
 #include "words.h"
+
+const char *link_lacks(const network *on, int *fault)
+{
+    *fault = on->loop.is_shut ? 0 : on->cable->fault;
+    return on->loop.is_shut ? on->loop.why : on->cable->lacks;
+}
 
 static void tell_up(network *on)
 {
@@ -22,23 +29,40 @@ static void tell_up(network *on)
 static void tell_down(network *on)
 {
     char link[LINK_ROOM];
-    const cable *at = on->cable;
-    if (at->lacks == NULL || (on->lacks != NULL && strcmp(on->lacks, at->lacks) == 0 && on->fault == at->fault))
+    int fault;
+    const char *lacks = link_lacks(on, &fault);
+    if (lacks == NULL || (on->lacks != NULL && strcmp(on->lacks, lacks) == 0 && on->fault == fault))
         return;
-    on->lacks = at->lacks;
-    on->fault = errno = at->fault;
-    event("network %08" PRIX32 " is down: %s: %s%s%s", on->set->network, cable_words(at, on->set, link), at->lacks,
-          at->fault != 0 ? ": " : "", at->fault != 0 ? fault_words() : "");
+    on->lacks = lacks;
+    on->fault = errno = fault;
+    event("network %08" PRIX32 " is down: %s: %s%s%s", on->set->network, cable_words(on->cable, on->set, link), lacks,
+          fault != 0 ? ": " : "", fault != 0 ? fault_words() : "");
+}
+
+/* The router's port is up as long as one of its links is. Returns false where the router has no memory for it. */
+static bool port_follows(gateway *it, const network *on, bool is_up)
+{
+    port *at = port_of(it, on);
+    for (const network *other = first_of(it, at); other < first_of(it, at) + at->count; other++)
+        is_up = is_up || (other != on && other->is_up);
+    if (at->is_up == is_up)
+        return true;
+    if ((is_up ? ipxr_port_up(&it->router, on->set->port) : ipxr_port_down(&it->router, on->set->port)) < 0)
+        return false;
+    at->is_up = is_up;
+    return true;
 }
 
 static void look_at(gateway *it, network *on, bool is_up)
 {
-    uint8_t port = (uint8_t)(on - it->networks);
     if (on->is_up == is_up || (is_up && has_new_address(on)))
         return; /* (a card that isn't known yet comes up with its own address, gateway_renew) */
-    if ((is_up ? ipxr_port_up(&it->router, port) : ipxr_port_down(&it->router, port)) < 0)
+    if (!port_follows(it, on, is_up))
         return; /* (no memory: it is tried again with the next look) */
     on->is_up = is_up;
+    segment_change(on);
+    if (is_up)
+        loop_ask(it, on);
     if (is_up)
         tell_up(on);
     else
@@ -55,7 +79,7 @@ static void look(gateway *it, cable *at)
             continue;
         if (was_lost)
             look_at(it, on, false);
-        look_at(it, on, is_up);
+        look_at(it, on, is_up && !on->loop.is_shut);
         if (!on->is_up)
             tell_down(on);
     }

@@ -8,4 +8,7 @@
 void links_look(gateway *it, cable *at);
 void links_look_at_all(gateway *it);
 
+/* What a link lacks that is down, or NULL; and the system's number for it, or 0. */
+const char *link_lacks(const network *on, int *fault);
+
 #endif

@@ -80,7 +80,7 @@ static void show_use(FILE *file)
     fprintf(file, "ipxr-gateway [--log] [--pcap FILE] [--status SOCKET] CONFIG   routes until it is told to stop\n"
                   "ipxr-gateway --check CONFIG   says what is wrong with a configuration\n"
                   "ipxr-gateway --example        prints one\n"
-                  "ipxr-gateway show [links | clients | routes | services | counts | events] [--json] [--status SOCKET]\n"
+                  "ipxr-gateway show [links | clients | stations | routes | services | counts | events] [--json] [--status SOCKET]\n"
                   "ipxr-gateway show counts --prometheus, ping NETWORK.NODE, trace NETWORK, reload   ask one that runs, by its SOCKET\n"
                   "--log writes a line for each packet, --pcap captures them. The manual page is ipxr-gateway(8).\n");
 }
@@ -181,7 +181,7 @@ int gateway_main(int count, char **words)
     if (fault != 0)
         return fault;
     if (it.is_check) {
-        printf("%s: %zu %s, nothing wrong\n", it.configuration, set.count, set.count == 1 ? "network" : "networks");
+        printf("%s: %zu %s, nothing wrong\n", it.configuration, set.ports, set.ports == 1 ? "network" : "networks");
         return 0;
     }
     return route_and_say(&it, &set);

@@ -14,7 +14,8 @@ static void make_up(const network_setting *set, uint8_t node[6])
 {
     char machine[128], link[LINK_ROOM], words[sizeof machine + LINK_ROOM + 16];
     machine_words(machine, sizeof machine);
-    int length = snprintf(words, sizeof words, "%s %08" PRIX32 " %s", machine, set->network, link_words(set, link));
+    int length = snprintf(words, sizeof words, "%s %08" PRIX32 " %s", machine, set->network,
+                          set->is_of_several ? "" : link_words(set, link));
     uint64_t hash = siphash(KEY, (const uint8_t *)words, (size_t)length);
     node[0] = LOCAL_NODE;
     for (int k = 1; k < NODE; k++)
@@ -24,9 +25,9 @@ static void make_up(const network_setting *set, uint8_t node[6])
 void node_choose(const network_setting *set, const cable *on, uint8_t node[6])
 {
     static const uint8_t of_tunnel[NODE] = {0, 0, 0, 0, 0, 1};
-    if (set->type == LINK_DOSBOX)
+    if (set->type == LINK_DOSBOX && !set->is_of_several)
         memcpy(node, of_tunnel, NODE);
-    else if (!is_no_node(on->card))
+    else if (!is_no_node(on->card) && !set->is_of_several)
         memcpy(node, on->card, NODE);
     else if (set->has_node)
         memcpy(node, set->node, NODE);

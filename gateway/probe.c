@@ -57,12 +57,20 @@ static const char *times_words(uint64_t nanoseconds, char words[WORDS])
 
 /* ---- The way ---- */
 
-static network *own_network(gateway *it, uint32_t number)
+/* The network of that number; of several links the one of which a node is a client, or one with frames. */
+static network *own_network(gateway *it, uint32_t number, const uint8_t node[NODE])
 {
-    for (size_t k = 0; k < it->count; k++)
-        if (it->networks[k].set->network == number)
-            return &it->networks[k];
-    return NULL;
+    network *found = NULL;
+    for (size_t k = 0; k < it->count; k++) {
+        network *on = &it->networks[k];
+        if (on->set->network != number)
+            continue;
+        if (on->set->type == LINK_DOSBOX && roster_find(&on->roster, node) != NULL)
+            return on;
+        if (found == NULL || found->set->type == LINK_DOSBOX)
+            found = on;
+    }
+    return found;
 }
 
 /* The router's route to a network, or its default one. */
@@ -82,14 +90,14 @@ static bool find_route(gateway *it, uint32_t number, ipxr_route_record *found)
 static network *way_to(gateway *it, const ipxr_address *to, uint8_t hop[NODE])
 {
     ipxr_route_record route;
-    network *own = own_network(it, to->network);
+    network *own = own_network(it, to->network, to->node);
     memcpy(hop, to->node, NODE);
     if (own != NULL)
         return own;
     if (!find_route(it, to->network, &route))
         return NULL;
     memcpy(hop, route.node, NODE);
-    return &it->networks[route.port];
+    return first_of(it, &it->ports[route.port]);
 }
 
 /* Whether it is a client of a tunnel here, which answers as DOSBox does. */
@@ -108,15 +116,15 @@ static void ask_from(probe *p, const network *on)
 }
 
 /* Sends what was written, and begins to wait for its answer. */
-static void ask(probe *p, network *on, const uint8_t hop[NODE], const uint8_t *packet, int32_t length)
+static void ask(gateway *it, probe *p, network *on, const uint8_t hop[NODE], const uint8_t *packet, int32_t length)
 {
     if (length < 0)
         return;
     p->count++;
     p->is_awaited = true;
     p->began = clock_nanoseconds();
-    gateway_send(on, hop, packet, (size_t)length);
-    outgoing_send(on); /* (the packet's bytes don't stay) */
+    gateway_send(it, port_of(it, on), hop, packet, (size_t)length);
+    gateway_flush(it); /* (the packet's bytes don't stay) */
 }
 
 /* Asks a station. DOSBox answers at the socket of pings, from there to there, what is for all alone; it is sent to that one. Others are
@@ -129,7 +137,7 @@ static bool ask_station(gateway *it, viewer *v)
     size_t length = sizeof NOBODY_LEFT_OUT;
     ipxr_address to = p->to;
     network *on = way_to(it, &p->to, hop);
-    if (on == NULL || !on->is_up)
+    if (on == NULL || !port_of(it, on)->is_up)
         return false;
     p->asked = p->to;
     if (is_dosbox(p, on)) {
@@ -138,7 +146,7 @@ static bool ask_station(gateway *it, viewer *v)
         length = 0;
     }
     ask_from(p, on);
-    ask(p, on, hop, packet, ipxr_write_packet(&p->from, &to, 0, 0, NOBODY_LEFT_OUT, length, packet, sizeof packet));
+    ask(it, p, on, hop, packet, ipxr_write_packet(&p->from, &to, 0, 0, NOBODY_LEFT_OUT, length, packet, sizeof packet));
     return true;
 }
 
@@ -151,11 +159,11 @@ static bool ask_router(gateway *it, viewer *v)
     ipxr_route_entry entry = {.network = p->to.network, .hops = 0xFFFF, .ticks = 0xFFFF};
     if (!find_route(it, p->to.network, &route))
         return false;
-    network *on = &it->networks[route.port];
+    network *on = first_of(it, &it->ports[route.port]);
     p->asked = (ipxr_address){.network = on->set->network, .socket = IPXR_RIP_SOCKET};
     memcpy(p->asked.node, route.node, NODE);
     ask_from(p, on);
-    ask(p, on, route.node, packet, ipxr_write_rip(&p->from, &p->asked, IPXR_RIP_REQUEST, &entry, 1, packet, sizeof packet));
+    ask(it, p, on, route.node, packet, ipxr_write_rip(&p->from, &p->asked, IPXR_RIP_REQUEST, &entry, 1, packet, sizeof packet));
     return true;
 }
 
@@ -182,7 +190,7 @@ void probe_ping(gateway *it, viewer *v, const char *word, unsigned number)
         return;
     }
     network *on = way_to(it, &p->to, hop);
-    if (on == NULL || !on->is_up) {
+    if (on == NULL || !port_of(it, on)->is_up) {
         const char *why = on == NULL ? "there is no route to network %08" PRIX32 : "the way to network %08" PRIX32 " is down";
         viewer_complain(v, why, p->to.network);
         return;
@@ -198,13 +206,15 @@ void probe_ping(gateway *it, viewer *v, const char *word, unsigned number)
     ask_station(it, v);
 }
 
-static void trace_own(viewer *v, const network *on)
+static void trace_own(gateway *it, viewer *v, const network *own)
 {
     char words[LINK_ROOM];
+    const port *at = port_of(it, own);
     begin(v, true, 0);
-    viewer_say(v, "network %08" PRIX32 " is the gateway's own, and %s: %s", on->set->network, on->is_up ? "up" : "down",
-               cable_words(on->cable, on->set, words));
-    viewer_end(v, on->is_up);
+    for (const network *on = first_of(it, at); on < first_of(it, at) + at->count; on++)
+        viewer_say(v, "network %08" PRIX32 " is the gateway's own, and %s: %s", on->set->network, on->is_up ? "up" : "down",
+                   cable_words(on->cable, on->set, words));
+    viewer_end(v, at->is_up);
 }
 
 void probe_trace(gateway *it, viewer *v, const char *word, unsigned number)
@@ -216,9 +226,9 @@ void probe_trace(gateway *it, viewer *v, const char *word, unsigned number)
         viewer_complain(v, "expected the number of a network in hexadecimal digits");
         return;
     }
-    const network *own = own_network(it, p->to.network);
+    const network *own = own_network(it, p->to.network, p->to.node);
     if (own != NULL) {
-        trace_own(v, own);
+        trace_own(it, v, own);
         return;
     }
     if (!find_route(it, p->to.network, &route)) {
@@ -227,7 +237,7 @@ void probe_trace(gateway *it, viewer *v, const char *word, unsigned number)
     }
     begin(v, true, number);
     viewer_say(v, "network %08" PRIX32 ": hops %u ticks %u by %s on %08" PRIX32 "%s, advertised %u s ago", p->to.network, route.hops,
-               route.ticks, node_words(route.node, node), it->networks[route.port].set->network,
+               route.ticks, node_words(route.node, node), port_network(it, route.port),
                route.network == DEFAULT_ROUTE ? ", the default route" : "", route.age);
     ask_router(it, v);
 }

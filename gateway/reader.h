@@ -19,7 +19,11 @@ typedef struct reader {
     char *words[MOST_WORDS];
     size_t count;
     size_t next;               /* the word that is read next */
-    bool is_below_wrong;       /* the last line of a network was wrong */
+    bool is_network_wrong;     /* the last line of a network was wrong: no line below it is looked at */
+    bool is_below_wrong;       /* that one, or the last line of a link: none is but that of another link */
+    bool has_links_below;      /* the last line of a network names no link: its links stand in lines below it, */
+    network_setting network;   /* with what that line says, and what lines below it say of the network */
+    size_t first;              /* and from this one on among all */
     settings *into;
 } reader;
 

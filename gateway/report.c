@@ -6,6 +6,7 @@
 #include "gateway.h"
 #include "note.h"
 #include "output.h"
+#include "segment.h"
 #include "tunnel.h"
 
 static void show_network(network *on)
@@ -35,7 +36,7 @@ static void show_routes(gateway *it)
     say("routes: %zu", ipxr_routes(&it->router));
     for (size_t k = 0; ipxr_route(&it->router, k, &route) == 0; k++)
         say("  %08" PRIX32 " hops %u ticks %u by %s on %08" PRIX32 ", age %u s", route.network, route.hops, route.ticks,
-            node_words(route.node, node), it->networks[route.port].set->network, route.age);
+            node_words(route.node, node), port_network(it, route.port), route.age);
 }
 
 static void show_services(gateway *it)
@@ -48,7 +49,7 @@ static void show_services(gateway *it)
         for (size_t c = 0; c < sizeof at.name && at.name[c] != 0; c++)
             name[c] = at.name[c] > ' ' && at.name[c] < 127 ? (char)at.name[c] : '.';
         say("  %04X %s at %08" PRIX32 ".%s.%04X hops %u by %s on %08" PRIX32 ", age %u s", at.type, name, at.network,
-            node_words(at.node, node), at.socket, at.hops, node_words(at.neighbour, by), it->networks[at.port].set->network, at.age);
+            node_words(at.node, node), at.socket, at.hops, node_words(at.neighbour, by), port_network(it, at.port), at.age);
     }
 }
 
@@ -57,6 +58,9 @@ void gateway_report(gateway *it)
     say("report after %" PRIu64 " s", it->told);
     for (size_t k = 0; k < it->count; k++)
         show_network(&it->networks[k]);
+    for (size_t k = 0; k < it->port_count; k++)
+        if (first_of(it, &it->ports[k])->set->is_of_several)
+            segment_show(it, &it->ports[k]);
     show_routes(it);
     show_services(it);
     capture_show();

@@ -59,7 +59,7 @@ static bool read_network(reader *r, network_setting *it)
         return reader_fault(r, word, "expected the number of a network in hexadecimal digits, 1 to FFFFFFFD");
     for (size_t k = 0; k < r->into->count; k++)
         if (r->into->networks[k].network == it->network)
-            return reader_fault(r, word, "expected another network, this one is that of line %zu", r->into->networks[k].line);
+            return reader_fault(r, word, "expected another network, this one is that of line %zu", r->into->networks[k].network_line);
     return true;
 }
 
@@ -198,10 +198,10 @@ static bool read_kind(reader *r, network_setting *it)
     return reader_fault(r, word, "expected the kind of frames: %s", KIND_WORDS);
 }
 
-/* `node NODE`, where the gateway has no card of its own there. */
+/* `node NODE`, if the line goes on. */
 static bool read_node(reader *r, network_setting *it)
 {
-    if (r->next == r->count || it->type == LINK_DOSBOX || it->type == LINK_INTERFACE)
+    if (r->next == r->count)
         return true;
     const char *word = reader_word(r);
     if (strcmp(word, "node") != 0)
@@ -211,6 +211,12 @@ static bool read_node(reader *r, network_setting *it)
         return reader_fault(r, word, "expected a node, twelve digits, as 02005E000001, whose first byte is even");
     it->has_node = true;
     return true;
+}
+
+/* The gateway's node on the one link of a network, where it has neither a card of its own nor a tunnel there. */
+static bool read_node_on_link(reader *r, network_setting *it)
+{
+    return it->type == LINK_DOSBOX || it->type == LINK_INTERFACE || read_node(r, it);
 }
 
 /* ---- What the words say together ---- */
@@ -275,23 +281,89 @@ static bool fits(reader *r, const network_setting *it)
                         KINDS[it->kind].longest);
 }
 
-/* ---- Lines ---- */
+/* ---- Networks and links ---- */
+
+/* A link, with its kind of frames. */
+static bool read_whole_link(reader *r, network_setting *it)
+{
+    return read_link(r, it) && read_kind(r, it) && is_single(r, it) && is_for_another(r, it) && fits(r, it);
+}
+
+/* Whether the line says no link: its end comes first, or the gateway's node. */
+static bool has_no_link(const reader *r)
+{
+    return r->next == r->count || strcmp(r->words[r->next], "node") == 0;
+}
+
+/* A network has had all its lines: one of them named a link. */
+static void end_network(reader *r)
+{
+    size_t line = r->line;
+    if (r->has_links_below && !r->is_below_wrong && r->into->count == r->first) {
+        r->line = r->network.network_line;
+        reader_fault(r, NULL, "expected %s, or lines below it that begin with link", has_cards() ? LINK_WORDS : LINK_WORDS_WITHOUT_CARDS);
+        r->line = line;
+    }
+    r->has_links_below = false;
+}
 
 static void read_network_line(reader *r)
 {
-    network_setting it = {0};
-    it.line = r->line;
-    r->is_below_wrong = true;
-    if (r->into->count == IPXR_MOST_PORTS) {
+    network_setting it = {.line = r->line, .network_line = r->line, .port = (uint8_t)r->into->ports};
+    end_network(r);
+    r->is_network_wrong = r->is_below_wrong = true;
+    if (r->into->ports == IPXR_MOST_PORTS) {
         reader_fault(r, r->words[0], "expected at most %d networks", IPXR_MOST_PORTS);
         return;
     }
-    if (read_network(r, &it) && read_cost_and_longest(r, &it) && read_shares(r, &it) && read_link(r, &it) && read_kind(r, &it) &&
-        is_single(r, &it) && is_for_another(r, &it) && fits(r, &it) && read_node(r, &it) && reader_ends(r)) {
+    if (!read_network(r, &it) || !read_cost_and_longest(r, &it) || !read_shares(r, &it))
+        return;
+    it.is_of_several = has_no_link(r);
+    if (!(it.is_of_several ? read_node(r, &it) : read_whole_link(r, &it) && read_node_on_link(r, &it)) || !reader_ends(r))
+        return;
+    r->has_links_below = it.is_of_several;
+    r->network = it;
+    r->first = r->into->count;
+    r->into->ports++;
+    if (!it.is_of_several)
         r->into->networks[r->into->count++] = it;
+    r->is_network_wrong = r->is_below_wrong = false;
+}
+
+/* The shares of a network of several links are those of DOSBox' where one of its links is DOSBox', if its line doesn't say them. */
+static void agree_on_shares(reader *r)
+{
+    network_setting *links = r->into->networks;
+    bool has_tunnel = false;
+    for (size_t k = r->first; k < r->into->count; k++)
+        has_tunnel = has_tunnel || links[k].type == LINK_DOSBOX;
+    for (size_t k = r->first; has_tunnel && !r->network.has_shares && k < r->into->count; k++) {
+        links[k].routes = TUNNEL_ROUTES;
+        links[k].services = TUNNEL_SERVICES;
+    }
+}
+
+static void read_link_line(reader *r)
+{
+    if (r->is_network_wrong)
+        return;
+    network_setting it = r->network;
+    it.line = r->line;
+    r->is_below_wrong = true;
+    if (!r->has_links_below)
+        reader_fault(r, r->words[0], "expected below the line of a network that names no link itself");
+    else if (r->into->count - r->first == IPXR_MOST_LINKS)
+        reader_fault(r, r->words[0], "expected at most %d links of a network", IPXR_MOST_LINKS);
+    else if (r->into->count == MOST_LINKS)
+        reader_fault(r, r->words[0], "expected at most %d links", MOST_LINKS);
+    else if (read_whole_link(r, &it) && reader_ends(r)) {
+        r->into->networks[r->into->count++] = it;
+        agree_on_shares(r);
         r->is_below_wrong = false;
     }
 }
+
+/* ---- Lines ---- */
 
 static void read_line(reader *r, char *line)
 {
@@ -300,8 +372,10 @@ static void read_line(reader *r, char *line)
         return;
     if (strcmp(word, "network") == 0)
         read_network_line(r);
+    else if (strcmp(word, "link") == 0)
+        read_link_line(r);
     else if (!read_line_below(r, word))
-        reader_fault(r, word, "expected network, extend, clients, allow, trust, rate or strangers");
+        reader_fault(r, word, "expected network, link, extend, clients, allow, trust, rate or strangers");
 }
 
 /* Reads all lines; returns false where memory or the file fails. */
@@ -325,7 +399,9 @@ size_t settings_read(settings *it, FILE *file, const char *name, FILE *complaint
 {
     reader r = {.name = name, .complaints = complaints, .into = it};
     memset(it, 0, sizeof *it);
-    if (!read_lines(&r, file)) {
+    bool is_read = read_lines(&r, file);
+    end_network(&r);
+    if (!is_read) {
         fprintf(complaints, "%s: can't be read: %s\n", name, fault_words());
         r.faults++;
     } else if (r.faults == 0 && it->count == 0) {

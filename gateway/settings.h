@@ -9,6 +9,7 @@
 
 #include "address.h"
 #include "ipxr.h"
+#include "ipxr_segment.h"
 #include "ipxr_tunnel.h"
 #include "range.h"
 
@@ -19,6 +20,7 @@ enum {
     USUAL_HOUSEHOLD = 16, /* clients, as much as all of an address receive where no line says it */
     MOST_SOCKETS = 16, /* that a network's `extend` may name */
     NAME_ROOM = 16,    /* bytes of the name of a TAP or an interface, with the 0 behind */
+    MOST_LINKS = 2 * IPXR_MOST_PORTS, /* of all networks together */
 };
 
 /* What carries a network. */
@@ -31,9 +33,12 @@ typedef enum {
     LINK_INTERFACE,   /* frames of an Ethernet interface */
 } link_type;
 
-/* A network, as its line says it. */
+/* A network on a link, as its line says it. Where links stand in lines below it, each of them is one, with what its network's line says. */
 typedef struct network_setting {
-    size_t line;               /* the number of the line, for messages */
+    size_t line;               /* the number of the line that names the link, for messages; */
+    size_t network_line;       /* and of the one that names the network */
+    bool is_of_several;        /* links stand below the network's line */
+    uint8_t port;              /* of the router: all links of a network have one */
     uint32_t network;
     uint16_t cost;             /* ticks */
     uint16_t longest;          /* bytes of the longest packet */
@@ -63,9 +68,11 @@ typedef struct network_setting {
     ranges trusted;            /* who may be one though he answers no ping */
 } network_setting;
 
+/* The links of one network stand one behind the other. */
 typedef struct settings {
-    network_setting networks[IPXR_MOST_PORTS];
+    network_setting networks[MOST_LINKS];
     size_t count;
+    size_t ports; /* how many networks there are */
 } settings;
 
 /* Reads a configuration. Returns how many faults there are; each has been told on `complaints` with its line and word, and what

@@ -6,6 +6,7 @@
 #include <string.h>
 
 #include "clock.h"
+#include "links.h"
 #include "note.h"
 #include "system.h"
 #include "tunnel.h"
@@ -43,11 +44,12 @@ static const column LINK_COLUMNS[] = {{"network", "NETWORK", 8}, {"state", "STAT
 /* What a link lacks, or NULL where it is up. */
 static const char *lack_words(const network *on, char words[LACK_ROOM])
 {
-    const cable *at = on->cable;
-    if (on->is_up || at->lacks == NULL)
+    int fault;
+    const char *lacks = link_lacks(on, &fault);
+    if (on->is_up || lacks == NULL)
         return NULL;
-    errno = at->fault;
-    snprintf(words, LACK_ROOM, "%s%s%s", at->lacks, at->fault != 0 ? ": " : "", at->fault != 0 ? fault_words() : "");
+    errno = fault;
+    snprintf(words, LACK_ROOM, "%s%s%s", lacks, fault != 0 ? ": " : "", fault != 0 ? fault_words() : "");
     return words;
 }
 
@@ -107,6 +109,37 @@ static bool next_client(gateway *it, cursor *at, sheet *s)
     return true;
 }
 
+/* ---- Stations of networks that have several links ---- */
+
+static const column STATION_COLUMNS[] = {{"network", "NETWORK", 8}, {"station", "STATION", 12}, {"heard", "HEARD", 5},
+                                         {"link", "LINK", 0}, {0}};
+
+enum { STATION_LASTS = 300 /* seconds */ };
+
+static bool next_station(gateway *it, cursor *at, sheet *s)
+{
+    char link[LINK_ROOM];
+    ipxr_station station;
+    while (at->network < it->port_count && ipxr_segment_station(&it->ports[at->network].segment, at->index, &station) != 0) {
+        at->network++;
+        at->index = 0;
+    }
+    if (at->network == it->port_count)
+        return false;
+    const network *on = first_of(it, &it->ports[at->network]) + station.link;
+    at->index++;
+    record_begin(s, STATION_COLUMNS);
+    field_network(s, on->set->network);
+    field_node(s, station.node);
+    if (station.is_sure)
+        field_text(s, NULL);
+    else
+        field_number(s, STATION_LASTS - station.seconds_left);
+    field_text(s, cable_words(on->cable, on->set, link));
+    record_end(s);
+    return true;
+}
+
 /* ---- Routes and services ---- */
 
 static const column ROUTE_COLUMNS[] = {{"network", "NETWORK", 8}, {"hops", "HOPS", 4}, {"ticks", "TICKS", 5},
@@ -123,7 +156,7 @@ static bool next_route(gateway *it, cursor *at, sheet *s)
     field_number(s, route.hops);
     field_number(s, route.ticks);
     field_node(s, route.node);
-    field_network(s, it->networks[route.port].set->network);
+    field_network(s, port_network(it, route.port));
     field_number(s, route.age);
     record_end(s);
     return true;
@@ -147,7 +180,7 @@ static bool next_service(gateway *it, cursor *at, sheet *s)
     field_hexadecimal(s, service.socket);
     field_number(s, service.hops);
     field_node(s, service.neighbour);
-    field_network(s, it->networks[service.port].set->network);
+    field_network(s, port_network(it, service.port));
     field_number(s, service.age);
     record_end(s);
     return true;
@@ -160,8 +193,8 @@ static const struct {
     const column *columns;
     bool (*next)(gateway *it, cursor *at, sheet *s);
 } SECTIONS[] = {
-    {"links", LINK_COLUMNS, next_link},          {"clients", CLIENT_COLUMNS, next_client}, {"routes", ROUTE_COLUMNS, next_route},
-    {"services", SERVICE_COLUMNS, next_service}, {"counts", COUNT_COLUMNS, shown_count},
+    {"links", LINK_COLUMNS, next_link},    {"clients", CLIENT_COLUMNS, next_client},    {"stations", STATION_COLUMNS, next_station},
+    {"routes", ROUTE_COLUMNS, next_route}, {"services", SERVICE_COLUMNS, next_service}, {"counts", COUNT_COLUMNS, shown_count},
 };
 enum { SECTION_COUNT = sizeof SECTIONS / sizeof *SECTIONS };
 

@@ -1,4 +1,4 @@
-/* What `show` shows: links, clients, routes, services and counts, piece by piece, each record as it is when it is written. */
+/* What `show` shows: links, clients, stations, routes, services and counts, piece by piece, each record as it is when it is written. */
 #ifndef SHOWN_H
 #define SHOWN_H
 

@@ -13,7 +13,7 @@ enum { IN, OUT, EXTENDED, REFUSED, LOST, DROPPED = LOST + REASONS, COUNTED = DRO
 
 const column COUNT_COLUMNS[] = {{"network", "NETWORK", 8}, {"count", "COUNT", 33}, {"number", "NUMBER", 0}, {0}};
 
-static uint64_t value_of(network *on, size_t index)
+static uint64_t value_on(network *on, size_t index)
 {
     const counts *it = &on->counts;
     switch (index) {
@@ -34,6 +34,16 @@ static uint64_t value_of(network *on, size_t index)
     }
 }
 
+/* The same of all links of a network together. */
+static uint64_t value_of(gateway *it, const cursor *at)
+{
+    const port *of = &it->ports[at->network];
+    uint64_t sum = 0;
+    for (size_t k = 0; k < of->count; k++)
+        sum += value_on(first_of(it, of) + k, at->index);
+    return at->index == UP ? of->is_up : sum;
+}
+
 /* What a count is called: the words of the report. */
 static const char *name_of(size_t index, char words[WORDS])
 {
@@ -48,14 +58,14 @@ static bool find(gateway *it, cursor *at, size_t first, size_t behind, size_t al
 {
     if (at->index < first)
         at->index = first;
-    while (at->network < it->count && at->index >= always_behind && value_of(&it->networks[at->network], at->index) == 0) {
+    while (at->network < it->port_count && at->index >= always_behind && value_of(it, at) == 0) {
         at->index++;
         if (at->index >= behind) {
             at->network++;
             at->index = first;
         }
     }
-    return at->network < it->count;
+    return at->network < it->port_count;
 }
 
 /* Goes behind what was written. */
@@ -76,12 +86,12 @@ bool shown_count(gateway *it, cursor *at, sheet *s)
     if (!find(it, at, IN, COUNTED, EXTENDED))
         return false;
     bool is_lost = at->index >= LOST && at->index < DROPPED;
-    snprintf(number, sizeof number, "%08" PRIX32, it->networks[at->network].set->network);
+    snprintf(number, sizeof number, "%08" PRIX32, first_of(it, &it->ports[at->network])->set->network);
     snprintf(name, sizeof name, "%s%s", is_lost ? "lost: " : "", name_of(at->index, words));
     record_begin(s, COUNT_COLUMNS);
     field_text(s, number);
     field_text(s, name);
-    field_number(s, value_of(&it->networks[at->network], at->index));
+    field_number(s, value_of(it, at));
     record_end(s);
     step(at, IN, COUNTED);
     return true;
@@ -100,7 +110,7 @@ static const struct {
     {"ipxr_gateway_refused_connections_total", "counter", "Connections that came while a PC was connected.", REFUSED, REFUSED + 1},
     {"ipxr_gateway_lost_packets_total", "counter", "Packets that the gateway let go of, by the reason.", LOST, DROPPED},
     {"ipxr_gateway_dropped_packets_total", "counter", "Packets that the router dropped, by the reason.", DROPPED, COUNTED},
-    {"ipxr_gateway_up", "gauge", "Whether the network's link is up.", UP, UP + 1},
+    {"ipxr_gateway_up", "gauge", "Whether the network's link is up, or one of its links.", UP, UP + 1},
     {"ipxr_gateway_clients", "gauge", "Clients of DOSBox' tunnel.", CLIENTS, CLIENTS + 1},
 };
 enum { METRIC_COUNT = sizeof METRICS / sizeof *METRICS };
@@ -114,13 +124,13 @@ static void put_sample(gateway *it, const cursor *at, sheet *s, const char *name
 {
     static const char DROP[] = "drop ";
     char words[WORDS];
-    network *on = &it->networks[at->network];
+    const network *on = first_of(it, &it->ports[at->network]);
     sheet_put(s, "%s{network=\"%08" PRIX32 "\"", name, on->set->network);
     if (has_reason) {
         const char *why = name_of(at->index, words);
         sheet_put(s, ",reason=\"%s\"", strncmp(why, DROP, strlen(DROP)) == 0 ? why + strlen(DROP) : why);
     }
-    sheet_put(s, "} %" PRIu64 "\n", value_of(on, at->index));
+    sheet_put(s, "} %" PRIu64 "\n", value_of(it, at));
 }
 
 /* What is one number of the whole gateway. */

@@ -6,16 +6,16 @@
 #include <stddef.h>
 #include <stdint.h>
 
-#include "ipxr.h"
 #include "limit.h"
 #include "line.h"
+#include "settings.h"
 
 /* An address that clients have, and what they said together. Or a network that isn't of DOSBox', and what came from there. */
 typedef struct speaker {
     uint8_t host[4];
     size_t clients;
-    meter said[IPXR_MOST_PORTS]; /* to the clients of each network, by its number among the gateway's: packets, */
-    meter said_bytes[IPXR_MOST_PORTS]; /* and bytes */
+    meter said[MOST_LINKS]; /* to the clients of each network, by its number among the gateway's: packets, */
+    meter said_bytes[MOST_LINKS]; /* and bytes */
     meter received;   /* by all its clients */
     meter asked;      /* of the router */
     meter answered;   /* by the gateway */

@@ -10,6 +10,7 @@
 #include "node.h"
 #include "note.h"
 #include "output.h"
+#include "segment.h"
 #include "status.h"
 #include "system.h"
 #include "tunnel.h"
@@ -44,7 +45,22 @@ bool gateway_open(gateway *it, const settings *set)
             return false;
         on->is_up = true;
     }
+    gateway_take_ports(it);
     return true;
+}
+
+void gateway_take_ports(gateway *it)
+{
+    it->port_count = 0;
+    for (size_t k = 0; k < it->count; k++) {
+        port *at = &it->ports[it->networks[k].set->port];
+        if (k == 0 || it->networks[k].set->port != it->networks[k - 1].set->port) {
+            it->port_count++;
+            *at = (port){.first = k, .segment = IPXR_SEGMENT_NONE};
+        }
+        at->count++;
+        at->is_up = at->is_up || it->networks[k].is_up;
+    }
 }
 
 /* ---- The router ---- */
@@ -53,18 +69,19 @@ bool gateway_open(gateway *it, const settings *set)
 static int32_t make(gateway *it)
 {
     ipxr_port ports[IPXR_MOST_PORTS] = {{0}};
-    for (size_t k = 0; k < it->count; k++) {
-        const network_setting *set = it->networks[k].set;
+    for (size_t k = 0; k < it->port_count; k++) {
+        const network *first = first_of(it, &it->ports[k]);
+        const network_setting *set = first->set;
         ports[k].network = set->network;
-        node_choose(set, it->networks[k].cable, ports[k].node);
+        node_choose(set, first->cable, ports[k].node);
         ports[k].cost = set->cost;
         ports[k].longest = set->longest;
         ports[k].routes = set->routes;
         ports[k].services = set->services;
     }
-    int32_t made = ipxr_make(&it->router, ports, it->count);
+    int32_t made = ipxr_make(&it->router, ports, it->port_count);
     for (size_t k = 0; made >= 0 && k < it->count; k++)
-        memcpy(it->networks[k].node, ports[k].node, NODE);
+        memcpy(it->networks[k].node, ports[it->networks[k].set->port].node, NODE);
     return made < 0 ? made : ipxr_start(&it->router);
 }
 
@@ -88,6 +105,15 @@ static int32_t open_tunnels(gateway *it)
     return made;
 }
 
+int32_t gateway_open_segments(gateway *it)
+{
+    int32_t made = 0;
+    for (size_t k = 0; made >= 0 && k < it->port_count; k++)
+        if (first_of(it, &it->ports[k])->set->is_of_several)
+            made = segment_open(it, &it->ports[k]);
+    return made;
+}
+
 bool gateway_start(gateway *it)
 {
     char words[WORDS];
@@ -98,6 +124,8 @@ bool gateway_start(gateway *it)
     int32_t made = make(it);
     if (made >= 0)
         made = open_tunnels(it);
+    if (made >= 0)
+        made = gateway_open_segments(it);
     if (made < 0) {
         complain("ipxr-gateway: %s", answer_words(made, words));
         return false;
@@ -114,7 +142,7 @@ bool gateway_start(gateway *it)
 
 bool has_new_address(const network *on)
 {
-    return !is_no_node(on->cable->card) && !same_node(on->cable->card, on->node);
+    return !on->set->is_of_several && !is_no_node(on->cable->card) && !same_node(on->cable->card, on->node);
 }
 
 /* Tells the new address of each card that has one. Returns whether any has. */
@@ -141,9 +169,9 @@ void gateway_renew(gateway *it)
     gateway_send_all(it);
     if (make(it) < 0)
         return; /* (no memory: it is tried again with the next second) */
-    for (size_t k = 0; k < it->count; k++)
-        if (!it->networks[k].is_up && ipxr_port_down(&it->router, (uint8_t)k) < 0)
-            it->networks[k].is_up = true; /* (and the next look tells the router) */
+    for (size_t k = 0; k < it->port_count; k++)
+        if (!it->ports[k].is_up && ipxr_port_down(&it->router, (uint8_t)k) < 0)
+            it->ports[k].is_up = first_of(it, &it->ports[k])->is_up = true; /* (and the next look tells the router) */
     gateway_send_all(it);
     links_look_at_all(it);
 }
@@ -155,6 +183,8 @@ void gateway_stop(gateway *it)
     gateway_send_all(it);
     gateway_flush(it);
     ipxr_free(&it->router);
+    for (size_t k = 0; k < it->port_count; k++)
+        segment_close(&it->ports[k]);
     for (size_t k = 0; k < it->count; k++)
         tunnel_close(&it->networks[k]);
     for (size_t k = 0; k < it->cable_count; k++)

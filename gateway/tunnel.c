@@ -14,6 +14,7 @@
 #include "note.h"
 #include "output.h"
 #include "place.h"
+#include "segment.h"
 #include "strangers.h"
 #include "throttle.h"
 
@@ -102,8 +103,8 @@ static size_t send_carried(network *on, speaker *from, const uint8_t *packet, si
 void tunnel_send(network *on, const uint8_t *node, const uint8_t *packet, size_t length)
 {
     ipxr_tunnel_send(&on->tunnel, node);
-    if (ipxr_tunnel_receivers(&on->tunnel) == 0 && !is_broadcast(node))
-        gateway_lose(on, NO_CLIENT);
+    if (ipxr_tunnel_receivers(&on->tunnel) == 0 && !is_broadcast(node) && on->segment == NULL)
+        gateway_lose(on, NO_CLIENT); /* (else it may be a station of another link) */
     (void)send_carried(on, throttle_brought(packet), packet, length);
 }
 
@@ -119,6 +120,7 @@ void tunnel_tell_comes(network *on, const uint8_t place[NODE])
 {
     char words[WORDS];
     tunnel_list(on, place);
+    segment_client(on, place, true);
     event("client %s comes to %08" PRIX32, node_words(place, words), on->set->network);
     events_client(on, place, true);
 }
@@ -127,6 +129,7 @@ void tunnel_tell_leaves(network *on, const uint8_t place[NODE])
 {
     char words[WORDS];
     roster_remove(&on->roster, place);
+    segment_client(on, place, false);
     event("client %s leaves %08" PRIX32, node_words(place, words), on->set->network);
     events_client(on, place, false);
 }
@@ -183,7 +186,7 @@ static reason why_lost(network *on, bool is_client, int32_t said, bool is_packet
         return is_client ? REASONS : NO_ROOM;
     case IPXR_SPEAKS:
         if (is_client)
-            return is_answered ? REASONS : NO_CLIENT;
+            return is_answered || on->segment != NULL ? REASONS : NO_CLIENT; /* (other links may have the node) */
         return is_answered ? STRANGER : NO_ROOM;
     default:
         return is_packet ? FALSE_SOURCE : NO_IPX;
@@ -231,6 +234,19 @@ static void pass_on(gateway *it, network *on, member *from, const uint8_t *packe
     throttle_bring(NULL, NULL);
 }
 
+/* What a client said goes to the other links of its network. Returns whether any of them gets it. */
+static bool carry_over(gateway *it, network *on, member *from, const uint8_t *packet, size_t length)
+{
+    uint8_t to[NODE];
+    if (on->segment == NULL)
+        return false;
+    segment_next(on, packet, to);
+    throttle_bring(from->speaks, packet);
+    heard what = segment_hear(it, on, from->place, to, packet, length);
+    throttle_bring(NULL, NULL);
+    return what.links > 0;
+}
+
 /* Sends what a client said before the router, which sends too, hears it. */
 static void carry(gateway *it, network *on, member *from, const uint8_t *packet, size_t length)
 {
@@ -240,11 +256,15 @@ static void carry(gateway *it, network *on, member *from, const uint8_t *packet,
         gateway_lose(on, why);
         return;
     }
+    bool is_received = ipxr_tunnel_receivers(&on->tunnel) > 0;
     from->dropped[DROPPED_OF_IT] += send_carried(on, from->speaks, packet, length);
+    is_received = carry_over(it, on, from, packet, length) || is_received;
     if (is_heard)
         pass_on(it, on, from, packet, length);
-    else
+    else if (is_received || on->segment == NULL)
         gateway_note(on, packet, length, "handed on");
+    else
+        gateway_lose(on, NO_CLIENT);
 }
 
 /* (behind the tunnel, which has noted that a client answers: no limit drops that) */

@@ -5,13 +5,13 @@
 #include <stdbool.h>
 #include <stddef.h>
 
-#include "ipxr.h"
+#include "settings.h"
 
 /* Of the status socket: those who ask, and where they come in. */
 enum { MOST_VIEWERS = 8, MOST_STATUS_WATCHED = MOST_VIEWERS + 1 };
 
 /* A cable has two at most: a connection, and where connections come in. */
-#define MOST_WATCHED (2 * IPXR_MOST_PORTS + MOST_STATUS_WATCHED)
+#define MOST_WATCHED (2 * MOST_LINKS + MOST_STATUS_WATCHED)
 
 typedef struct watch {
     int fd;

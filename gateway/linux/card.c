@@ -107,6 +107,12 @@ bool interface_again(int fd, uint8_t kind, unsigned index)
     return bind(fd, (const struct sockaddr *)&at, sizeof at) == 0;
 }
 
+bool interface_hears_all(int fd, unsigned index)
+{
+    struct packet_mreq all = {.mr_ifindex = (int)index, .mr_type = PACKET_MR_PROMISC};
+    return setsockopt(fd, SOL_PACKET, PACKET_ADD_MEMBERSHIP, &all, sizeof all) == 0;
+}
+
 int interface_open(const char *name, uint8_t kind, unsigned *index, uint8_t card[6])
 {
     struct ifreq about = {0};

@@ -46,6 +46,13 @@ int interface_open(const char *name, uint8_t kind, unsigned *index, uint8_t card
     return refused();
 }
 
+bool interface_hears_all(int fd, unsigned index)
+{
+    (void)fd;
+    (void)index;
+    return refused() == 0;
+}
+
 bool interface_again(int fd, uint8_t kind, unsigned index)
 {
     (void)fd;

@@ -307,14 +307,14 @@ def ears():
 class Client:
     """A DOSBox, as far as the gateway sees it: it registers once, and answers pings."""
 
-    def __init__(self, port, host="127.0.0.1", registers=True, to="127.0.0.1", answers=True, own_port=0):
+    def __init__(self, port, host="127.0.0.1", registers=True, to="127.0.0.1", answers=True, own_port=0, gateway=GATEWAY):
         self.udp = socket.socket(socket.AF_INET, socket.SOCK_DGRAM)
         self.udp.setsockopt(socket.SOL_SOCKET, socket.SO_RCVBUF, ROOM)
         self.udp.bind((host, own_port))
         self.udp.connect((to, port))
         own, own_port = self.udp.getsockname()
         self.node = socket.inet_aton(own) + struct.pack(">H", own_port)
-        self.network, self.answers, self.pings = 0, answers, 0
+        self.network, self.answers, self.pings, self.gateway = 0, answers, 0, gateway
         self.heard = queue.SimpleQueue()
         ears().add(self)
         if registers:
@@ -339,7 +339,7 @@ class Client:
         self.send(registration())
         answer = self.hear(lambda it: socket_of(it) == TUNNEL and it[10:16] == self.node)
         assert answer is not None, "nobody answers a registration"
-        assert answer[22:28] == GATEWAY and len(answer) == 30
+        assert answer[22:28] == self.gateway and len(answer) == 30
         self.network = int.from_bytes(answer[6:10], "big")
 
     def register(self):

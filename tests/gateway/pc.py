@@ -5,7 +5,7 @@ import subprocess
 import tempfile
 import time
 
-from lab import AGAIN, GAME, Client, Counts, Gateway, address, free_ports, left_out, packet, tunnels
+from lab import AGAIN, GAME, Client, Counts, Gateway, address, free_ports, left_out, packet, reaches, tunnels
 from status import Watched
 from systems import SYSTEM, TOP, Windows
 
@@ -37,7 +37,7 @@ class Pc:
         self.complaint = self.run.communicate()[1].decode()
 
 
-def is_answered(client, pc, data):
+def is_answered(client, pc, data, crossed=1):
     """Whether the PC sends a packet back, though not at once: it has to boot. What it sent back before may still come."""
     end = time.monotonic() + MOST
     while time.monotonic() < end:
@@ -45,7 +45,7 @@ def is_answered(client, pc, data):
         client.say(address(0x30, NODE, GAME), data)
         heard = client.hear(lambda it: it[30:] == data, AGAIN)
         if heard is not None:
-            return heard == packet(client.at(), address(0x30, NODE, GAME), data, control=1)
+            return heard == packet(client.at(), address(0x30, NODE, GAME), data, control=crossed)
     return False
 
 
@@ -79,6 +79,19 @@ def connections():
     tried(f"qemu-tcp connect {port}", f"socket,listen=127.0.0.1:{port}")
 
 
+def on_one_network():
+    """A PC in QEMU is on one network with two clients of DOSBox': it answers whoever speaks to it, and the other one hears nothing."""
+    gate, card = free_ports(2)
+    text = f"network 30 1 1424\nlink dosbox 127.0.0.1:0\nlink qemu-udp {gate} {card} raw\n"
+    netdev = f"dgram,{inet('local', card)},{inet('remote', gate)}"
+    with tempfile.TemporaryDirectory() as folder, Gateway(text) as it, Pc(folder, netdev) as pc:
+        port = int(it.lines[0].rpartition(", node")[0].rpartition(":")[2])
+        anna, ben = (Client(port, gateway=it.nodes[0x30]) for _ in range(2))
+        assert is_answered(anna, pc, b"for the PC", crossed=0)
+        assert is_answered(ben, pc, b"for it, too", crossed=0) and reaches(anna, ben)
+        assert f"{NODE.hex().upper()} at qemu-udp" in it.report()
+
+
 def pinged():
     """A PC in QEMU, whose program sends back what it gets, answers the gateway's pings at any socket."""
     gate, card = free_ports(2)
@@ -101,6 +114,7 @@ def main():
     else:
         counts.run(datagrams)
         counts.run(connections)
+        counts.run(on_one_network)
         if SYSTEM is Windows:
             left_out("pings that a PC in QEMU answers", "the status socket is Linux' own")
         else:

@@ -13,6 +13,7 @@ import orders
 import pc
 import probes
 import reloading
+import segments
 import siphash
 import status
 import troubles
@@ -23,7 +24,7 @@ import words
 from lab import left_out
 from systems import SYSTEM, Windows
 
-ALL = (counting, words, siphash, unit, orders, status, events, probes, reloading, tunnel, links, troubles, wires, attacks, limits, dosbox,
+ALL = (counting, words, siphash, unit, orders, status, events, probes, reloading, tunnel, links, segments, troubles, wires, attacks, limits, dosbox,
        pc)
 TESTS = {it.__name__: it for it in ALL}
 

@@ -15,7 +15,7 @@ from lab import (ALL_THERE_IS, EVERYONE, GAME, LIMIT, NOBODY, Client, Counts, Ga
                  rip_response, text_of, tunnels, until)
 from systems import SYSTEM, Windows
 
-SECTIONS = ("links", "clients", "routes", "services", "counts")
+SECTIONS = ("links", "clients", "stations", "routes", "services", "counts")
 HOSTILE = [b'"', b"\\", b"\x1b[2J\x07", b"a b\tc\r\nd", b"\xff\xfe\x80", b"\x7f", b"</script>&'%s%n", b"\x01" * 47, bytes(range(1, 48)),
            bytes(range(200, 247)), "größe".encode()]
 ROUTES = 2048  # that fill the table
@@ -188,7 +188,7 @@ def metrics():
 def wrong_questions():
     """Wrong words are told with what was expected; whatever else is said by hand, it answers the next."""
     with Watched(tunnels(1)) as gate:
-        assert asked(gate.path, "show", "nothing")[::2] == (1, "expected links, clients, routes, services, counts or events\n")
+        assert asked(gate.path, "show", "nothing")[::2] == (1, "expected links, clients, stations, routes, services, counts or events\n")
         assert asked(gate.path, "show", "links", "counts")[0] == 64
         assert asked(gate.path, "show", "links", "--prometheus")[0] == 64
         assert asked(gate.path, "reload", "now")[0] == 64

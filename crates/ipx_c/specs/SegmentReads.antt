@@ -1,5 +1,5 @@
 -- What C reads of a segment: the links that get the packet of its last event, its links and its stations.
-use Rattle.std.specs.Prelude.{ℕ, List, length, slice_get, Option, None, Some, Result, Ok, Err}
+use Rattle.std.specs.Prelude.{ℕ, length, slice_get, Option, None, Some, Result, Ok, Err}
 use Rattle.ipx_wire.specs.declared.address.Address.{Address}
 use Rattle.ipx_wire.specs.declared.node.Node.{Node}
 use Rattle.ipx_segment.specs.Nodes.{next_node}

@@ -1,0 +1,31 @@
+/* Two links of a network that are one cable behind the gateway's back, as by a bridge, would carry a broadcast round for ever. So the
+ * gateway sends a packet of its own to all on each of them, each second. Where one comes back on another link, the later of the two is
+ * shut, until none has come for some seconds. */
+#ifndef LOOP_H
+#define LOOP_H
+
+#include <stdbool.h>
+#include <stddef.h>
+#include <stdint.h>
+
+enum { LOOP_WORDS = 120 /* bytes of why a link is shut, with the 0 behind */ };
+
+typedef struct loop {
+    bool is_shut;
+    unsigned quiet;           /* seconds since such a packet came last */
+    char why[LOOP_WORDS];
+} loop;
+
+struct gateway;
+struct network;
+
+/* A second has passed. */
+void loops_second(struct gateway *it);
+
+/* Sends such a packet on a link, where its network has another on which it might come back. */
+void loop_ask(struct gateway *it, struct network *on);
+
+/* Whether a packet of the gateway's own that came on a link is one of these; what follows of it is done. */
+bool loop_hears(struct gateway *it, struct network *on, const uint8_t *packet, size_t length);
+
+#endif

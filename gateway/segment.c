@@ -1,0 +1,117 @@
+#include "segment.h"
+
+#include <inttypes.h>
+#include <string.h>
+
+#include "ipx.h"
+#include "note.h"
+#include "output.h"
+
+/* Stations of a link with frames that are known at one time: who makes up nodes there finds no more room. */
+enum { STATIONS = 512 };
+
+/* ---- Beginning and end ---- */
+
+/* The most stations of a link that are known: of a tunnel as many as it has clients. */
+static uint16_t share_of(const network *on)
+{
+    return on->set->type == LINK_DOSBOX ? on->set->clients : STATIONS;
+}
+
+static uint16_t capacity_of(gateway *it, const port *at)
+{
+    size_t sum = 0;
+    for (size_t k = 0; k < at->count; k++)
+        sum += share_of(first_of(it, at) + k);
+    return (uint16_t)(sum < IPXR_MOST_STATIONS ? sum : IPXR_MOST_STATIONS);
+}
+
+int32_t segment_open(gateway *it, port *at)
+{
+    network *first = first_of(it, at);
+    ipxr_segment_setting set = {.network = first->set->network, .links = (uint8_t)at->count, .capacity = capacity_of(it, at)};
+    memcpy(set.node, first->node, NODE);
+    int32_t made = ipxr_segment_make(&at->segment, &set);
+    for (size_t k = 0; made >= 0 && k < at->count; k++) {
+        first[k].segment = &at->segment;
+        first[k].link = (uint8_t)k;
+        segment_change(first + k);
+    }
+    return made;
+}
+
+void segment_close(port *at)
+{
+    ipxr_segment_free(&at->segment);
+}
+
+/* ---- Links and clients ---- */
+
+void segment_change(network *on)
+{
+    bool is_tunnel = on->set->type == LINK_DOSBOX;
+    ipxr_link to = {.kind = !on->is_up ? IPXR_LINK_DOWN : is_tunnel ? IPXR_LINK_SURE : IPXR_LINK_CABLE, .share = share_of(on)};
+    ipxr_client client;
+    if (on->segment == NULL)
+        return;
+    ipxr_segment_change(on->segment, on->link, &to);
+    for (size_t k = 0; is_tunnel && ipxr_tunnel_client(&on->tunnel, k, &client) == 0; k++)
+        ipxr_segment_come(on->segment, on->link, client.place);
+}
+
+void segment_client(network *on, const uint8_t place[NODE], bool comes)
+{
+    if (on->segment != NULL)
+        (comes ? ipxr_segment_come : ipxr_segment_leave)(on->segment, on->link, place);
+}
+
+/* ---- Packets ---- */
+
+/* Puts a packet on the links that get it, as the library said. Returns how many. */
+static size_t put(network *first, const uint8_t *from, const uint8_t *to, const uint8_t *packet, size_t length)
+{
+    uint8_t link;
+    size_t count = 0;
+    for (; ipxr_segment_receiver(first->segment, count, &link) == 0; count++)
+        gateway_put(first + link, from, to, packet, length);
+    return count;
+}
+
+heard segment_hear(gateway *it, network *on, const uint8_t *from, const uint8_t *to, const uint8_t *packet, size_t length)
+{
+    heard what = {.by_router = ipxr_segment_hear(on->segment, on->link, from, to) == 1};
+    what.links = put(first_of(it, port_of(it, on)), from, to, packet, length);
+    return what;
+}
+
+void segment_send(gateway *it, port *at, const uint8_t *node, const uint8_t *packet, size_t length)
+{
+    network *first = first_of(it, at);
+    ipxr_segment_send(&at->segment, node);
+    put(first, first->node, node, packet, length);
+}
+
+void segment_next(network *on, const uint8_t *packet, uint8_t node[NODE])
+{
+    ipxr_address to = {.network = get32(packet + AT_TO_NETWORK), .socket = get16(packet + AT_TO_SOCKET)};
+    memcpy(to.node, packet + AT_TO_NODE, NODE);
+    ipxr_segment_next_node(on->segment, &to, node);
+}
+
+/* ---- Seconds and reports ---- */
+
+void segments_second(gateway *it)
+{
+    for (size_t k = 0; k < it->port_count; k++)
+        ipxr_segment_second(&it->ports[k].segment); /* (where there is none, nothing is done) */
+}
+
+void segment_show(gateway *it, port *at)
+{
+    char node[WORDS], link[LINK_ROOM];
+    ipxr_station station;
+    network *first = first_of(it, at);
+    say("stations on %08" PRIX32 ": %zu", first->set->network, ipxr_segment_stations(&at->segment));
+    for (size_t k = 0; ipxr_segment_station(&at->segment, k, &station) == 0; k++)
+        say("  %s at %s", node_words(station.node, node), cable_words(first[station.link].cable, first[station.link].set, link));
+}

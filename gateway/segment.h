@@ -1,0 +1,39 @@
+/* Networks of several links: which of them get a packet, the library says. The router is one station among those of all links. */
+#ifndef SEGMENT_H
+#define SEGMENT_H
+
+#include "gateway.h"
+
+/* Makes the segment of a network of several links, with those that are up and their clients. Returns 0, or the library's fault. */
+int32_t segment_open(gateway *it, port *at);
+void segment_close(port *at);
+
+/* A link went up or down. */
+void segment_change(network *on);
+
+/* A client came to a tunnel that is a link, or left it. */
+void segment_client(network *on, const uint8_t place[6], bool comes);
+
+/* What came of a packet that was heard at a link. */
+typedef struct heard {
+    bool by_router;  /* it is for the router's node, or for all */
+    size_t links;    /* how many it was put on */
+} heard;
+
+/* A packet was heard at a link, from a node for a node or for all, and is put on the links that get it. Its bytes stay where they are until
+ * gateway_flush. */
+heard segment_hear(gateway *it, network *on, const uint8_t *from, const uint8_t *to, const uint8_t *packet, size_t length);
+
+/* The router sends a packet to a node or to all. */
+void segment_send(gateway *it, port *at, const uint8_t *node, const uint8_t *packet, size_t length);
+
+/* The node that a client's packet goes to on its network. */
+void segment_next(network *on, const uint8_t *packet, uint8_t node[6]);
+
+/* A second has passed. */
+void segments_second(gateway *it);
+
+/* Says a line for each station of a network of several links. */
+void segment_show(gateway *it, port *at);
+
+#endif

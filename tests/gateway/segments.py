@@ -1,0 +1,323 @@
+"""Networks of several links: DOSBox, emulators' cards, TAPs and Ethernet as one cable."""
+import os
+import re
+import signal
+import sys
+
+from frames import Packets, Station, Udp, frame
+from lab import EVERYONE, GAME, LIMIT, Client, Clock, Counts, Gateway, address, fresh, is_routers, left_out, packet, reaches, until
+from spaces import INSIDE, ip, tried_inside
+from status import Watched
+from systems import SYSTEM, Windows
+
+NUMBER = 0x10
+PC, CARD = bytes.fromhex("020000000AA1"), bytes.fromhex("020000000BB2")
+EVEN = "10.77.0.1"
+LASTS = 300  # seconds for which a station is known
+
+
+class Cable(Gateway):
+    """A gateway whose first network has several links, with the port of each."""
+
+    def __init__(self, links, extra="", **how):
+        self.ports_of = {}
+        super().__init__(f"network {NUMBER:X} 1 1424\n" + "".join(f"link {it}\n" for it in links) + extra, **how)
+        while len(self.ports_of) < len(links):
+            self.line()
+
+    def learn(self, line):
+        super().learn(line)
+        found = re.search(rf"^network {NUMBER:08X} on (\S+) (?:listen )?(?:[\d.]+:(\d+))?", line)
+        if found:
+            self.ports_of[len(self.ports_of)] = int(found[2] or 0)
+
+    def client(self):
+        return Client(self.ports_of[0], gateway=self.nodes[NUMBER])
+
+
+def at_once(station, other_node, data):
+    """A packet straight to a node of the same network."""
+    station.say(address(NUMBER, other_node, GAME), data, node=other_node)
+
+
+def hears(one, data, patience=LIMIT):
+    return one.hear(lambda it: not is_routers(it) and it[30:] == data, patience) is not None
+
+
+def calls(one):
+    """One says something to all of the network. Returns what."""
+    data = fresh()
+    to = address(NUMBER, EVERYONE, GAME)
+    if isinstance(one, Client):
+        one.say(to, data)
+    else:
+        one.say(to, data, node=EVERYONE)
+    return data
+
+
+def tells(one, other):
+    """One says something to the node of another, on the network itself. Returns what."""
+    data = fresh()
+    if isinstance(one, Client):
+        one.say(address(NUMBER, other.node, GAME), data)
+    else:
+        at_once(one, other.node, data)
+    return data
+
+
+class Party:
+    """Two DOSBoxes and two emulators' cards, of two kinds of frames, on one network."""
+
+    def __init__(self, extra="", **how):
+        self.wires = [Udp(), Udp()]
+        links = ["dosbox 127.0.0.1:0", *(f"qemu-udp 0 {wire.port} {kind}" for wire, kind in zip(self.wires, ("raw", "ethernet2")))]
+        self.gate = Cable(links, extra, **how)
+        for k, wire in enumerate(self.wires):
+            wire.to = self.gate.ports_of[k + 1]
+        node = self.gate.nodes[NUMBER]
+        self.anna, self.ben = self.gate.client(), self.gate.client()
+        self.pc, self.card = Station(self.wires[0], "raw", NUMBER, PC, node), Station(self.wires[1], "ethernet2", NUMBER, CARD, node)
+        self.all = (self.anna, self.ben, self.pc, self.card)
+
+    def __enter__(self):
+        self.gate.__enter__()
+        return self
+
+    def __exit__(self, *fault):
+        self.gate.__exit__(*fault)
+
+    def next_is(self, one, data):
+        """Whether what one hears next is that: nothing else came before."""
+        heard = one.hear()
+        return heard is not None and heard[30:] == data
+
+
+def a_call_finds_all():
+    """A broadcast of a DOSBox or a PC comes to all other stations once, by whichever link, and never back."""
+    with Party() as it:
+        for one in it.all:
+            first, second = calls(one), calls(one)
+            for other in it.all:
+                if other is not one:
+                    assert it.next_is(other, first) and it.next_is(other, second), (it.all.index(one), it.all.index(other))
+        # (what each hears next is what it is told now: its own calls didn't come back)
+        for one, other in ((it.ben, it.anna), (it.anna, it.ben), (it.card, it.pc), (it.pc, it.card)):
+            assert it.next_is(other, tells(one, other))
+
+
+def an_answer_goes_to_one():
+    """What is for a node goes to the link where that was heard, and to no other; for one that wasn't heard it goes to all."""
+    with Party() as it:
+        assert hears(it.card, tells(it.pc, it.card)), "a node that wasn't heard is found"
+        calls(it.card)
+        for one in (it.anna, it.ben, it.pc):
+            one.hear()
+        for one in it.all:
+            for other in it.all:
+                if other is not one:
+                    assert it.next_is(other, tells(one, other)), (it.all.index(one), it.all.index(other))
+        report = it.gate.report()
+        assert "source of another" not in report and "no such client" not in report, report
+
+
+def a_node_moves():
+    """A node that is heard on another link is found there from its next packet on."""
+    with Party() as it:
+        calls(it.pc)
+        moved = Station(it.wires[1], "ethernet2", NUMBER, PC, it.pc.gateway)
+        assert hears(it.pc, tells(it.anna, it.pc)) and hears(it.anna, calls(moved))
+        data = tells(it.anna, it.pc)
+        assert hears(moved, data)
+        last = calls(it.anna)
+        assert hears(it.pc, last) and not hears(it.pc, data, 0), "it isn't where it was"
+
+
+def nobody_takes_a_clients_name():
+    """Who uses a client's node on another link is heard by nobody, and the client is found still."""
+    with Party() as it:
+        forged = packet(address(NUMBER, EVERYONE, GAME), it.anna.at(), b"forged")
+        it.wires[0].send(frame("raw", EVERYONE, it.anna.node, forged))
+        data = calls(it.pc)
+        for one in (it.anna, it.ben, it.card):
+            assert it.next_is(one, data)
+        assert it.next_is(it.anna, tells(it.card, it.anna))
+        assert lost(it.gate, "source of another") == 1
+
+
+def lost(gate, what):
+    """What all links together lost for a reason."""
+    return sum(int(number) for number in re.findall(rf"lost: {what}: (\d+)", gate.report()))
+
+
+def the_router_is_a_station():
+    """Stations of each link reach other networks by the gateway, and are reached from there; its advertisements come to each link."""
+    with Party("network 20 1 1424 dosbox 127.0.0.1:0\n") as it:
+        far = Client(it.gate.ports[0x20])
+        for one in it.all:
+            assert reaches(one, far) and reaches(far, one)
+        for one in it.all:
+            assert one.hear(is_routers) is not None
+        assert it.next_is(far, tells_far(it.anna, far))
+
+
+def tells_far(one, far):
+    data = fresh()
+    one.say(far.at(), data)
+    return data
+
+
+def stations_are_shown():
+    """show stations has each station with its link, also in the columns, and the report has them; one that leaves is gone."""
+    wire = Udp()
+    text = f"network {NUMBER:X} 1 1424\nlink dosbox 127.0.0.1:0\nlink qemu-udp 0 {wire.port} raw\n"
+    with Watched(text) as gate:
+        port = int(re.search(r"dosbox 127.0.0.1:(\d+)", gate.lines[0])[1])
+        while len(gate.lines) < 2:
+            gate.line()
+        wire.to = int(re.search(r"qemu-udp 127.0.0.1:(\d+)", gate.lines[1])[1])
+        anna = Client(port, gateway=gate.nodes[NUMBER])
+        pc = Station(wire, "raw", NUMBER, PC, gate.nodes[NUMBER])
+        assert hears(anna, calls(pc))
+        shown = gate.shown("stations")
+        assert [(it["station"], it["heard"] is None, it["link"].split()[0]) for it in shown] == [
+            (anna.node.hex().upper(), True, "dosbox"), (PC.hex().upper(), False, "qemu-udp")], shown
+        assert shown[1]["heard"] <= LIMIT and all(it["network"] == f"{NUMBER:08X}" for it in shown)
+        assert f"{PC.hex().upper()}" in gate.asked("show", "stations")
+        assert f"{PC.hex().upper()} at qemu-udp" in gate.report()
+        samples = [it.split(" ")[0] for it in gate.asked("show", "counts", "--prometheus").splitlines() if not it.startswith("#")]
+        assert len(samples) == len(set(samples)), "two links have one line of counts"
+
+
+def stations_age():
+    """A station that isn't heard for five minutes is forgotten: what is for it goes to all links again, and finds it."""
+    clock = Clock()
+    with Party(program=SYSTEM.fast, environment=clock.environment()) as it:
+        calls(it.pc)
+        assert hears(it.card, calls(it.pc)) and hears(it.pc, tells(it.card, it.pc))
+        until(lambda: f"{PC.hex().upper()} at" in it.gate.report(), "a station")
+        for _ in range(LASTS + 10):
+            clock.let_pass(1)
+            it.gate.report()
+        assert f"{PC.hex().upper()} at" not in it.gate.report()
+        data = tells(it.card, it.pc)
+        assert hears(it.pc, data)
+
+
+def links_change_while_it_runs():
+    """A link is added and another taken away while it runs: the clients of a third stay, and nothing between them is lost."""
+    with Party() as it:
+        kept = open(it.gate.configuration, encoding="utf-8").read()
+        more = Udp()
+        with open(it.gate.configuration, "w", encoding="utf-8") as file:
+            lines = kept.splitlines()
+            file.write("\n".join([*lines[:2], *lines[3:], f"link qemu-udp 0 {more.port} llc"]) + "\n")
+        it.gate.run.order(signal.SIGHUP)
+        up = it.gate.told(f"network {NUMBER:08X} is up: qemu-udp")
+        more.to = int(re.search(r"qemu-udp 127.0.0.1:(\d+)", up)[1])
+        assert any("has lost a link: qemu-udp" in line for line in it.gate.lines)
+        third = Station(more, "llc", NUMBER, PC, it.pc.gateway)
+        for one, other in ((it.anna, it.ben), (it.anna, it.card), (third, it.anna), (it.card, third)):
+            assert hears(other, tells(one, other))
+
+
+# ---- In a network of the test's own ----
+
+
+def pair(near, far):
+    ip("link", "add", near, "type", "veth", "peer", "name", far)
+    for name in (near, far):
+        ip("link", "set", name, "up")
+
+
+def cards_and_taps():
+    """A DOSBox, a TAP and an Ethernet card are one cable: a card hears what is for a DOSBox, and frames of stations keep their nodes."""
+    pair("s0", "s1")
+    with Cable(["dosbox 127.0.0.1:0", "tap seg0 raw", "interface s0 llc"]) as gate:
+        node = gate.nodes[NUMBER]
+        gate.until("on interface s0 llc")
+        anna = gate.client()
+        pc, old = Station(Packets("seg0", "raw"), "raw", NUMBER, PC, node), Station(Packets("s1", "llc"), "llc", NUMBER, CARD, node)
+        for one, other in ((anna, pc), (anna, old), (pc, old), (old, pc), (pc, anna), (old, anna)):
+            assert hears(other, tells(one, other))
+        for one in (anna, pc, old):
+            data = calls(one)
+            assert all(hears(other, data) for other in (anna, pc, old) if other is not one)
+        at_once(pc, CARD, b"whose")
+        while not (found := old.wire.receive()[0]).rstrip(bytes(1)).endswith(b"whose"):
+            pass
+        assert found[6:12] == PC and found[:6] == CARD
+    ip("link", "del", "s0")
+
+
+def a_bridge_behind_its_back():
+    """Two links that a bridge joins behind the gateway's back are one cable: the later is shut, which is told, until they are apart."""
+    # (a bridge lets nothing pass from a node whose first byte is odd, as that of a client at 127.0.0.1)
+    ip("addr", "add", f"{EVEN}/32", "dev", "lo")
+    ip("link", "add", "brs", "type", "bridge")
+    ip("link", "set", "brs", "up")
+    pair("s0", "s1")
+    ip("link", "set", "s0", "master", "brs")
+    with Cable(["tap sega raw", "tap segb raw", f"dosbox {EVEN}:0"]) as gate:
+        anna = Client(gate.ports_of[2], EVEN, to=EVEN, gateway=gate.nodes[NUMBER])
+        for name in ("sega", "segb"):
+            ip("link", "set", name, "master", "brs")
+        down = gate.told(f"network {NUMBER:08X} is down: tap segb raw")
+        assert down.endswith(": it is one cable with tap sega raw"), down
+        pc = Station(Packets("s1", "raw"), "raw", NUMBER, PC, gate.nodes[NUMBER])
+        assert hears(anna, calls(pc)) and hears(pc, tells(anna, pc))
+        # (each call comes once: none goes round)
+        first, second = calls(pc), calls(pc)
+        assert [anna.hear()[30:] for _ in range(2)] == [first, second]
+        ip("link", "set", "segb", "nomaster")
+        assert gate.told(f"network {NUMBER:08X} is up: tap segb raw")
+    ip("link", "del", "s0")
+    ip("link", "del", "brs")
+
+
+def inside():
+    """In the network of its own."""
+    counts = Counts()
+    ip("link", "set", "lo", "up")
+    if os.path.exists("/dev/net/tun") and can(lambda: pair("s0", "s1")):
+        ip("link", "del", "s0")
+        counts.run(cards_and_taps)
+        if can(lambda: ip("link", "add", "brs", "type", "bridge")):
+            ip("link", "del", "brs")
+            counts.run(a_bridge_behind_its_back)
+        else:
+            left_out("a bridge behind the gateway's back", "none can be made")
+    else:
+        left_out("TAPs and cards as one cable", "none can be made")
+    print(f"{counts.passed} passed, {counts.failed} failed")
+
+
+def can(test):
+    try:
+        test()
+    except (AssertionError, OSError):
+        return False
+    return True
+
+
+TESTS = (a_call_finds_all, an_answer_goes_to_one, a_node_moves, nobody_takes_a_clients_name, the_router_is_a_station)
+OF_LINUX = (stations_are_shown, links_change_while_it_runs, stations_age)
+
+
+def main():
+    counts = Counts()
+    for test in TESTS:
+        counts.run(test)
+    if SYSTEM is Windows:
+        return counts
+    for test in OF_LINUX:
+        counts.run(test)
+    own = tried_inside(os.path.realpath(__file__), "TAPs and cards as one cable")
+    counts.passed, counts.failed = counts.passed + own.passed, counts.failed + own.failed
+    return counts
+
+
+if __name__ == "__main__":
+    if sys.argv[1:] == [INSIDE]:
+        inside()
+    else:
+        main()
