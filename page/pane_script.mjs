@@ -12,6 +12,7 @@ import { openForm } from "./form.mjs";
 import { parsed } from "./script.mjs";
 import { Stopped } from "./program.mjs";
 import { svgText } from "./drawing.mjs";
+import { wrongLine } from "./wrong_line.mjs";
 
 // A script with more commands than this isn't split into seconds and deliveries.
 const MOST_FINE = 2000;
@@ -182,10 +183,16 @@ export class ScriptPane {
         const wrong = /^line (\d+): (\w+)$/m.exec(this.done.text);
         this.plan();
         this.show(this.done.status === 2 && wrong ? this.steps.length - 1 : Math.max(found, 0));
-        if (wrong) this.tell(`line ${wrong[1]}: ${wrong[2]}`, true);
+        if (wrong) this.tell(`${wrong[0]}${this.expected(+wrong[1])}`, true);
         else this.tell(this.done.status ? this.done.error.trim() : "", Boolean(this.done.status));
         if (wrong) this.editor.show(+wrong[1] - 1, true);
         this.showAll();
+    }
+
+    // What was expected in the wrong line, which the program names.
+    expected(line) {
+        const found = wrongLine(new TextEncoder().encode(this.editor.text), this.kind.verb === "internet");
+        return found?.line === line ? ` (${found.text})` : "";
     }
 
     showAll() {

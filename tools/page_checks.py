@@ -337,13 +337,14 @@ def quick(b, _):
 
 
 def wrong_line(b, _):
-    """Internet: a wrong line is told while one types"""
+    """Internet: a wrong line is told while one types, and what was expected"""
     opened(b)
     shows(b, "internet")
     b.click("#pane-internet .left .bar button:nth-child(2)")
     b.click("#pane-internet .editor textarea")
     b.type("#pane-internet .editor textarea", "router\ue007port 00000010 000000000001 1 576\ue007strat 0")
-    b.waits("document.querySelector('#told').textContent === 'line 3: command'")
+    expected = "router, port, start, stop, second, in, down, up, settle, trace, routes or services"
+    b.waits("document.querySelector('#told').textContent === given[0]", f"line 3: command ('strat': expected a command: {expected})")
     want(b.run("return !document.querySelector('#pane-internet .mark.wrong').hidden"), "the line is marked")
     same(text(b, "#pane-internet .right .said"), "line 3: command", "the answer to the last line")
     same(count(b, "#pane-internet .picture g[data-key^='router ']"), 1, "routers")
