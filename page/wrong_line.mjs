@@ -175,7 +175,8 @@ class Script {
 
     // Whether a router or a port may be named here.
     placeFault(command) {
-        if (this.made) return wrong("late", quoted(command), `it before line ${this.made}, where '${this.maker}' made what was named`);
+        const made = this.isInternet ? "the routers" : "the router";
+        if (this.made) return wrong("late", quoted(command), `before line ${this.made}, where '${this.maker}' makes ${made}`);
         if (command === "router") {
             return this.routers.length < MOST_ROUTERS ? null : wrong("routers", quoted(command), `at most ${MOST_ROUTERS} routers`);
         }
@@ -219,7 +220,7 @@ class Script {
     }
 }
 
-const upTo = (count) => (count === 1 ? "which has number 0 alone" : `0 to ${count - 1}`);
+const upTo = (count) => (count === 1 ? "only 0" : `0 to ${count - 1}`);
 
 // The first word that isn't what stands there.
 function valueFault(form, values) {
