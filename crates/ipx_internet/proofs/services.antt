@@ -13,4 +13,5 @@ pub mod NeighbourIsHeard
 pub mod ServedOrSoonEnded
 pub mod ServiceIsTold
 pub mod ServicesBecomeReal
+pub mod SoundAtEachStep
 pub mod SpokenOfAServer

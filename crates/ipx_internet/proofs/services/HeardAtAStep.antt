@@ -94,6 +94,18 @@ module _ (net : Internet) (most_routes most_services : ℕ) (server : Server) wh
   at_each_of Is run (step ∷ steps) all =
       ((λ x. (all x).0), at_each_of Is (stepped net most_routes most_services run step) steps (λ x. (all x).1))
 
+  -- what is both
+  at_each_both : (Is So : Run → Type 0) (run : Run) (steps : List Step) → AtEach Is run steps → AtEach So run steps → AtEach (λ now. Is now × So now) run steps
+  at_each_both Is So run [] one two = (one, two)
+  at_each_both Is So run (step ∷ steps) one two =
+      ((one.0, two.0), at_each_both Is So (stepped net most_routes most_services run step) steps one.1 two.1)
+
+  pub each_tick_both : (Is So : Run → Type 0) (run : Run) (ticks : List (List Step)) → EachTick net most_routes most_services (AtEach Is) run ticks
+      → EachTick net most_routes most_services (AtEach So) run ticks → EachTick net most_routes most_services (AtEach (λ now. Is now × So now)) run ticks
+  each_tick_both Is So run [] one two = tt
+  each_tick_both Is So run (steps ∷ ticks) one two =
+      (at_each_both Is So run steps one.0 two.0, each_tick_both Is So (run_of net most_routes most_services run steps) ticks one.1 two.1)
+
   -- what is always so
   pub at_each_all : (Is : Run → Type 0) → ((now : Run) → Is now) → (run : Run) (steps : List Step) → AtEach Is run steps
   at_each_all Is so run [] = so run

@@ -1,44 +1,40 @@
 -- A query for the nearest server of a type, where a router has one: it answers with a server of that type that is no farther.
-use Rattle.std.proofs.Common.{◌≡◌, ◌≢◌, refl, sym, ap, ◌∙◌, subst, ℕ, suc, ◌-◌, ◌<◌, ◌≤◌, ◌==◌, ◌||◌, Bool, true, false, List, [], ◌∷◌, ◌++◌, length, map, find, Option, Some, None, option_map, inl, inr, arith, true≢false, Ordering, Less, Greater, is_eq, if◌then◌else◌}
+use Rattle.std.proofs.Common.{◌≡◌, ◌≢◌, refl, sym, ap, ◌∙◌, subst, ℕ, suc, ◌<◌, ◌≤◌, ◌==◌, ◌||◌, true, false, List, [], ◌∷◌, ◌++◌, length, Some, inl, inr, arith, true≢false, Ordering, Less, Greater, if◌then◌else◌}
 use Rattle.std.specs.Cmp.{nat_cmp_is}
 use Rattle.std.specs.List.{AllByRecursion}
 use Rattle.std.specs.Ordering.{nat_cmp, is_lt, ordering_then}
-use Rattle.std.proofs.lemmas.Bool.{cases_Bool, cases_lt, eq-eqb, eqb-true, ne_eqb, or_cases, or_right, lt-ltb}
+use Rattle.std.proofs.lemmas.Bool.{cases_Bool, cases_lt, eq-eqb, eqb-true, or_cases, or_right, lt-ltb}
 use Rattle.ipx_wire.specs.Name.{name_order}
 use Rattle.ipx_wire.specs.Piece.{IsBytes}
 use Rattle.ipx_wire.specs.declared.address.Address.{Address}
 use Rattle.ipx_wire.specs.declared.sap.Sap.TheVariants.{Query}
 use Rattle.ipx_wire.specs.declared.service.Service.{Service}
-use Rattle.ipx_router.specs.Facts.{heard_after, service_facts, services_held, offers}
+use Rattle.ipx_router.specs.Facts.{heard_after, services_held, offers}
 use Rattle.ipx_router.specs.Heard.{HeardSap}
 use Rattle.ipx_router.specs.History.{Packet, running, ports_up}
 use Rattle.ipx_router.specs.Numbers.{every_service, unreachable}
 use Rattle.ipx_router.specs.Port.{port_at, reply_to}
 use Rattle.ipx_router.specs.Sends.{is_nearer, nearest_of, of_kind, sap_sends}
-use Rattle.ipx_router.specs.Services.{service_reading, service_order}
 use Rattle.ipx_router.specs.Told.{farther, is_service_told, told_services}
 use Rattle.ipx_router.specs.declared.service_offer.ServiceOffer.{ServiceOffer}
-use Rattle.ipx_router.proofs.bounds.PacketsOfEachEvent.{service_total}
 use Rattle.ipx_router.proofs.port_values.PortOfEachNumber.{ports_up-within}
 use Rattle.ipx_router.proofs.tables.HeldWasOffered.{heard_up}
 use Rattle.ipx_internet.specs.Internet.{Internet, IsInternet, ports_of, network_of}
 use Rattle.ipx_internet.specs.Meanwhile.{LeavesPorts, SaysOnly, IsBusyTick}
 use Rattle.ipx_internet.specs.Nearest.{LeadsElsewhere, IsAnswered}
 use Rattle.ipx_internet.specs.Queue.{history_of, sends_at}
-use Rattle.ipx_internet.specs.Run.{Step, IsStep, AreHistories, Run, forgotten, stepped, run_of}
-use Rattle.ipx_internet.specs.Servers.{Server, IsOf, at_hops, known_of, SaysNoFalse, NamesOnly, IsServed, announced, passed_on}
+use Rattle.ipx_internet.specs.Run.{Step, Run, run_of}
+use Rattle.ipx_internet.specs.Servers.{Server, at_hops, known_of, SaysNoFalse, NamesOnly, IsServed, announced, passed_on}
 use Rattle.ipx_internet.specs.Ticks.{most_ticks_gone}
 use Rattle.ipx_internet.proofs.lists.EachElement.{all_then, all_passed, holds_of}
-use Rattle.ipx_internet.proofs.lists.FoundInAList.{nothing, it_is}
-use Rattle.ipx_internet.proofs.lists.SomeElement.{AnyIs, any_then, any_and_all, any-filter, the_one, found_with, find_any}
+use Rattle.ipx_internet.proofs.lists.SomeElement.{AnyIs, any_then, any_and_all, any-filter, the_one}
 use Rattle.ipx_internet.proofs.packets.SentOnOrReply.{Layouts, said_so}
 use Rattle.ipx_internet.proofs.places.OneReceiverOfANode.{ports_at}
-use Rattle.ipx_internet.proofs.records.RecordsGrowOld.{at_last as fine_at_last}
-use Rattle.ipx_internet.proofs.services.HeardAtAStep.{AtEach, at_prefix}
-use Rattle.ipx_internet.proofs.services.HostTickAfterTick.{Going, Rests, left_of, AnyWord, Always, any_exact, begins, step_goes}
+use Rattle.ipx_internet.proofs.services.HeardAtAStep.{at_prefix}
+use Rattle.ipx_internet.proofs.services.HostTickAfterTick.{Rests}
 use Rattle.ipx_internet.proofs.services.ServiceIsTold.{told_there}
 use Rattle.ipx_internet.proofs.services.ServicesBecomeReal.{has_way}
-use Rattle.ipx_internet.proofs.services.SpokenOfAServer.{IsFine}
+use Rattle.ipx_internet.proofs.services.SoundAtEachStep.{held_off, Sound, tick_sound}
 
 -- ---- the nearest of some services
 
@@ -148,7 +144,7 @@ module _ (server : Server) (hops : ℕ) (near : suc hops < unreachable) (kind : 
 
 -- ---- the record isn't of that port
 
-module _ (net : Internet) (up : ℕ → List ℕ) (server : Server) (Listed : ℕ × List ℕ → Type 0) where
+module _ (net : Internet) (up : ℕ → List ℕ) (server : Server) where
   not_there : (port hops : ℕ) {router : ℕ} {s : ServiceOffer} → LeadsElsewhere net up server (record { router = router; port = port }) hops → IsServed net up server router s
       → s.service.hops ≡ hops → s.port ≡ port → ⊥
   not_there port hops {router} {s} elsewhere (announced on is) same here =
@@ -160,85 +156,31 @@ module _ (net : Internet) (up : ℕ → List ℕ) (server : Server) (Listed : �
       let one = ap (λ (x : Service). x.hops) told in
       omega (arith, more, same, one)
 
-  held_off : (router port hops : ℕ) → LeadsElsewhere net up server (record { router = router; port = port }) hops → (known : List ServiceOffer)
-      → AllByRecursion (IsFine net up server Listed router) known → known_of server known ≡ Some (at_hops server hops)
-      → AnyIs (λ s. (s.service ≡ at_hops server hops) × ((s.port == port) ≡ false)) known
-  held_off router port hops elsewhere known fine is_known = by (find test known) refl is_known
-    where
-      test : ServiceOffer → Bool
-      test s = is_eq (service_order (s.service.kind, s.service.name) (server.kind, server.name))
-
-      by : (o : Option ServiceOffer) → find test known ≡ o → option_map (λ s. s.service) o ≡ Some (at_hops server hops)
-          → AnyIs (λ s. (s.service ≡ at_hops server hops) × ((s.port == port) ≡ false)) known
-      by None e some = nothing some
-      by (Some s) e some =
-          let same : s.service ≡ at_hops server hops = it_is (λ (x : Service). s.service ≡ x) (at_hops server hops) s.service some refl in
-          let of : IsOf server s.service = (ap (λ (x : Service). x.kind) same, ap (λ (x : Service). x.name) same) in
-          let served = (found_with (IsFine net up server Listed router) test known s fine e).0.1 of in
-          let off = ne_eqb s.port port (λ here. not_there port hops elsewhere served (ap (λ (x : Service). x.hops) same) here) in
-          any_then (λ y. y ≡ s) (λ y. (y.service ≡ at_hops server hops) × ((y.port == port) ≡ false))
-          (λ y is_it. (ap (λ (x : ServiceOffer). x.service) is_it ∙ same, ap (λ (x : ServiceOffer). x.port == port) is_it ∙ off)) known
-          (find_any test known s e)
-
--- ---- at each moment of a tick
+-- ---- the answer to a query that comes at a moment of a tick
 
 module _ (net : Internet) (laws : Layouts) (is : IsInternet net) (most_routes most_services : ℕ) (up : ℕ → List ℕ) (server : Server) (Listed : ℕ × List ℕ → Type 0)
     (router : ℕ) (within : router < length net) where
   abbrev services : Run → List ServiceOffer
   services run = offers (services_held (ports_of net router) most_services (history_of run.histories router))
 
-  -- histories are such, and what the router has is as it may know it
-  record Sound (run : Run) : Type 0 where
-    pub are : AreHistories net run.histories
-    pub fine : AllByRecursion (IsFine net up server Listed router) (services run)
+  abbrev IsSound : Run → Type 0
+  IsSound = Sound net laws is most_routes most_services up server Listed router within
 
-  abbrev Goes : ℕ → (ℕ → ℕ) → Run → Type 0
-  Goes ticks left run =
-      Going net laws is most_routes most_services up server Listed (AnyWord net laws is most_routes most_services up server Listed)
-      (Always net laws is most_routes most_services up server Listed) (any_exact net laws is most_routes most_services up server Listed) ticks left (forgotten run)
-
-  module _ (ticks : ℕ) (long : most_ticks_gone < ticks) where
-    sound : (left : ℕ → ℕ) (run : Run) → Goes ticks left run → Sound run
-    sound left run going =
-        let few = going.few router within in
-        let one = few.0 in
-        let some = few.1 in
-        let had : ℕ = ticks - left router in
-        record {
-          are = going.are;
-          fine =
-              fine_at_last service_reading service_order service_total most_services (map (λ p. p.service_share) (ports_of net router)) (λ s. s.service.hops)
-              (λ s. refl) (IsFine net up server Listed router) had (service_facts (ports_of net router) (history_of run.histories router)) (omega (arith, one, long))
-              (going.routers router had within (omega (arith, some))).services;
-        }
-
-    steps_sound : (steps : List Step) (run : Run) → AllByRecursion (IsStep net) steps → AllByRecursion LeavesPorts steps → AllByRecursion (SaysNoFalse net server) steps
-        → AllByRecursion (SaysOnly (NamesOnly Listed)) steps → Goes ticks (left_of net laws is most_routes most_services up server Listed steps) run
-        → AtEach net most_routes most_services server Sound run steps
-    steps_sound [] run are leave say names going = sound (left_of net laws is most_routes most_services up server Listed []) run going
-    steps_sound (step ∷ steps) run are leave say names going = (
-      sound (left_of net laws is most_routes most_services up server Listed (step ∷ steps)) run going,
-      steps_sound steps (stepped net most_routes most_services run step) are.1 leave.1 say.1 names.1
-          (step_goes net laws is most_routes most_services up server Listed (AnyWord net laws is most_routes most_services up server Listed)
-          (Always net laws is most_routes most_services up server Listed) (any_exact net laws is most_routes most_services up server Listed)
-          ticks step steps run are.0 leave.0 say.0 names.0 tt tt going),
-    )
-
-  -- the answer to a query that comes then
   module _ (hops number : ℕ) (near : suc hops < unreachable) (kind : server.kind ≢ every_service) (elsewhere : LeadsElsewhere net up server (record { router = router; port = number }) hops)
       (bytes : List ℕ) (are_bytes : IsBytes bytes) (source : Address) where
     abbrev pub Answers : Run → Type 0
     Answers run =
         IsAnswered (ports_of net router) number source server.kind (suc hops) (sends_at net most_routes most_services run.histories router (Packet number bytes))
 
-    answered_now : (run : Run) → Sound run → known_of server (services run) ≡ Some (at_hops server hops)
+    answered_now : (run : Run) → IsSound run → known_of server (services run) ≡ Some (at_hops server hops)
         → heard_after (ports_of net router) (history_of run.histories router) number bytes ≡ Some (HeardSap source (Query true server.kind)) → Answers run
     answered_now run now is_known heard =
         let ports = ports_of net router in
         let past = history_of run.histories router in
         let up_here = heard_up ports (ports_up ports past) number (running past) bytes (HeardSap source (Query true server.kind)) heard in
         let inside = holds_of (λ j. j < length ports) number (ports_up ports past) (ports_up-within ports past) up_here in
-        let held = held_off net up server Listed router number hops elsewhere (services run) now.fine is_known in
+        let held = held_off net up server Listed router number hops
+        (λ s served same here. not_there net up server number hops elsewhere served same here) (services run) now.fine is_known in
         let it = answer server hops near kind (services run) number held in
         record {
           service = it.0;
@@ -260,8 +202,5 @@ module _ (net : Internet) (laws : Layouts) (is : IsInternet net) (most_routes mo
         → Answers (run_of net most_routes most_services run steps)
     answered so_far long run steps rest rests tick leave say names =
         answered_now (run_of net most_routes most_services run steps)
-        (at_prefix net most_routes most_services server Sound run steps rest
-        (steps_sound (suc so_far) (omega (arith, long)) (steps ++ rest) run tick.happens leave say names
-        (begins net laws is most_routes most_services up server Listed (AnyWord net laws is most_routes most_services up server Listed)
-        (Always net laws is most_routes most_services up server Listed) (any_exact net laws is most_routes most_services up server Listed)
-        so_far run (steps ++ rest) rests tick)))
+        (at_prefix net most_routes most_services server IsSound run steps rest
+        (tick_sound net laws is most_routes most_services up server Listed router within so_far long run (steps ++ rest) rests tick leave say names))
