@@ -79,10 +79,11 @@ static bool has_same_ports(gateway *it, const settings *set)
     return k == it->port_count && k == set->ports;
 }
 
-/* Whether two lines say the same network; of one of several links also the same link. */
+/* Whether two lines say the same network; of one of several links also the same link, and the node that tunnel and segment know. */
 static bool is_same(const network_setting *a, const network_setting *b)
 {
-    return a->network == b->network && a->is_of_several == b->is_of_several && (!a->is_of_several || has_same_link(a, b));
+    return a->network == b->network && a->is_of_several == b->is_of_several &&
+           (!a->is_of_several || (has_same_link(a, b) && has_same_node(a, b)));
 }
 
 bool has_changed(const changed *it)

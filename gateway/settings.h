@@ -20,7 +20,7 @@ enum {
     USUAL_HOUSEHOLD = 16, /* clients, as much as all of an address receive where no line says it */
     MOST_SOCKETS = 16, /* that a network's `extend` may name */
     NAME_ROOM = 16,    /* bytes of the name of a TAP or an interface, with the 0 behind */
-    MOST_LINKS = 2 * IPXR_MOST_PORTS, /* of all networks together */
+    MOST_LINKS = IPXR_MOST_PORTS + IPXR_MOST_LINKS, /* of all networks together */
 };
 
 /* What carries a network. */

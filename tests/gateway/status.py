@@ -117,7 +117,7 @@ def all_of_it():
         whole = json.loads(gate.asked("show", "--json"))
         assert list(whole) == ["release", "seconds", *SECTIONS], whole
         text = gate.asked("show")
-        assert [it.split()[0] for it in text.split("\n\n")] == ["NETWORK", "NETWORK", "NETWORK", "TYPE", "NETWORK"], text
+        assert [it.split()[0] for it in text.split("\n\n")] == ["NETWORK", "NETWORK", "NETWORK", "NETWORK", "TYPE", "NETWORK"], text
 
 
 def as_the_report():

@@ -32,12 +32,7 @@ impl SegmentMachine {
     }
 
     /// A packet was heard at a link, from a node for a node or for all. Returns whether the router hears it.
-    pub(crate) fn hear(
-        &mut self,
-        link: u8,
-        source: Node,
-        destination: Node,
-    ) -> Result<bool, Fault>
+    pub(crate) fn hear(&mut self, link: u8, source: Node, destination: Node) -> Result<bool, Fault>
         ensures { MeetsHeard self.old self.new link (Heard link source destination) result }
     {
         self.check_link(link)?;
