@@ -1,5 +1,5 @@
--- What the laws ask for is needed: what becomes of packets and of tables where ports of two routers have one node on one network, which no program
--- can make, and of tables without room.
+-- What the laws ask for is needed: what becomes of packets and of tables where ports of two routers have one node on one network, which no
+-- program can make, and of tables without room.
 use Rattle.std.proofs.Common.{◌≡◌, refl, lit<, ℕ, ◌==◌, if◌then◌else◌, List, [], ◌∷◌, ◌++◌, length, replicate, map, None, Option, option_map, arith}
 use Rattle.ipx_wire.specs.Address.{address_bytes, address_at}
 use Rattle.ipx_wire.specs.Crossed.{network_bytes, network_at}
@@ -21,7 +21,7 @@ use Rattle.ipx_internet.proofs.examples.Leasts.{all, way}
 use Rattle.ipx_internet.proofs.examples.Waiting.{segment}
 use Rattle.ipx_internet.proofs.examples.Words.{node, network, port_on, route, running, plain, at}
 
--- ---- packets, where routers 1 and 2 have one node on network 20h, to which router 0 sends what is for network 99h; both send it back
+-- ---- packets, where routers 1 and 2 have one node on network 20h: router 0 sends them what is for network 99h, and both send it back
 
 abbrev twins : List Router
 twins =
