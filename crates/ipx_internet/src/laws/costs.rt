@@ -34,8 +34,8 @@ pub fn upkeep()
         → sent_by router number (departures net most_routes most_services run steps)
         ≡ all_pages (ports_of net router) (has net most_routes most_services run.histories router) number }
     ensures ups_alone { (net : Internet) (most_routes most_services : ℕ) (run : Run) (steps : List Step)
-        → IsInternet net → AreHistories net run.histories → run.waiting ≡ [] → AllByRecursion (IsOfUpkeep net) steps
-        → TablesStay net most_routes most_services run.histories run steps
+        → IsInternet net → AreHistories net run.histories → run.waiting ≡ []
+        → AllByRecursion (IsOfUpkeep net) steps → TablesStay net most_routes most_services run.histories run steps
         → AllByRecursion (λ d. is_up (ups net run.histories d.router) d.sent.port ≡ true) (departures net most_routes most_services run steps) }
     ensures packets { (ports : List Port) (most_routes most_services : ℕ) (history : History) (number : ℕ)
         → let h = holding ports most_routes most_services history in

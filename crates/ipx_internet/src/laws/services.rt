@@ -112,8 +112,8 @@ pub fn beside()
         → AreInTime net most_routes most_services server (ups net run.histories) (run_of net most_routes most_services run first) ticks
         → most_ticks_right ≤ length ticks
         → place.router < length net → is_up (ups net run.histories place.router) place.port ≡ true
-        → slice_get server.announcers which ≡ Some host → network_of net place ≡ host.network → host.hops < unreachable
-        → ((number : ℕ) (other : Announcer) → slice_get server.announcers number ≡ Some other → host.hops ≤ other.hops)
+        → slice_get server.announcers which ≡ Some host → network_of net place ≡ host.network
+        → host.hops < unreachable → ((number : ℕ) (other : Announcer) → slice_get server.announcers number ≡ Some other → host.hops ≤ other.hops)
         → known_of server (offers (services_held (ports_of net place.router) most_services
         (history_of (ticked net most_routes most_services run (first ∷ ticks)).histories place.router)))
         ≡ Some (at_hops server host.hops) }
