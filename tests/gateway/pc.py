@@ -5,7 +5,7 @@ import subprocess
 import tempfile
 import time
 
-from lab import AGAIN, GAME, Client, Counts, Gateway, address, free_ports, left_out, packet, reaches, tunnels
+from lab import AGAIN, GAME, Client, Counts, Gateway, address, comes_next, free_ports, left_out, packet, tunnels
 from status import Watched
 from systems import SYSTEM, TOP, Windows
 
@@ -88,7 +88,8 @@ def on_one_network():
         port = int(it.lines[0].rpartition(", node")[0].rpartition(":")[2])
         anna, ben = (Client(port, gateway=it.nodes[0x30]) for _ in range(2))
         assert is_answered(anna, pc, b"for the PC", crossed=0)
-        assert is_answered(ben, pc, b"for it, too", crossed=0) and reaches(anna, ben)
+        assert comes_next(anna, ben), "what the PC answered came to somebody else, too"
+        assert is_answered(ben, pc, b"for it, too", crossed=0)
         assert f"{NODE.hex().upper()} at qemu-udp" in it.report()
 
 

@@ -13,6 +13,7 @@ from systems import SYSTEM, Windows
 NUMBER = 0x10
 PC, CARD = bytes.fromhex("020000000AA1"), bytes.fromhex("020000000BB2")
 EVEN = "10.77.0.1"
+TWENTY = 20  # packets at once: fewer than a client's limit
 LASTS = 300  # seconds for which a station is known
 
 
@@ -167,7 +168,7 @@ def tells_far(one, far):
 
 
 def stations_are_shown():
-    """show stations has each station with its link, also in the columns, and the report has them; one that leaves is gone."""
+    """show stations has each station with its link, also in columns, and the report has them; each count of a network is one line."""
     wire = Udp()
     text = f"network {NUMBER:X} 1 1424\nlink dosbox 127.0.0.1:0\nlink qemu-udp 0 {wire.port} raw\n"
     with Watched(text) as gate:
@@ -211,10 +212,14 @@ def links_change_while_it_runs():
         with open(it.gate.configuration, "w", encoding="utf-8") as file:
             lines = kept.splitlines()
             file.write("\n".join([*lines[:2], *lines[3:], f"link qemu-udp 0 {more.port} llc"]) + "\n")
+        said = [tells(it.anna, it.ben) for _ in range(TWENTY)]
         it.gate.run.order(signal.SIGHUP)
+        said += [tells(it.anna, it.ben) for _ in range(TWENTY)]
+        assert all(it.next_is(it.ben, data) for data in said)
         up = it.gate.told(f"network {NUMBER:08X} is up: qemu-udp")
         more.to = int(re.search(r"qemu-udp 127.0.0.1:(\d+)", up)[1])
         assert any("has lost a link: qemu-udp" in line for line in it.gate.lines)
+        assert not any(" leaves " in line for line in it.gate.lines)
         third = Station(more, "llc", NUMBER, PC, it.pc.gateway)
         for one, other in ((it.anna, it.ben), (it.anna, it.card), (third, it.anna), (it.card, third)):
             assert hears(other, tells(one, other))
