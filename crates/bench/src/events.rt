@@ -1,11 +1,16 @@
-//! What a router of eight ports with full tables does with an event, beside copying the bytes that it sends or, where it sends
-//! none, beside reading a full table once.
+//! What a router of eight ports with full tables does with an event, beside a plain router that takes the same events by turns; and beside
+//! copying the bytes that it sends or, where it sends none, beside reading a full table once.
 ghost use Rattle.std.specs.Prelude.{◌≡◌, ◌≤◌, true};
 ghost use Rattle.ipx_router.specs.Happened.{happened};
 ghost use Rattle.ipx_router.specs.History.{IsOnPort};
 
+use crate::plain::packets::Packets;
+use crate::plain::{Plain, Port as PlainPort};
 use crate::tables::{RECORDS, Way, full_list, sum_of};
-use crate::traffic::{OWN_RESPONSES, ROUTE_RESPONSES, SERVICE_RESPONSES, Traffic, network_of};
+use crate::traffic::{
+    OWN_RESPONSES, OWN_SERVICE_RESPONSES, ROUTE_RESPONSES, SERVICE_RESPONSES, Traffic, network_of,
+    number_of,
+};
 use ipx_router::{Event, Outbox, Port, PortFault, Router};
 use ipx_table::Held;
 use ipx_wire::Node;
@@ -13,7 +18,15 @@ use std::io::{self, ErrorKind};
 use std::time::Instant;
 
 /// The router that is measured.
-type FullRouter = Router<8, RECORDS, 64>;
+type FullRouter = Router<8, RECORDS, SERVICES>;
+
+/// How many services it can have.
+const SERVICES: usize = 64;
+
+/// The ticks and the longest packet of each port.
+const COST: u16 = 1;
+
+const LONGEST_PACKET: u16 = 1500;
 
 /// How many packets a block has.
 const TURNS: u32 = 60;
@@ -31,17 +44,25 @@ pub enum Kind {
     Unchanged,
     Changed,
     Request,
+    ServicesUnchanged,
+    ServicesChanged,
+    Query,
+    Nearest,
     Propagate,
     Second,
     Periodic,
 }
 
 impl Kind {
-    pub const ALL: [Kind; 7] = [
+    pub const ALL: [Kind; 11] = [
         Kind::Forward,
         Kind::Unchanged,
         Kind::Changed,
         Kind::Request,
+        Kind::ServicesUnchanged,
+        Kind::ServicesChanged,
+        Kind::Query,
+        Kind::Nearest,
         Kind::Propagate,
         Kind::Second,
         Kind::Periodic,
@@ -53,6 +74,10 @@ impl Kind {
             Kind::Unchanged => "hear fifty routes that change nothing",
             Kind::Changed => "hear fifty routes that all change",
             Kind::Request => "answer a request for all routes",
+            Kind::ServicesUnchanged => "hear seven services that change nothing",
+            Kind::ServicesChanged => "hear seven services that all change",
+            Kind::Query => "answer a query for all services",
+            Kind::Nearest => "answer a query for the nearest service",
             Kind::Propagate => "send a packet on to all networks",
             Kind::Second => "let a quiet second pass",
             Kind::Periodic => "advertise everything",
@@ -75,6 +100,8 @@ pub struct Timed {
     /// How many events a block has.
     pub count: u32,
     pub events: u128,
+    /// The same events in the plain way.
+    pub plain: u128,
     pub beside: u128,
     /// What one event sends.
     pub bytes: usize,
@@ -82,18 +109,61 @@ pub struct Timed {
     pub seen: u64,
 }
 
-/// Hands events to a router and copies what they send by turns, a block of each, and keeps the fastest block of each: so it
-/// hardly matters what else the machine does. Its tables are refreshed before each block of seconds, untimed.
+/// Hands events to a router, the same to a plain one, and copies what they send, by turns, a block of each, and keeps the fastest block of
+/// each: so it hardly matters what else the machine does. The tables are refreshed before each block of seconds, untimed. Where the two
+/// routers don't send the same, that is an error.
 pub fn measure_event(rt: &HostRuntime, kind: Kind) -> io::Result<Timed> {
     let mut site = Site::new(rt)?;
     site.fastest(rt, kind)
 }
 
-/// A router, what it sends and what comes to it, and the list that is read beside.
+/// What takes events: the router that is measured, or the plain one. The answers depend on what is sent.
+trait Player {
+    /// Hears a packet on a port.
+    fn hear(&mut self, port: u8, bytes: &[u8]) -> u64;
+
+    /// Lets a second pass.
+    fn pass(&mut self) -> u64;
+}
+
+/// The router that is measured, and what it sends.
 #[derive(Drop)]
-struct Site {
+struct Measured {
     router: FullRouter,
     outbox: Outbox,
+}
+
+impl Player for Measured {
+    fn hear(&mut self, port: u8, bytes: &[u8]) -> u64 {
+        hear(&mut self.router, &mut self.outbox, port, bytes)
+    }
+
+    fn pass(&mut self) -> u64 {
+        self.router.hand(&mut self.outbox, Event::Second)
+    }
+}
+
+impl Player for Plain {
+    fn hear(&mut self, port: u8, bytes: &[u8]) -> u64 {
+        match self.take_packet(port, bytes) {
+            Ok(()) => any_of_plain(self.packets()),
+            Err(_) => 0,
+        }
+    }
+
+    fn pass(&mut self) -> u64 {
+        match self.take_second() {
+            Ok(()) => any_of_plain(self.packets()),
+            Err(_) => 0,
+        }
+    }
+}
+
+/// Two routers that take the same events, what comes to them, and the list that is read beside.
+#[derive(Drop)]
+struct Site {
+    measured: Measured,
+    plain: Plain,
     traffic: Traffic,
     records: [Held<Way>; RECORDS],
 }
@@ -103,14 +173,21 @@ impl Site {
         let Ok(router) = new_router() else {
             return Err(ErrorKind::Other.into());
         };
+        let Ok(plain) = Plain::new(rt.alloc(), &plain_ports(), RECORDS, SERVICES) else {
+            return Err(ErrorKind::OutOfMemory.into());
+        };
+        let outbox = Outbox::new(rt.alloc());
         let mut site = Site {
-            router,
-            outbox: Outbox::new(rt.alloc()),
+            measured: Measured { router, outbox },
+            plain,
             traffic: Traffic::new(),
             records: full_list(),
         };
-        site.router.hand(&mut site.outbox, Event::Start);
-        site.refresh();
+        site.measured
+            .router
+            .hand(&mut site.measured.outbox, Event::Start);
+        refresh(&mut site.measured, &site.traffic);
+        refresh(&mut site.plain, &site.traffic);
         Ok(site)
     }
 
@@ -118,85 +195,49 @@ impl Site {
         let mut timed = Timed {
             count: kind.turns(),
             events: u128::MAX,
+            plain: u128::MAX,
             beside: u128::MAX,
             bytes: 0,
             seen: 0,
         };
         for block in 0..BLOCKS {
-            self.prepare(kind);
-            let start = Instant::now(rt)?;
-            let done = self.block(kind, block.wrapping_mul(TURNS));
-            timed.events = timed.events.min(start.elapsed(rt)?.as_nanos());
-            timed.bytes = self.bytes_sent();
-            let start = Instant::now(rt)?;
-            let beside = self.beside(kind.turns());
-            timed.beside = timed.beside.min(start.elapsed(rt)?.as_nanos());
-            timed.seen = timed.seen.wrapping_add(done).wrapping_add(beside);
-            self.finish(kind);
+            self.measure(rt, kind, block.wrapping_mul(TURNS), &mut timed)?;
         }
         Ok(timed)
     }
 
-    /// Before seconds that are timed: refreshes the tables and, where all is to be advertised, goes to the second before.
-    fn prepare(&mut self, kind: Kind) {
-        match kind {
-            Kind::Second => self.refresh(),
-            Kind::Periodic => {
-                self.refresh();
-                self.seconds(PERIOD - 1);
-            }
-            _ => {}
+    /// Measures a block of each, from that turn on.
+    fn measure(
+        &mut self,
+        rt: &HostRuntime,
+        kind: Kind,
+        first: u32,
+        timed: &mut Timed,
+    ) -> io::Result<()> {
+        let (events, done) = time_block(rt, &mut self.measured, &self.traffic, kind, first)?;
+        let (plain, also) = time_block(rt, &mut self.plain, &self.traffic, kind, first)?;
+        if !send_alike(&self.measured.outbox, self.plain.packets()) {
+            return Err(ErrorKind::InvalidData.into());
         }
-    }
-
-    /// Fills the tables, or refreshes what they hold.
-    fn refresh(&mut self) {
-        for neighbour in 0..ROUTE_RESPONSES {
-            let bytes = self.traffic.routes(neighbour, false);
-            hear(&mut self.router, &mut self.outbox, neighbour + 1, bytes);
-        }
-        for place in 0..SERVICE_RESPONSES {
-            let bytes = self.traffic.services(place);
-            let port = place % ROUTE_RESPONSES + 1;
-            hear(&mut self.router, &mut self.outbox, port, bytes);
-        }
-    }
-
-    /// Goes to the end of a period that was begun.
-    fn finish(&mut self, kind: Kind) {
-        if kind == Kind::Second {
-            self.seconds(1);
-        }
-    }
-
-    /// Hands a block of events to the router, from that turn on.
-    fn block(&mut self, kind: Kind, first: u32) -> u64 {
-        match kind {
-            Kind::Second | Kind::Periodic => self.seconds(kind.turns()),
-            _ => self.packets(kind, first),
-        }
-    }
-
-    fn seconds(&mut self, count: u32) -> u64 {
-        let mut seen = 0u64;
-        for _ in 0..count {
-            seen = seen.wrapping_add(self.router.hand(&mut self.outbox, Event::Second));
-        }
-        seen
-    }
-
-    fn packets(&mut self, kind: Kind, first: u32) -> u64 {
-        let mut seen = 0u64;
-        for turn in 0..TURNS {
-            let (port, bytes) = packet(&self.traffic, kind, first.wrapping_add(turn));
-            seen = seen.wrapping_add(hear(&mut self.router, &mut self.outbox, port, bytes));
-        }
-        seen
+        timed.bytes = self.bytes_sent();
+        let start = Instant::now(rt)?;
+        let beside = self.beside(kind.turns());
+        timed.beside = timed.beside.min(start.elapsed(rt)?.as_nanos());
+        timed.events = timed.events.min(events);
+        timed.plain = timed.plain.min(plain);
+        timed.seen = timed
+            .seen
+            .wrapping_add(done)
+            .wrapping_add(also)
+            .wrapping_add(beside);
+        finish(&mut self.measured, kind);
+        finish(&mut self.plain, kind);
+        Ok(())
     }
 
     /// Copies what was sent last that many times or, where nothing was sent, reads the list.
     fn beside(&mut self, turns: u32) -> u64 {
-        if self.outbox.is_empty() {
+        if self.measured.outbox.is_empty() {
             self.read(turns)
         } else {
             self.copy(turns)
@@ -216,7 +257,7 @@ impl Site {
     fn copy(&self, turns: u32) -> u64 {
         let mut seen = 0u64;
         for turn in 0..turns {
-            seen = seen.wrapping_add(copy_sent(&self.outbox, turn));
+            seen = seen.wrapping_add(copy_sent(&self.measured.outbox, turn));
         }
         seen
     }
@@ -224,11 +265,118 @@ impl Site {
     /// How many bytes the packets have that were sent last.
     fn bytes_sent(&self) -> usize {
         let mut bytes = 0usize;
-        for sent in self.outbox.iter() {
+        for sent in self.measured.outbox.iter() {
             bytes = bytes.wrapping_add(sent.bytes.len());
         }
         bytes
     }
+}
+
+/// How long a block of events takes a router, from that turn on. It is prepared untimed.
+fn time_block<P: Player>(
+    rt: &HostRuntime,
+    player: &mut P,
+    traffic: &Traffic,
+    kind: Kind,
+    first: u32,
+) -> io::Result<(u128, u64)> {
+    prepare(player, traffic, kind);
+    let start = Instant::now(rt)?;
+    let seen = block(player, traffic, kind, first);
+    Ok((start.elapsed(rt)?.as_nanos(), seen))
+}
+
+/// Before seconds that are timed: refreshes the tables and, where all is to be advertised, goes to the second before.
+fn prepare<P: Player>(player: &mut P, traffic: &Traffic, kind: Kind) {
+    match kind {
+        Kind::Second => refresh(player, traffic),
+        Kind::Periodic => {
+            refresh(player, traffic);
+            seconds(player, PERIOD - 1);
+        }
+        _ => {}
+    }
+}
+
+/// Fills the tables, or refreshes what they hold.
+fn refresh<P: Player>(player: &mut P, traffic: &Traffic) {
+    for neighbour in 0..ROUTE_RESPONSES {
+        player.hear(neighbour + 1, traffic.routes(neighbour, false));
+    }
+    for place in 0..SERVICE_RESPONSES {
+        player.hear(service_port(place), traffic.services(place, false));
+    }
+}
+
+/// The port on which a response of services comes.
+fn service_port(place: u8) -> u8 {
+    place % ROUTE_RESPONSES + 1
+}
+
+/// Goes to the end of a period that was begun.
+fn finish<P: Player>(player: &mut P, kind: Kind) {
+    if kind == Kind::Second {
+        seconds(player, 1);
+    }
+}
+
+/// Hands a block of events to a router, from that turn on.
+fn block<P: Player>(player: &mut P, traffic: &Traffic, kind: Kind, first: u32) -> u64 {
+    match kind {
+        Kind::Second | Kind::Periodic => seconds(player, kind.turns()),
+        _ => packets(player, traffic, kind, first),
+    }
+}
+
+fn seconds<P: Player>(player: &mut P, count: u32) -> u64 {
+    let mut seen = 0u64;
+    for _ in 0..count {
+        seen = seen.wrapping_add(player.pass());
+    }
+    seen
+}
+
+fn packets<P: Player>(player: &mut P, traffic: &Traffic, kind: Kind, first: u32) -> u64 {
+    let mut seen = 0u64;
+    for turn in 0..TURNS {
+        let (port, bytes) = packet(traffic, kind, first.wrapping_add(turn));
+        seen = seen.wrapping_add(player.hear(port, bytes));
+    }
+    seen
+}
+
+/// Whether both routers sent the same packets.
+fn send_alike(outbox: &Outbox, packets: &Packets) -> bool {
+    let mut is_alike = outbox.len() == packets.len();
+    for k in 0..outbox.len() {
+        let sent = outbox.get(k);
+        is_alike &= match packets.get(k) {
+            Some(out) => {
+                out.port == sent.port && out.link == number_of(sent.link) && out.bytes == sent.bytes
+            }
+            None => false,
+        };
+    }
+    is_alike
+}
+
+/// The ports of the plain router: those of the one that is measured.
+fn plain_ports() -> [PlainPort; 8] {
+    let mut ports = [PlainPort::default(); 8];
+    for number in 0..8u8 {
+        ports[usize::from(number)] = PlainPort {
+            network: network_of(number).0,
+            node: number_of(node_of(number)),
+            cost: COST,
+            longest: usize::from(LONGEST_PACKET),
+        };
+    }
+    ports
+}
+
+/// The node of a port.
+fn node_of(port: u8) -> Node {
+    Node([0, 0, 0, 0, 0, port.wrapping_add(1)])
 }
 
 /// A router of eight ports, whose networks follow one another.
@@ -239,8 +387,12 @@ pub fn new_router<const R: usize>() -> Result<Router<8, R, 64>, PortFault>
 {
     let mut ports = [Port::default(); 8];
     for number in 0..8u8 {
-        let node = Node([0, 0, 0, 0, 0, number + 1]);
-        ports[usize::from(number)] = Port::new(network_of(number), node, 1, 1500)?;
+        ports[usize::from(number)] = Port::new(
+            network_of(number),
+            node_of(number),
+            COST,
+            LONGEST_PACKET,
+        )?;
     }
     Router::new(&ports).map_err(|_| PortFault::Network)
 }
@@ -249,10 +401,16 @@ pub fn new_router<const R: usize>() -> Result<Router<8, R, 64>, PortFault>
 fn packet(traffic: &Traffic, kind: Kind, turn: u32) -> (u8, &[u8]) {
     let neighbour = (turn % OWN_RESPONSES) as u8;
     let later = turn / OWN_RESPONSES % 2 == 0;
+    let place = (turn % OWN_SERVICE_RESPONSES) as u8;
+    let services_later = turn / OWN_SERVICE_RESPONSES % 2 == 0;
     match kind {
         Kind::Unchanged => (neighbour + 1, traffic.routes(neighbour, false)),
         Kind::Changed => (neighbour + 1, traffic.routes(neighbour, later)),
         Kind::Request => (0, traffic.request(turn)),
+        Kind::ServicesUnchanged => (service_port(place), traffic.services(place, false)),
+        Kind::ServicesChanged => (service_port(place), traffic.services(place, services_later)),
+        Kind::Query => (0, traffic.query(turn)),
+        Kind::Nearest => (0, traffic.nearest(turn)),
         Kind::Propagate => (0, traffic.propagated(turn)),
         _ => (0, traffic.unicast(turn)),
     }
@@ -309,6 +467,15 @@ fn any_of(outbox: &Outbox) -> u64 {
     }
     let last = outbox.get(len - 1).bytes.last();
     len as u64 ^ u64::from(*last.unwrap_or(&0))
+}
+
+/// The same of what the plain router sent.
+fn any_of_plain(packets: &Packets) -> u64 {
+    let len = packets.len();
+    match packets.get(len.wrapping_sub(1)) {
+        Some(out) => len as u64 ^ u64::from(*out.bytes.last().unwrap_or(&0)),
+        None => 0,
+    }
 }
 
 /// The bytes of the longest packet that is copied.

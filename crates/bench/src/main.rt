@@ -1,8 +1,9 @@
 //! How fast packets are read and written, beside copying the same bytes in the same run; and how fast a
 //! full table is called, beside reading its records in the same run; and how fast a router with full tables takes its events,
-//! beside copying what it sends; and how it takes them as its table of routes grows, and how a table grows beside an ordered map; and
-//! how fast a capture is shown, beside copying its file; and how fast internets settle and a packet is traced, in larger and larger ones;
-//! and how fast a tunnel with room for many clients is called, beside one with room for few.
+//! beside a plain router that takes the same, and beside copying what it sends; and how it takes them as its table of routes grows,
+//! and how a table grows beside an ordered map; and how fast a capture is shown, beside copying its file; and how fast internets settle
+//! and a packet is traced, in larger and larger ones, and one is played beside one of plain routers; and how fast a tunnel with room for
+//! many clients is called, beside one with room for few.
 //!
 //! With no word it prints what it can measure; with the word `run` it measures, all or the part that a second word names:
 //! packets, tables, events, growth, captures, internets or tunnels. A copy is what any
@@ -18,6 +19,8 @@ mod jumping;
 mod kinds;
 mod maps;
 mod packets;
+mod plain;
+mod played;
 mod tables;
 mod traffic;
 mod tunnels;
@@ -55,6 +58,8 @@ fn list(rt: &HostRuntime) -> io::Result<()> {
     list_one(rt, "show a capture", records, "records")?;
     let rings = internets::RINGS.len() as u64;
     list_one(rt, "settle a ring, trace a packet", rings, "rings")?;
+    let routers = u64::from(played::ROUTERS);
+    list_one(rt, "play an internet", routers, "routers")?;
     list_rooms(rt)
 }
 
@@ -197,15 +202,20 @@ fn report_events(rt: &HostRuntime) -> io::Result<()> {
 fn report_event(rt: &HostRuntime, kind: EventKind) -> io::Result<()> {
     let timed = measure_event(rt, kind)?;
     let name = kind.name();
-    let each = ratio(timed.events, u128::from(timed.count));
+    let count = u128::from(timed.count);
+    let (each, plain) = (ratio(timed.events, count), ratio(timed.plain, count));
+    let part = part_of(timed.events, timed.plain);
     let times = ratio(timed.events, timed.beside);
     let mark = timed.seen % 10;
     let bytes = timed.bytes;
-    if bytes == 0 {
-        println!(rt; "{name}: {each} ns, {times} readings of {RECORDS} records ({mark})")
+    let (what, of) = if bytes == 0 {
+        ("readings of the records", RECORDS)
     } else {
-        println!(rt; "{name}: {each} ns, {times} copies of the {bytes} bytes sent ({mark})")
-    }
+        ("copies of the bytes sent", bytes)
+    };
+    println!(rt;
+        "{name}: {each} ns, in the plain way {plain}: {part} times, {times} {what}, {of} ({mark})"
+    )
 }
 
 fn report_growth(rt: &HostRuntime) -> io::Result<()> {
@@ -264,7 +274,19 @@ fn report_internets(rt: &HostRuntime) -> io::Result<()> {
     let timed = internets::measure_trace(rt)?;
     let each = ratio(timed.nanoseconds, u128::from(timed.count));
     let count = timed.count;
-    println!(rt; "trace a packet: {each} ns a reception of {count}")
+    println!(rt; "trace a packet: {each} ns a reception of {count}")?;
+    report_played(rt)
+}
+
+fn report_played(rt: &HostRuntime) -> io::Result<()> {
+    let timed = played::measure_played(rt)?;
+    let milliseconds = ratio(timed.measured, 1_000_000);
+    let plain = ratio(timed.plain, 1_000_000);
+    let part = part_of(timed.measured, timed.plain);
+    let (routers, seconds, receptions) = (played::ROUTERS, played::SECONDS, timed.receptions);
+    println!(rt;
+        "play {routers} routers for {seconds} seconds: {milliseconds} ms, in the plain way {plain}: {part} times, {receptions} receptions"
+    )
 }
 
 fn report_rooms(rt: &HostRuntime) -> io::Result<()> {
@@ -289,6 +311,22 @@ struct Tenths(u128);
 /// Nanoseconds divided by what they are counted by, which is 1 at least.
 fn ratio(nanoseconds: u128, by: u128) -> Tenths {
     Tenths(nanoseconds.wrapping_mul(10) / by.max(1))
+}
+
+/// A number of hundredths, shown with a point.
+#[derive(Clone, Copy)]
+struct Hundredths(u128);
+
+/// Nanoseconds divided by others, which are 1 at least.
+fn part_of(nanoseconds: u128, by: u128) -> Hundredths {
+    Hundredths(nanoseconds.wrapping_mul(100) / by.max(1))
+}
+
+impl fmt::Display for Hundredths {
+    fn fmt<W: fmt::Write>(&self, f: &mut fmt::Formatter<W>) -> fmt::Result {
+        let (whole, part) = (self.0 / 100, self.0 % 100);
+        write!(f, "{whole}.{part:02}")
+    }
 }
 
 impl fmt::Display for Tenths {

@@ -5,7 +5,8 @@ ghost use Rattle.std.specs.Prelude.{◌≤◌, ◌<◌};
 
 use crate::jumping::place_at;
 use ipx_wire::{
-    Address, Network, Node, Operation, RipEntry, Service, ServiceName, Socket, write_rip, write_sap,
+    Address, Network, Node, Operation, RipEntry, Service, ServiceName, Socket, write_query,
+    write_rip, write_sap,
 };
 
 /// How many responses of fifty routes fill the table, and of seven services; the last of each offers some again.
@@ -16,6 +17,8 @@ pub const SERVICE_RESPONSES: u8 = 10;
 /// How many of those offer routes that no other one does.
 pub const OWN_RESPONSES: u32 = 5;
 
+pub const OWN_SERVICE_RESPONSES: u32 = 9;
+
 /// The networks of the ports, which have numbers above those of all routes.
 const FIRST_NETWORK: u32 = 0x1000;
 
@@ -25,7 +28,7 @@ const UNICASTS: usize = 256;
 const ROUND: usize = 16;
 
 /// The node of the neighbours.
-const NEIGHBOUR: Node = Node([0, 0, 0, 0, 0, 0xAA]);
+pub const NEIGHBOUR: Node = Node([0, 0, 0, 0, 0, 0xAA]);
 
 /// A packet of 62 bytes that came from port 0 to another network, whose number isn't filled in.
 pub const UNICAST: [u8; 62] = [
@@ -52,6 +55,12 @@ pub fn network_of(port: u8) -> Network {
     Network(FIRST_NETWORK + u32::from(port))
 }
 
+/// A node as a number.
+pub fn number_of(node: Node) -> u64 {
+    let [a, b, c, d, e, f] = node.0;
+    u64::from_be_bytes([0, 0, a, b, c, d, e, f])
+}
+
 /// The packets that come.
 #[derive(Drop)]
 pub struct Traffic {
@@ -60,7 +69,10 @@ pub struct Traffic {
     requests: [[u8; 40]; ROUND],
     /// Each response of routes, and the same with a tick more for each of them.
     routes: [[u8; 432]; 12],
-    services: [[u8; 480]; 10],
+    /// Each response of services, and the same with a hop more for each of them.
+    services: [[u8; 480]; 20],
+    queries: [[u8; 34]; ROUND],
+    nearest: [[u8; 34]; ROUND],
 }
 
 impl Traffic {
@@ -71,6 +83,8 @@ impl Traffic {
             requests: round_of(REQUEST),
             routes: responses(),
             services: service_responses(),
+            queries: round_of(query(false)),
+            nearest: round_of(query(true)),
         }
     }
 
@@ -94,9 +108,19 @@ impl Traffic {
         &self.routes[usize::from(neighbour % ROUTE_RESPONSES * 2 + u8::from(later))]
     }
 
-    /// A response of services. It comes on one of the same ports.
-    pub fn services(&self, place: u8) -> &[u8] {
-        &self.services[usize::from(place % SERVICE_RESPONSES)]
+    /// A response of services, at first or with a hop more for each of them. It comes on one of the same ports.
+    pub fn services(&self, place: u8, later: bool) -> &[u8] {
+        &self.services[usize::from(place % SERVICE_RESPONSES * 2 + u8::from(later))]
+    }
+
+    /// A query for all services. It comes on port 0.
+    pub fn query(&self, turn: u32) -> &[u8] {
+        &self.queries[turn as usize % ROUND]
+    }
+
+    /// A query for the nearest of them. It comes on port 0.
+    pub fn nearest(&self, turn: u32) -> &[u8] {
+        &self.nearest[turn as usize % ROUND]
     }
 }
 
@@ -158,30 +182,41 @@ fn route_number(neighbour: u8, place: u32) -> u32
     (50 * u32::from(neighbour) + place) % 256 + 1
 }
 
-fn service_responses() -> [[u8; 480]; 10] {
-    let mut packets = [[0; 480]; 10];
-    for place in 0..SERVICE_RESPONSES {
-        write_services(place, &mut packets[usize::from(place)]);
+fn service_responses() -> [[u8; 480]; 20] {
+    let mut packets = [[0; 480]; 20];
+    for response in 0..SERVICE_RESPONSES {
+        let place = usize::from(response) * 2;
+        write_services(response, 2, &mut packets[place]);
+        write_services(response, 3, &mut packets[place + 1]);
     }
     packets
 }
 
-/// Seven services, of which there are sixty-four.
-fn write_services(response: u8, out: &mut [u8; 480]) {
+/// Seven services, each that many hops away, of which there are sixty-four.
+fn write_services(response: u8, hops: u16, out: &mut [u8; 480]) {
     let mut services = [Service::default(); 7];
     for place in 0..7u8 {
         let number = (u32::from(response) * 7 + u32::from(place)) % 64;
-        services[usize::from(place)] = service(number as u8);
+        services[usize::from(place)] = service(number as u8, hops);
     }
     let (from, to) = addresses(response % ROUTE_RESPONSES + 1, Socket::SAP);
     write_sap(from, to, false, &services, out);
 }
 
-fn service(number: u8) -> Service {
+/// A query for servers of each type.
+fn query(nearest: bool) -> [u8; 34] {
+    let (from, to) = addresses(0, Socket::SAP);
+    let mut out = [0; 34];
+    write_query(from, to, nearest, 0xFFFF, &mut out);
+    out
+}
+
+/// A service of that number, that many hops away.
+pub fn service(number: u8, hops: u16) -> Service {
     let mut field = [0; 48];
     field[..8].copy_from_slice(b"SERVER-A");
-    field[8] = b'A' + number % 8;
-    field[9] = b'A' + number / 8 % 8;
+    field[8] = b'A' + number % 16;
+    field[9] = b'A' + number / 16;
     Service {
         kind: 4,
         name: ServiceName::read(&field).unwrap_or_default(),
@@ -190,7 +225,7 @@ fn service(number: u8) -> Service {
             node: NEIGHBOUR,
             socket: Socket(0x451),
         },
-        hops: 2,
+        hops,
     }
 }
 
