@@ -7,3 +7,4 @@ pub mod KeysHaveRoom
 pub mod OneFactOnARecord
 pub mod RecordsGained
 pub mod RecordsGrowOld
+pub mod SameSource

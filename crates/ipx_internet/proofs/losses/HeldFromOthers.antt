@@ -17,7 +17,7 @@ use Rattle.ipx_router.specs.declared.why.Why.{Why}
 use Rattle.ipx_router.proofs.tables.HeldWasOffered.{OfferIs, CameIn, came_in, near_source, source_of, nothing, routes_all}
 use Rattle.ipx_router.proofs.verdicts.SentOnPassesChecks.{all_checks, asked, passes}
 use Rattle.ipx_internet.proofs.lists.EachElement.{all_of}
-use Rattle.ipx_internet.proofs.tables.GoodRoutesStay.{bytes_same}
+use Rattle.ipx_internet.proofs.records.SameSource.{bytes_same}
 
 -- ---- a list of checks
 

@@ -30,7 +30,7 @@ use Rattle.ipx_router.proofs.tables.HeldWasOffered.{all_in_order, all_offers}
 use Rattle.ipx_internet.proofs.lists.FoundInAList.{nothing, it_is}
 use Rattle.ipx_internet.proofs.lists.SomeElement.{AnyIs}
 use Rattle.ipx_internet.proofs.records.KeptOrOffered.{OffersOf, among_alive, own, several}
-use Rattle.ipx_internet.proofs.tables.GoodRoutesStay.{bytes_same}
+use Rattle.ipx_internet.proofs.records.SameSource.{bytes_same}
 use Rattle.ipx_internet.proofs.tables.RoomForEachNetwork.{equal_where_same}
 
 -- the route of a network

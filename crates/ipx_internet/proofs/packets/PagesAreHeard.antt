@@ -20,7 +20,7 @@ use Rattle.ipx_router.specs.declared.why.Why.{Why}
 use Rattle.ipx_router.specs.declared.why.Why.TheVariants.{NotRunning, Malformed, DownPort}
 use Rattle.ipx_router.proofs.verdicts.SentOnPassesChecks.{all_checks}
 use Rattle.ipx_internet.proofs.packets.PagesReadAgain.{IsRipPage, IsSapPage}
-use Rattle.ipx_internet.proofs.tables.GoodRoutesStay.{same_bytes}
+use Rattle.ipx_internet.proofs.records.SameSource.{same_bytes}
 
 -- nodes that differ aren't the same
 pub nodes_apart : (a b : Node) → a ≢ b → same_node a b ≡ false

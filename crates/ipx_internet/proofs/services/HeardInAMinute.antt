@@ -39,7 +39,7 @@ use Rattle.ipx_internet.proofs.records.KeptOrOffered.{OffersOf, among_alive}
 use Rattle.ipx_internet.proofs.services.ExactWords.{one_name, Words, NearerRight, exact}
 use Rattle.ipx_internet.proofs.services.HeardAtAStep.{Hears, FirstHears, IsHeardAt, HeardWithin, HeardWithinTicks, AtEach, at_first}
 use Rattle.ipx_internet.proofs.services.HostTickAfterTick.{Going, Rests, begins, step_goes, tick_rests, ticks_rest, outside_waits}
-use Rattle.ipx_internet.proofs.services.NearestHost.{here, Listed, key, shares, Real, host_of, SaidBy, Good, best, steady, Such, real_known, goes_on, place}
+use Rattle.ipx_internet.proofs.services.NearestHost.{here, Listed, key, shares, Real, host_of, SaidBy, Good, GoodOf, best, steady, Such, real_known, goes_on, place}
 use Rattle.ipx_internet.proofs.services.ServedOrSoonEnded.{Endures, ServiceOld, AreExact}
 use Rattle.ipx_internet.proofs.services.SpokenOfAServer.{EntrySaid, Told, Waits}
 use Rattle.ipx_internet.proofs.ticks.BusyTickAfterTick.{own_seconds}
@@ -72,6 +72,9 @@ module _ (net : Internet) (laws : Layouts) (is : IsInternet net) (most_routes mo
   abbrev pub G : ServiceOffer → Type 0
   G = Good net up server names most_services r apart in_ports hops reached unlike fewest
 
+  abbrev Of : Source → ServiceOffer → Type 0
+  Of = GoodOf net up server names most_services r apart in_ports hops reached unlike fewest
+
   abbrev L : ℕ × List ℕ → Type 0
   L = Listed net up server names most_services r apart in_ports hops reached unlike fewest
 
@@ -98,10 +101,11 @@ module _ (net : Internet) (laws : Layouts) (is : IsInternet net) (most_routes mo
   host = host_of net up server names most_services r apart in_ports hops reached unlike fewest
 
   abbrev pub known_now : List (Fact ServiceOffer) → Option (Held ServiceOffer)
-  known_now = known service_reading service_order service_total most_services ss K one R G
+  known_now = known service_reading service_order service_total most_services ss K one R Of
 
   abbrev pub S : (ℕ → Type 0) → (Source → Type 0) → Type 0 → List (Fact ServiceOffer) → Type 0
-  S Fresh Late Later facts = State service_reading service_order service_total most_services ss K one R G Fresh Late Later (known_now facts)
+  S Fresh Late Later facts =
+      State service_reading service_order service_total most_services ss K one R Of (λ s age. Fresh age) (λ s age. Late s) Later (λ o. Unit {0}) (known_now facts)
 
   -- the service may be missing while one of the hosts has still to be heard
   abbrev pub Missing : (Source → Type 0) → Type 0
@@ -118,8 +122,8 @@ module _ (net : Internet) (laws : Layouts) (is : IsInternet net) (most_routes mo
     | inl held ↦
         ap (option_map (λ s. s.service))
         (among_alive service_reading service_order service_total most_services ss K (service_facts ports (history_of run.histories r))
-        ∙ ap (option_map (λ h. h.offer)) held.1)
-        ∙ ap (λ (s : Service). Some s) held.2.said
+        ∙ ap (option_map (λ h. h.offer)) held.2)
+        ∙ ap (λ (s : Service). Some s) held.3.0.said
   ]
 
   -- ---- from step to step
@@ -130,13 +134,13 @@ module _ (net : Internet) (laws : Layouts) (is : IsInternet net) (most_routes mo
       → ((g : ServiceOffer) → G g → Now (g.port, g.node) → S Fresh (λ s. Before s × (s ≢ (g.port, g.node))) ⊥ facts)
       → S Fresh After (Missing After) facts
   moves Fresh Before After Now facts split state comes = record {
-    aged = λ h e good. elim (state.aged h e good) [
+    aged = λ h s e good. elim (state.aged h s e good) [
       | inl young ↦ inl young
-      | inr late ↦ elim (split (h.offer.port, h.offer.node) late) [
+      | inr late ↦ elim (split s late) [
         | inr later ↦ inr later
-        | inl now ↦ elim ((comes h.offer good now).aged h e good) [
+        | inl now ↦ elim ((comes h.offer good.0 (subst Now (sym good.1) now)).aged h s e good) [
           | inl young ↦ inl young
-          | inr both ↦ absurd (both.1 refl)
+          | inr both ↦ absurd (both.1 (sym good.1))
         ]
       ]
     ];
@@ -156,9 +160,9 @@ module _ (net : Internet) (laws : Layouts) (is : IsInternet net) (most_routes mo
   passes_by : (Fresh Then : ℕ → Type 0) (Before After : Source → Type 0) (facts : List (Fact ServiceOffer)) → ((age : ℕ) → Fresh age → Then age)
       → ((s : Source) → Before s → After s) → S Fresh Before (Missing Before) facts → S Then After (Missing After) facts
   passes_by Fresh Then Before After facts grows still state = record {
-    aged = λ h e good. elim (state.aged h e good) [
+    aged = λ h s e good. elim (state.aged h s e good) [
       | inl young ↦ inl (grows h.age young)
-      | inr late ↦ inr (still (h.offer.port, h.offer.node) late)
+      | inr late ↦ inr (still s late)
     ];
     holds = elim state.holds [
       | inl held ↦ inl held
@@ -182,8 +186,12 @@ module _ (net : Internet) (laws : Layouts) (is : IsInternet net) (most_routes mo
         subst (λ (fs : List (Fact ServiceOffer)). S (Young top rest) Late (Missing Late) fs) (sym (facts_from-more (service_facts_of ports) [] history Second))
         (elim (cases_Bool (running history)) [
           | inl runs ↦
-              rw runs (second_keeps service_reading service_order service_total most_services ss K one R G (Young top (suc rest)) (Young top rest) Late (Missing Late)
-              (λ age young. omega (arith, young)) (λ old. absurd (omega (arith, old, few))) (λ g good late. (g, good, late)) facts state)
+              rw runs (second_keeps service_reading service_order service_total most_services ss K one R Of (λ s age. Young top (suc rest) age)
+              (λ s age. Young top rest age) (λ s age. Late s) (λ s age. Late s) (Missing Late) (Missing Late) (λ o. Unit {0}) (λ s age young. omega (arith, young))
+              (λ s h good late. late) (λ missing. missing) (λ s h good either. elim either [
+                | inl old ↦ absurd (omega (arith, old, few))
+                | inr late ↦ (h.offer, good.0, subst Late (sym good.1) late)
+              ]) facts state)
           | inr stopped ↦
               rw stopped (subst (λ (fs : List (Fact ServiceOffer)). S (Young top rest) Late (Missing Late) fs) (sym (append-nil facts))
               (passes_by (Young top (suc rest)) (Young top rest) Late Late facts (λ age young. omega (arith, young)) (λ s late. late) state))
@@ -198,8 +206,8 @@ module _ (net : Internet) (laws : Layouts) (is : IsInternet net) (most_routes mo
       Fit = ServiceOld net up server L most_services r had had (omega arith)
 
       abbrev Arrives : ServiceOffer → Type 0
-      Arrives = Comes service_reading service_order service_total most_services ss K one R G
-          (best net up server names most_services r apart in_ports hops reached unlike fewest) (Young top left) (omega (arith, one_left, some))
+      Arrives = Comes service_reading service_order service_total most_services ss K one R Of (λ s age. Young top left age)
+          (λ s. omega (arith, one_left, some)) (λ o. Unit {0}) (best net up server names most_services r apart in_ports hops reached unlike fewest)
           (Such net up server names most_services r apart in_ports hops reached unlike fewest had long) Fit
           (real_known net up server names most_services r apart in_ports hops reached unlike fewest had long)
           (goes_on net up server names most_services r apart in_ports hops reached unlike fewest had long)
@@ -306,20 +314,22 @@ module _ (net : Internet) (laws : Layouts) (is : IsInternet net) (most_routes mo
                 let all = arrive on source.node entries tells in
                 let such = endures.services in
                 moves (Young top left) Before After Now (facts ++ new) split
-                (offers_keep service_reading service_order service_total most_services ss K one R G
-                (best net up server names most_services r apart in_ports hops reached unlike fewest) (Young top left) (omega (arith, one_left, some))
+                (offers_keep service_reading service_order service_total most_services ss K one R Of
+                (λ s age. Young top left age) (λ s. omega (arith, one_left, some)) (λ o. Unit {0})
+                (best net up server names most_services r apart in_ports hops reached unlike fewest)
                 (Such net up server names most_services r apart in_ports hops reached unlike fewest had long) Fit
                 (real_known net up server names most_services r apart in_ports hops reached unlike fewest had long)
-                (goes_on net up server names most_services r apart in_ports hops reached unlike fewest had long) Before (Missing Before) new facts all such state)
+                (goes_on net up server names most_services r apart in_ports hops reached unlike fewest had long) (λ s age. Before s) (Missing Before) new facts all state)
                 (λ g good now.
                 let said = same_message (HeardSap source (SapResponse nearest entries)) e (g.port, g.node) now in
-                offers_come service_reading service_order service_total most_services ss K one R G
-                (best net up server names most_services r apart in_ports hops reached unlike fewest) (Young top left) (omega (arith, one_left, some))
+                offers_come service_reading service_order service_total most_services ss K one R Of
+                (λ s age. Young top left age) (λ s. omega (arith, one_left, some)) (λ o. Unit {0})
+                (best net up server names most_services r apart in_ports hops reached unlike fewest)
                 (Such net up server names most_services r apart in_ports hops reached unlike fewest had long) Fit
                 (real_known net up server names most_services r apart in_ports hops reached unlike fewest had long)
                 (goes_on net up server names most_services r apart in_ports hops reached unlike fewest had long)
                 (place net up server names most_services r apart in_ports hops reached unlike fewest had long room inside listed) (g.port, g.node)
-                Before (Missing Before) new facts all
+                (λ s age. Before s) (Missing Before) (λ missing o. tt) new facts all
                 (among g good (sym (now_is (g.port, g.node) now).0) source.node said.0 entries said.1 said.2) such state)
 
         pub packet_own : Q left After (history ++ Packet number bytes ∷ [])
@@ -526,7 +536,7 @@ module _ (net : Internet) (laws : Layouts) (is : IsInternet net) (most_routes mo
 
     all_heard : S (λ age. age ≤ 60) (λ s. ⊥) (Missing (λ s. ⊥)) (service_facts ports (history_of last.histories r))
     all_heard = ticks_track so_far 0 run window long (omega (arith, few)) rests busy leave say named surely (record {
-      aged = λ h e is_good. inr (in_time h.offer is_good);
+      aged = λ h s e is_good. inr (subst (Waiting_for run window) is_good.1 (in_time h.offer is_good.0));
       holds = inr (g, good, in_time g good);
     })
 

@@ -1,10 +1,9 @@
 -- What is best of all that a router may know of a service: what the nearest hosts beside it say, and neighbours that are one hop nearer. There is
 -- room for it.
-use Rattle.std.proofs.Common.{◌≡◌, refl, sym, ap, ap₂, ◌∙◌, subst, ◌⊎◌, ℕ, suc, ◌+◌, ◌*◌, ◌<◌, ◌≤◌, ◌==◌, nat_eq, nat_le, true, false, List, [], ◌∷◌, ◌++◌, find, length, map, None, Some, inl, inr, arith, is_eq, slice_get}
+use Rattle.std.proofs.Common.{◌≡◌, refl, sym, ap, ap₂, ◌∙◌, subst, ◌⊎◌, ℕ, suc, ◌+◌, ◌*◌, ◌<◌, ◌≤◌, nat_le, true, false, List, [], ◌∷◌, ◌++◌, find, length, map, None, Some, inl, inr, arith, is_eq, slice_get}
 use Rattle.std.specs.List.{AllByRecursion}
-use Rattle.std.specs.Cmp.Lexicographic.{pointwise}
 use Rattle.std.specs.Ordering.{is_gt}
-use Rattle.std.proofs.lemmas.Bool.{cases_Bool, cases_eq, and_parts, eqb-true, leb-true, leb-false}
+use Rattle.std.proofs.lemmas.Bool.{cases_Bool, cases_eq, leb-true, leb-false}
 use Rattle.ipx_table.specs.Facts.{Fact, Offered}
 use Rattle.ipx_table.specs.Reading.{one_source, rank_order, rules_of}
 use Rattle.ipx_table.specs.declared.held.Held.{Held}
@@ -37,16 +36,10 @@ use Rattle.ipx_internet.proofs.services.ServicesBecomeReal.{has_way}
 use Rattle.ipx_internet.proofs.services.SpokenOfAServer.{EntrySaid, Who}
 use Rattle.ipx_internet.proofs.records.HeardChangesItsKeys.{service_offer}
 use Rattle.ipx_internet.proofs.ticks.RealOrSoonEnded.{Reaches}
-use Rattle.ipx_internet.proofs.tables.GoodRoutesStay.{same_bytes}
+use Rattle.ipx_internet.proofs.records.SameSource.{source_parts}
 use Rattle.ipx_internet.proofs.tables.RoomForEachNetwork.{not_worse, worse}
 
--- ---- keys, sources and ranks of services
-
-pub source_parts : (a b : ServiceOffer) → one_source (a.port, a.node) (b.port, b.node) ≡ true → (a.port ≡ b.port) × (a.node ≡ b.node)
-source_parts a b e =
-    let parts = and_parts (a.port == b.port) (pointwise nat_eq a.node.0 b.node.0) e in
-    let node : List ℕ → Node = λ bytes. record { 0 = bytes } in
-    (eqb-true a.port b.port parts.0, ap node (same_bytes a.node.0 b.node.0 parts.1))
+-- ---- ranks of services
 
 abbrev as_way : ℕ → Way
 as_way hops = record { hops = 0; ticks = hops }
@@ -107,6 +100,10 @@ module _ (net : Internet) (up : ℕ → List ℕ) (server : Server) (names : Lis
     pub on : is_up (up r) o.port ≡ true
     pub said : o.service ≡ at_hops server hops
 
+  -- and it is that one's
+  abbrev pub GoodOf : ℕ × Node → ServiceOffer → Type 0
+  GoodOf source o = Good o × ◌≡◌ {A = ℕ × Node} (o.port, o.node) source
+
   -- ---- nobody is nearer
 
   no_nearer : {s : ServiceOffer} → IsServed net up server r s → hops ≤ s.service.hops
@@ -137,25 +134,28 @@ module _ (net : Internet) (up : ℕ → List ℕ) (server : Server) (names : Lis
         said = said;
       }
 
-  pub best : AreBest service_reading service_order service_total most_services shares key (λ k. one_name k key) Real Good
+  pub best : AreBest service_reading service_order service_total most_services shares key (λ k. one_name k key) Real GoodOf
   best = record {
-    named = λ g good. ap (λ (s : Service). (s.kind, s.name)) good.said;
-    up = λ g good. elim (cases_Bool (nat_le unreachable g.service.hops)) [
+    named = λ s g good. ap (λ (s : Service). (s.kind, s.name)) good.0.said;
+    up = λ s g good. elim (cases_Bool (nat_le unreachable g.service.hops)) [
       | inr near ↦ near
       | inl down ↦
           let far = leb-true unreachable g.service.hops down in
-          let is = good_hops g good in
+          let is = good_hops g good.0 in
           absurd (omega (arith, far, is, reached))
     ];
-    first = λ g o good real named.
+    first = λ s g o good real named.
         let less = no_nearer real in
-        let is = good_hops g good in
+        let is = good_hops g good.0 in
         no_worse g.service.hops o.service.hops (omega (arith, less, is));
-    equal = λ g o good real named as_good.
+    equal = λ s g o good real named as_good.
         let less = no_nearer real in
-        let is = good_hops g good in
+        let is = good_hops g good.0 in
         let few = (not_worse (as_way o.service.hops) (as_way g.service.hops) as_good).ticks in
-        as_near o real (omega (arith, few, is, less));
+        ((o.port, o.node), (as_near o real (omega (arith, few, is, less)), refl));
+    alike = λ s g o one two.
+        let make : Service → ℕ × Node → ServiceOffer = λ t source. record { service = t; port = source.0; node = source.1 } in
+        ap (λ t. make t (g.port, g.node)) (one.0.said ∙ sym two.0.said) ∙ ap (make o.service) (one.1 ∙ sym two.1);
   }
 
   -- ---- what may be heard of it
@@ -219,15 +219,15 @@ module _ (net : Internet) (up : ℕ → List ℕ) (server : Server) (names : Lis
       by_who (inr n) (inr (from, reaches, from_node, says)) = of_neighbour n from reaches from_node says
 
     honest : IsOf server o.service → (g : ServiceOffer) → Good g → one_source (g.port, g.node) (number, node) ≡ true → Good o
-    honest of g good same = by_who of g (source_parts g o same) good.who (said.who name is of)
+    honest of g good same = by_who of g (source_parts (g.port, g.node) (o.port, o.node) same) good.who (said.who name is of)
 
     pub steady : ◌≡◌ {A = ℕ × List ℕ} (e.kind, name) key
-        → IsSteady service_reading service_order service_total most_services shares key (λ k. one_name k key) Real Good o
+        → IsSteady service_reading service_order service_total most_services shares key (λ k. one_name k key) Real GoodOf o
     steady same =
         let of = of_key e.kind name same in
         record {
           real = λ near. by (leb-false unreachable e.hops near) (said.fine on (leb-false unreachable e.hops near) name is) of;
-          honest = honest of;
+          honest = λ s g good same. (honest of g good.0 same, sym (same_source of g (source_parts (g.port, g.node) (o.port, o.node) same)) ∙ good.1);
         }
       where
         by : e.hops < unreachable → Fine net up server Listed most_services r o ⊎ (begun ≤ 180 * e.hops) → IsOf server o.service → Real o
@@ -241,7 +241,7 @@ module _ (net : Internet) (up : ℕ → List ℕ) (server : Server) (names : Lis
     Such = ServicesAged net up server Listed most_services r had
 
     abbrev pub Facts : List (Fact ServiceOffer) → List (Held ServiceOffer)
-    Facts = records service_reading service_order service_total most_services shares key (λ k. one_name k key) Real Good
+    Facts = records service_reading service_order service_total most_services shares key (λ k. one_name k key) Real GoodOf
 
     abbrev F : ServiceOffer → Type 0
     F = Fine net up server Listed most_services r
@@ -258,7 +258,7 @@ module _ (net : Internet) (up : ℕ → List ℕ) (server : Server) (names : Lis
         one h (inr old) near young = absurd (omega (arith, old, near, young, long))
 
     pub real_known : (facts : List (Fact ServiceOffer)) → Such facts → (h : Held ServiceOffer)
-        → known service_reading service_order service_total most_services shares key (λ k. one_name k key) Real Good facts ≡ Some h → Real h.offer
+        → known service_reading service_order service_total most_services shares key (λ k. one_name k key) Real GoodOf facts ≡ Some h → Real h.offer
     real_known facts aged h some =
         let found = found_with (λ x. F x.offer) (λ x. is_eq (service_order (x.offer.service.kind, x.offer.service.name) key)) (Facts facts) h (all_fine facts aged) some in
         found.0.1 (of_key h.offer.service.kind h.offer.service.name (one_name (h.offer.service.kind, h.offer.service.name) key found.1))
@@ -279,10 +279,10 @@ module _ (net : Internet) (up : ℕ → List ℕ) (server : Server) (names : Lis
           all_mapped (λ s. length names ≤ s) (λ p. p.service_share) (ports_of net r)
           (all_at (λ ports. AllByRecursion (λ p. length names ≤ p.service_share) ports) net r [] room.shares inside)
 
-      pub place : (facts : List (Fact ServiceOffer)) (o : ServiceOffer) → Such facts → Good o
-          → HasPlace service_reading service_order service_total most_services shares key (λ k. one_name k key) Real Good (Facts facts) o
-      place facts o aged good =
-          let same : ◌≡◌ {A = ℕ × List ℕ} (o.service.kind, o.service.name) key = ap (λ (s : Service). (s.kind, s.name)) good.said in
+      pub place : (facts : List (Fact ServiceOffer)) (s : ℕ × Node) (o : ServiceOffer) → Such facts → GoodOf s o → Real o
+          → HasPlace service_reading service_order service_total most_services shares key (λ k. one_name k key) Real GoodOf (Facts facts) o
+      place facts s o aged good real =
+          let same : ◌≡◌ {A = ℕ × List ℕ} (o.service.kind, o.service.name) key = ap (λ (s : Service). (s.kind, s.name)) good.0.said in
           let all = all_then (λ h. F h.offer) (λ h. Listed (h.offer.service.kind, h.offer.service.name)) (λ h fine. fine.0) (Facts facts) (all_fine facts aged) in
           record {
             admits = λ none.

@@ -307,10 +307,10 @@ module _ (net : Internet) (laws : Layouts) (is : IsInternet net) (differ : Nodes
           kept_if words =
               without (subst (λ (fs : List (Fact RouteOffer)). Before fs) (sym facts_so)
               (entries_keep net is differ cheap up in_ports most_routes room network suffice x w.v w.off w.least w.wanted count enough d.to.port g (neighbour_of g reaches on)
-              Fresh_by fresh_now Same_by Late_by Later_by free_by entries (route_facts ports past)
+              Fresh_by fresh_now Same_by Late_by Later_by entries (route_facts ports past)
               (all_then (λ e. RouteSaid net up (suc before) g e × (Source_of x w.v d.to.port g → Words g e)) (IsRight g reaches on)
               (λ e both. is_right g reaches on e both.0 both.1) entries
-              (all_both (RouteSaid net up (suc before) g) (λ e. Source_of x w.v d.to.port g → Words g e) entries said words)) endured.routes state_before))
+              (all_both (RouteSaid net up (suc before) g) (λ e. Source_of x w.v d.to.port g → Words g e) entries said words)) state_before))
 
           loose : StateFor net laws is differ cheap up in_ports most_routes most_services room network suffice x w Fresh_by Late_by (Unit {0}) (λ r. Unit {0})
               (known_by net laws is differ cheap up in_ports most_routes most_services room network suffice x w (route_facts ports now))
@@ -318,11 +318,7 @@ module _ (net : Internet) (laws : Layouts) (is : IsInternet net) (differ : Nodes
               subst (λ (fs : List (Fact RouteOffer)). StateFor net laws is differ cheap up in_ports most_routes most_services room network suffice x w Fresh_by Late_by (Unit {0}) (λ r. Unit {0})
               (known_by net laws is differ cheap up in_ports most_routes most_services room network suffice x w fs)) (sym facts_so)
               (entries_any net is differ cheap up in_ports most_routes room network suffice x w.v w.off w.least w.wanted count enough d.to.port g (neighbour_of g reaches on)
-              Fresh_by fresh_now Same_by Late_by Later_by free_by entries (route_facts ports past)
-              (all_then (RouteSaid net up (suc before) g)
-              (λ e. takes_no_route ports e.network ≡ false → e.hops < unreachable → IsReal net up x (route_offer d.to.port (port_of net g).node e))
-              (λ e one. is_real g reaches on e one) entries said) endured.routes
-              (record { aged = state_before.aged; holds = inr tt }))
+              Fresh_by fresh_now (λ r. Unit {0}) Late_by (Unit {0}) tt entries (route_facts ports past) (record { aged = state_before.aged; holds = inr tt }))
 
           -- whatever it says, as the neighbour is waited for
           any_if : Later_then → Then (route_facts ports now)

@@ -38,7 +38,7 @@ use Rattle.ipx_internet.proofs.packets.PagesAreHeard.{nodes_apart}
 use Rattle.ipx_internet.proofs.packets.SentOnOrReply.{Layouts}
 use Rattle.ipx_internet.proofs.places.EachPortOnce.{places_within, places_differ}
 use Rattle.ipx_internet.proofs.places.OneReceiverOfANode.{port_is, same_number, same_place, receives_is}
-use Rattle.ipx_internet.proofs.tables.GoodRoutesStay.{same_bytes, bytes_same}
+use Rattle.ipx_internet.proofs.records.SameSource.{same_bytes, bytes_same}
 use Rattle.ipx_internet.proofs.tables.LeastWays.{IsNeighbour, within, own, own_is, on_or_off, OnOrOff, came, is_there, at_numbers, port_on, port_up, all_places, in_neighbours}
 use Rattle.ipx_internet.proofs.tables.NoRouteIsBetter.{Source}
 use Rattle.ipx_internet.proofs.tables.RightWithinAMinute.{AtRest, find_none}

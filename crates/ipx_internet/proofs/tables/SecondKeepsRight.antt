@@ -13,9 +13,11 @@ use Rattle.ipx_router.specs.History.{Event, History, Second, IsOnPort, IsOfBytes
 use Rattle.ipx_router.specs.News.{news}
 use Rattle.ipx_router.specs.Port.{Port, is_up}
 use Rattle.ipx_router.specs.Relays.{Sent}
+use Rattle.ipx_router.specs.Routes.{route_reading, network_order}
 use Rattle.ipx_router.specs.Sends.{Holding, holding, is_periodic, second_on}
 use Rattle.ipx_router.specs.Told.{told}
 use Rattle.ipx_router.specs.declared.route_offer.RouteOffer.{RouteOffer}
+use Rattle.ipx_router.proofs.bounds.PacketsOfEachEvent.{network_total}
 use Rattle.ipx_router.proofs.lists.EachElement.{all_both}
 use Rattle.ipx_router.proofs.tables.HeldFitsFields.{held_routes_fit}
 use Rattle.ipx_router.proofs.histories.OneEventMore.{present_run-more}
@@ -27,17 +29,19 @@ use Rattle.ipx_router.proofs.telling.ToldFitsFields.{told_fits}
 use Rattle.ipx_internet.specs.Internet.{Internet, Place, IsInternet, NodesDiffer, ports_of}
 use Rattle.ipx_internet.specs.Least.{Way, AreCheap, HasRoom, FifteenSuffice, most_ticks_right}
 use Rattle.ipx_internet.specs.Queue.{Delivery, Queued, deliveries_of, history_of, with_event, sends_at, queued}
+use Rattle.ipx_internet.specs.Real.{IsReal}
 use Rattle.ipx_internet.specs.Rounds.{IsDelivery}
 use Rattle.ipx_internet.specs.Ticks.{most_ticks_gone}
 use Rattle.ipx_internet.proofs.lists.EachElement.{all_of, all_then, all-append}
 use Rattle.ipx_internet.proofs.lists.SomeElement.{number_any, AnyIs}
 use Rattle.ipx_internet.proofs.packets.SentOnOrReply.{Layouts}
 use Rattle.ipx_internet.proofs.places.OneReceiverOfANode.{ports_at}
+use Rattle.ipx_internet.proofs.records.BestIsKept.{second_keeps}
+use Rattle.ipx_internet.proofs.tables.GoodRoutesStay.{shares, one}
 use Rattle.ipx_internet.proofs.tables.LastWords.{WantsOf, Sources, GoodBy, IsGood, good_or_not, WordOf, PendingFor, Fine, comes_fine, waits_map, Fresh, Late, Later, Same, StateWith, Righted, good_state}
-use Rattle.ipx_internet.proofs.tables.LeastRouteSurvives.{second_keeps}
 use Rattle.ipx_internet.proofs.tables.LeastWays.{on_or_off, OnOrOff, came, few}
 use Rattle.ipx_internet.proofs.tables.SaysItsLeastWay.{Tells, second_tells, change_tells}
-use Rattle.ipx_internet.proofs.tables.SaysWhatItKnows.{wants, Said, all_words, words_told, words_news, told_own, told_learned, pends}
+use Rattle.ipx_internet.proofs.tables.SaysWhatItKnows.{wants, RightFor, Said, all_words, words_told, words_news, told_own, told_learned, pends}
 use Rattle.ipx_internet.proofs.tables.TurnIsNews.{all_off, good_right, knows, turn_is_news}
 use Rattle.ipx_internet.proofs.tables.TurnsAreSaid.{calm_then, state_then}
 use Rattle.ipx_internet.proofs.ticks.RealOrSoonEnded.{RouteSaid, Comes, Endures, second_endures, runs_where, routes_said, changes_said}
@@ -109,7 +113,10 @@ module _ (net : Internet) (laws : Layouts) (is : IsInternet net) (differ : Nodes
     own_state : (w : Wanting x) → State_of (rest x) left histories queue x w (route_facts ports now)
     own_state w =
         subst (λ (fs : List (Fact RouteOffer)). State_of (rest x) left histories queue x w fs) (sym facts_now)
-        (second_keeps net is differ cheap up in_ports most_routes room network suffice x w.v w.off w.least w.wanted before long
+        (second_keeps route_reading network_order network_total most_routes
+        (shares net is differ cheap up in_ports most_routes room network suffice x w.v w.off w.least) network
+        (one net is differ cheap up in_ports most_routes room network suffice x w.v w.off w.least) (IsReal net up x)
+        (RightFor net laws is differ cheap up in_ports most_routes most_services room network suffice x w)
         (Fresh net laws is differ cheap up in_ports most_routes most_services room network suffice before clock few_seconds at_start (left x))
         (Fresh net laws is differ cheap up in_ports most_routes most_services room network suffice before clock few_seconds at_start (rest x))
         (Late net laws is differ cheap up in_ports most_routes most_services room network suffice before clock few_seconds at_start (left x) left histories queue x)
@@ -142,7 +149,7 @@ module _ (net : Internet) (laws : Layouts) (is : IsInternet net) (differ : Nodes
                 ]) late,
           )
         ])
-        (route_facts ports past) endured.routes (righted.states x w))
+        (route_facts ports past) (righted.states x w))
       where
         facts_now : route_facts ports now ≡ route_facts ports past ++ PassedSecond ∷ []
         facts_now =
