@@ -5,6 +5,7 @@ pub mod FewestHops
 pub mod HeardAtAStep
 pub mod HeardInAMinute
 pub mod HostTickAfterTick
+pub mod HostsApart
 pub mod KnownByFewestHops
 pub mod NearerIsHeard
 pub mod NearestHost

@@ -1,5 +1,5 @@
--- Hosts that are heard again and again while they announce a service, each apart from the others, where tables have room.
-use Rattle.std.specs.Prelude.{◌≡◌, ◌≢◌, ◌⊎◌, ℕ, suc, ◌+◌, ◌-◌, ◌*◌, ◌≤◌, true, List, [], ◌∷◌, ◌++◌, length, Some, slice_get}
+-- Hosts that are heard again and again while they announce a service, each with one number of hops, where tables have room.
+use Rattle.std.specs.Prelude.{◌≡◌, ◌⊎◌, ℕ, suc, ◌+◌, ◌-◌, ◌*◌, ◌≤◌, true, List, [], ◌∷◌, ◌++◌, length, Some, slice_get}
 use Rattle.std.specs.List.{AllByRecursion}
 use Rattle.ipx_wire.specs.WriteServices.{entry_of}
 use Rattle.ipx_wire.specs.declared.sap.Sap.TheVariants.{Query, Response}
@@ -8,7 +8,7 @@ use Rattle.ipx_router.specs.Heard.{Heard, HeardRip, HeardSap}
 use Rattle.ipx_router.specs.History.{Packet}
 use Rattle.ipx_router.specs.Numbers.{period}
 use Rattle.ipx_router.specs.Port.{is_up}
-use Rattle.ipx_internet.specs.Internet.{Internet, Place, port_of, ports_of, network_of}
+use Rattle.ipx_internet.specs.Internet.{Internet, Place, ports_of, network_of}
 use Rattle.ipx_internet.specs.Queue.{history_of}
 use Rattle.ipx_internet.specs.Run.{Step, Happens, Settles, Run, stepped}
 use Rattle.ipx_internet.specs.Servers.{Announcer, Server, at_hops}
@@ -48,12 +48,11 @@ module _ (net : Internet) (most_routes most_services : ℕ) (server : Server) wh
       → network_of net to ≡ host.network → (before window after : List (List Step)) → ticks ≡ before ++ window ++ after → length window ≡ period
       → HeardInTicks to host (ticked net most_routes most_services run before) window
 
--- no host has the node of a router's port on its network, and one node on one network says one number of hops
-pub record HostsApart (net : Internet) (server : Server) : Type 0 where
-  pub from_routers : (which : ℕ) (host : Announcer) (place : Place) → slice_get server.announcers which ≡ Some host → network_of net place ≡ host.network
-      → (port_of net place).node ≢ host.node
-  pub one_voice : (a b : ℕ) (host other : Announcer) → slice_get server.announcers a ≡ Some host → slice_get server.announcers b ≡ Some other
-      → host.network ≡ other.network → host.node ≡ other.node → host.hops ≡ other.hops
+-- one node on one network says one number of hops
+abbrev pub HaveOneVoice : Server → Type 0
+HaveOneVoice server =
+    (a b : ℕ) (host other : Announcer) → slice_get server.announcers a ≡ Some host → slice_get server.announcers b ≡ Some other
+    → host.network ≡ other.network → host.node ≡ other.node → host.hops ≡ other.hops
 
 -- the name is one of a list of types and names
 abbrev pub IsListedName : List (ℕ × List ℕ) → ℕ × List ℕ → Type 0

@@ -29,7 +29,7 @@ use Rattle.ipx_internet.specs.Rounds.{IsDelivery}
 use Rattle.ipx_internet.specs.Run.{Step, Happens, Settles, Run, Waiting, forgotten, run_of}
 use Rattle.ipx_internet.specs.Servers.{Announcer, NamesOnly, at_hops, known_of, SaysNoFalse}
 use Rattle.ipx_internet.specs.Ticks.{seconds_of, ticked, ups}
-use Rattle.ipx_internet.proofs.examples.Hosts.{server, said, start, names, bytes, says, names_it, the_host, apart, room}
+use Rattle.ipx_internet.proofs.examples.Hosts.{server, said, start, names, bytes, says, names_it, the_host, one_voice, room}
 use Rattle.ipx_internet.proofs.examples.Neighbours.{second_fewest}
 use Rattle.ipx_internet.proofs.examples.Premises.{are}
 use Rattle.ipx_internet.proofs.examples.Rights.{made, differ}
@@ -37,6 +37,7 @@ use Rattle.ipx_internet.proofs.examples.Waiting.{segment}
 use Rattle.ipx_internet.proofs.examples.Words.{network, node, port_on, at}
 use Rattle.ipx_internet.proofs.packets.SentOnOrReply.{Layouts}
 use Rattle.ipx_internet.proofs.services.HostTickAfterTick.{rested}
+use Rattle.ipx_internet.proofs.services.HostsApart.{hosts_apart}
 use Rattle.ipx_internet.proofs.services.KnownByFewestHops.{known_last}
 use Rattle.ipx_internet.proofs.ticks.FirstTickClears.{Kept, steps_keep}
 use Rattle.ipx_internet.proofs.ticks.TickCanBeHad.{sound_run, can_be_busy}
@@ -206,7 +207,8 @@ module _ (laws : Layouts) where
   second_has n long it =
       let rests = rested segment laws made 8 8 up (server 0x10) (IsListedName names) start [] are (λ k within. refl) refl tt tt tt tt in
       let count = it.as_many in
-      known_last segment laws made 8 8 up (server 0x10) names apart differ (λ k. ports_up-within (ports_of segment k) (history_of start.histories k)) room (0, refl) 1
+      known_last segment laws made 8 8 up (server 0x10) names
+      (hosts_apart segment 8 8 (server 0x10) up start it.ticks one_voice it.in_time (omega (arith, count, long))) differ (λ k. ports_up-within (ports_of segment k) (history_of start.histories k)) room (0, refl) 1
       (λ which other listed. let one = ap (λ (h : Announcer). h.hops) (the_host which other listed) in omega (arith, one)) start rests 2 (omega arith) it.ticks (omega (arith, count, long))
       (record { busy = it.busy; leave = it.leave; say = it.say; named = it.name; in_time = it.in_time }) 1 (omega arith) second_fewest
 

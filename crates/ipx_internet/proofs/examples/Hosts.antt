@@ -1,7 +1,7 @@
 -- Two routers on one segment, 20h. A host on 10h announces a file server, as `Servers` plays it: what both routers have then is as they may know
 -- it, one and two hops away. Another host, on 20h, is heard by the first router alone: then the second one hasn't got it, though it has a port
 -- on 20h too, since a router doesn't tell of a service where it learned it.
-use Rattle.std.proofs.Common.{◌≡◌, refl, sym, ◌∙◌, subst, ◌⊎◌, ℕ, zero, suc, ◌<◌, List, [], ◌∷◌, inl, inr, Some, Ok, arith, true, false, ap, slice_get, slice_index_or}
+use Rattle.std.proofs.Common.{◌≡◌, refl, sym, ◌∙◌, subst, ◌⊎◌, ℕ, zero, suc, ◌<◌, List, [], ◌∷◌, inl, inr, Some, Ok, arith, true, false, ap, slice_get}
 use Rattle.std.specs.List.{AllByRecursion}
 use Rattle.ipx_wire.specs.Address.{address_bytes, address_at}
 use Rattle.ipx_wire.specs.Crossed.{network_bytes, network_at}
@@ -15,7 +15,6 @@ use Rattle.ipx_wire.specs.Sap.{sap_of}
 use Rattle.ipx_wire.specs.SapEntries.{sap_entry_at}
 use Rattle.ipx_wire.specs.WriteServices.{service_bytes, entry_of, sap_packet, sap_packet_parts}
 use Rattle.ipx_wire.specs.declared.address.Address.{Address}
-use Rattle.ipx_wire.specs.declared.node.Node.{Node}
 use Rattle.ipx_wire.specs.declared.sap.Sap.TheVariants.{Response}
 use Rattle.ipx_router.specs.Facts.{services_held, offers}
 use Rattle.ipx_router.specs.Heard.{Heard, HeardSap}
@@ -24,10 +23,10 @@ use Rattle.ipx_router.specs.Port.{is_local, own_services, every_server}
 use Rattle.ipx_router.proofs.bytes.ReadInOneWay.{one_read}
 use Rattle.ipx_router.specs.declared.service_offer.ServiceOffer.{ServiceOffer}
 use Rattle.ipx_internet.specs.Announces.{AsksApart, service_of}
-use Rattle.ipx_internet.specs.Internet.{ports_of, port_of}
+use Rattle.ipx_internet.specs.Internet.{ports_of}
 use Rattle.ipx_internet.specs.Meanwhile.{message_of, LeavesPorts, SaysOnly, IsBusyTick}
 use Rattle.ipx_internet.specs.Queue.{history_of}
-use Rattle.ipx_internet.specs.Regular.{HasRoomFor, HostsApart, IsListedName, HeardInTicks}
+use Rattle.ipx_internet.specs.Regular.{HasRoomFor, HaveOneVoice, IsListedName, HeardInTicks}
 use Rattle.ipx_internet.specs.Run.{Step, Happens, Settles, Run, begun, run_of}
 use Rattle.ipx_internet.specs.Servers.{Announcer, NamesOnly, Server, at_hops, IsAnnouncedOn, IsSilentOf, SaysAsAnnounced, IsForHere, SaysNoFalse, IsServed, announced, passed_on, IsAway, beside}
 use Rattle.ipx_internet.specs.Ticks.{seconds_of, ups}
@@ -137,7 +136,7 @@ first_may = announced refl is_announced
 pub second_may : IsServed segment (ups segment start.histories) (server 0x10) 1 (offer 0x10 2 0 2)
 second_may = passed_on (at 0 1) (offer 0x10 1 0 0xAA) (λ e. absurd (omega (arith, e))) refl refl refl refl refl (omega arith) first_may
 
--- ---- the host is heard, apart, and there is room
+-- ---- the host is heard, with one number of hops, and there is room
 
 abbrev pub names : List (ℕ × List ℕ)
 names = (4, 0x46 ∷ []) ∷ []
@@ -153,29 +152,12 @@ pub is_heard : HeardInTicks segment 8 8 (server 0x10) (at 0 0) (record { network
 unfolding header_bytes address_bytes network_bytes service_bytes name_field packet_of header_at address_at items network_at entry_bytes entry_at rip_of sap_of sap_entry_at name_of
 is_heard = inr (inl (refl, refl, HeardSap (own_services (port_on 0x10 0xAA)) (Response false (entry_of (at_hops (server 0x10) 1) ∷ [])), refl, (refl, 0, refl)))
 
--- the last byte of a node
-abbrev last : Node → ℕ
-last n = slice_index_or n.0 5 0
-
-other_node : (router port : ℕ) → last (port_of segment (at router port)).node ≡ 0xAA → ⊥
-other_node zero zero e = absurd (omega (arith, e))
-other_node zero (suc zero) e = absurd (omega (arith, e))
-other_node zero (suc (suc port)) e = absurd (omega (arith, e))
-other_node (suc zero) zero e = absurd (omega (arith, e))
-other_node (suc zero) (suc zero) e = absurd (omega (arith, e))
-other_node (suc zero) (suc (suc port)) e = absurd (omega (arith, e))
-other_node (suc (suc router)) port e = absurd (omega (arith, e))
-
 pub the_host : (which : ℕ) (host : Announcer) → slice_get (server 0x10).announcers which ≡ Some host → host ≡ record { network = network 0x10; node = node 0xAA; hops = 1 }
 the_host zero host e = it_is (λ (h : Announcer). h ≡ record { network = network 0x10; node = node 0xAA; hops = 1 }) host (record { network = network 0x10; node = node 0xAA; hops = 1 }) e refl
 the_host (suc which) host e = nothing e
 
-pub apart : HostsApart segment (server 0x10)
-apart = record {
-  from_routers = λ which host place e network same.
-      other_node place.router place.port (ap last same ∙ ap (λ (h : Announcer). last h.node) (the_host which host e));
-  one_voice = λ a b host other one two network node. ap (λ (h : Announcer). h.hops) (the_host a host one) ∙ sym (ap (λ (h : Announcer). h.hops) (the_host b other two));
-}
+pub one_voice : HaveOneVoice (server 0x10)
+one_voice a b host other one two network node = ap (λ (h : Announcer). h.hops) (the_host a host one) ∙ sym (ap (λ (h : Announcer). h.hops) (the_host b other two))
 
 -- ---- the host on 20h is heard by the first router alone
 

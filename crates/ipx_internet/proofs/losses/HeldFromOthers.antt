@@ -59,7 +59,7 @@ module _ (ports : List Port) (up : List ℕ) (number : ℕ) where
           absurd (true≢false (rw other at no_other))
     ]
 
-    heard_other : (source_of m).node ≢ port.node
+    pub heard_other : (source_of m).node ≢ port.node
     heard_other same =
         let source = near_source port came.packet m came.near in
         let itself : same_node came.packet.header.source.node port.node ≡ true =

@@ -11,7 +11,7 @@ use Rattle.ipx_internet.specs.Internet.{Internet, Place, IsInternet, NodesDiffer
 use Rattle.ipx_internet.specs.Least.{most_ticks_right}
 use Rattle.ipx_internet.specs.Meanwhile.{LeavesPorts, SaysOnly, IsBusyTick, EachTick}
 use Rattle.ipx_internet.specs.Queue.{history_of}
-use Rattle.ipx_internet.specs.Regular.{HostsApart, HasRoomFor, IsListedName, AreInTime}
+use Rattle.ipx_internet.specs.Regular.{HasRoomFor, IsListedName, AreInTime}
 use Rattle.ipx_internet.specs.Run.{Step, Run}
 use Rattle.ipx_internet.specs.Servers.{Announcer, Server, at_hops, known_of, SaysNoFalse, NamesOnly, IsAway, beside, IsFewest}
 use Rattle.ipx_internet.specs.Ticks.{ticked, most_ticks_gone}
@@ -21,6 +21,7 @@ use Rattle.ipx_internet.proofs.services.FewestHops.{no_nearer}
 use Rattle.ipx_internet.proofs.services.HeardAtAStep.{HeardWithinTicks, outside_ticks, AtEach, at_each_all, each_tick_all}
 use Rattle.ipx_internet.proofs.services.HeardInAMinute.{G, known_right}
 use Rattle.ipx_internet.proofs.services.HostTickAfterTick.{Rests, ticks_rest}
+use Rattle.ipx_internet.proofs.services.HostsApart.{HostsApart}
 use Rattle.ipx_internet.proofs.services.NearestHost.{SaidBy}
 use Rattle.ipx_internet.proofs.tables.TablesAreRight.{parts_of, ticked_on}
 
@@ -30,7 +31,7 @@ parted P [] ys all = (tt, all)
 parted P (x ∷ xs) ys all = let rest = parted P xs ys all.1 in ((all.0, rest.0), rest.1)
 
 module _ (net : Internet) (laws : Layouts) (is : IsInternet net) (most_routes most_services : ℕ) (up : ℕ → List ℕ) (server : Server)
-    (names : List (ℕ × List ℕ)) (apart : HostsApart net server)
+    (names : List (ℕ × List ℕ)) (apart : HostsApart net up server)
     (in_ports : (router : ℕ) → AllByRecursion (λ j. j < length (ports_of net router)) (up router)) (room : HasRoomFor net most_services names) (listed : IsListedName names (server.kind, server.name))
     (place : Place) (inside : place.router < length net) (which : ℕ) (host : Announcer) (announces : slice_get server.announcers which ≡ Some host)
     (reached : host.hops < unreachable) (network : network_of net place ≡ host.network) (on : is_up (up place.router) place.port ≡ true)

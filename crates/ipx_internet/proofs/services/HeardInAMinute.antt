@@ -23,7 +23,7 @@ use Rattle.ipx_router.proofs.tables.OffersOfAMessage.{facts_from-more}
 use Rattle.ipx_internet.specs.Internet.{Internet, Place, IsInternet, NodesDiffer, ports_of}
 use Rattle.ipx_internet.specs.Meanwhile.{LeavesPorts, SaysOnly, IsBusyTick, EachTick}
 use Rattle.ipx_internet.specs.Queue.{history_of, with_event}
-use Rattle.ipx_internet.specs.Regular.{HostsApart, HasRoomFor, Announces}
+use Rattle.ipx_internet.specs.Regular.{HasRoomFor, Announces}
 use Rattle.ipx_internet.specs.Log.{Reception}
 use Rattle.ipx_internet.specs.Run.{Step, Happens, Settles, IsStep, Run, Waiting, forgotten, stepped, run_of}
 use Rattle.ipx_internet.specs.Servers.{Announcer, Server, at_hops, known_of, SaysNoFalse, NamesOnly, IsFewest}
@@ -39,6 +39,7 @@ use Rattle.ipx_internet.proofs.records.KeptOrOffered.{OffersOf, among_alive}
 use Rattle.ipx_internet.proofs.services.ExactWords.{one_name, Words, NearerRight, exact}
 use Rattle.ipx_internet.proofs.services.HeardAtAStep.{Hears, FirstHears, IsHeardAt, HeardWithin, HeardWithinTicks, AtEach, at_first}
 use Rattle.ipx_internet.proofs.services.HostTickAfterTick.{Going, Rests, begins, step_goes, tick_rests, ticks_rest, outside_waits}
+use Rattle.ipx_internet.proofs.services.HostsApart.{HostsApart}
 use Rattle.ipx_internet.proofs.services.NearestHost.{here, Listed, key, shares, Real, host_of, SaidBy, Good, GoodOf, best, steady, Such, real_known, goes_on, place}
 use Rattle.ipx_internet.proofs.services.ServedOrSoonEnded.{Endures, ServiceOld, AreExact}
 use Rattle.ipx_internet.proofs.services.SpokenOfAServer.{EntrySaid, Told, Waits}
@@ -46,7 +47,7 @@ use Rattle.ipx_internet.proofs.ticks.BusyTickAfterTick.{own_seconds}
 use Rattle.ipx_internet.proofs.ticks.TickAfterTick.{second_there}
 
 module _ (net : Internet) (laws : Layouts) (is : IsInternet net) (most_routes most_services : ℕ) (up : ℕ → List ℕ) (server : Server)
-    (names : List (ℕ × List ℕ)) (r : ℕ) (apart : HostsApart net server)
+    (names : List (ℕ × List ℕ)) (r : ℕ) (apart : HostsApart net up server)
     (in_ports : (router : ℕ) → AllByRecursion (λ j. j < length (ports_of net router)) (up router)) (hops : ℕ) (reached : hops < unreachable)
     (unlike : (router less : ℕ) → hops ≡ suc less → IsFewest net up server router less → NodesDiffer net) (fewest : IsFewest net up server r hops)
     (room : HasRoomFor net most_services names) (inside : r < length net)

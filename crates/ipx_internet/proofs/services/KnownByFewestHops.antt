@@ -12,7 +12,7 @@ use Rattle.ipx_router.specs.declared.service_offer.ServiceOffer.{ServiceOffer}
 use Rattle.ipx_internet.specs.Internet.{Internet, Place, IsInternet, NodesDiffer, ports_of, port_of, network_of}
 use Rattle.ipx_internet.specs.Meanwhile.{LeavesPorts, SaysOnly, IsBusyTick, EachTick}
 use Rattle.ipx_internet.specs.Queue.{history_of}
-use Rattle.ipx_internet.specs.Regular.{HostsApart, HasRoomFor, IsListedName, AreInTime, most_ticks_known, NoneNearer}
+use Rattle.ipx_internet.specs.Regular.{HasRoomFor, IsListedName, AreInTime, most_ticks_known, NoneNearer}
 use Rattle.ipx_internet.specs.Run.{Step, Run}
 use Rattle.ipx_internet.specs.Servers.{Server, at_hops, known_of, SaysNoFalse, NamesOnly, IsAway, beside, beyond, IsFewest}
 use Rattle.ipx_internet.specs.Ticks.{ticked, most_ticks_gone}
@@ -24,6 +24,7 @@ use Rattle.ipx_internet.proofs.services.FewestHops.{Link, neighbour, no_nearer}
 use Rattle.ipx_internet.proofs.services.HeardAtAStep.{HeardWithinTicks, outside_ticks, AtEach, at_each_then, at_each_of, each_tick_then}
 use Rattle.ipx_internet.proofs.services.HeardInAMinute.{G, known_right, known_each}
 use Rattle.ipx_internet.proofs.services.HostTickAfterTick.{Rests, ticks_rest}
+use Rattle.ipx_internet.proofs.services.HostsApart.{HostsApart}
 use Rattle.ipx_internet.proofs.services.NearerIsHeard.{neighbour_heard}
 use Rattle.ipx_internet.proofs.services.NearestHost.{SaidBy}
 use Rattle.ipx_internet.proofs.tables.TablesAreRight.{parts_of, ticked_on}
@@ -56,7 +57,7 @@ module _ (net : Internet) (up : ℕ → List ℕ) (server : Server) where
   }
 
 module _ (net : Internet) (laws : Layouts) (is : IsInternet net) (most_routes most_services : ℕ) (up : ℕ → List ℕ) (server : Server)
-    (names : List (ℕ × List ℕ)) (apart : HostsApart net server) (differ : NodesDiffer net)
+    (names : List (ℕ × List ℕ)) (apart : HostsApart net up server) (differ : NodesDiffer net)
     (in_ports : (router : ℕ) → AllByRecursion (λ j. j < length (ports_of net router)) (up router)) (room : HasRoomFor net most_services names)
     (listed : IsListedName names (server.kind, server.name)) (nearest : ℕ) (least : NoneNearer server nearest)
     (start : Run) (rests : Rests net laws is most_routes most_services up server (IsListedName names) 0 start) where

@@ -21,7 +21,7 @@ use Rattle.ipx_router.proofs.lists.EachElement.{all_both}
 use Rattle.ipx_internet.specs.Announces.{service_of}
 use Rattle.ipx_internet.specs.Internet.{Internet, Place, NodesDiffer, IsPlace, ports_of, port_of, network_of}
 use Rattle.ipx_internet.specs.Least.{Way}
-use Rattle.ipx_internet.specs.Regular.{HostsApart, HasRoomFor, IsListedName}
+use Rattle.ipx_internet.specs.Regular.{HasRoomFor, IsListedName}
 use Rattle.ipx_internet.specs.Servers.{Announcer, Server, IsOf, at_hops, IsAnnouncedOn, IsServed, IsFewest}
 use Rattle.ipx_internet.specs.Ticks.{most_ticks_gone}
 use Rattle.ipx_internet.proofs.lists.EachElement.{all_then, all_mapped, all_at, holds_of}
@@ -31,6 +31,7 @@ use Rattle.ipx_internet.proofs.records.KeysHaveRoom.{AreSingle, admits, replaces
 use Rattle.ipx_internet.proofs.records.RecordsGrowOld.{IsOld, IsNear, near_young, after_offers}
 use Rattle.ipx_internet.proofs.services.ExactWords.{one_name, Words}
 use Rattle.ipx_internet.proofs.services.FewestHops.{Link, PassedOn, of_fewest}
+use Rattle.ipx_internet.proofs.services.HostsApart.{HostsApart}
 use Rattle.ipx_internet.proofs.services.ServedOrSoonEnded.{Fine, ServicesAged, ServiceOld}
 use Rattle.ipx_internet.proofs.services.ServicesBecomeReal.{has_way}
 use Rattle.ipx_internet.proofs.services.SpokenOfAServer.{EntrySaid, Who}
@@ -50,7 +51,7 @@ no_worse a b less = elim (cases_Bool (is_gt (rank_order (a, 0) (b, 0)))) [
   | inl e ↦ absurd (worse (as_way a) (as_way b) e (record { ticks = less; hops = λ same. omega arith }))
 ]
 
-module _ (net : Internet) (up : ℕ → List ℕ) (server : Server) (names : List (ℕ × List ℕ)) (most_services r : ℕ) (apart : HostsApart net server)
+module _ (net : Internet) (up : ℕ → List ℕ) (server : Server) (names : List (ℕ × List ℕ)) (most_services r : ℕ) (apart : HostsApart net up server)
     (in_ports : (router : ℕ) → AllByRecursion (λ j. j < length (ports_of net router)) (up router)) (hops : ℕ) (reached : hops < unreachable)
     (unlike : (router less : ℕ) → hops ≡ suc less → IsFewest net up server router less → NodesDiffer net) (fewest : IsFewest net up server r hops) where
   abbrev pub here : ℕ → Place
@@ -213,9 +214,9 @@ module _ (net : Internet) (up : ℕ → List ℕ) (server : Server) (names : Lis
       by_who : SaidBy (g.port, g.node) → Who net up server Listed Says (here number) node (service_of e name) → Good o
       by_who (inl host) (inl announces) = of_host host announces
       by_who (inl host) (inr (from, reaches, from_node, says)) =
-          absurd (apart.from_routers host.which (host_of (g.port, g.node)) from host.listed (sym reaches.network ∙ sym network) (sym from_node ∙ sym source.1))
+          absurd (apart.from_routers host.which (host_of (g.port, g.node)) from host.listed (sym reaches.network ∙ sym network) reaches.on (sym from_node ∙ sym source.1))
       by_who (inr n) (inl announces) =
-          absurd (apart.from_routers announces.which _ n.from announces.listed (sym n.link.network ∙ network) (sym n.node ∙ source.1))
+          absurd (apart.from_routers announces.which _ n.from announces.listed (sym n.link.network ∙ network) n.link.there (sym n.node ∙ source.1))
       by_who (inr n) (inr (from, reaches, from_node, says)) = of_neighbour n from reaches from_node says
 
     honest : IsOf server o.service → (g : ServiceOffer) → Good g → one_source (g.port, g.node) (number, node) ≡ true → Good o

@@ -14,7 +14,7 @@ ghost use Rattle.ipx_internet.specs.Least.{most_ticks_right};
 ghost use Rattle.ipx_internet.specs.Meanwhile.{LeavesPorts, SaysOnly, IsBusyTick, EachTick};
 ghost use Rattle.ipx_internet.specs.Nearest.{LeadsElsewhere, IsAnswered};
 ghost use Rattle.ipx_internet.specs.Queue.{history_of, sends_at};
-ghost use Rattle.ipx_internet.specs.Regular.{HostsApart, HasRoomFor, IsListedName, AreInTime, NoneNearer, most_ticks_known};
+ghost use Rattle.ipx_internet.specs.Regular.{HaveOneVoice, HasRoomFor, IsListedName, AreInTime, NoneNearer, most_ticks_known};
 ghost use Rattle.ipx_internet.specs.Rounds.{IsDelivery};
 ghost use Rattle.ipx_internet.specs.Run.{Step, AreHistories, Run, begun, run_of};
 ghost use Rattle.ipx_internet.specs.Servers.{Announcer, Server, IsOf, at_hops, known_of, SaysNoFalse, NamesOnly, IsServed, IsAway, IsFewest};
@@ -85,13 +85,13 @@ pub fn served()
 /// anything (`whatever_waits`).
 ///
 /// Beside `served` it asks for this. Each host that announces the service is heard in any 60 of these ticks, on every port of its network
-/// that is up. No host has the node of a router's port on its network, and one node on one network says one number of hops. Packets from
-/// outside name listed services alone, this one among them, and every table has room for all that are listed, and so has the share of each
-/// port. The router has a port up on that host's network, and no host says the service with fewer hops.
+/// that is up, and one node on one network says one number of hops. Packets from outside name listed services alone, this one among them,
+/// and every table has room for all that are listed, and so has the share of each port. The router has a port up on that host's network,
+/// and no host says the service with fewer hops.
 pub fn beside()
     ensures has { (net : Internet) (most_routes most_services : ℕ) (server : Server) (names : List (ℕ × List ℕ)) (histories : List History) (ticks : List (List Step))
         (place : Place) (which : ℕ) (host : Announcer)
-        → IsInternet net → AreHistories net histories → HostsApart net server → HasRoomFor net most_services names → IsListedName names (server.kind, server.name)
+        → IsInternet net → AreHistories net histories → HaveOneVoice server → HasRoomFor net most_services names → IsListedName names (server.kind, server.name)
         → EachTick net most_routes most_services (IsBusyTick net most_routes most_services) (begun histories) ticks
         → AllByRecursion (AllByRecursion LeavesPorts) ticks → AllByRecursion (AllByRecursion (SaysNoFalse net server)) ticks
         → AllByRecursion (AllByRecursion (SaysOnly (NamesOnly (IsListedName names)))) ticks
@@ -105,7 +105,7 @@ pub fn beside()
     ensures whatever_waits { (net : Internet) (most_routes most_services : ℕ) (server : Server) (names : List (ℕ × List ℕ)) (run : Run) (first : List Step)
         (ticks : List (List Step)) (place : Place) (which : ℕ) (host : Announcer)
         → IsInternet net → AreHistories net run.histories → AllByRecursion (λ w. IsDelivery net w.delivery) run.waiting
-        → HostsApart net server → HasRoomFor net most_services names → IsListedName names (server.kind, server.name)
+        → HaveOneVoice server → HasRoomFor net most_services names → IsListedName names (server.kind, server.name)
         → EachTick net most_routes most_services (IsBusyTick net most_routes most_services) run (first ∷ ticks)
         → AllByRecursion (AllByRecursion LeavesPorts) (first ∷ ticks) → AllByRecursion (AllByRecursion (SaysNoFalse net server)) ticks
         → AllByRecursion (AllByRecursion (SaysOnly (NamesOnly (IsListedName names)))) ticks
@@ -136,7 +136,7 @@ pub fn everywhere()
     ensures has { (net : Internet) (most_routes most_services : ℕ) (server : Server) (names : List (ℕ × List ℕ)) (nearest : ℕ) (histories : List History) (ticks : List (List Step))
         (router hops : ℕ)
         → IsInternet net → NodesDiffer net → AreHistories net histories
-        → HostsApart net server → HasRoomFor net most_services names → IsListedName names (server.kind, server.name)
+        → HaveOneVoice server → HasRoomFor net most_services names → IsListedName names (server.kind, server.name)
         → NoneNearer server nearest
         → EachTick net most_routes most_services (IsBusyTick net most_routes most_services) (begun histories) ticks
         → AllByRecursion (AllByRecursion LeavesPorts) ticks → AllByRecursion (AllByRecursion (SaysNoFalse net server)) ticks
@@ -149,7 +149,7 @@ pub fn everywhere()
     ensures meanwhile { (net : Internet) (most_routes most_services : ℕ) (server : Server) (names : List (ℕ × List ℕ)) (nearest : ℕ) (histories : List History)
         (ticks : List (List Step)) (steps rest : List Step) (router hops : ℕ)
         → IsInternet net → NodesDiffer net → AreHistories net histories
-        → HostsApart net server → HasRoomFor net most_services names → IsListedName names (server.kind, server.name)
+        → HaveOneVoice server → HasRoomFor net most_services names → IsListedName names (server.kind, server.name)
         → NoneNearer server nearest
         → EachTick net most_routes most_services (IsBusyTick net most_routes most_services) (begun histories) (ticks ++ (steps ++ rest) ∷ [])
         → AllByRecursion (AllByRecursion LeavesPorts) (ticks ++ (steps ++ rest) ∷ [])
@@ -164,7 +164,7 @@ pub fn everywhere()
     ensures whatever_waits { (net : Internet) (most_routes most_services : ℕ) (server : Server) (names : List (ℕ × List ℕ)) (nearest : ℕ) (run : Run) (first : List Step)
         (ticks : List (List Step)) (router hops : ℕ)
         → IsInternet net → NodesDiffer net → AreHistories net run.histories → AllByRecursion (λ w. IsDelivery net w.delivery) run.waiting
-        → HostsApart net server → HasRoomFor net most_services names → IsListedName names (server.kind, server.name)
+        → HaveOneVoice server → HasRoomFor net most_services names → IsListedName names (server.kind, server.name)
         → NoneNearer server nearest
         → EachTick net most_routes most_services (IsBusyTick net most_routes most_services) run (first ∷ ticks)
         → AllByRecursion (AllByRecursion LeavesPorts) (first ∷ ticks) → AllByRecursion (AllByRecursion (SaysNoFalse net server)) ticks
@@ -178,7 +178,7 @@ pub fn everywhere()
     ensures whatever_waits_meanwhile { (net : Internet) (most_routes most_services : ℕ) (server : Server) (names : List (ℕ × List ℕ)) (nearest : ℕ) (run : Run) (first : List Step)
         (ticks : List (List Step)) (steps rest : List Step) (router hops : ℕ)
         → IsInternet net → NodesDiffer net → AreHistories net run.histories → AllByRecursion (λ w. IsDelivery net w.delivery) run.waiting
-        → HostsApart net server → HasRoomFor net most_services names → IsListedName names (server.kind, server.name)
+        → HaveOneVoice server → HasRoomFor net most_services names → IsListedName names (server.kind, server.name)
         → NoneNearer server nearest
         → EachTick net most_routes most_services (IsBusyTick net most_routes most_services) run (first ∷ ticks ++ (steps ++ rest) ∷ [])
         → AllByRecursion (AllByRecursion LeavesPorts) (first ∷ ticks ++ (steps ++ rest) ∷ [])
@@ -207,7 +207,7 @@ pub fn nearest()
     ensures answered { (net : Internet) (most_routes most_services : ℕ) (server : Server) (names : List (ℕ × List ℕ)) (nearest : ℕ) (histories : List History)
         (ticks : List (List Step)) (steps rest : List Step) (hops : ℕ) (place : Place) (source : Address) (bytes : List ℕ)
         → IsInternet net → NodesDiffer net → AreHistories net histories
-        → HostsApart net server → HasRoomFor net most_services names → IsListedName names (server.kind, server.name)
+        → HaveOneVoice server → HasRoomFor net most_services names → IsListedName names (server.kind, server.name)
         → NoneNearer server nearest
         → EachTick net most_routes most_services (IsBusyTick net most_routes most_services) (begun histories) (ticks ++ (steps ++ rest) ∷ [])
         → AllByRecursion (AllByRecursion LeavesPorts) (ticks ++ (steps ++ rest) ∷ [])
@@ -226,7 +226,7 @@ pub fn nearest()
     ensures whatever_waits { (net : Internet) (most_routes most_services : ℕ) (server : Server) (names : List (ℕ × List ℕ)) (nearest : ℕ) (run : Run) (first : List Step)
         (ticks : List (List Step)) (steps rest : List Step) (hops : ℕ) (place : Place) (source : Address) (bytes : List ℕ)
         → IsInternet net → NodesDiffer net → AreHistories net run.histories → AllByRecursion (λ w. IsDelivery net w.delivery) run.waiting
-        → HostsApart net server → HasRoomFor net most_services names → IsListedName names (server.kind, server.name)
+        → HaveOneVoice server → HasRoomFor net most_services names → IsListedName names (server.kind, server.name)
         → NoneNearer server nearest
         → EachTick net most_routes most_services (IsBusyTick net most_routes most_services) run (first ∷ ticks ++ (steps ++ rest) ∷ [])
         → AllByRecursion (AllByRecursion LeavesPorts) (first ∷ ticks ++ (steps ++ rest) ∷ [])

@@ -1,5 +1,6 @@
 use Rattle.std.proofs.Common.{◌≡◌, refl, ◌+◌, [], ◌∷◌, ◌++◌, length, Some, arith}
 use Rattle.std.specs.List.{AllByRecursion}
+use Rattle.std.proofs.lemmas.List.{length-append}
 use Rattle.ipx_router.specs.Facts.{services_held, offers}
 use Rattle.ipx_router.proofs.port_values.PortOfEachNumber.{ports_up-within}
 use Rattle.ipx_internet.specs.Internet.{ports_of}
@@ -14,6 +15,7 @@ use Rattle.ipx_internet.proofs.packets.SentOnOrReply.{Layouts}
 use Rattle.ipx_internet.proofs.services.BesideHosts.{parted}
 use Rattle.ipx_internet.proofs.services.HeardAtAStep.{at_prefix}
 use Rattle.ipx_internet.proofs.services.HostTickAfterTick.{rested, ticks_rest}
+use Rattle.ipx_internet.proofs.services.HostsApart.{hosts_apart}
 use Rattle.ipx_internet.proofs.services.KnownByFewestHops.{known}
 use Rattle.ipx_internet.proofs.services.NearestIsAnswered.{answered}
 use Rattle.ipx_internet.proofs.tables.TablesAreRight.{parts_of}
@@ -43,14 +45,16 @@ layouts c = record {
 }
 
 pub returns-clause-answered : goal.returns-clause-answered
-returns-clause-answered c net most_routes most_services server names nearest histories ticks steps rest hops place source bytes is differ are apart room listed least busy leave say named in_time long inside near fewest kind elsewhere are_bytes heard =
+returns-clause-answered c net most_routes most_services server names nearest histories ticks steps rest hops place source bytes is differ are voice room listed least busy leave say named in_time long inside near fewest kind elsewhere are_bytes heard =
     let start = begun histories in
     let rests = rested net (layouts c) is most_routes most_services (ups net histories) server (IsListedName names) start [] are (λ k within. refl) refl tt tt tt tt in
     let last = ticked net most_routes most_services start ticks in
     let has = at_prefix net most_routes most_services server
     (λ now. known_of server (offers (services_held (ports_of net place.router) most_services (history_of now.histories place.router))) ≡ Some (at_hops server hops))
     last steps rest
-    (known net (layouts c) is most_routes most_services (ups net histories) server names apart differ
+    (known net (layouts c) is most_routes most_services (ups net histories) server names
+    (hosts_apart net most_routes most_services server (ups net histories) start (ticks ++ (steps ++ rest) ∷ []) voice in_time
+    (let count = length-append ticks ((steps ++ rest) ∷ []) in omega (arith, count, long))) differ
     (λ k. ports_up-within (ports_of net k) (history_of histories k)) room listed nearest least start rests hops (omega (arith, near)) ticks (steps ++ rest) long
     (record { busy = busy; leave = leave; say = say; named = named; in_time = in_time }) place.router inside fewest) in
     let ticks_busy = parts_of net most_routes most_services (IsBusyTick net most_routes most_services) start ticks ((steps ++ rest) ∷ []) busy in
@@ -63,7 +67,7 @@ returns-clause-answered c net most_routes most_services server names nearest his
     are_bytes source (length ticks + 0) (omega (arith, long)) last steps rest then_rests ticks_busy.1.0 leaves.1.0 says.1.0 names_say.1.0 has heard
 
 pub returns-clause-whatever_waits : goal.returns-clause-whatever_waits
-returns-clause-whatever_waits c net most_routes most_services server names nearest run first ticks steps rest hops place source bytes is differ are waits apart room listed least busy leave say named in_time long inside near fewest kind elsewhere are_bytes heard =
+returns-clause-whatever_waits c net most_routes most_services server names nearest run first ticks steps rest hops place source bytes is differ are waits voice room listed least busy leave say named in_time long inside near fewest kind elsewhere are_bytes heard =
     let start = run_of net most_routes most_services run first in
     let begins = begins_after net (layouts c) is most_routes most_services run are waits first busy.0 leave.0 in
     let rests = rested net (layouts c) is most_routes most_services (ups net run.histories) server (IsListedName names) start [] begins.are
@@ -72,7 +76,9 @@ returns-clause-whatever_waits c net most_routes most_services server names neare
     let has = at_prefix net most_routes most_services server
     (λ now. known_of server (offers (services_held (ports_of net place.router) most_services (history_of now.histories place.router))) ≡ Some (at_hops server hops))
     last steps rest
-    (known net (layouts c) is most_routes most_services (ups net run.histories) server names apart differ
+    (known net (layouts c) is most_routes most_services (ups net run.histories) server names
+    (hosts_apart net most_routes most_services server (ups net run.histories) start (ticks ++ (steps ++ rest) ∷ []) voice in_time
+    (let count = length-append ticks ((steps ++ rest) ∷ []) in omega (arith, count, long))) differ
     (λ k. ports_up-within (ports_of net k) (history_of run.histories k)) room listed nearest least start rests hops (omega (arith, near)) ticks (steps ++ rest) long
     (record { busy = busy.1; leave = leave.1; say = say; named = named; in_time = in_time }) place.router inside fewest) in
     let ticks_busy = parts_of net most_routes most_services (IsBusyTick net most_routes most_services) start ticks ((steps ++ rest) ∷ []) busy.1 in
