@@ -31,7 +31,7 @@ one, that of the archive in which this lies, or the system's. docs/PICTURES.md s
 `;
 const USAGE = "usage: tools/picture [--after LINE | --trace N | --steps] FILE, or --kept [FOLDER], or --help";
 // Which trace of a story its second picture shows; a story that isn't named has none.
-const SHOWN_TRACES = { ring: 4, "counting-up": 2, forged: 5, "second-wait": 2 };
+const SHOWN_TRACES = { ring: 4, "counting-up": 2, forged: 5, "second-wait": 2, "first-packet": 1 };
 const KIND = /\.(internet|script|pcap)$/;
 // How captures begin that are read.
 const MAGICS = ["d4c3b2a1", "a1b2c3d4", "4d3cb2a1", "a1b23c4d", "0a0d0d0a"];
