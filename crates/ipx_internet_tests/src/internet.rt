@@ -1,5 +1,6 @@
 //! Internets: deliveries one by one, where a packet gets to, and what is refused.
 
+mod first_packet;
 mod lasting;
 mod memory;
 

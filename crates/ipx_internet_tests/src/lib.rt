@@ -4,8 +4,8 @@
 //! are, over what the crates below promise. What a script can show needs no test: see
 //! `tests/internet`.
 //!
-//! - `internet`: several routers, the deliveries between them, and where a packet gets to; with memory refused, and how long a
-//!   route to what is gone may last.
+//! - `internet`: several routers, the deliveries between them, and where a packet gets to; with memory refused, how long a
+//!   route to what is gone may last, and a story from switching on to a client's first packet at the server.
 //! - `messages`: the message of every fault of an internet and of a trace.
 #![tactic(auto)]
 
