@@ -6,12 +6,14 @@ import subprocess
 import tempfile
 import time
 
-from lab import Client, Counts, Gateway, address, free_ports, left_out, packet, reaches, tunnels, until, until_wine_lets_go
+from frames import Station, Udp
+from lab import AGAIN, Client, Counts, Gateway, address, free_ports, left_out, packet, reaches, tunnels, until, until_wine_lets_go
 from players import NETWORK, Player
 from status import Watched
 from systems import SYSTEM, TOP, Windows
 
 DOS = os.path.join(TOP, "tests", "gateway", "dos")
+CARD = bytes.fromhex("020000000BB2")
 MOST = 300  # seconds until a DOSBox is taken for lost
 BETWEEN_LOOKS = 0.2  # seconds, where some are awaited for half a minute
 CONFIGURATION = """[sdl]
@@ -206,6 +208,28 @@ def come_and_go():
     until_wine_lets_go(played_again)
 
 
+def on_one_network():
+    """A real DOSBox is on one network with an emulator's card: its program sends back to the card what that says to it."""
+    wire = Udp()
+    text = f"network {NETWORK:X} 1 1424\nlink dosbox 127.0.0.1:0\nlink qemu-udp 0 {wire.port} raw\n"
+    with Gateway(text) as gate, tempfile.TemporaryDirectory() as folder:
+        while len(gate.lines) < 2:
+            gate.line()
+        own, wire.to = (int(re.search(r" 127\.0\.0\.1:(\d+)", line)[1]) for line in gate.lines[:2])
+        box = DosBox(folder, "reply", own)
+        try:
+            (node,) = until(lambda: told(gate, "comes to"), "it is a client")
+            card = Station(wire, "raw", NETWORK, CARD, gate.nodes[NETWORK])
+
+            def is_back():
+                card.say(address(NETWORK, node, 0x4003), b"to and fro", node=node)
+                return card.hear(lambda it: it[30:] == b"to and fro", AGAIN) is not None
+
+            until(is_back, "REPLY sends back what it gets")
+        finally:
+            box.kill()
+
+
 def answers_pings():
     """A real DOSBox that waits at its prompt answers the gateway's pings, and stays a client."""
     with Watched(tunnels(1)) as gate, tempfile.TemporaryDirectory() as folder:
@@ -229,6 +253,7 @@ def main():
         counts.run(two_dosboxes)
         counts.run(no_room)
         counts.run(come_and_go)
+        counts.run(on_one_network)
         if SYSTEM is Windows:
             left_out("pings that a real DOSBox answers", "the status socket is Linux' own")
         else:
