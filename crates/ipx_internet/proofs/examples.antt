@@ -4,6 +4,7 @@ pub mod Arrivals
 pub mod Asking
 pub mod Branches
 pub mod Changes
+pub mod Crowded
 pub mod Directed
 pub mod Heavy
 pub mod Horizons
