@@ -79,10 +79,10 @@ pub fn served()
     ipx_router::laws::packets();
 }
 
-/// A router beside the nearest of the hosts that announce a service has it, at its address, with that host's hops, from the 2,940th tick
-/// on, whatever it had before: 60 ticks after what routers have of it is true (`served`), the time in which each host is heard once
-/// (`has`). Of two hosts that are as near it is one. Whatever waits when the ticks begin, one tick more is enough, in which hosts may say
-/// anything (`whatever_waits`).
+/// A router beside the nearest of the hosts that announce a service has it, at its address, with that host's hops, fewer than 16, from the
+/// 2,940th tick on, whatever it had before: 60 ticks after what routers have of it is true (`served`), the time in which each host is heard
+/// once (`has`). Of two hosts that are as near it is one. Whatever waits when the ticks begin, one tick more is enough, in which hosts may
+/// say anything (`whatever_waits`).
 ///
 /// Beside `served` it asks for this. Each host that announces the service is heard in any 60 of these ticks, on every port of its network
 /// that is up, and one node on one network says one number of hops. Packets from outside name listed services alone, this one among them,
@@ -125,10 +125,10 @@ pub fn beside()
 }
 
 /// Each router with a way to a service of fewer than 16 hops comes to have the service, at its address and with the fewest hops of all its
-/// ways there, whatever it had before. It has it after 2,880 ticks, in which what is false of it goes (`served`), and 60 for each router on
-/// the way, itself too, where each host says at least `nearest` hops (`has`). From then on it keeps it: it has it at the end of each tick
-/// and after each step in one, so wherever nothing waits (`meanwhile`). Whatever waits when the ticks begin, one tick more is enough, in
-/// which hosts may say anything (`whatever_waits`, `whatever_waits_meanwhile`).
+/// ways there, whatever it had before. It has it after 2,880 ticks, in which what is false of it goes (`served`), 60 for each hop that it has
+/// more than `nearest`, and 60 more, where each host says at least `nearest` hops (`has`). From then on it keeps it: it has it at the end of
+/// each tick and after each step in one, so wherever nothing waits (`meanwhile`). Whatever waits when the ticks begin, one tick more is
+/// enough, in which hosts may say anything (`whatever_waits`, `whatever_waits_meanwhile`).
 ///
 /// It asks for what `beside` asks of hosts and of room, and that ports of two routers on one network have different nodes. Nothing is asked
 /// of costs, nor of how many routers there are. A router without such a way hasn't got the service (`served`, `none`).
