@@ -9,7 +9,7 @@ import sys
 import tempfile
 import time
 
-from lab import EVERYONE, GAME, LIMIT, RIP, Client, Counts, Gateway, address, reaches, tunnels, until
+from lab import EVERYONE, GAME, LIMIT, RIP, Client, Counts, Gateway, address, left_out, reaches, tunnels, until
 from systems import SYSTEM, Windows
 
 UNREACHABLE = 16  # hops
