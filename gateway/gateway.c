@@ -186,6 +186,7 @@ static void let_tunnels_pass(gateway *it, uint64_t passed)
     for (size_t k = 0; k < it->count; k++)
         if (it->networks[k].set->type == LINK_DOSBOX)
             tunnel_second(&it->networks[k]);
+    speakers_second();
     segments_second(it);
     loops_second(it);
 }
@@ -208,14 +209,24 @@ static void let_seconds_pass(gateway *it)
     capture_flush();
 }
 
-/* Milliseconds to the next second; none where something is there already. */
+/* Milliseconds to the next second, or until a client is to be pinged; none where something is there already. */
 static int patience(const gateway *it)
 {
     uint64_t next = it->began + (it->told + 1) * 1000, now = clock_now();
+    int left = now < next ? (int)(next - now) : 0;
     for (size_t k = 0; k < it->cable_count; k++)
         if (cable_has_more(&it->cables[k]))
             return 0;
-    return now < next ? (int)(next - now) : 0;
+    for (size_t k = 0; k < it->count; k++)
+        left = pings_patience(&it->networks[k].pings, left);
+    return left;
+}
+
+/* Pings those whose pings have waited for a narrow line. */
+static void send_pings(gateway *it)
+{
+    for (size_t k = 0; k < it->count; k++)
+        tunnel_ping(&it->networks[k]);
 }
 
 /* Hears a cable, of which `list` tells what is there. */
@@ -248,5 +259,6 @@ void gateway_turn(gateway *it, bool waits)
         status_attend(it, list + of_cables, of_status);
     }
     let_seconds_pass(it);
+    send_pings(it);
     gateway_flush(it);
 }

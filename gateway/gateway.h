@@ -12,6 +12,7 @@
 #include "ipxr_tunnel.h"
 #include "loop.h"
 #include "outgoing.h"
+#include "pings.h"
 #include "roster.h"
 #include "settings.h"
 #include "siphash.h"
@@ -30,7 +31,8 @@ typedef struct network {
     ipxr_tunnel tunnel; /* of DOSBox', where it is one */
     roster roster;       /* and its clients, */
     throttle throttle;   /* within limits, */
-    strangers strangers; /* and who isn't one */
+    strangers strangers; /* and who isn't one; */
+    pings pings;         /* pings that wait for a narrow line; */
     outgoing outgoing;   /* what waits to be sent to clients */
     speaker speaks;      /* all who are there, where it isn't one */
     ipxr_segment *segment; /* of its network's links, where it is one of several; */

@@ -20,15 +20,15 @@ uint64_t limit_ahead(const meter *used)
     return *used > now ? *used - now : 0;
 }
 
-static void move(meter *used, uint64_t nanoseconds, uint64_t most)
-{
-    uint64_t after = limit_ahead(used) + nanoseconds;
-    *used = now + (after < most ? after : most);
-}
-
 void limit_move(meter *used, uint64_t nanoseconds)
 {
-    move(used, nanoseconds, SECOND_NS);
+    *used = now + limit_ahead(used) + nanoseconds;
+}
+
+void limit_hold(meter *used, uint64_t most)
+{
+    if (limit_ahead(used) > most)
+        *used = now + most;
 }
 
 bool limit_has_room(const limit *it, const meter *used, uint32_t count)
@@ -39,7 +39,8 @@ bool limit_has_room(const limit *it, const meter *used, uint32_t count)
 /* (whoever is sent more than may pass owes no more than a second's, or a burst: else he would hear nothing for long) */
 void limit_count(const limit *it, meter *used, uint32_t count)
 {
-    move(used, count * it->between, it->burst > SECOND_NS ? it->burst : SECOND_NS);
+    limit_move(used, count * it->between);
+    limit_hold(used, it->burst > SECOND_NS ? it->burst : SECOND_NS);
 }
 
 bool limit_lets(const limit *it, meter *used, uint32_t count)

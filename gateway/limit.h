@@ -29,9 +29,10 @@ bool limit_has_room(const limit *it, const meter *used, uint32_t count);
 /* Counts some that pass, whether or not there was room for them. */
 void limit_count(const limit *it, meter *used, uint32_t count);
 
-/* Nanoseconds that a meter is ahead of the clock; and moves it so many forward, as far as a second ahead. */
+/* Nanoseconds that a meter is ahead of the clock; moves it so many forward; and takes it back where it is further ahead than so many. */
 uint64_t limit_ahead(const meter *used);
 void limit_move(meter *used, uint64_t nanoseconds);
+void limit_hold(meter *used, uint64_t most);
 
 /* Counts some that pass together, where there is room for all. Returns whether they pass. */
 bool limit_lets(const limit *it, meter *used, uint32_t count);

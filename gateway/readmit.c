@@ -71,6 +71,7 @@ static void take_tunnel(network *on, const network *from)
     on->roster = from->roster;
     on->throttle = from->throttle;
     on->strangers = from->strangers;
+    on->pings = from->pings;
 }
 
 int32_t tunnel_again(gateway *it, network *on)

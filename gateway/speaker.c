@@ -21,6 +21,7 @@ static speaker *new_speaker(const uint8_t host[4])
         return &spare;
     memset(it, 0, sizeof *it);
     memcpy(it->host, host, sizeof it->host);
+    it->line.is_address = true;
     it->next = speakers;
     speakers = it;
     return it;
@@ -38,7 +39,10 @@ speaker *speaker_join(const uint8_t host[4])
 void speaker_leave(speaker *it)
 {
     speaker **at = &speakers;
-    if (--it->clients > 0 || it == &spare)
+    if (--it->clients > 0)
+        return;
+    line_end(&it->line);
+    if (it == &spare)
         return;
     while (*at != it)
         at = &(*at)->next;
@@ -46,10 +50,18 @@ void speaker_leave(speaker *it)
     free(it);
 }
 
+void speakers_second(void)
+{
+    line_second(&spare.line);
+    for (speaker *it = speakers; it != NULL; it = it->next)
+        line_second(&it->line);
+}
+
 static void forget(speaker *it)
 {
     memset(it->said, 0, sizeof it->said);
     memset(it->said_bytes, 0, sizeof it->said_bytes);
+    memset(it->said_more, 0, sizeof it->said_more);
     it->received = it->asked = it->answered = it->handed = it->advertised = 0;
 }
 

@@ -15,7 +15,8 @@ typedef struct speaker {
     uint8_t host[4];
     size_t clients;
     meter said[MOST_LINKS]; /* to the clients of each network, by its number among the gateway's: packets, */
-    meter said_bytes[MOST_LINKS]; /* and bytes */
+    meter said_bytes[MOST_LINKS]; /* bytes, */
+    meter said_more[MOST_LINKS];  /* and packets beyond what is little */
     meter received;   /* by all its clients */
     meter asked;      /* of the router */
     meter answered;   /* by the gateway */
@@ -30,6 +31,9 @@ speaker *speaker_join(const uint8_t host[4]);
 
 /* One fewer has it. */
 void speaker_leave(speaker *it);
+
+/* A second passes for all addresses. */
+void speakers_second(void);
 
 /* What was said from all addresses until now isn't held against anybody. */
 void speakers_forget(void);

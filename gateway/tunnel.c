@@ -31,7 +31,8 @@ int32_t tunnel_open(const gateway *it, network *on)
     ipxr_tunnel_setting set = {.network = on->set->network, .capacity = on->set->clients, .share = on->set->per_address};
     memcpy(set.node, on->node, NODE);
     throttle_set(&on->throttle, on->set, (size_t)(on - it->networks));
-    if (!roster_make(&on->roster, on->set->clients) || !strangers_make(&on->strangers, on->set->strangers, it->key))
+    if (!roster_make(&on->roster, on->set->clients) || !strangers_make(&on->strangers, on->set->strangers, it->key) ||
+        !pings_make(&on->pings, on->set->kilobits > 0 ? on->set->clients : 0))
         return IPXR_OUT_OF_MEMORY;
     return ipxr_tunnel_make(&on->tunnel, &set);
 }
@@ -41,14 +42,23 @@ void tunnel_close(network *on)
     ipxr_tunnel_free(&on->tunnel);
     roster_free(&on->roster);
     strangers_free(&on->strangers);
+    pings_free(&on->pings);
 }
 
 /* ---- Sending ---- */
 
+/* Whether what goes to strangers of a network is limited by a narrow line. */
+static bool are_by_line(const network *on)
+{
+    return on->set->kilobits > 0 && !on->strangers.has_no_limit;
+}
+
 /* Sends a datagram of the gateway's own. */
 static void send_one(network *on, const ipxr_own *own, bool is_client)
 {
-    if (on->set->kilobits > 0)
+    if (!is_client && are_by_line(on))
+        line_send_to_stranger(sizeof own->bytes);
+    else if (on->set->kilobits > 0)
         line_send_own(sizeof own->bytes);
     outgoing_own(on, own->place, own->bytes, sizeof own->bytes, is_client);
     capture_packet(own->bytes, sizeof own->bytes, on->node);
@@ -134,15 +144,32 @@ void tunnel_tell_leaves(network *on, const uint8_t place[NODE])
     events_client(on, place, false);
 }
 
+/* Whether so many datagrams may go to a stranger now. */
+static bool lets_stranger(network *on, const uint8_t place[NODE], uint32_t count)
+{
+    return (!are_by_line(on) || line_lets_strangers()) && strangers_let(&on->strangers, place, count);
+}
+
 /* Pings those again who registered lately and haven't come in, as far as strangers may be answered. */
 static void ping_again(network *on)
 {
     strangers_second(&on->strangers, &on->roster);
     for (size_t k = 0; k < MOST_NEW; k++) {
         const ipxr_own *ping = strangers_due(&on->strangers, k);
-        if (ping != NULL && strangers_let(&on->strangers, ping->place, 1))
+        if (ping != NULL && lets_stranger(on, ping->place, 1))
             send_one(on, ping, false);
     }
+}
+
+/* Pings clients: by a narrow line one after the other, later. */
+static void ping(network *on)
+{
+    ipxr_own own;
+    for (size_t k = 0; ipxr_tunnel_own(&on->tunnel, k, &own) == 0; k++)
+        if (!pings_add(&on->pings, &own))
+            send_one(on, &own, true);
+    if (on->pings.count > 0)
+        pings_pace(&on->pings, line_between_pings(sizeof own.bytes));
 }
 
 void tunnel_second(network *on)
@@ -151,8 +178,15 @@ void tunnel_second(network *on)
     ipxr_tunnel_second(&on->tunnel);
     for (size_t k = 0; ipxr_tunnel_leaver(&on->tunnel, k, place) == 0; k++)
         tunnel_tell_leaves(on, place);
-    send_own(on, true);
+    ping(on);
     ping_again(on);
+}
+
+void tunnel_ping(network *on)
+{
+    const ipxr_own *next;
+    while ((next = pings_due(&on->pings)) != NULL)
+        send_one(on, next, true);
 }
 
 /* ---- Hearing ---- */
@@ -211,7 +245,7 @@ static bool answer_stranger(network *on, const uint8_t place[NODE], bool registe
     ipxr_own last;
     if (count == 0)
         return true;
-    if (!strangers_let(&on->strangers, place, count))
+    if (!lets_stranger(on, place, count))
         return false;
     send_own(on, false);
     if (registers && ipxr_tunnel_own(&on->tunnel, count - 1, &last) == 0 && is_broadcast(last.bytes + AT_TO_NODE))

@@ -14,6 +14,9 @@ void tunnel_hear(gateway *it, network *on, uint8_t *bytes, size_t length, const 
 /* A second passed: who doesn't answer leaves, and who is silent is asked. */
 void tunnel_second(network *on);
 
+/* Pings clients whose pings wait for room on a narrow line, as far as it is time. */
+void tunnel_ping(network *on);
+
 /* Sends a packet of the router's to the client that has a node, or to all. Its bytes stay where they are until gateway_flush. */
 void tunnel_send(network *on, const uint8_t *node, const uint8_t *packet, size_t length);
 

@@ -253,10 +253,10 @@ def an_address_like_a_newcomers():
         assert it.party.until(lambda: newcomer.network, LIMIT), "a newcomer isn't answered"
 
 
-def narrow(it):
-    """The gateway's cards have a line of 1 Mbit/s from now on."""
+def narrow(it, kilobits=1000):
+    """The gateway's cards have a line of 1 Mbit/s from now on, or of so many kilobits a second."""
     for card in "g0", "g1":
-        it.field.gate.run("tc", "qdisc", "add", "dev", card, "root", "tbf", "rate", "1mbit", "burst", "5kb", "latency", "100ms")
+        it.field.gate.run("tc", "qdisc", "add", "dev", card, "root", "tbf", "rate", f"{kilobits}kbit", "burst", "5kb", "latency", "100ms")
 
 
 @played_anew

@@ -179,11 +179,11 @@ class Party:
         assert self.until(lambda: all(it.network for it in self.all), LIMIT), "a registration isn't answered"
         assert self.until(lambda: self.have_all(lambda it: it.met), LIMIT, HELLO), "not everybody hears everybody"
 
-    def play(self, lasts):
-        """They play while something lasts."""
+    def play(self, lasts, apart=0.003):
+        """They play while something lasts; each begins so many seconds behind the one before."""
         began = time.monotonic()
         for k, speaker in enumerate(self.speakers):
-            speaker.due = began + 0.003 * k
+            speaker.due = began + apart * k
         while lasts():
             now = time.monotonic()
             for speaker in self.speakers:

@@ -9,6 +9,7 @@ import dosbox
 import events
 import limits
 import links
+import narrow
 import orders
 import pc
 import probes
@@ -24,8 +25,8 @@ import words
 from lab import left_out
 from systems import SYSTEM, Windows
 
-ALL = (counting, words, siphash, unit, orders, status, events, probes, reloading, tunnel, links, segments, troubles, wires, attacks, limits, dosbox,
-       pc)
+ALL = (counting, words, siphash, unit, orders, status, events, probes, reloading, tunnel, links, segments, troubles, wires, attacks,
+       limits, narrow, dosbox, pc)
 TESTS = {it.__name__: it for it in ALL}
 
 

@@ -1,0 +1,196 @@
+"""Narrow lines that the gateway knows: who plays loses at most 2 %, whatever strangers and other clients do with the line.
+
+It runs in networks of its own (spaces.py), whose cards are as narrow as the configuration says. limits.py has floods by such a line, too.
+"""
+import os
+import sys
+
+from attacks import OTHER_PORT, QUIET, TUNNEL_LINE, Playground, during, figures, flood, none
+from lab import LIMIT, Clock, Counts, left_out, played_anew, until
+from limits import CHAT, FIRST, FLOOD, LONGEST, SECONDS, Crowd, narrow, stands
+from players import MOST_LOST, NETWORK, NUMBERED, Party, Player
+from spaces import GATEWAY, INSIDE, STRANGERS, build_flood, tried_inside
+from systems import SYSTEM
+
+NARROW = 256  # kilobits a second
+LINES = 4  # networks that share a line
+REGISTERS = 250  # strangers a second, of each of them
+PINGED, BETWEEN = 60, 27  # clients that are pinged by such a line, and milliseconds between two of a few pings
+ASKED_AGAIN, WAITS = 5, 4  # seconds after which the library asks who is silent, and for which a ping may wait
+NEWCOMERS = 3  # registrations of one who wants to come in
+LITTLE = 10  # parts of what is lost at most of one speaker, of what all may lose
+
+
+def by_a_line(kilobits, networks=1, below="strangers none\n"):
+    """A configuration of some networks that have one line."""
+    lines = [TUNNEL_LINE.replace(f"network {NETWORK:X}", f"network {NETWORK + k:X}").replace(f":{GATEWAY[1]}", f":{GATEWAY[1] + k}")
+             for k in range(networks)]
+    return "".join(f"{line}line {kilobits}\n{below}" for line in lines)
+
+
+@played_anew
+def strangers_share_a_part():
+    """By a line of 500 kbit/s, half of which three players use, strangers register 250 times a second on each of four networks from forged
+    addresses: the players lose nothing."""
+    with Playground(by_a_line(500, LINES, ""), numbers=(0, 0, 3)) as it:
+        narrow(it, 500)
+        places = {"host": STRANGERS, "hosts": 60000, "first": 3000, "count": REGISTERS * SECONDS}
+        floods = [flood(it.gate, "forged", "register", REGISTERS, port=GATEWAY[1] + k, **places) for k in range(LINES)]
+        lost = it.play(lambda: any([one.lasts() for one in floods]))
+        figures("; ".join(one.end() for one in floods))
+        none(lost)
+
+
+@played_anew
+def a_newcomer_comes_in():
+    """By a line that a client fills, who registers is answered, and comes in."""
+    with Playground(by_a_line(1000, 1, ""), numbers=(0, 0, 2), more=2) as it:
+        with Crowd(it, it.free[0], 1):
+            narrow(it)
+            sent = flood(it.gate, "forged", "chat", 1000, count=1000 * SECONDS, size=LONGEST, host=it.free[0], first=FIRST)
+            newcomer = Player(it.free[1], GATEWAY)
+            it.party.put_in("newcomer", newcomer)
+            for _ in range(NEWCOMERS):
+                newcomer.register()
+                if it.party.until(lambda: newcomer.network and newcomer.pings, 1):
+                    break
+            assert newcomer.network and newcomer.pings, "a newcomer isn't answered"
+            until(lambda: it.party.hear() or it.gate.counted(NETWORK, "clients") == 4, "a newcomer comes in")
+            sent.end()
+
+
+def loses_little(it, lasts, apart):
+    """Plays while something lasts, and waits for what is under way: they lose no more than they may, of no speaker much more."""
+    it.party.begin_again(it.party.all[0].size)
+    it.party.play(lasts, apart)
+    it.party.until(lambda: False, 1)
+    lost = [it.party.not_heard(speaker) for speaker in it.party.speakers]
+    mean = sum(lost) / len(lost)
+    figures(f"lost: {100 * mean:.1f} %, of one {100 * max(lost):.1f} %")
+    none("" if mean <= MOST_LOST and max(lost) <= LITTLE * MOST_LOST else "too much is lost")
+
+
+@played_anew
+def many_addresses(count, kilobits, every, rate, size):
+    """By a line as wide as it says, with many addresses each of which says something now and then, a client says packets of a size."""
+    with Playground(by_a_line(kilobits), numbers=(0, 0, count), more=1, begins=False, program=SYSTEM.delivered) as it:
+        for player in it.party.all:
+            player.register()
+            player.every = every
+            it.party.hear()
+        until(lambda: it.party.hear() or it.gate.counted(NETWORK, "clients") == count, "all clients")
+        with Crowd(it, it.free[0], 1):
+            narrow(it, kilobits)
+            sent = flood(it.gate, "forged", "chat", rate, count=rate * SECONDS, size=size, host=it.free[0], first=FIRST)
+            loses_little(it, sent.lasts, every / count)
+            figures(sent.end())
+
+
+@played_anew
+def few_of_many_speak():
+    """By 5 Mbit/s four of 24 addresses speak, 12 times a second each, beside a client that says 8,000 packets a second: all is heard."""
+    with Playground(by_a_line(5000), numbers=(20, 0, 4), more=1, program=SYSTEM.delivered) as it:
+        for player in it.party.speakers:
+            player.every = 1 / 12
+        with Crowd(it, it.free[0], 1):
+            narrow(it, 5000)
+            stands(it, flood(it.gate, "forged", "chat", FLOOD, count=FLOOD * SECONDS, host=it.free[0], first=FIRST), it.party.all)
+
+
+class Bursts(Player):
+    """A player that says several words at once."""
+
+    WORDS = 20
+
+    def speak(self, now):
+        if now < self.due:
+            return
+        self.due = now + self.every
+        for _ in range(self.WORDS):
+            self.say(NUMBERED, self.said)
+            self.said += 1
+
+
+@played_anew
+def many_words_at_once():
+    """By a line of 1 Mbit/s that has room one player says 20 words at once, and three others 20 a second each: all are heard."""
+    with Playground(by_a_line(1000), numbers=(0, 0, 3), more=1, begins=False) as it:
+        for player in it.party.all:
+            player.every = 1 / 20
+        it.party.put_in("bursts", Bursts(it.free[0], GATEWAY, 1.0))
+        it.party.speakers.append(it.party.all[-1])
+        it.party.enter()
+        narrow(it)
+        none(it.play(during(SECONDS)))
+
+
+@played_anew
+def a_flood_from_a_wide_network():
+    """A client of a network without a line says 8,000 long packets a second to one with a line of 1 Mbit/s: there players lose nothing."""
+    text = f"{by_a_line(1000)}extend {CHAT:X}\nnetwork 20 1 1424 dosbox 0.0.0.0:{OTHER_PORT}\nextend {CHAT:X}\n"
+    with Playground(text, numbers=(0, 0, 2), more=1) as it:
+        there = Party(it.free, (GATEWAY[0], OTHER_PORT), numbers=(1, 0, 0))
+        there.all[0].register()
+        assert there.until(lambda: there.all[0].network and there.all[0].pings, LIMIT), "a registration isn't answered"
+        narrow(it)
+        places = {"host": it.free[0], "first": there.all[0].udp.getsockname()[1], "network": 0x20, "size": LONGEST}
+        sent = flood(it.gate, "forged", "chat", FLOOD, count=FLOOD * SECONDS, port=OTHER_PORT, **places)
+        stands(it, sent, it.party.all, there.hear)
+        assert it.gate.counted(NETWORK, "too much for the line") > 0, it.gate.report()
+        there.close()
+
+
+def pings_of_many():
+    """By a line of 256 kbit/s 60 clients that all answered in one moment are pinged one by one, none later than four seconds."""
+    with Playground(by_a_line(NARROW), numbers=(0, 0, 0), more=1, clock=Clock()) as it:
+        for _ in range(PINGED):
+            player = Player(it.free[0], GATEWAY)
+            it.party.put_in("is pinged", player)
+            player.register()
+            it.party.hear()
+        until(lambda: it.party.hear() or it.gate.counted(NETWORK, "clients") == PINGED, "all clients")
+        first = sum(player.pings for player in it.party.all)
+        it.let_pass(ASKED_AGAIN)
+        for passed, most in (0, 1), (0.1, 1 + 100 // BETWEEN + 1), (WAITS - 0.1, PINGED):
+            it.let_pass(passed)
+            it.party.until(lambda: False, QUIET)
+            count = sum(player.pings for player in it.party.all) - first
+            assert 0 < count <= most, f"{count} pings"
+        assert count == PINGED, f"{count} pings"
+
+
+def many_beside_long_packets():
+    """40 addresses by 1 Mbit/s, beside a client that says 40 long packets a second: they lose nothing."""
+    many_addresses(40, 1000, 6.0, 40, LONGEST)
+
+
+def more_than_are_told_apart():
+    """70 addresses by 20 Mbit/s, more than are told apart, beside a client that says 200 long packets a second: they lose nothing."""
+    many_addresses(70, 20000, 1.0, 200, LONGEST)
+
+
+TESTS = [strangers_share_a_part, a_newcomer_comes_in, many_beside_long_packets, more_than_are_told_apart, few_of_many_speak,
+         many_words_at_once, a_flood_from_a_wide_network, pings_of_many]
+
+
+def inside():
+    """In the network of its own."""
+    counts = Counts()
+    build_flood()
+    for test in TESTS:
+        counts.run(test)
+    print(f"{counts.passed} passed, {counts.failed} failed")
+
+
+def main():
+    if SYSTEM.name != "Linux":
+        left_out("narrow lines", "they are tried on this machine's own system")
+        return Counts()
+    return tried_inside(os.path.realpath(__file__), "narrow lines")
+
+
+if __name__ == "__main__":
+    if sys.argv[1:] == [INSIDE]:
+        inside()
+    else:
+        main()
