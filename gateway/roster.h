@@ -29,6 +29,7 @@ typedef struct member {
     bool is_trusted;  /* whether that needn't answer pings */
     bool is_by_line;  /* whether it is reached by the narrow line */
     meter received, received_bytes, pinged, asked, answered;
+    meter heard;      /* of what others say, without the router */
 } member;
 
 typedef struct roster {

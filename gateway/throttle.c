@@ -20,9 +20,12 @@ enum { ADVERTISEMENTS = 4, ADVERTISEMENTS_AT_ONCE = 32, ROUTES_IN_PACKET = 50, S
 /* So many times a second, and no fewer, what an address' limit is at once. */
 enum { HOUSEHOLD_PART = 8, HOUSEHOLD_AT_ONCE = 2 * BURST };
 
-/* Answers to pings may use so much of the burst that a client receives, or that its address hands to the router; and answers of the gateway
- * to what a client says to it. */
-enum { BURST_WITH_PINGS = BURST / 2, ANSWERS = 2, ANSWERS_AT_ONCE = 8 };
+/* Answers to pings may use so much of the burst that a client receives, or that its address hands to the router; and so much of the former
+ * what an address says too much. Answers of the gateway to what a client says to it. */
+enum { BURST_WITH_PINGS = BURST / 2, BURST_OF_MUCH = BURST - BURST / 4, ANSWERS = 2, ANSWERS_AT_ONCE = 8 };
+
+/* Shares that a client hears a second of those who say little, beside what it receives; and at once, and packets at least. */
+enum { SHARES_HEARD = 2, SHARES_AT_ONCE = HOUSEHOLD + 1, HEARD_AT_ONCE = 4 * BURST };
 
 /* Bytes of a socket; sockets; and the words of routers that ask. */
 enum { SOCKET = 2, PING_SOCKET = 2, SAP_SOCKET = 0x452, RIP_SOCKET = 0x453, RIP_REQUEST = 1, SAP_QUERY = 1, SAP_NEAREST_QUERY = 3 };
@@ -30,6 +33,11 @@ enum { SOCKET = 2, PING_SOCKET = 2, SAP_SOCKET = 0x452, RIP_SOCKET = 0x453, RIP_
 static uint32_t least(uint32_t a, uint32_t b)
 {
     return a < b ? a : b;
+}
+
+static uint32_t most(uint32_t a, uint32_t b)
+{
+    return a > b ? a : b;
 }
 
 /* Packets that advertise as much as a network has shares of the tables. */
@@ -42,8 +50,7 @@ static uint32_t packets_of_shares(const network_setting *set)
 /* Advertisements that may come at once: all that the tables take of a network, twice; where that is little, some more. */
 static uint32_t advertisements_at_once(const network_setting *set)
 {
-    uint32_t twice = 2 * packets_of_shares(set);
-    return twice > ADVERTISEMENTS_AT_ONCE ? twice : ADVERTISEMENTS_AT_ONCE;
+    return most(2 * packets_of_shares(set), ADVERTISEMENTS_AT_ONCE);
 }
 
 /* The limit of bytes with which so many packets a second have room, of any length. */
@@ -60,7 +67,7 @@ static uint32_t pieces(size_t length)
 /* The limits of what all clients of an address receive: half of what may come at once is kept for those who say little. */
 static void set_household(throttle *it, uint32_t household)
 {
-    uint32_t part = household / HOUSEHOLD_PART, burst = part > HOUSEHOLD_AT_ONCE ? part : HOUSEHOLD_AT_ONCE;
+    uint32_t burst = most(household / HOUSEHOLD_PART, HOUSEHOLD_AT_ONCE);
     it->has_household = household > 0;
     if (!it->has_household)
         return;
@@ -79,7 +86,10 @@ void throttle_set(throttle *it, const network_setting *set, size_t number)
     it->advertisements = limit_of(ADVERTISEMENTS, 1, advertisements_at_once(set));
     it->received = limit_of(rate, 1, BURST);
     it->received_bytes = bytes_of(rate);
+    it->received_of_much = limit_of(rate, 1, BURST_OF_MUCH);
     it->received_with_pings = limit_of(rate, 1, BURST_WITH_PINGS);
+    it->heard = limit_of(rate + SHARES_HEARD * share, 1, most(SHARES_AT_ONCE * share, HEARD_AT_ONCE));
+    it->said_more = limit_of(rate, 2, BURST);
     for (uint32_t k = 0; k < HOUSEHOLD; k++) {
         it->said[k] = limit_of(share * (k + 1), 1, share * (k + 1));
         it->said_bytes[k] = bytes_of(share * (k + 1));
@@ -139,14 +149,14 @@ static const limit *of_household(const limit list[HOUSEHOLD], const speaker *fro
 weight throttle_weigh(throttle *it, speaker *from, const uint8_t *packet)
 {
     if (it->is_off || from == NULL)
-        return OF_LITTLE;
+        return OF_ROUTER;
     if (is_of_pings(packet))
         return OF_PINGS;
     uint32_t count = pieces(get16(packet + AT_LENGTH));
     meter *bytes = &from->said_bytes[it->number];
     if (!limit_has_room(of_household(it->said_bytes, from), bytes, count) ||
         !limit_lets(of_household(it->said, from), &from->said[it->number], 1))
-        return OF_MUCH;
+        return limit_lets(&it->said_more, &from->said_more[it->number], 1) ? OF_MORE : OF_MUCH;
     limit_count(of_household(it->said_bytes, from), bytes, count);
     return OF_LITTLE;
 }
@@ -236,18 +246,22 @@ speaker *throttle_brought(const uint8_t *packet)
     return memcmp(packet + AT_FROM_NODE, brought.source, sizeof brought.source) == 0 ? brought.from : NULL;
 }
 
-/* Whether a client has room for what isn't of those who say little. */
-static bool has_room_for_much(const throttle *it, const member *to, weight weighs, uint32_t count)
+/* Whether a client has room for a copy: of those who say little as much as it reads, of others as much as it receives. */
+static bool has_room(const throttle *it, const member *to, weight weighs, uint32_t count)
 {
-    const limit *most = weighs == OF_PINGS ? &it->received_with_pings : &it->received;
-    return limit_has_room(most, &to->received, 1) && limit_has_room(&it->received_bytes, &to->received_bytes, count);
+    const limit *packets = weighs == OF_PINGS ? &it->received_with_pings : weighs == OF_MUCH ? &it->received_of_much : &it->received;
+    if (weighs == OF_ROUTER)
+        return true;
+    if (weighs == OF_LITTLE)
+        return limit_has_room(&it->heard, &to->heard, 1);
+    return limit_has_room(packets, &to->received, 1) && limit_has_room(&it->received_bytes, &to->received_bytes, count);
 }
 
 /* Whether an address has room for a copy for one of its clients. */
 static bool household_has_room(const throttle *it, const member *to, weight weighs)
 {
-    const limit *most = weighs == OF_LITTLE ? &it->household : &it->household_of_much;
-    return !it->has_household || to->is_trusted || limit_has_room(most, &to->speaks->received, 1);
+    const limit *packets = weighs <= OF_LITTLE ? &it->household : &it->household_of_much;
+    return !it->has_household || to->is_trusted || limit_has_room(packets, &to->speaks->received, 1);
 }
 
 reason throttle_receives(throttle *it, member *to, weight weighs, size_t length)
@@ -255,10 +269,12 @@ reason throttle_receives(throttle *it, member *to, weight weighs, size_t length)
     uint32_t count = pieces(length);
     if (it->is_off || to == NULL)
         return REASONS;
-    if (weighs != OF_LITTLE && !has_room_for_much(it, to, weighs, count))
+    if (!has_room(it, to, weighs, count))
         return TOO_MUCH_FOR_CLIENT;
     if (!household_has_room(it, to, weighs))
         return TOO_MUCH_FOR_ADDRESS;
+    if (weighs != OF_ROUTER)
+        limit_count(&it->heard, &to->heard, 1);
     limit_count(&it->received, &to->received, 1);
     limit_count(&it->received_bytes, &to->received_bytes, count);
     if (it->has_household && !to->is_trusted)

@@ -1,7 +1,9 @@
 /* What clients of a tunnel receive and say within limits, so that who floods loses, and not who plays. A client receives so many packets a
  * second. Beyond that it receives only what comes from those who say little: from an address that said no more than its share. An address
- * is one, and has the shares of up to four clients, however many it has. Answers to pings are dropped first. What all clients of an address
- * receive has a limit too: else whoever has many that only listen would make each packet cost a copy for each of them.
+ * is one, and has the shares of up to four clients, however many it has. Of these it receives no more than it can read, so that it hears
+ * pings and stays. What an address says beyond half of what a client receives is dropped before what others say, and answers to pings
+ * first. What all clients of an address receive has a limit too: else whoever has many that only listen would make each packet cost a copy
+ * for each of them.
  *
  * All of this stands behind the library, which has said who is a client and who gets what: who answers the gateway's pings stays, whatever
  * is dropped here. */
@@ -23,9 +25,12 @@ typedef struct throttle {
     size_t number;   /* of the network, among the gateway's */
     limit received;  /* by a client, */
     limit received_bytes; /* of which it keeps no more at once than its system does; */
-    limit received_with_pings; /* beyond which it gets no answers to pings, by the same meter */
+    limit received_of_much;    /* beyond which it gets nothing of an address that says too much, */
+    limit received_with_pings; /* and no answers to pings, by the same meter */
+    limit heard;     /* of those who say little, by a client: no more than it reads */
     limit said[HOUSEHOLD]; /* to its clients, by an address with one client, or two, .., so that it is little, */
-    limit said_bytes[HOUSEHOLD]; /* and no more at once than a client keeps */
+    limit said_bytes[HOUSEHOLD]; /* and no more at once than a client keeps; */
+    limit said_more; /* and beyond that, by an address, so that it isn't too much */
     bool has_household;
     limit household; /* by an address, of all its clients on any network, */
     limit household_of_much; /* beyond which they get nothing but of those who say little, by the same meter */
@@ -41,8 +46,8 @@ typedef struct throttle {
     meter pinged;
 } throttle;
 
-/* What a packet weighs where there is more than a client receives. */
-typedef enum { OF_LITTLE, OF_MUCH, OF_PINGS } weight;
+/* What a packet weighs where there is more than a client receives: who says it, the router or one who says little, more, or too much. */
+typedef enum { OF_ROUTER, OF_LITTLE, OF_MORE, OF_MUCH, OF_PINGS } weight;
 
 /* Sets the limits of a network, by its line and those below it; and its number among the gateway's. */
 void throttle_set(throttle *it, const network_setting *set, size_t number);

@@ -13,7 +13,7 @@ import time
 
 from attacks import LONG_SHARES, OTHER_PORT, QUIET, TUNNEL_LINE, Playground, during, figures, fill, flood, named, none
 from lab import EVERYONE, GAME, LIMIT, SAP, Clock, Counts, address, left_out, packet, played_anew, rip_response, until
-from players import NETWORK, NUMBERED, Party, Player, Slow
+from players import FAST, NETWORK, NUMBERED, Party, Player, Slow
 from spaces import GATEWAY, INSIDE, STRANGERS, build_flood, host, tried_inside
 from systems import SYSTEM
 
@@ -27,6 +27,7 @@ ASKING = 300  # clients of an address that ask the router
 QUESTIONS_AT_ONCE = 4  # of one client
 ADVERTISED, ADVERTISED_AT_ONCE = 4, 32  # packets of an address that tell of routes and services, a second and at once
 PORTS = {NETWORK: GATEWAY[1], 0x20: OTHER_PORT}
+HEARD_AT_ONCE = 256  # packets of those who say little
 LONGEST, LONGEST_AT_ONCE = 1424, 32  # bytes of the longest packet, and how many of these a client receives at once
 HOUSEHOLD = 4  # clients of an address that have a share each
 FLOOD = 8000  # packets a second
@@ -162,6 +163,18 @@ def a_crowd_floods():
         with Crowd(it, it.free[0]):
             sent = flood(it.gate, "forged", "chat", FLOOD, count=FLOOD // 4, host=it.free[0], first=FIRST, ports=CROWD)
             stands(it, sent, it.party.all)
+
+
+@played_anew
+def a_large_household():
+    """Eight players of one address, who say 280 packets a second together, lose nothing while another client says 8,000."""
+    with Playground(numbers=(1, 0, 0), more=2, begins=False) as it:
+        guilty = flooder(it)
+        for _ in range(2 * HOUSEHOLD):
+            it.party.put_in("household", Player(it.free[1], GATEWAY, FAST))
+        it.party.speakers += it.party.all[-2 * HOUSEHOLD:]
+        it.party.enter()
+        stands(it, flood(it.gate, "forged", "chat", FLOOD, count=FLOOD * SECONDS, **place_of(guilty)), it.party.all)
 
 
 @played_anew
@@ -307,6 +320,19 @@ def an_address_is_one():
             it.gate.report()
         lost = [it.gate.counted(network, "too much for the router") for network in PORTS]
         assert lost == [BURST, 2 * BURST], lost
+
+
+def no_more_than_it_reads():
+    """24 clients of six addresses say 50 packets each at once: a client is given 256, and 900 a second later, so it hears pings too."""
+    with Playground(TWO, numbers=(0, 0, 0), more=7, clock=Clock()) as it:
+        listener, *others = come(it, [it.free[0], *it.free[1:] * HOUSEHOLD], [GATEWAY[1]] * (1 + 6 * HOUSEHOLD))
+        for passed, heard in (0, HEARD_AT_ONCE), (0.1, (RATE + 2 * SHARE) // 10):
+            it.let_pass(passed)
+            before = listener.beside
+            for player in others:
+                chatter(it, player, SHARE)
+            it.party.until(lambda: listener.beside - before > heard, QUIET)
+            assert listener.beside - before == heard, f"{listener.beside - before} packets"
 
 
 def chatter(it, player, count):
@@ -493,6 +519,7 @@ TESTS = [
     named("8,000 packets a second come from QEMU's network", floods_from_elsewhere, "frame",
           f"qemu-udp {GATEWAY[0]}:{OTHER_PORT} {host(8)}:{FIRST} raw"),
     a_crowd_floods,
+    a_large_household,
     many_that_listen,
     pings_in_its_name,
     named("with full tables SAP's queries in a player's name, 50 a second", questions_in_its_name, "sap"),
@@ -506,6 +533,7 @@ TESTS = [
     named("by such a line somebody floods one player", a_line_is_shared, "tell", FLOOD, 46, 0),
     an_address_is_one,
     many_at_once_count,
+    no_more_than_it_reads,
     what_an_address_receives,
     long_packets_at_once,
     answers_to_pings_come_last,
