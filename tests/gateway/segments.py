@@ -15,6 +15,7 @@ PC, CARD = bytes.fromhex("020000000AA1"), bytes.fromhex("020000000BB2")
 EVEN = "10.77.0.1"
 TWENTY = 20  # packets at once: fewer than a client's limit
 LASTS = 300  # seconds for which a station is known
+ADVERTISED = 60  # seconds from one advertisement of a router's to the next
 
 
 class Cable(Gateway):
@@ -157,7 +158,7 @@ def the_router_is_a_station():
         for one in it.all:
             assert reaches(one, far) and reaches(far, one)
         for one in it.all:
-            assert one.hear(is_routers) is not None
+            assert one.hear(is_routers, LIMIT + ADVERTISED) is not None
         assert it.next_is(far, tells_far(it.anna, far))
 
 
