@@ -66,7 +66,7 @@ module _ (net : Internet) (laws : Layouts) (is : IsInternet net) (differ : Nodes
       let (h, some, way) = held_with w.v (known x w) (held_first x w ∙ e) in
       let found = known_is net is differ cheap up in_ports most_routes room network suffice x w.v w.off w.least w.wanted most_ticks_gone (omega arith)
       (route_facts (ports_of net x) (history_of histories x)) all_real h some in
-      let (from, is_right) = right_where_least net is differ cheap up in_ports most_routes room network suffice x w.v w.off w.least h.offer found.0.0 found.1 (sym way) in
+      let (from, is_right) = right_where_least net is differ cheap up in_ports most_routes room network suffice x w.v w.off w.least h.offer found.0 found.1 (sym way) in
       (h, from, some, is_right)
     where
       all_real : RealAt net laws is most_routes most_services up x (route_facts (ports_of net x) (history_of histories x))

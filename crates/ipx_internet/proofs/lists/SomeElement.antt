@@ -1,7 +1,7 @@
 -- Lists that have such an element.
-use Rattle.std.proofs.Common.{◌≡◌, refl, sym, ◌⊎◌, ℕ, ◌==◌, Bool, true, false, List, [], ◌∷◌, ◌++◌, map, filter, find, flat_map, Option, None, Some, ap, inl, inr, true≢false}
+use Rattle.std.proofs.Common.{◌≡◌, refl, sym, ◌⊎◌, ℕ, suc, ◌≤◌, ◌==◌, Bool, true, false, List, [], ◌∷◌, ◌++◌, length, map, filter, find, flat_map, Option, None, Some, ap, inl, inr, arith, true≢false}
 use Rattle.std.specs.List.{AllByRecursion, list_any}
-use Rattle.std.proofs.lemmas.Bool.{cases_Bool, or_cases, eqb-true}
+use Rattle.std.proofs.lemmas.Bool.{cases_Bool, or_cases, eqb-true, both_ways}
 use Rattle.ipx_router.specs.Sorted.{put, put_all, sorted}
 use Rattle.ipx_internet.proofs.lists.FoundInAList.{nothing, it_is}
 
@@ -116,6 +116,26 @@ found_with P test (y ∷ ys) x all e = elim (cases_Bool (test y)) [
   | inl passes ↦ it_is (λ z. P z × (test z ≡ true)) x y (rw passes at e) (all.0, passes)
   | inr other ↦ found_with P test ys x all.1 (rw other at e)
 ]
+
+-- where no more than one passes a test, it is the one that is found
+pub only_found : {X : Type 0} (test : X → Bool) (xs : List X) (x : X) → length (filter test xs) ≤ 1 → find test xs ≡ Some x
+    → AllByRecursion (λ y. test y ≡ true → y ≡ x) xs
+only_found test [] x few e = tt
+only_found {X} test (y ∷ ys) x few e = elim (cases_Bool (test y)) [
+  | inl here ↦
+      let less : suc (length (filter test ys)) ≤ 1 = rw here at few in
+      ((λ again. it_is (λ (z : X). y ≡ z) x y (rw here at e) refl), none_pass ys (omega (arith, less)))
+  | inr other ↦ ((λ again. absurd (both_ways (test y) other again)), only_found test ys x (rw other at few) (rw other at e))
+]
+  where
+    none_pass : (zs : List X) → length (filter test zs) ≤ 0 → AllByRecursion (λ z. test z ≡ true → z ≡ x) zs
+    none_pass [] none = tt
+    none_pass (z ∷ zs) none = elim (cases_Bool (test z)) [
+      | inl here ↦
+          let less : suc (length (filter test zs)) ≤ 0 = rw here at none in
+          absurd (omega (arith, less))
+      | inr other ↦ ((λ again. absurd (both_ways (test z) other again)), none_pass zs (rw other at none))
+    ]
 
 -- what is found is in the list
 pub find_any : {X : Type 0} (test : X → Bool) (xs : List X) (x : X) → find test xs ≡ Some x → AnyIs (λ y. y ≡ x) xs

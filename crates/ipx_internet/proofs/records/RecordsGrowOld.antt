@@ -182,10 +182,17 @@ module _ {O K : Type 0} (reading : Reading O K) (order : K → K → Ordering) (
         one h (inl fine) young = inl fine
         one h (inr old) young = inr (omega (arith, old, young))
 
-    -- after that many ticks all of it is fine
-    pub at_last : (had : ℕ) (facts : List (Fact O)) → most_ticks_gone ≤ had → Aged had facts → AllByRecursion Fine (offers (held rules facts))
-    at_last had facts long aged = all_then (IsOldHeld had) Fine (λ o old. one o old.0 old.1) (offers (held rules facts)) (old_held had facts aged)
+    -- after that many ticks all of them are fine
+    pub fine_at_last : (had : ℕ) → most_ticks_gone ≤ had → (facts : List (Fact O)) → Aged had facts → AllByRecursion (λ h. Fine h.offer) (alive_after facts)
+    fine_at_last had long facts aged =
+        all_then (λ h. IsOld had h × IsNear h) (λ h. Fine h.offer) (λ h both. one h both.0 both.1.0 both.1.1) (alive_after facts)
+        (all_both (IsOld had) IsNear (alive_after facts) aged (near_young facts))
       where
-        one : (o : O) → Fine o ⊎ (had ≤ 180 * hops o + 179) → hops o < unreachable → Fine o
-        one o (inl fine) near = fine
-        one o (inr old) near = absurd (omega (arith, old, near, long))
+        one : (h : Held O) → IsOld had h → hops h.offer < unreachable → h.age < lifetime → Fine h.offer
+        one h (inl fine) near young = fine
+        one h (inr old) near young = absurd (omega (arith, old, near, young, long))
+
+    -- so is what is held
+    pub at_last : (had : ℕ) (facts : List (Fact O)) → most_ticks_gone ≤ had → Aged had facts → AllByRecursion Fine (offers (held rules facts))
+    at_last had facts long aged =
+        all_offers Fine (in_order rules.by_key (alive_after facts)) (all_in_order Fine rules.by_key (alive_after facts) (fine_at_last had long facts aged))

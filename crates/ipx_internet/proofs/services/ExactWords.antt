@@ -30,6 +30,7 @@ use Rattle.ipx_internet.specs.Queue.{history_of}
 use Rattle.ipx_internet.specs.Servers.{Server, IsOf, at_hops, known_of, IsFewest}
 use Rattle.ipx_internet.proofs.lists.EachElement.{all_of, all_then, all-filter, all-map, all-flat_map}
 use Rattle.ipx_internet.proofs.lists.FoundInAList.{nothing, it_is, found}
+use Rattle.ipx_internet.proofs.lists.SomeElement.{only_found}
 use Rattle.ipx_internet.proofs.packets.AdvertisedIsHeld.{unless}
 use Rattle.ipx_internet.proofs.records.KeptOrOffered.{among_alive}
 use Rattle.ipx_internet.proofs.records.KeysHaveRoom.{itself}
@@ -55,26 +56,6 @@ one_name a b e = by (nat_cmp a.0 b.0) refl
 all_given : {A X : Type 0} (P : A → X → Type 0) (xs : List X) → ((a : A) → AllByRecursion (P a) xs) → AllByRecursion (λ x. (a : A) → P a x) xs
 all_given P [] all = tt
 all_given P (x ∷ xs) all = ((λ a. (all a).0), all_given P xs (λ a. (all a).1))
-
--- where no more than one passes a test, it is the one that is found
-only_found : {X : Type 0} (test : X → Bool) (xs : List X) (x : X) → length (filter test xs) ≤ 1 → find test xs ≡ Some x
-    → AllByRecursion (λ y. test y ≡ true → y ≡ x) xs
-only_found test [] x few e = tt
-only_found {X} test (y ∷ ys) x few e = elim (cases_Bool (test y)) [
-  | inl here ↦
-      let less : suc (length (filter test ys)) ≤ 1 = rw here at few in
-      ((λ again. it_is (λ (z : X). y ≡ z) x y (rw here at e) refl), none_pass ys (omega (arith, less)))
-  | inr other ↦ ((λ again. absurd (both_ways (test y) other again)), only_found test ys x (rw other at few) (rw other at e))
-]
-  where
-    none_pass : (zs : List X) → length (filter test zs) ≤ 0 → AllByRecursion (λ z. test z ≡ true → z ≡ x) zs
-    none_pass [] none = tt
-    none_pass (z ∷ zs) none = elim (cases_Bool (test z)) [
-      | inl here ↦
-          let less : suc (length (filter test zs)) ≤ 0 = rw here at none in
-          absurd (omega (arith, less))
-      | inr other ↦ ((λ again. absurd (both_ways (test z) other again)), none_pass zs (rw other at none))
-    ]
 
 -- ---- the service is held once
 

@@ -1,6 +1,6 @@
 -- What is best of all that a router may know of a service: what the nearest hosts beside it say, and neighbours that are one hop nearer. There is
 -- room for it.
-use Rattle.std.proofs.Common.{◌≡◌, refl, sym, ap, ap₂, ◌∙◌, subst, ◌⊎◌, ℕ, suc, ◌+◌, ◌*◌, ◌<◌, ◌≤◌, nat_le, true, false, List, [], ◌∷◌, ◌++◌, find, length, map, None, Some, inl, inr, arith, is_eq, slice_get}
+use Rattle.std.proofs.Common.{◌≡◌, refl, sym, ap, ap₂, ◌∙◌, subst, ◌⊎◌, ℕ, suc, ◌*◌, ◌<◌, ◌≤◌, nat_le, true, false, List, [], ◌∷◌, ◌++◌, find, length, map, None, Some, inl, inr, arith, is_eq, slice_get}
 use Rattle.std.specs.List.{AllByRecursion}
 use Rattle.std.specs.Ordering.{is_gt}
 use Rattle.std.proofs.lemmas.Bool.{cases_Bool, cases_eq, leb-true, leb-false}
@@ -17,7 +17,6 @@ use Rattle.ipx_router.specs.Port.{broadcast, is_up}
 use Rattle.ipx_router.specs.Services.{service_reading, service_order}
 use Rattle.ipx_router.specs.declared.service_offer.ServiceOffer.{ServiceOffer}
 use Rattle.ipx_router.proofs.bounds.PacketsOfEachEvent.{service_total}
-use Rattle.ipx_router.proofs.lists.EachElement.{all_both}
 use Rattle.ipx_internet.specs.Announces.{service_of}
 use Rattle.ipx_internet.specs.Internet.{Internet, Place, NodesDiffer, IsPlace, ports_of, port_of, network_of}
 use Rattle.ipx_internet.specs.Least.{Way}
@@ -28,7 +27,7 @@ use Rattle.ipx_internet.proofs.lists.EachElement.{all_then, all_mapped, all_at, 
 use Rattle.ipx_internet.proofs.lists.SomeElement.{found_with}
 use Rattle.ipx_internet.proofs.records.BestIsKept.{AreBest, IsSteady, HasPlace, records, known}
 use Rattle.ipx_internet.proofs.records.KeysHaveRoom.{AreSingle, admits, replaces}
-use Rattle.ipx_internet.proofs.records.RecordsGrowOld.{IsOld, IsNear, near_young, after_offers}
+use Rattle.ipx_internet.proofs.records.RecordsGrowOld.{fine_at_last, after_offers}
 use Rattle.ipx_internet.proofs.services.ExactWords.{one_name, Words}
 use Rattle.ipx_internet.proofs.services.FewestHops.{Link, PassedOn, of_fewest}
 use Rattle.ipx_internet.proofs.services.HostsApart.{HostsApart}
@@ -248,15 +247,7 @@ module _ (net : Internet) (up : ℕ → List ℕ) (server : Server) (names : Lis
     F = Fine net up server Listed most_services r
 
     all_fine : (facts : List (Fact ServiceOffer)) → Such facts → AllByRecursion (λ h. F h.offer) (Facts facts)
-    all_fine facts aged =
-        all_then (λ h. IsOld service_reading service_order service_total most_services shares (λ s. s.service.hops) (λ s. refl) F had h
-        × IsNear service_reading service_order service_total most_services shares (λ s. s.service.hops) (λ s. refl) h)
-        (λ h. F h.offer) (λ h both. one h both.0 both.1.0 both.1.1) (Facts facts)
-        (all_both _ _ (Facts facts) aged (near_young service_reading service_order service_total most_services shares (λ s. s.service.hops) (λ s. refl) facts))
-      where
-        one : (h : Held ServiceOffer) → F h.offer ⊎ (had ≤ 180 * h.offer.service.hops + h.age) → h.offer.service.hops < unreachable → h.age < 180 → F h.offer
-        one h (inl fine) near young = fine
-        one h (inr old) near young = absurd (omega (arith, old, near, young, long))
+    all_fine = fine_at_last service_reading service_order service_total most_services shares (λ s. s.service.hops) (λ s. refl) F had long
 
     pub real_known : (facts : List (Fact ServiceOffer)) → Such facts → (h : Held ServiceOffer)
         → known service_reading service_order service_total most_services shares key (λ k. one_name k key) Real GoodOf facts ≡ Some h → Real h.offer

@@ -1,8 +1,7 @@
 -- What a table keeps of the network after the entries of one packet: an instance of what any table keeps of the best offers of a key.
-use Rattle.std.proofs.Common.{◌≡◌, ◌≢◌, refl, sym, subst, ◌⊎◌, ℕ, ◌+◌, ◌*◌, ◌<◌, ◌≤◌, true, false, List, [], ◌∷◌, ◌++◌, length, Option, Some, inl, inr, arith, is_eq}
+use Rattle.std.proofs.Common.{◌≡◌, ◌≢◌, refl, sym, subst, ℕ, ◌<◌, ◌≤◌, true, false, List, [], ◌∷◌, ◌++◌, length, Option, Some, inl, inr, is_eq}
 use Rattle.std.specs.List.{AllByRecursion}
 use Rattle.std.proofs.lemmas.Bool.{cases_Bool, leb-false}
-use Rattle.ipx_table.specs.Alive.{lifetime}
 use Rattle.ipx_table.specs.Facts.{Fact, Offered}
 use Rattle.ipx_table.specs.declared.held.Held.{Held}
 use Rattle.ipx_table.proofs.Living.{kept}
@@ -15,16 +14,15 @@ use Rattle.ipx_router.specs.Port.{Port, takes_no_route}
 use Rattle.ipx_router.specs.Routes.{route_rules, route_reading, network_order}
 use Rattle.ipx_router.specs.declared.route_offer.RouteOffer.{RouteOffer}
 use Rattle.ipx_router.proofs.bounds.PacketsOfEachEvent.{network_total}
-use Rattle.ipx_router.proofs.lists.EachElement.{all_both}
 use Rattle.ipx_internet.specs.Internet.{Internet, Place, IsInternet, NodesDiffer, ports_of, port_of}
 use Rattle.ipx_internet.specs.Least.{Way, is_on, AreCheap, HasRoom, FifteenSuffice}
 use Rattle.ipx_internet.specs.Real.{IsReal}
 use Rattle.ipx_internet.specs.Ticks.{most_ticks_gone}
-use Rattle.ipx_internet.proofs.lists.EachElement.{all_then, all_of}
+use Rattle.ipx_internet.proofs.lists.EachElement.{all_of}
 use Rattle.ipx_internet.proofs.lists.SomeElement.{AnyIs, found_with}
 use Rattle.ipx_internet.proofs.records.BestIsKept.{AreBest, HasPlace, State, Comes, records as records_of, known as known_of, offers_keep, offers_come, offers_any}
 use Rattle.ipx_internet.proofs.records.KeptOrOffered.{OffersOf}
-use Rattle.ipx_internet.proofs.records.RecordsGrowOld.{Aged, IsOld, IsNear, near_young, after_offers}
+use Rattle.ipx_internet.proofs.records.RecordsGrowOld.{Aged, fine_at_last, after_offers}
 use Rattle.ipx_internet.proofs.tables.GoodRoutesStay.{Right, right_offer, shares, one, best, steady, place}
 use Rattle.ipx_internet.proofs.tables.LeastWays.{IsNeighbour, within}
 use Rattle.ipx_internet.proofs.tables.NoRouteIsBetter.{Source}
@@ -62,24 +60,14 @@ module _ (net : Internet) (is : IsInternet net) (differ : NodesDiffer net) (chea
   abbrev pub StateOf : (Place → ℕ → Type 0) → (Place → ℕ → Type 0) → Type 0 → (RouteOffer → Type 0) → Option (Held RouteOffer) → Type 0
   StateOf = State route_reading network_order network_total most_routes ss network to_it RealOf RightOf
 
-  -- after so many ticks each route is of a real way, and none is old
-  pub all_real : (had : ℕ) → most_ticks_gone ≤ had → (facts : List (Fact RouteOffer)) → RoutesAged had facts
-      → AllByRecursion (λ h. RealOf h.offer × (h.age < lifetime)) (records facts)
-  all_real had long facts aged =
-      all_then (λ h. IsOld route_reading network_order network_total most_routes ss (λ r. r.hops) (λ r. refl) RealOf had h
-      × IsNear route_reading network_order network_total most_routes ss (λ r. r.hops) (λ r. refl) h)
-      (λ h. RealOf h.offer × (h.age < lifetime)) (λ h both. (one_real h both.0 both.1.0 both.1.1, both.1.1)) (records facts)
-      (all_both _ _ (records facts) aged (near_young route_reading network_order network_total most_routes ss (λ r. r.hops) (λ r. refl) facts))
-    where
-      one_real : (h : Held RouteOffer) → RealOf h.offer ⊎ (had ≤ 180 * h.offer.hops + h.age) → h.offer.hops < unreachable → h.age < lifetime → RealOf h.offer
-      one_real h (inl real) near young = real
-      one_real h (inr old) near young = absurd (omega (arith, old, near, young, long))
+  -- after so many ticks each route is of a real way
+  all_real : (had : ℕ) → most_ticks_gone ≤ had → (facts : List (Fact RouteOffer)) → RoutesAged had facts → AllByRecursion (λ h. RealOf h.offer) (records facts)
+  all_real = fine_at_last route_reading network_order network_total most_routes ss (λ r. r.hops) (λ r. refl) RealOf
 
   pub known_is : (had : ℕ) → most_ticks_gone ≤ had → (facts : List (Fact RouteOffer)) → RoutesAged had facts → (h : Held RouteOffer) → known facts ≡ Some h
-      → (RealOf h.offer × (h.age < lifetime)) × (h.offer.network ≡ network)
+      → RealOf h.offer × (h.offer.network ≡ network)
   known_is had long facts aged h e =
-      let found = found_with (λ h. RealOf h.offer × (h.age < lifetime)) (λ h. is_eq (network_order h.offer.network network)) (records facts) h
-      (all_real had long facts aged) e in
+      let found = found_with (λ h. RealOf h.offer) (λ h. is_eq (network_order h.offer.network network)) (records facts) h (all_real had long facts aged) e in
       (found.0, to_it h.offer.network found.1)
 
   module _ (had : ℕ) (long : most_ticks_gone ≤ had) (j : ℕ) (from : Place) (neighbour : IsNeighbour net up in_ports router j from) where
@@ -122,7 +110,7 @@ module _ (net : Internet) (is : IsInternet net) (differ : NodesDiffer net) (chea
       Best = best net is differ cheap up in_ports most_routes room network suffice router v off least
 
       real_known : (facts : List (Fact RouteOffer)) → Such facts → (h : Held RouteOffer) → known facts ≡ Some h → RealOf h.offer
-      real_known facts aged h some = (known_is had long facts aged h some).0.0
+      real_known facts aged h some = (known_is had long facts aged h some).0
 
       goes_on : (facts : List (Fact RouteOffer)) (o : RouteOffer) → Such facts → Fit o → Such (facts ++ Offered o ∷ [])
       goes_on facts o aged fit =
@@ -159,7 +147,7 @@ module _ (net : Internet) (is : IsInternet net) (differ : NodesDiffer net) (chea
           has_place facts f o aged =
               place net is differ cheap up in_ports most_routes room network suffice router v off least (records facts)
               (kept (route_rules ports most_routes) (rules_total route_reading network_order network_total most_routes ss) facts).distinct
-              (all_then (λ h. RealOf h.offer × (h.age < lifetime)) (λ h. RealOf h.offer) (λ h both. both.0) (records facts) (all_real had long facts aged)) f o
+              (all_real had long facts aged) f o
 
           among : (es : List RipEntry) → AllByRecursion EntryIs es → AnyIs (λ e. e.network ≡ network) es → AnyIs (OffersOf (RightOf from)) (offered es)
           among [] all any = absurd any

@@ -1,7 +1,7 @@
 -- A router that holds a route of its least way: what it says of the network to its neighbours, and what waits for them.
 use Rattle.std.proofs.Common.{◌≡◌, ◌≢◌, refl, sym, ap, ◌∙◌, subst, ℕ, zero, suc, ◌+◌, ◌*◌, ◌<◌, ◌≤◌, ◌==◌, ◌||◌, nat_lt, true, false, not, List, [], ◌∷◌, length, map, filter, flat_map, find, Option, None, Some, option_map, inl, inr, arith, is_eq}
 use Rattle.std.specs.List.{AllByRecursion}
-use Rattle.std.proofs.lemmas.Bool.{eqb-true, cases_Bool, ne_eqb, eq-eqb, lt-ltb, both_ways, or_right}
+use Rattle.std.proofs.lemmas.Bool.{eqb-true, ne_eqb, eq-eqb, lt-ltb, both_ways, or_right}
 use Rattle.ipx_table.specs.Facts.{Fact}
 use Rattle.ipx_table.specs.declared.held.Held.{Held}
 use Rattle.ipx_table.proofs.Living.{kept}
@@ -27,14 +27,14 @@ use Rattle.ipx_internet.specs.Least.{Way, is_on, way_of, AreCheap, HasRoom, Fift
 use Rattle.ipx_internet.specs.Queue.{Delivery, deliveries_of}
 use Rattle.ipx_internet.specs.Rounds.{IsDelivery}
 use Rattle.ipx_internet.proofs.lists.EachElement.{all_or, all_then, all_of}
-use Rattle.ipx_internet.proofs.lists.FoundInAList.{nothing, it_is}
-use Rattle.ipx_internet.proofs.lists.SomeElement.{any_passes, find_any, AnyIs, any_then, any_and_all, any-map, any-filter, any-flat_map}
+use Rattle.ipx_internet.proofs.lists.FoundInAList.{nothing}
+use Rattle.ipx_internet.proofs.lists.SomeElement.{any_passes, only_found, find_any, AnyIs, any_then, any_and_all, any-map, any-filter, any-flat_map}
 use Rattle.ipx_internet.proofs.packets.PagesReadAgain.{IsRipPage}
 use Rattle.ipx_internet.proofs.packets.SentOnOrReply.{Layouts}
 use Rattle.ipx_internet.proofs.places.OneReceiverOfANode.{one_port, apart_at, port_is}
 use Rattle.ipx_internet.proofs.tables.GoodRoutesStay.{Right, right_way}
 use Rattle.ipx_internet.proofs.tables.LeastRouteSurvives.{StateOf, known, records}
-use Rattle.ipx_internet.proofs.tables.LeastWays.{within, own, own_is, on_or_off, OnOrOff, came, first, none_of_own, few, same_some, is_there, all_places, on_port, port_on}
+use Rattle.ipx_internet.proofs.tables.LeastWays.{within, own, own_is, on_or_off, OnOrOff, came, first, none_of_own, same_some, is_there, all_places, on_port, port_on}
 use Rattle.ipx_internet.proofs.tables.NoRouteIsBetter.{Source, most, elsewhere, there_where_up}
 use Rattle.ipx_internet.proofs.tables.RoomForEachNetwork.{equal_where_same}
 use Rattle.ipx_internet.proofs.tables.SaysItsLeastWay.{IsWord, HasWay, told_words, news_words, told_route, told_direct, Tells}
@@ -222,27 +222,6 @@ module _ (net : Internet) (laws : Layouts) (is : IsInternet net) (differ : Nodes
     }
 
     -- and another one, where it holds a route of its way
-    only_one : (xs : List (Held RouteOffer)) (h : Held RouteOffer) → length (filter (λ x. is_eq (network_order x.offer.network network)) xs) ≤ 1
-        → find (λ x. is_eq (network_order x.offer.network network)) xs ≡ Some h → AllByRecursion (λ x. is_eq (network_order x.offer.network network) ≡ true
-        → x ≡ h) xs
-    only_one [] h few e = tt
-    only_one (x ∷ xs) h few e = elim (cases_Bool (is_eq (network_order x.offer.network network))) [
-      | inl here ↦
-          let less : suc (length (filter (λ x. is_eq (network_order x.offer.network network)) xs)) ≤ 1 = rw here at few in
-          ((λ again. it_is (λ y. x ≡ y) h x (rw here at e) refl), none_pass xs (omega (arith, less)))
-      | inr other ↦ ((λ again. absurd (both_ways (is_eq (network_order x.offer.network network)) other again)), only_one xs h (rw other at few) (rw other at e))
-    ]
-      where
-        none_pass : (ys : List (Held RouteOffer)) → length (filter (λ x. is_eq (network_order x.offer.network network)) ys) ≤ 0
-            → AllByRecursion (λ y. is_eq (network_order y.offer.network network) ≡ true → y ≡ h) ys
-        none_pass [] none = tt
-        none_pass (y ∷ ys) none = elim (cases_Bool (is_eq (network_order y.offer.network network))) [
-          | inl here ↦
-              let less : suc (length (filter (λ x. is_eq (network_order x.offer.network network)) ys)) ≤ 0 = rw here at none in
-              absurd (omega (arith, less))
-          | inr other ↦ ((λ again. absurd (both_ways (is_eq (network_order y.offer.network network)) other again)), none_pass ys (rw other at none))
-        ]
-
     pub knows_off : (router : ℕ) (w : Wants router) (history : History) (h : Held RouteOffer)
         → known_of router w (route_facts (ports_of net router) history) ≡ Some h → h.offer.network ≡ network → way_of h.offer ≡ w.v
         → Knows router w.v (offers (routes_held (ports_of net router) most_routes history))
@@ -277,7 +256,7 @@ module _ (net : Internet) (laws : Layouts) (is : IsInternet net) (differ : Nodes
             ap (λ (y : Held RouteOffer). way_of y.offer) equal ∙ way)
             (records net is differ cheap up in_ports most_routes room network suffice
             router w.v w.off w.least w.wanted (route_facts (ports_of net router) history))
-            (only_one (records net is differ cheap up in_ports most_routes room network suffice
+            (only_found (λ x. is_eq (network_order x.offer.network network)) (records net is differ cheap up in_ports most_routes room network suffice
             router w.v w.off w.least w.wanted (route_facts (ports_of net router) history))
             h distinct some)))
 

@@ -54,7 +54,7 @@ module _ (net : Internet) (laws : Layouts) (is : IsInternet net) (differ : Nodes
           let (h, some, way) = good w in
           let known = known_is net is differ cheap up in_ports most_routes room network suffice router w.v w.off w.least w.wanted had enough
           (route_facts (ports_of net router) history) endures.routes h some in
-          let (from, right) = right_where_least net is differ cheap up in_ports most_routes room network suffice router w.v w.off w.least h.offer known.0.0 known.1 (sym way) in
+          let (from, right) = right_where_least net is differ cheap up in_ports most_routes room network suffice router w.v w.off w.least h.offer known.0 known.1 (sym way) in
           (h, from, some, right)
 
       pub knows : AllKnow net laws is differ cheap up in_ports most_routes most_services room network suffice begun router routes
