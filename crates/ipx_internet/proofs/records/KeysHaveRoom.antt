@@ -10,7 +10,27 @@ use Rattle.ipx_table.specs.declared.held.Held.{Held}
 use Rattle.ipx_table.proofs.Singles.{length-filter, length-filter-filter}
 use Rattle.ipx_internet.proofs.lists.EachElement.{all_passed, all_then, length_parted}
 use Rattle.ipx_internet.proofs.lists.FoundInAList.{nothing, it_is}
-use Rattle.ipx_internet.proofs.tables.RoomForEachNetwork.{left_out, share_of_all}
+
+-- a filter that leaves one out keeps fewer
+left_out : {X : Type 0} (test keep : X → Bool) (x : X) (xs : List X) → find test xs ≡ Some x → keep x ≡ false → length (filter keep xs) < length xs
+left_out test keep x [] is_x out = nothing is_x
+left_out test keep x (y ∷ xs) is_x out = elim (cases_Bool (test y)) [
+  | inl here ↦
+      let goes : keep y ≡ false = it_is (λ z. keep z ≡ false) y x (sym (rw here at is_x)) out in
+      let most = length-filter keep xs in
+      rw goes (omega (arith, most))
+  | inr off ↦
+      let rest = left_out test keep x xs (rw off at is_x) out in
+      elim (cases_Bool (keep y)) [
+        | inl stays ↦ rw stays (omega (arith, rest))
+        | inr goes ↦ rw goes (omega (arith, rest))
+      ]
+]
+
+share_of_all : (n capacity : ℕ) (shares : List ℕ) (port : ℕ) → n ≤ capacity → AllByRecursion (λ s. n ≤ s) shares → n ≤ share_of capacity shares port
+share_of_all n capacity [] port most all = most
+share_of_all n capacity (s ∷ shares) zero most all = all.0
+share_of_all n capacity (s ∷ shares) (suc port) most all = share_of_all n capacity shares port most all.1
 
 -- the key is one of a list
 abbrev pub IsListed : {K : Type 0} → List K → K → Type 0

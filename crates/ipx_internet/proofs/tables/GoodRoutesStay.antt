@@ -22,7 +22,7 @@ use Rattle.ipx_internet.proofs.records.BestIsKept.{AreBest, IsSteady, HasPlace}
 use Rattle.ipx_internet.proofs.records.SameSource.{source_parts}
 use Rattle.ipx_internet.proofs.tables.LeastWays.{NoWorse, few, both_no_worse, same_way, IsNeighbour, within, same_some}
 use Rattle.ipx_internet.proofs.tables.NoRouteIsBetter.{there_where_up, real_way, none_beats, came_from, Source}
-use Rattle.ipx_internet.proofs.tables.RoomForEachNetwork.{same_where_equal, not_worse, worse, has_room, shares as shares_of, may}
+use Rattle.ipx_internet.proofs.tables.RoomForEachNetwork.{same_where_equal, not_worse, worse, has_room, may}
 use Rattle.ipx_internet.proofs.trees.RunIsALog.{router_there}
 
 -- offers with the same fields
@@ -156,10 +156,6 @@ module _ (net : Internet) (is : IsInternet net) (differ : NodesDiffer net) (chea
       let same : o.network ≡ network = ap (λ (r : RouteOffer). r.network) right.same in
       let finds : (n : Network) → Option (Held RouteOffer) = λ n. find (λ h. is_eq (network_order h.offer.network n)) held in
       record {
-        admits = λ none.
-            let none_so = ap finds same ∙ none in
-            let share = shares_of net up there router held (λ x. distinct x) all most_routes room inside o real none_so in
-            let few = has_room net up there router held (λ x. distinct x) all most_routes room inside o real none_so in
-            rw (few, share) refl;
-        replaces = λ h some. may net up there router held (λ x. distinct x) all most_routes room inside o h (ap finds same ∙ some);
+        admits = λ none. has_room net up there router most_routes room inside held distinct all o real (ap finds same ∙ none);
+        replaces = λ h some. may net up there router most_routes room inside held distinct all o h (ap finds same ∙ some);
       }

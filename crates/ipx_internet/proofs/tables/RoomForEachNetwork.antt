@@ -1,28 +1,27 @@
 -- Where every route is of a real way, there is room: no more routes are held than there are networks that the router has no port on; and
 -- which of two routes is worse.
-use Rattle.std.proofs.Common.{◌≡◌, ◌≢◌, refl, sym, ap, ◌∙◌, subst, ℕ, zero, suc, ◌<◌, ◌≤◌, ◌==◌, nat_lt, Bool, true, false, not, List, [], ◌∷◌, length, map, filter, find, flat_map, get_or, None, Some, inl, inr, arith, true≢false, Less, Equal, Greater, is_eq}
+use Rattle.std.proofs.Common.{◌≡◌, refl, sym, ap, ◌∙◌, subst, ℕ, zero, suc, ◌<◌, ◌≤◌, ◌==◌, nat_lt, ◌&&◌, Bool, true, false, not, List, [], ◌∷◌, length, map, filter, find, flat_map, get_or, None, Some, inl, inr, arith, true≢false, Less, Equal, Greater, is_eq}
 use Rattle.std.specs.List.{AllByRecursion, list_any}
 use Rattle.std.specs.Ordering.{nat_cmp, is_gt}
 use Rattle.std.specs.Cmp.{nat_cmp_is}
-use Rattle.std.proofs.lemmas.Bool.{cases_Bool, cases_eq, cases_lt, or_left, or_right, or_cases, eq-eqb, eqb-true, lt-ltb, both_ways}
-use Rattle.std.proofs.lemmas.List.{length-map}
+use Rattle.std.proofs.lemmas.Bool.{cases_Bool, cases_eq, cases_lt, or_left, or_right, or_cases, eq-eqb, eqb-true}
 use Rattle.ipx_table.specs.Accepted.{has_share, may_replace}
-use Rattle.ipx_table.specs.Reading.{count_by, rank_order, share_of}
+use Rattle.ipx_table.specs.Reading.{rank_order}
+use Rattle.ipx_table.specs.Stands.{IsDistinct}
 use Rattle.ipx_table.specs.declared.held.Held.{Held}
-use Rattle.ipx_table.proofs.Singles.{length-filter}
 use Rattle.ipx_wire.specs.Crossed.{is_among}
 use Rattle.ipx_wire.specs.declared.network.Network.{Network}
-use Rattle.ipx_router.specs.Port.{Port, port_at, is_up}
-use Rattle.ipx_router.specs.Routes.{route_rules, network_order}
+use Rattle.ipx_router.specs.Port.{Port, port_at, is_up, broadcast}
+use Rattle.ipx_router.specs.Routes.{route_rules, route_reading, network_order}
 use Rattle.ipx_router.specs.declared.route_offer.RouteOffer.{RouteOffer}
-use Rattle.ipx_internet.specs.Different.{AreDifferent}
+use Rattle.ipx_router.proofs.bounds.PacketsOfEachEvent.{network_total}
 use Rattle.ipx_internet.specs.Internet.{Internet, Place, IsPlace, ports_of, network_of}
 use Rattle.ipx_internet.specs.Least.{Way, is_on, each_once, networks_of, others_of, HasRoom}
 use Rattle.ipx_internet.specs.Real.{IsReal, next, farther}
-use Rattle.ipx_internet.proofs.lists.EachElement.{all_at, all_mapped, no_more_than}
-use Rattle.ipx_internet.proofs.lists.FoundInAList.{it_is, nothing}
+use Rattle.ipx_internet.proofs.lists.EachElement.{all_at, all_mapped, all_then}
 use Rattle.ipx_internet.proofs.lists.SomeElement.{AnyIs, any-map, any-flat_map, passes_any}
 use Rattle.ipx_internet.proofs.places.OneReceiverOfANode.{same_number}
+use Rattle.ipx_internet.proofs.records.KeysHaveRoom.{IsListed, AreSingle, admits, replaces}
 use Rattle.ipx_internet.proofs.tables.LeastWays.{NoWorse}
 use Rattle.ipx_internet.proofs.tables.NoRouteIsBetter.{off_where_wanted}
 use Rattle.ipx_internet.proofs.trees.RunIsALog.{router_there}
@@ -137,29 +136,6 @@ still_passes test keep x same kept (y ∷ xs) any = elim (cases_Bool (test y)) [
       ]
 ]
 
--- a filter that leaves one out keeps fewer
-pub left_out : {X : Type 0} (test keep : X → Bool) (x : X) (xs : List X) → find test xs ≡ Some x → keep x ≡ false → length (filter keep xs) < length xs
-left_out test keep x [] is_x out = nothing is_x
-left_out test keep x (y ∷ xs) is_x out = elim (cases_Bool (test y)) [
-  | inl here ↦
-      let goes : keep y ≡ false = it_is (λ z. keep z ≡ false) y x (sym (rw here at is_x)) out in
-      let most = length-filter keep xs in
-      rw goes (omega (arith, most))
-  | inr off ↦
-      let rest = left_out test keep x xs (rw off at is_x) out in
-      elim (cases_Bool (keep y)) [
-        | inl stays ↦ rw stays (omega (arith, rest))
-        | inr goes ↦ rw goes (omega (arith, rest))
-      ]
-]
-
--- ---- numbers of shares
-
-pub share_of_all : (n capacity : ℕ) (shares : List ℕ) (port : ℕ) → n ≤ capacity → AllByRecursion (λ s. n ≤ s) shares → n ≤ share_of capacity shares port
-share_of_all n capacity [] port most all = most
-share_of_all n capacity (s ∷ shares) zero most all = all.0
-share_of_all n capacity (s ∷ shares) (suc port) most all = share_of_all n capacity shares port most all.1
-
 -- ---- routes of real ways are to such networks
 
 module _ (net : Internet) (up : ℕ → List ℕ) (there_where_up : (router port : ℕ) → is_up (up router) port ≡ true → port < length (ports_of net router)) where
@@ -174,118 +150,54 @@ module _ (net : Internet) (up : ℕ → List ℕ) (there_where_up : (router port
   real_wanted {router} {r} (next from beside on apart taken) = off_where_wanted (ports_of net router) r.network taken.wanted
   real_wanted {router} {r} (farther from s apart taken near real) = off_where_wanted (ports_of net router) r.network taken.wanted
 
-  -- ---- how many are held
-
-  abbrev of_key : RouteOffer → Held RouteOffer → Bool
-  of_key o h = is_eq (network_order h.offer.network o.network)
-
-  networks_differ : (records : List (Held RouteOffer)) → ((o : RouteOffer) → length (filter (of_key o) records) ≤ 1)
-      → AreDifferent (map (λ h. h.offer.network) records)
-  networks_differ [] distinct = tt
-  networks_differ (x ∷ records) distinct = (others records (alone records (distinct x.offer)), networks_differ records (λ o. fewer o (distinct o)))
-    where
-      alone : (rest : List (Held RouteOffer)) → length (filter (of_key x.offer) (x ∷ rest)) ≤ 1 → length (filter (of_key x.offer) rest) ≤ 0
-      alone rest few =
-          let here : is_eq (nat_cmp x.offer.network.0 x.offer.network.0) ≡ true = equal_where_same x.offer.network.0 x.offer.network.0 refl in
-          let less : suc (length (filter (of_key x.offer) rest)) ≤ 1 = rw here at few in
-          omega (arith, less)
-
-      others : (rest : List (Held RouteOffer)) → length (filter (of_key x.offer) rest) ≤ 0 → AllByRecursion (λ n. n ≢ x.offer.network) (map
-          (λ h. h.offer.network) rest)
-      others [] few = tt
-      others (y ∷ rest) few = elim (cases_Bool (is_eq (nat_cmp y.offer.network.0 x.offer.network.0))) [
-        | inl e ↦ let less : suc (length (filter (of_key x.offer) rest)) ≤ 0 = rw e at few in absurd (omega (arith, less))
-        | inr e ↦ (
-          (λ same. both_ways (is_eq (nat_cmp y.offer.network.0 x.offer.network.0)) e
-              (equal_where_same y.offer.network.0 x.offer.network.0 (ap (λ (n : Network). n.0) same))),
-          others rest (rw e at few),
-        )
-      ]
-
-      fewer : (o : RouteOffer) → length (filter (of_key o) (x ∷ records)) ≤ 1 → length (filter (of_key o) records) ≤ 1
-      fewer o few = elim (cases_Bool (is_eq (nat_cmp x.offer.network.0 o.network.0))) [
-        | inl e ↦ let less : suc (length (filter (of_key o) records)) ≤ 1 = rw e at few in omega (arith, less)
-        | inr e ↦ rw e at few
-      ]
-
   -- those a router may have a route to
   is_other : (router : ℕ) {r : RouteOffer} → IsReal net up router r → list_any (λ n. n.0 == r.network.0) (others_of net (ports_of net router)) ≡ true
   is_other router {r} real =
       still_passes (λ n. n.0 == r.network.0) (λ n. not (is_on (ports_of net router) n)) r.network
       (λ n e. same_number n r.network (eqb-true n.0 r.network.0 e)) (let wanted = real_wanted real in rw wanted refl) (networks_of net) (real_named real)
 
-  are_others : (router : ℕ) (records : List (Held RouteOffer)) → AllByRecursion (λ h. IsReal net up router h.offer) records
-      → AllByRecursion (λ n. list_any (λ y. y.0 == n.0) (others_of net (ports_of net router)) ≡ true) (map (λ h. h.offer.network) records)
-  are_others router [] all = tt
-  are_others router (h ∷ records) all = (is_other router all.0, are_others router records all.1)
+  -- so they are a list
+  listed : (network : Network) (networks : List Network) → list_any (λ n. n.0 == network.0) networks ≡ true → IsListed networks network
+  listed network [] any = absurd (true≢false (sym any))
+  listed network (n ∷ networks) any = elim (or_cases (n.0 == network.0) (list_any (λ m. m.0 == network.0) networks) any) [
+    | inl here ↦ (0, ap (λ (m : Network). Some m) (same_number n network (eqb-true n.0 network.0 here)))
+    | inr behind ↦ let rest = listed network networks behind in (suc rest.0, rest.1)
+  ]
 
-  module _ (router : ℕ) (records : List (Held RouteOffer)) (distinct : (o : RouteOffer) → length (filter (of_key o) records) ≤ 1)
-      (all : AllByRecursion (λ h. IsReal net up router h.offer) records) where
+  -- ---- room and shares
+
+  module _ (router : ℕ) (most_routes : ℕ) (room : HasRoom net most_routes) (inside : router < length net) (held : List (Held RouteOffer))
+      (distinct : IsDistinct (route_rules (ports_of net router) most_routes).by_key held) (all : AllByRecursion (λ h. IsReal net up router h.offer) held) (o : RouteOffer) where
+    abbrev ports : List Port
+    ports = ports_of net router
+
     abbrev others : List Network
-    others = others_of net (ports_of net router)
+    others = others_of net ports
 
-    -- no more than there are such networks
-    few_held : length records ≤ length others
-    few_held =
-        let same = length-map records (λ h. h.offer.network) in
-        let most = no_more_than (λ n. n.0) same_number (map (λ h. h.offer.network) records) others (networks_differ records distinct) (are_others router records all) in
-        omega (arith, same, most)
+    one : (a b : Network) → is_eq (network_order a b) ≡ true → a ≡ b
+    one a b e = same_number a b (same_where_equal a.0 b.0 e)
 
-    -- and fewer, where there is none to one of them
-    fewer_held : (o : RouteOffer) → IsReal net up router o → find (of_key o) records ≡ None → length records < length others
-    fewer_held o real none =
-        let same = length-map records (λ h. h.offer.network) in
-        let most = no_more_than (λ n. n.0) same_number (o.network ∷ map (λ h. h.offer.network) records) others (apart records none, networks_differ records distinct)
-        (is_other router real, are_others router records all) in
-        omega (arith, same, most)
-      where
-        apart : (rest : List (Held RouteOffer)) → find (of_key o) rest ≡ None → AllByRecursion (λ n. n ≢ o.network) (map (λ h. h.offer.network) rest)
-        apart [] none = tt
-        apart (h ∷ rest) none = elim (cases_Bool (is_eq (nat_cmp h.offer.network.0 o.network.0))) [
-          | inl e ↦ nothing (sym (rw e at none))
-          | inr e ↦ (
-            (λ same. both_ways (is_eq (nat_cmp h.offer.network.0 o.network.0)) e
-                (equal_where_same h.offer.network.0 o.network.0 (ap (λ (n : Network). n.0) same))),
-            apart rest (rw e at none),
-          )
-        ]
+    table : length others ≤ most_routes
+    table = all_at (λ ps. length (others_of net ps) ≤ most_routes) net router [] room.table inside
 
-    -- ---- room and shares
+    each : AllByRecursion (λ s. length others ≤ s) (map (λ p. p.route_share) ports)
+    each =
+        all_mapped (λ s. length others ≤ s) (λ p. p.route_share) ports
+        (all_at (λ ps. AllByRecursion (λ p. length (others_of net ps) ≤ p.route_share) ps) net router [] room.shares inside)
 
-    module _ (most_routes : ℕ) (room : HasRoom net most_routes) (inside : router < length net) where
-      abbrev ports : List Port
-      ports = ports_of net router
+    single : AreSingle route_reading network_order network_total one held
+    single n = distinct (record { network = n; hops = 0; ticks = 0; port = 0; node = broadcast })
 
-      table : length others ≤ most_routes
-      table = all_at (λ ps. length (others_of net ps) ≤ most_routes) net router [] room.table inside
+    are_listed : AllByRecursion (λ h. IsListed others h.offer.network) held
+    are_listed =
+        all_then (λ h. IsReal net up router h.offer) (λ h. IsListed others h.offer.network) (λ h real. listed h.offer.network others (is_other router real)) held all
 
-      share : (port : ℕ) → length others ≤ share_of most_routes (map (λ p. p.route_share) ports) port
-      share port =
-          share_of_all (length others) most_routes (map (λ p. p.route_share) ports) port table
-          (all_mapped (λ s. length others ≤ s) (λ p. p.route_share) ports
-          (all_at (λ ps. AllByRecursion (λ p. length (others_of net ps) ≤ p.route_share) ps) net router [] room.shares inside))
+    pub has_room : IsReal net up router o → find (λ h. is_eq (network_order h.offer.network o.network)) held ≡ None
+        → (nat_lt (length held) most_routes && has_share (route_rules ports most_routes) o held) ≡ true
+    has_room real =
+        admits route_reading network_order network_total one most_routes (map (λ p. p.route_share) ports) others table each held single are_listed o
+        (listed o.network others (is_other router real))
 
-      pub has_room : (o : RouteOffer) → IsReal net up router o → find (of_key o) records ≡ None → nat_lt (length records) most_routes ≡ true
-      has_room o real none =
-          let few = fewer_held o real none in
-          let most = table in
-          lt-ltb (length records) most_routes (omega (arith, few, most))
-
-      pub shares : (o : RouteOffer) → IsReal net up router o → find (of_key o) records ≡ None → has_share (route_rules ports most_routes) o records ≡ true
-      shares o real none =
-          let few = fewer_held o real none in
-          let some = length-filter (λ h. h.offer.port == o.port) records in
-          let most = share o.port in
-          lt-ltb (count_by (λ r. r.port) o.port records) (share_of most_routes (map (λ p. p.route_share) ports) o.port) (omega (arith, few, some, most))
-
-      -- the one that it replaces came by the same port, or isn't counted
-      pub may : (o : RouteOffer) (h : Held RouteOffer) → find (of_key o) records ≡ Some h → may_replace (route_rules ports most_routes) o records h ≡ true
-      may o h is_h = elim (cases_Bool (h.offer.port == o.port)) [
-        | inl same ↦ or_left (h.offer.port == o.port) (has_share (route_rules ports most_routes) o records) same
-        | inr off ↦
-            let few = few_held in
-            let some = left_out (of_key o) (λ x. x.offer.port == o.port) h records is_h off in
-            let most = share o.port in
-            or_right (h.offer.port == o.port) (has_share (route_rules ports most_routes) o records)
-            (lt-ltb (count_by (λ r. r.port) o.port records) (share_of most_routes (map (λ p. p.route_share) ports) o.port) (omega (arith, few, some, most)))
-      ]
+    pub may : (h : Held RouteOffer) → find (λ h. is_eq (network_order h.offer.network o.network)) held ≡ Some h
+        → may_replace (route_rules ports most_routes) o held h ≡ true
+    may = replaces route_reading network_order network_total one most_routes (map (λ p. p.route_share) ports) others table each held single are_listed o
