@@ -1,6 +1,7 @@
 #include "line.h"
 
 #include "ipx.h"
+#include "numbers.h"
 
 /* Bytes in front of a packet: the headers of UDP and IP, and as many as Ethernet has with its checksum. */
 enum { HEADERS = 8 + 20 + 18 };
@@ -35,15 +36,14 @@ static struct {
     meter to_strangers;         /* of their part */
     size_t addresses;           /* that have clients there */
     size_t speakers;            /* addresses that spoke to these lately, with clients there or elsewhere, */
-    size_t numbers[MOST_APART]; /* and how many of them have each number */
-    size_t given;               /* the one that was given last */
+    numbers numbers;            /* and their numbers */
     size_t number;              /* of who says the packet whose copies are sent, */
     meter *said;                /* and what he uses of his part, or NULL; */
     uint64_t most_said;         /* of it at once; */
     uint64_t cost;              /* nanoseconds that the line takes for a copy, */
     uint64_t cost_of_short;     /* for one of a short packet, */
     uint64_t longest;           /* and for one of the longest */
-} the;
+} the = {.numbers = {.count = MOST_APART, .first = 1}};
 
 static uint64_t cost_of(size_t bytes)
 {
@@ -64,24 +64,10 @@ void line_set(const settings *set)
 
 /* ---- Addresses ---- */
 
-/* The number that the fewest addresses have; of several the one that was given least lately, whose parts are least used. */
-static size_t free_number(void)
-{
-    size_t found = 1 + the.given % (MOST_APART - 1);
-    for (size_t k = 1; k < MOST_APART - 1; k++) {
-        size_t at = 1 + (the.given + k) % (MOST_APART - 1);
-        if (the.numbers[at] < the.numbers[found])
-            found = at;
-    }
-    the.given = found;
-    return found;
-}
-
 /* One more address speaks, or one fewer. */
 static void begin_to_speak(line_use *it)
 {
-    it->number = free_number();
-    the.numbers[it->number]++;
+    it->number = numbers_take(&the.numbers);
     the.speakers++;
 }
 
@@ -89,7 +75,7 @@ void line_end(line_use *it)
 {
     if (it->number == 0)
         return;
-    the.numbers[it->number]--;
+    numbers_give_back(&the.numbers, it->number);
     the.speakers--;
     it->number = 0;
 }
@@ -178,7 +164,7 @@ static bool says_little(uint64_t most)
  * may say at once, so that an address with many clients doesn't use up what others are to hear; all of it where he isn't told apart. */
 static bool has_his_part(line_use *to)
 {
-    uint64_t most = the.numbers[the.number] > 1 ? the.most_said : the.most_said / 2;
+    uint64_t most = the.numbers.users[the.number] > 1 ? the.most_said : the.most_said / 2;
     return is_within(&to->of[the.number], pairs(to), most_to(to)) || says_little(most);
 }
 
