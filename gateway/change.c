@@ -214,7 +214,7 @@ static void change_tunnel(gateway *it, network *on, const network *was, changed 
         tunnel_end(on);
     if (!is_tunnel)
         return;
-    throttle_set(&on->throttle, on->set, (size_t)(on - it->networks)); /* (what may be advertised at once follows the shares) */
+    throttle_set(&on->throttle, on->set); /* (what may be advertised at once follows the shares) */
     if (was_tunnel && has_same_clients(was->set, on->set) && has_same_link(was->set, on->set))
         return;
     what->clients += was_tunnel && !has_same_clients(was->set, on->set);

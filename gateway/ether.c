@@ -47,10 +47,10 @@ static bool is_heard_beside(const gateway *it, const cable *on, uint8_t kind)
     return false;
 }
 
-/* A packet came for the gateway or for all. (clients of DOSBox' receive of all who are there as much as of one household) */
+/* A packet came for the gateway or for all. (clients of DOSBox' receive of all who are there as much as of one address) */
 static void hear_packet(gateway *it, network *on, const uint8_t *packet, size_t length)
 {
-    on->speaks.clients = HOUSEHOLD;
+    speaker_be_network(&on->speaks, (size_t)(on - it->networks));
     if (has_length(packet, length)) {
         throttle_bring(&on->speaks, packet);
         length = get16(packet + AT_LENGTH);
@@ -81,7 +81,7 @@ static void hear_at_link(gateway *it, network *on, const uint8_t *frame, const u
         gateway_lose(on, is_whole ? TOO_LONG : NO_IPX);
         return;
     }
-    on->speaks.clients = HOUSEHOLD;
+    speaker_be_network(&on->speaks, (size_t)(on - it->networks));
     throttle_bring(&on->speaks, packet);
     heard what = segment_hear(it, on, from, to, packet, carried);
     throttle_bring(NULL, NULL);

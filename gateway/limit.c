@@ -15,6 +15,11 @@ void limits_look_at_clock(void)
     now = clock_nanoseconds();
 }
 
+uint64_t limit_clock(void)
+{
+    return now;
+}
+
 uint64_t limit_ahead(const meter *used)
 {
     return *used > now ? *used - now : 0;

@@ -20,8 +20,9 @@ typedef uint64_t meter;
 /* So many in so many seconds, and so many at once. */
 limit limit_of(uint32_t count, uint32_t seconds, uint32_t burst);
 
-/* From now on limits know what time it is: it is read once a turn. */
+/* From now on limits know what time it is, in nanoseconds of the clock: it is read once a turn. */
 void limits_look_at_clock(void);
+uint64_t limit_clock(void);
 
 /* Whether so many more may pass now. */
 bool limit_has_room(const limit *it, const meter *used, uint32_t count);

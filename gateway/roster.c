@@ -9,8 +9,11 @@ bool roster_make(roster *it, size_t room)
 {
     memset(it, 0, sizeof *it);
     it->list = malloc(room * sizeof *it->list);
-    it->room = it->list != NULL ? room : 0;
-    return it->list != NULL;
+    it->queues = malloc(room * sizeof *it->queues);
+    it->room = it->list != NULL && it->queues != NULL ? room : 0;
+    for (size_t k = 0; k < it->room; k++)
+        it->list[k].queues = &it->queues[k];
+    return it->room == room;
 }
 
 static void leave(member *it)
@@ -25,6 +28,7 @@ void roster_free(roster *it)
     for (size_t k = 0; k < it->count; k++)
         leave(&it->list[k]);
     free(it->list);
+    free(it->queues);
     memset(it, 0, sizeof *it);
 }
 
@@ -45,7 +49,10 @@ void roster_add(roster *it, const uint8_t place[6], bool is_trusted, bool is_by_
     if (it->count == it->room)
         return;
     member *added = &it->list[it->count++];
+    fair *queues = added->queues;
     memset(added, 0, sizeof *added);
+    memset(queues, 0, sizeof *queues);
+    added->queues = queues;
     memcpy(added->place, place, NODE);
     added->speaks = speaker_join(place);
     added->is_trusted = is_trusted;
@@ -60,7 +67,9 @@ void roster_remove(roster *it, const uint8_t place[6])
     if (gone == NULL)
         return;
     leave(gone);
+    fair *queues = gone->queues;
     it->count--;
     memmove(gone, gone + 1, (size_t)(it->list + it->count - gone) * sizeof *gone);
+    it->list[it->count].queues = queues;
     it->next = 0;
 }

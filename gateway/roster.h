@@ -6,6 +6,7 @@
 #include <stddef.h>
 #include <stdint.h>
 
+#include "fair.h"
 #include "limit.h"
 #include "speaker.h"
 
@@ -28,12 +29,13 @@ typedef struct member {
     speaker *speaks;  /* its address */
     bool is_trusted;  /* whether that needn't answer pings */
     bool is_by_line;  /* whether it is reached by the narrow line */
-    meter received, received_bytes, pinged, asked, answered;
-    meter heard;      /* of what others say, without the router */
+    fair *queues;     /* what it receives of each who speaks to it */
+    meter pinged, asked, answered;
 } member;
 
 typedef struct roster {
-    member *list; /* in the order in which they came */
+    member *list; /* in the order in which they came; behind them those have queues, too, for whom there is room */
+    fair *queues; /* of all */
     size_t count;
     size_t room;
     size_t next; /* behind the one that was found last */

@@ -3,6 +3,13 @@
 #include <stdlib.h>
 #include <string.h>
 
+#include "numbers.h"
+
+/* Seconds for which whoever spoke has a queue. */
+enum { QUIET = 10 };
+
+static numbers queues = {.count = MOST_NUMBERS, .first = OF_ADDRESSES};
+
 /* All that are known; and the one that those share for whom there was no memory. */
 static speaker *speakers, spare;
 
@@ -36,12 +43,33 @@ speaker *speaker_join(const uint8_t host[4])
     return it;
 }
 
+void speaker_be_network(speaker *it, size_t number)
+{
+    it->queue = OF_NETWORKS + number % (OF_ADDRESSES - OF_NETWORKS);
+}
+
+size_t speaker_speaks(speaker *it)
+{
+    it->quiet = 0;
+    if (it->queue == 0)
+        it->queue = numbers_take(&queues);
+    return it->queue;
+}
+
+static void be_quiet(speaker *it)
+{
+    if (it->queue != 0)
+        numbers_give_back(&queues, it->queue);
+    it->queue = 0;
+}
+
 void speaker_leave(speaker *it)
 {
     speaker **at = &speakers;
     if (--it->clients > 0)
         return;
     line_end(&it->line);
+    be_quiet(it);
     if (it == &spare)
         return;
     while (*at != it)
@@ -50,18 +78,22 @@ void speaker_leave(speaker *it)
     free(it);
 }
 
+static void second(speaker *it)
+{
+    line_second(&it->line);
+    if (it->quiet++ == QUIET)
+        be_quiet(it);
+}
+
 void speakers_second(void)
 {
-    line_second(&spare.line);
+    second(&spare);
     for (speaker *it = speakers; it != NULL; it = it->next)
-        line_second(&it->line);
+        second(it);
 }
 
 static void forget(speaker *it)
 {
-    memset(it->said, 0, sizeof it->said);
-    memset(it->said_bytes, 0, sizeof it->said_bytes);
-    memset(it->said_more, 0, sizeof it->said_more);
     it->received = it->asked = it->answered = it->handed = it->advertised = 0;
 }
 

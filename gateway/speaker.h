@@ -8,15 +8,17 @@
 
 #include "limit.h"
 #include "line.h"
-#include "settings.h"
 
-/* An address that clients have, and what they said together. Or a network that isn't of DOSBox', and what came from there. */
+/* The numbers of the queues by which clients receive: what the router says itself, answers to pings, and what comes from networks of
+ * another kind; all behind these are of addresses that speak. Where more speak than there are numbers, some have the same one. */
+enum { OF_ROUTER, OF_PINGS, OF_NETWORKS, OF_ADDRESSES = 16 };
+
+/* An address that clients have, and what they said together. Or a network that isn't of DOSBox'. */
 typedef struct speaker {
     uint8_t host[4];
     size_t clients;
-    meter said[MOST_LINKS]; /* to the clients of each network, by its number among the gateway's: packets, */
-    meter said_bytes[MOST_LINKS]; /* bytes, */
-    meter said_more[MOST_LINKS];  /* and packets beyond what is little */
+    size_t queue;     /* the number of its queue, or 0 where an address doesn't speak; */
+    unsigned quiet;   /* and seconds since it did */
     meter received;   /* by all its clients */
     meter asked;      /* of the router */
     meter answered;   /* by the gateway */
@@ -31,6 +33,10 @@ speaker *speaker_join(const uint8_t host[4]);
 
 /* One fewer has it. */
 void speaker_leave(speaker *it);
+
+/* An address speaks, or a network of another kind with a number. Returns the number of its queue. */
+size_t speaker_speaks(speaker *it);
+void speaker_be_network(speaker *it, size_t number);
 
 /* A second passes for all addresses. */
 void speakers_second(void);

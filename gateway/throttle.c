@@ -4,12 +4,16 @@
 
 #include "ipx.h"
 
-/* Packets that come at once, of a client that receives them, and of an address that hands them to the router. */
+/* Packets that come at once, of an address that hands them to the router. */
 enum { BURST = 64 };
 
-/* Bytes are counted by the piece, and so many are the longest packet of DOSBox'. At once come at most so many of these: as on Windows a
- * system keeps 64 KB for a program that hasn't read them. */
-enum { PIECE = 16, LONGEST_PIECES = 89, LONGEST_AT_ONCE = 32 };
+/* Shares that a client receives a second beyond its rate. Shares, and packets at least, for which it has room at once; and more, which are
+ * kept for those who have less than their part of it. */
+enum { SHARES = 2, SHARES_AT_ONCE = 3, LEAST_AT_ONCE = 150, SHARES_KEPT = 2, LEAST_KEPT = 100 };
+
+/* Bytes are counted by the piece, and so many are the longest packet of DOSBox'. At once there is room for so many of these, of which one
+ * who speaks alone has two thirds, and more are kept: as on Windows a system keeps 64 KB for a program that hasn't read them. */
+enum { PIECE = 16, LONGEST_PIECES = 89, LONGEST_AT_ONCE = 48, LONGEST_KEPT = 16 };
 
 /* Pings of a client, and of all together, and questions to the router: a second, and at once. */
 enum { PINGS = 1, PINGS_AT_ONCE = 2, ALL_PINGS = 4, ALL_PINGS_AT_ONCE = 8, QUESTIONS = 1, QUESTIONS_AT_ONCE = 4 };
@@ -18,14 +22,10 @@ enum { PINGS = 1, PINGS_AT_ONCE = 2, ALL_PINGS = 4, ALL_PINGS_AT_ONCE = 8, QUEST
 enum { ADVERTISEMENTS = 4, ADVERTISEMENTS_AT_ONCE = 32, ROUTES_IN_PACKET = 50, SERVICES_IN_PACKET = 7 };
 
 /* So many times a second, and no fewer, what an address' limit is at once. */
-enum { HOUSEHOLD_PART = 8, HOUSEHOLD_AT_ONCE = 2 * BURST };
+enum { HOUSEHOLD_PART = 8, HOUSEHOLD_AT_ONCE = 2 * (LEAST_AT_ONCE + LEAST_KEPT) };
 
-/* Answers to pings may use so much of the burst that a client receives, or that its address hands to the router; and so much of the former
- * what an address says too much. Answers of the gateway to what a client says to it. */
-enum { BURST_WITH_PINGS = BURST / 2, BURST_OF_MUCH = BURST - BURST / 4, ANSWERS = 2, ANSWERS_AT_ONCE = 8 };
-
-/* Shares that a client hears a second of those who say little, beside what it receives; and at once, and packets at least. */
-enum { SHARES_HEARD = 2, SHARES_AT_ONCE = HOUSEHOLD + 1, HEARD_AT_ONCE = 4 * BURST };
+/* Answers to pings may use so much of the burst that an address hands to the router. Answers of the gateway to what a client says to it. */
+enum { BURST_WITH_PINGS = BURST / 2, ANSWERS = 2, ANSWERS_AT_ONCE = 8 };
 
 /* Bytes of a socket; sockets; and the words of routers that ask. */
 enum { SOCKET = 2, PING_SOCKET = 2, SAP_SOCKET = 0x452, RIP_SOCKET = 0x453, RIP_REQUEST = 1, SAP_QUERY = 1, SAP_NEAREST_QUERY = 3 };
@@ -53,18 +53,13 @@ static uint32_t advertisements_at_once(const network_setting *set)
     return most(2 * packets_of_shares(set), ADVERTISEMENTS_AT_ONCE);
 }
 
-/* The limit of bytes with which so many packets a second have room, of any length. */
-static limit bytes_of(uint32_t rate)
-{
-    return limit_of(rate * LONGEST_PIECES, 1, LONGEST_AT_ONCE * LONGEST_PIECES);
-}
-
 static uint32_t pieces(size_t length)
 {
     return (uint32_t)((length + PIECE - 1) / PIECE);
 }
 
-/* The limits of what all clients of an address receive: half of what may come at once is kept for those who say little. */
+/* The limits of what all clients of an address receive: half of what may come at once is kept for those whose queues
+ * aren't half full. */
 static void set_household(throttle *it, uint32_t household)
 {
     uint32_t burst = most(household / HOUSEHOLD_PART, HOUSEHOLD_AT_ONCE);
@@ -75,24 +70,23 @@ static void set_household(throttle *it, uint32_t household)
     it->household_of_much = limit_of(household, 1, burst / 2);
 }
 
-void throttle_set(throttle *it, const network_setting *set, size_t number)
+/* The limit of what a client receives. */
+static fair_limit received_of(uint32_t rate, uint32_t share)
 {
-    uint32_t rate = set->rate, share = set->share;
+    fair_room packets = {most(SHARES_AT_ONCE * share, LEAST_AT_ONCE), most(SHARES_KEPT * share, LEAST_KEPT)};
+    return fair_limit_of(rate + SHARES * share, packets, (fair_room){LONGEST_AT_ONCE, LONGEST_KEPT}, LONGEST_PIECES);
+}
+
+void throttle_set(throttle *it, const network_setting *set)
+{
+    uint32_t rate = set->rate;
     memset(it, 0, sizeof *it);
-    it->number = number;
     it->is_off = rate == 0;
     if (it->is_off)
         return;
     it->advertisements = limit_of(ADVERTISEMENTS, 1, advertisements_at_once(set));
-    it->received = limit_of(rate, 1, BURST);
-    it->received_bytes = bytes_of(rate);
-    it->received_of_much = limit_of(rate, 1, BURST_OF_MUCH);
-    it->received_with_pings = limit_of(rate, 1, BURST_WITH_PINGS);
-    it->heard = limit_of(rate + SHARES_HEARD * share, 1, most(SHARES_AT_ONCE * share, HEARD_AT_ONCE));
-    it->said_more = limit_of(rate, 2, BURST);
+    it->received = received_of(rate, set->share);
     for (uint32_t k = 0; k < HOUSEHOLD; k++) {
-        it->said[k] = limit_of(share * (k + 1), 1, share * (k + 1));
-        it->said_bytes[k] = bytes_of(share * (k + 1));
         it->all_questions[k] = limit_of(QUESTIONS * (k + 1), 1, QUESTIONS_AT_ONCE * (k + 1));
         it->all_answers[k] = limit_of(ANSWERS * (k + 1), 1, ANSWERS_AT_ONCE * (k + 1));
     }
@@ -146,19 +140,11 @@ static const limit *of_household(const limit list[HOUSEHOLD], const speaker *fro
 }
 
 /* (others make clients answer pings, so answers don't count as said) */
-weight throttle_weigh(throttle *it, speaker *from, const uint8_t *packet)
+size_t throttle_queue(speaker *from, const uint8_t *packet)
 {
-    if (it->is_off || from == NULL)
+    if (from == NULL)
         return OF_ROUTER;
-    if (is_of_pings(packet))
-        return OF_PINGS;
-    uint32_t count = pieces(get16(packet + AT_LENGTH));
-    meter *bytes = &from->said_bytes[it->number];
-    if (!limit_has_room(of_household(it->said_bytes, from), bytes, count) ||
-        !limit_lets(of_household(it->said, from), &from->said[it->number], 1))
-        return limit_lets(&it->said_more, &from->said_more[it->number], 1) ? OF_MORE : OF_MUCH;
-    limit_count(of_household(it->said_bytes, from), bytes, count);
-    return OF_LITTLE;
+    return is_of_pings(packet) ? OF_PINGS : speaker_speaks(from);
 }
 
 /* ---- What clients say ---- */
@@ -246,37 +232,25 @@ speaker *throttle_brought(const uint8_t *packet)
     return memcmp(packet + AT_FROM_NODE, brought.source, sizeof brought.source) == 0 ? brought.from : NULL;
 }
 
-/* Whether a client has room for a copy: of those who say little as much as it reads, of others as much as it receives. */
-static bool has_room(const throttle *it, const member *to, weight weighs, uint32_t count)
-{
-    const limit *packets = weighs == OF_PINGS ? &it->received_with_pings : weighs == OF_MUCH ? &it->received_of_much : &it->received;
-    if (weighs == OF_ROUTER)
-        return true;
-    if (weighs == OF_LITTLE)
-        return limit_has_room(&it->heard, &to->heard, 1);
-    return limit_has_room(packets, &to->received, 1) && limit_has_room(&it->received_bytes, &to->received_bytes, count);
-}
-
 /* Whether an address has room for a copy for one of its clients. */
-static bool household_has_room(const throttle *it, const member *to, weight weighs)
+static bool household_has_room(const throttle *it, const member *to, bool is_little)
 {
-    const limit *packets = weighs <= OF_LITTLE ? &it->household : &it->household_of_much;
+    const limit *packets = is_little ? &it->household : &it->household_of_much;
     return !it->has_household || to->is_trusted || limit_has_room(packets, &to->speaks->received, 1);
 }
 
-reason throttle_receives(throttle *it, member *to, weight weighs, size_t length)
+reason throttle_receives(const throttle *it, member *to, size_t queue, size_t length)
 {
-    uint32_t count = pieces(length);
     if (it->is_off || to == NULL)
         return REASONS;
-    if (!has_room(it, to, weighs, count))
+    uint32_t count = pieces(length);
+    fullness is = fair_look(&it->received, to->queues, queue, count);
+    if (is == QUEUE_FULL && queue != OF_ROUTER)
         return TOO_MUCH_FOR_CLIENT;
-    if (!household_has_room(it, to, weighs))
+    if (!household_has_room(it, to, is == QUEUE_LITTLE || queue == OF_ROUTER))
         return TOO_MUCH_FOR_ADDRESS;
-    if (weighs != OF_ROUTER)
-        limit_count(&it->heard, &to->heard, 1);
-    limit_count(&it->received, &to->received, 1);
-    limit_count(&it->received_bytes, &to->received_bytes, count);
+    if (is != QUEUE_FULL)
+        fair_add(&it->received, to->queues, queue, count);
     if (it->has_household && !to->is_trusted)
         limit_count(&it->household, &to->speaks->received, 1);
     return REASONS;

@@ -30,7 +30,7 @@ int32_t tunnel_open(const gateway *it, network *on)
 {
     ipxr_tunnel_setting set = {.network = on->set->network, .capacity = on->set->clients, .share = on->set->per_address};
     memcpy(set.node, on->node, NODE);
-    throttle_set(&on->throttle, on->set, (size_t)(on - it->networks));
+    throttle_set(&on->throttle, on->set);
     if (!roster_make(&on->roster, on->set->clients) || !strangers_make(&on->strangers, on->set->strangers, it->key) ||
         !pings_make(&on->pings, on->set->kilobits > 0 ? on->set->clients : 0))
         return IPXR_OUT_OF_MEMORY;
@@ -73,13 +73,13 @@ static void send_own(network *on, bool are_clients)
 }
 
 /* Why a client doesn't get the copy of a packet; REASONS where it does. What it doesn't get is counted. */
-static reason why_not(network *on, const uint8_t place[NODE], weight weighs, size_t length)
+static reason why_not(network *on, const uint8_t place[NODE], size_t queue, size_t length)
 {
     member *to = roster_find(&on->roster, place);
     if (to == NULL)
         return REASONS;
     bool has_room = !to->is_by_line || line_has_room(&to->speaks->line);
-    reason why = has_room ? throttle_receives(&on->throttle, to, weighs, length) : TOO_MUCH_FOR_LINE;
+    reason why = has_room ? throttle_receives(&on->throttle, to, queue, length) : TOO_MUCH_FOR_LINE;
     if (why != REASONS) {
         to->dropped[DROPPED_FOR_IT]++;
         on->counts.lost[why]++;
@@ -97,12 +97,12 @@ static size_t send_carried(network *on, speaker *from, const uint8_t *packet, si
     size_t dropped = 0;
     if (ipxr_tunnel_receivers(&on->tunnel) == 0)
         return 0;
-    weight weighs = throttle_weigh(&on->throttle, from, packet);
+    size_t queue = throttle_queue(from, packet);
     if (on->set->kilobits > 0)
         line_begin(from != NULL ? &from->line : NULL, length);
     outgoing_begin(on, packet, length);
     for (size_t k = 0; ipxr_tunnel_receiver(&on->tunnel, k, place) == 0; k++) {
-        if (why_not(on, place, weighs, length) == REASONS)
+        if (why_not(on, place, queue, length) == REASONS)
             outgoing_copy(on, place);
         else
             dropped++;

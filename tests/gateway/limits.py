@@ -18,7 +18,8 @@ from spaces import GATEWAY, INSIDE, STRANGERS, build_flood, host, tried_inside
 from systems import SYSTEM
 
 SECONDS = 6  # that a flood lasts: each client is pinged meanwhile
-RATE, SHARE, BURST = 800, 50, 64  # packets a second that a client receives, of who says little, and at once
+RATE, SHARE, BURST = 800, 50, 64  # as a network's `rate` says them, and packets that an address hands the router at once
+RECEIVED, AT_ONCE = RATE + 2 * SHARE, 5 * SHARE  # packets that a client receives a second, and at once
 TWO = f"{TUNNEL_LINE}network 20 1 1424 dosbox 0.0.0.0:{OTHER_PORT}\n"
 FULL = f"{TUNNEL_LINE.replace('dosbox', LONG_SHARES)}rate none\n"  # a network whose clients may fill the tables
 CHAT = 0x4004  # the socket of what no player says
@@ -27,9 +28,8 @@ ASKING = 300  # clients of an address that ask the router
 QUESTIONS_AT_ONCE = 4  # of one client
 ADVERTISED, ADVERTISED_AT_ONCE = 4, 32  # packets of an address that tell of routes and services, a second and at once
 PORTS = {NETWORK: GATEWAY[1], 0x20: OTHER_PORT}
-HEARD_AT_ONCE = 256  # packets of those who say little
-LONGEST, LONGEST_AT_ONCE = 1424, 32  # bytes of the longest packet, and how many of these a client receives at once
-HOUSEHOLD = 4  # clients of an address that have a share each
+HOUSEHOLD = 4  # clients of an address that ask the router
+LONGEST = 1424  # bytes of the longest packet
 FLOOD = 8000  # packets a second
 CROWD, FIRST = 200, 20000  # clients of one host, and the first of their ports
 LISTENING, HOUSEHOLD_RATE = 800, 16  # clients of one host that only listen, and as much as how many they receive
@@ -43,7 +43,7 @@ MOST_AHEAD = 1.5  # seconds by which a look at the clock may be late here
 
 def most_of(seconds):
     """Packets that one client may receive of a flood."""
-    return (RATE + HOUSEHOLD * SHARE) * (seconds + MOST_AHEAD) + BURST
+    return RECEIVED * (seconds + MOST_AHEAD) + AT_ONCE
 
 
 def slow_one(it):
@@ -322,19 +322,6 @@ def an_address_is_one():
         assert lost == [BURST, 2 * BURST], lost
 
 
-def no_more_than_it_reads():
-    """24 clients of six addresses say 50 packets each at once: a client is given 256, and 900 a second later, so it hears pings too."""
-    with Playground(TWO, numbers=(0, 0, 0), more=7, clock=Clock()) as it:
-        listener, *others = come(it, [it.free[0], *it.free[1:] * HOUSEHOLD], [GATEWAY[1]] * (1 + 6 * HOUSEHOLD))
-        for passed, heard in (0, HEARD_AT_ONCE), (0.1, (RATE + 2 * SHARE) // 10):
-            it.let_pass(passed)
-            before = listener.beside
-            for player in others:
-                chatter(it, player, SHARE)
-            it.party.until(lambda: listener.beside - before > heard, QUIET)
-            assert listener.beside - before == heard, f"{listener.beside - before} packets"
-
-
 def chatter(it, player, count):
     """A client says something to all, so many times at once."""
     for _ in range(count):
@@ -342,46 +329,18 @@ def chatter(it, player, count):
     it.gate.report()
 
 
-def many_at_once_count():
-    """Where four clients of an address say 50 packets at once each, a flood beside them gets nothing for what these had too many."""
-    with Playground(TWO, numbers=(0, 0, 0), more=3, clock=Clock()) as it:
-        listener, floods, *household = come(it, [it.free[0], it.free[1], *it.free[2:] * HOUSEHOLD], [GATEWAY[1]] * (2 + HOUSEHOLD))
-        for player in household:
-            chatter(it, player, SHARE)
-        chatter(it, floods, 4 * SHARE)
-        it.let_pass(0.11)
-        chatter(it, floods, 4 * SHARE)
-        heard = (HOUSEHOLD + 1) * SHARE + int(0.11 * SHARE)  # (the flood's own share too, and what it may say of it again)
-        it.party.until(lambda: listener.beside > heard, QUIET)
-        assert listener.beside == heard, f"{listener.beside} packets"
-
-
 def what_an_address_receives():
-    """20 clients of an address receive 128 packets at once together, and 160 a second; another client, and 20 of a trusted address, all."""
+    """20 clients of an address receive 500 packets at once together, and 160 a second; another client, and 20 of a trusted address, all."""
     below = f"strangers none\nrate {RATE} {SHARE} 160\ntrust {host(4)}\n"
     with Playground(TWO.replace("network 20", below + "network 20"), numbers=(0, 0, 0), more=4, clock=Clock()) as it:
         says, *others = come(it, [*it.free[:2], *it.free[2:] * 20], [GATEWAY[1]] * 42)
-        for seconds, now in (0, 2 * BURST), (0.1, 16), (2, 2 * BURST):
+        for seconds, now in (0, 2 * AT_ONCE), (0.1, 16), (4, 2 * AT_ONCE):
             it.let_pass(seconds)
             before = [player.beside for player in others]
-            chatter(it, says, 10)
+            chatter(it, says, 40)
             it.party.until(lambda: False, QUIET)
             heard = [player.beside - old for player, old in zip(others, before)]
-            assert [heard[0], sum(heard[1::2]), sum(heard[2::2])] == [10, now, 200], heard
-
-
-def long_packets_at_once():
-    """A client is given no more at once than what its system keeps: 32 of the longest packets, and 64 short ones."""
-    with Playground(TWO, numbers=(0, 0, 0), more=2, clock=Clock()) as it:
-        listener, says = come(it, it.free, [GATEWAY[1]] * 2)
-        for size, heard in (LONGEST, LONGEST_AT_ONCE), (100, BURST):
-            before = listener.beside
-            for _ in range(BURST):
-                says.send(packet(address(0, EVERYONE, CHAT), says.at(CHAT), bytes(size - 30)))
-            it.gate.report()
-            it.party.until(lambda: listener.beside - before > heard, QUIET)
-            assert listener.beside - before == heard, f"{listener.beside - before} packets of {size} bytes"
-            it.let_pass(2)
+            assert [heard[0], sum(heard[1::2]), sum(heard[2::2])] == [40, now, 800], heard
 
 
 def answers_to_pings_come_last():
@@ -532,10 +491,7 @@ TESTS = [
     named("by such a line he floods, by long packets", a_line_is_shared, "chat", FLOOD, LONGEST, 16),
     named("by such a line somebody floods one player", a_line_is_shared, "tell", FLOOD, 46, 0),
     an_address_is_one,
-    many_at_once_count,
-    no_more_than_it_reads,
     what_an_address_receives,
-    long_packets_at_once,
     answers_to_pings_come_last,
     questions_of_an_address,
     a_route_that_comes_and_goes,

@@ -7,6 +7,7 @@ import attacks
 import counting
 import dosbox
 import events
+import fair
 import limits
 import links
 import narrow
@@ -26,7 +27,7 @@ from lab import left_out
 from systems import SYSTEM, Windows
 
 ALL = (counting, words, siphash, unit, orders, status, events, probes, reloading, tunnel, links, segments, troubles, wires, attacks,
-       limits, narrow, dosbox, pc)
+       limits, fair, narrow, dosbox, pc)
 TESTS = {it.__name__: it for it in ALL}
 
 

@@ -1,0 +1,176 @@
+"""What a client receives where others say more than it reads: each address that speaks has its part. By a clock that the test sets.
+
+It runs in networks of its own (spaces.py).
+"""
+import os
+import sys
+
+from attacks import OTHER_PORT, QUIET, Playground, figures, named
+from lab import EVERYONE, Clock, Counts, address, left_out, packet
+from limits import AT_ONCE, BURST, CHAT, HOUSEHOLD, LONGEST, RATE, RECEIVED, SHARE, TWO, chatter, come
+from players import NUMBERED
+from spaces import GATEWAY, INSIDE, tried_inside
+from systems import SYSTEM
+
+LASTS, WHOLE = 2, 0.95  # seconds by that clock, and the least of a part that somebody has of it
+STEP = 0.05  # seconds from one look at the clock to the next
+CLIENTS_AT_ONCE = 8  # that speak until the gateway has heard them
+KEPT = 2 * SHARE  # packets at once, of those that a client receives, for who has less than his part of these
+LONGEST_AT_ONCE, ALL_LONG_AT_ONCE = 32, 64  # of the longest packets that a client receives of one who speaks alone, and of all
+ALONE = 100  # short packets at once of one who speaks alone
+HALF_FULL = 75  # packets that are half of his queue
+
+
+def say_up_to(player, count):
+    """A player says numbers to all until it is so many in all."""
+    while player.said < count:
+        player.say(NUMBERED, player.said)
+        player.said += 1
+
+
+def parts(many, much, others):
+    """By a clock: each of many addresses with four clients says so many packets a second to all, and each of some others what is named for
+    it. Who says less than his part of what a client receives is heard whole, the others alike, and no more than a client receives."""
+    text = TWO.replace("network 20", "strangers none\nnetwork 20")
+    with Playground(text, numbers=(0, 0, 0), more=1 + many + len(others), clock=Clock()) as it:
+        free = it.free[1:1 + many]
+        listener, *crowd = come(it, [it.free[0], *free * HOUSEHOLD, *it.free[1 + many:]], [GATEWAY[1]] * len(it.free * HOUSEHOLD))
+        rates = [much / HOUSEHOLD] * (HOUSEHOLD * many) + others
+        for step in range(int(LASTS / STEP)):
+            for k, (player, rate) in enumerate(zip(crowd, rates)):
+                say_up_to(player, rate * STEP * (step + 1))
+                if k % CLIENTS_AT_ONCE == 0:
+                    it.gate.report()
+            it.let_pass(STEP)
+        it.party.until(lambda: False, QUIET)
+        heard = [len(listener.heard.get(player.node, ())) for player in crowd]
+        alike = [sum(heard[k:HOUSEHOLD * many:many]) for k in range(many)]
+        part = part_of(RECEIVED, [much] * many + others)
+        said = [LASTS * rate for rate in others]
+        figures(f"parts of {part:.1f} a second: {alike} of {LASTS * much}, {heard[HOUSEHOLD * many:]} of {said}")
+        assert sum(heard) <= RECEIVED * LASTS + AT_ONCE, f"{sum(heard)} packets"
+        for rate, count in zip([much] * many + others, alike + heard[HOUSEHOLD * many:]):
+            least = LASTS * rate if rate <= WHOLE * part else WHOLE * LASTS * part
+            assert count >= least, f"{count} of {LASTS * rate} packets"
+
+
+def part_of(room, rates):
+    """The part by which some have a room: all of what who says less, and as much of each other."""
+    rates, left = sorted(rates), room
+    for k, rate in enumerate(rates):
+        if rate * (len(rates) - k) > left:
+            return left / (len(rates) - k)
+        left -= rate
+    return room
+
+
+def many_at_once_beside_a_flood():
+    """Beside a client that says 200 packets at once, and again 0.2 seconds later, another is heard who says 50 at once as often."""
+    with Playground(TWO, numbers=(0, 0, 0), more=3, clock=Clock()) as it:
+        listener, floods, says = come(it, it.free, [GATEWAY[1]] * 3)
+        for passed in 0, 0.2:
+            it.let_pass(passed)
+            chatter(it, floods, 4 * SHARE)
+            say_up_to(says, says.said + SHARE)
+            it.gate.report()
+            it.party.until(lambda: len(listener.heard.get(says.node, ())) == says.said, QUIET)
+            assert len(listener.heard[says.node]) == says.said, f"{len(listener.heard[says.node])} packets"
+        assert 0 < listener.beside <= AT_ONCE + RECEIVED * passed - 2 * SHARE, f"{listener.beside} packets"
+
+
+def no_more_than_it_reads():
+    """24 clients of six addresses say 50 packets each at once: a client is given at most 250, and 90 more a tenth of a second later, so it
+    hears pings too; of each address it is given its part of what is kept."""
+    with Playground(TWO, numbers=(0, 0, 0), more=7, clock=Clock()) as it:
+        listener, *others = come(it, [it.free[0], *it.free[1:] * HOUSEHOLD], [GATEWAY[1]] * (1 + 6 * HOUSEHOLD))
+        for passed, part, least, most in (0, KEPT // 6, AT_ONCE - KEPT, AT_ONCE), (0.1, 0, 0, AT_ONCE + RECEIVED // 10):
+            it.let_pass(passed)
+            for player in others:
+                say_up_to(player, player.said + SHARE)
+                it.gate.report()
+            it.party.until(lambda: False, QUIET)
+            heard = [len(listener.heard.get(player.node, ())) for player in others]
+            of_each = [sum(heard[k::6]) for k in range(6)]
+            figures(f"{sum(heard)} packets, of each address {of_each}")
+            assert least <= sum(heard) <= most and min(of_each) >= part, f"{heard}"
+
+
+def long_packets_at_once():
+    """A client is given no more at once than what its system keeps: 32 of the longest packets of one who speaks, at most 64 of five; and
+    100 short ones of one."""
+    with Playground(TWO, numbers=(0, 0, 0), more=6, clock=Clock()) as it:
+        listener, *speak = come(it, it.free, [GATEWAY[1]] * 6)
+        for size, count, least, most in ((LONGEST, 1, LONGEST_AT_ONCE, LONGEST_AT_ONCE), (LONGEST, 5, LONGEST_AT_ONCE, ALL_LONG_AT_ONCE),
+                                         (100, 1, ALONE, ALONE + 1)):
+            before = listener.beside
+            for says in speak[:count]:
+                for _ in range(2 * BURST):
+                    says.send(packet(address(0, EVERYONE, CHAT), says.at(CHAT), bytes(size - 30)))
+                it.gate.report()
+            it.party.until(lambda: False, QUIET)
+            figures(f"{listener.beside - before} packets of {size} bytes")
+            assert least <= listener.beside - before <= most, f"{listener.beside - before} packets of {size} bytes"
+            it.let_pass(2)
+
+
+def one_part_on_two_networks():
+    """An address that speaks on two networks at once, one of which is extended to the other, has one queue: a client of the other is given
+    100 packets at once of both together."""
+    text = TWO.replace("network 20", f"extend {CHAT:X}\nnetwork 20") + f"extend {CHAT:X}\n"
+    with Playground(text, numbers=(0, 0, 0), more=2, clock=Clock()) as it:
+        listener, there, here = come(it, [it.free[0], it.free[1], it.free[1]], [GATEWAY[1], OTHER_PORT, GATEWAY[1]])
+        chatter(it, there, 2 * BURST)
+        it.party.until(lambda: listener.beside >= BURST, QUIET)
+        assert listener.beside == BURST, f"{listener.beside} packets that are extended"
+        chatter(it, here, 2 * BURST)
+        it.party.until(lambda: False, QUIET)
+        assert ALONE <= listener.beside <= ALONE + 1, f"{listener.beside} packets"
+
+
+def half_is_kept():
+    """Of what four clients of an address receive, half of what comes at once is kept for those whose queues aren't half full."""
+    below = f"strangers none\nrate {RATE} {SHARE} 160\n"
+    with Playground(TWO.replace("network 20", below + "network 20"), numbers=(0, 0, 0), more=3, clock=Clock()) as it:
+        floods, says, *household = come(it, [*it.free[:2], *it.free[2:] * HOUSEHOLD], [GATEWAY[1]] * (2 + HOUSEHOLD))
+        for player, said, heard in (floods, 2 * BURST, HALF_FULL), (says, SHARE // 2, SHARE // 2):
+            before = [each.beside for each in household]
+            chatter(it, player, said)
+            it.party.until(lambda: False, QUIET)
+            came = [each.beside - old for each, old in zip(household, before)]
+            assert all(heard <= count <= heard + 1 for count in came), came
+
+
+TESTS = [
+    named("by a clock, two addresses: eight clients of one say 280 a second, the other 800", parts, 1, 800, [280]),
+    named("by a clock, 16 addresses say 200 a second each, one of 40 a second loses nothing", parts, 16, 200, [40]),
+    named("by a clock, 32 addresses say 200 a second each, one of 40 a second has its part", parts, 32, 200, [40]),
+    named("by a clock, what four say less than their parts three have that say more", parts, 1, 1200, [400, 600, 20, 40, 60, 80]),
+    named("by a clock, 25 players of 35 a second", parts, 0, 0, [35] * 25),
+    many_at_once_beside_a_flood,
+    no_more_than_it_reads,
+    long_packets_at_once,
+    one_part_on_two_networks,
+    half_is_kept,
+]
+
+
+def inside():
+    """In the network of its own."""
+    counts = Counts()
+    for test in TESTS:
+        counts.run(test)
+    print(f"{counts.passed} passed, {counts.failed} failed")
+
+
+def main():
+    if SYSTEM.name != "Linux":
+        left_out("parts of what clients receive", "they are tried on this machine's own system")
+        return Counts()
+    return tried_inside(os.path.realpath(__file__), "parts of what clients receive")
+
+
+if __name__ == "__main__":
+    if sys.argv[1:] == [INSIDE]:
+        inside()
+    else:
+        main()
