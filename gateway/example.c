@@ -20,7 +20,7 @@ static const char *const LINES[] = {
     "#   clients 32 4",
     "#   allow 127.0.0.1 192.168.1.0/24",
     "#   trust 192.168.1.7",
-    "# How many packets a second a client receives, how many of who says little beyond, and how many all clients of an address together;",
+    "# How many packets a second a client receives, which is as many and two shares; and how many all clients of an address together;",
     "# and datagrams a second for those who aren't clients.",
     "#   rate 800 50 12800",
     "#   strangers 100",
