@@ -18,8 +18,8 @@ int tap_open(const char *name, unsigned *index);
 ssize_t tap_receive(int fd, uint8_t *frame, size_t room);
 bool tap_send(int fd, const uint8_t *frame, size_t length);
 
-/* A socket that hears the frames of a kind on an interface, and is used as one of datagrams; tells the interface's number and its own
- * address. Returns it, or -1: errno is EPROTOTYPE where the interface isn't one of Ethernet. */
+/* A socket that hears the frames of a kind, or of any, on an interface, and is used as one of datagrams; tells the interface's number and
+ * its own address. Returns it, or -1: errno is EPROTOTYPE where the interface isn't one of Ethernet. */
 int interface_open(const char *name, uint8_t kind, unsigned *index, uint8_t card[6]);
 
 /* Lets a socket of an interface hear the frames for other nodes too. Returns whether it does. */

@@ -14,6 +14,7 @@ static const char *const WORDS_OF[REASONS] = {
     [NO_CLIENT] = "no such client",
     [NO_IPX] = "no IPX",
     [OTHER_KIND] = "another kind of frame",
+    [SECOND_KIND] = "second kind of a station",
     [FOR_ANOTHER] = "for another node",
     [OWN_FRAME] = "own frame",
     [NO_MEMORY] = "out of memory",

@@ -14,6 +14,7 @@ typedef enum {
     NO_CLIENT,     /* for a node of the tunnel that nobody has */
     NO_IPX,        /* a frame, or a datagram, without an IPX packet */
     OTHER_KIND,    /* a frame of a kind that no network has there */
+    SECOND_KIND,   /* a frame for all in another kind than what its sender said a moment ago */
     FOR_ANOTHER,   /* a frame for another node of the cable */
     OWN_FRAME,     /* a frame of the gateway's own that came back */
     NO_MEMORY,     /* the router had no memory for what it would have sent */

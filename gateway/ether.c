@@ -1,39 +1,70 @@
 #include "ether.h"
 
+#include <inttypes.h>
+
 #include "capture.h"
 #include "extend.h"
 #include "ipx.h"
+#include "note.h"
 #include "segment.h"
 
-bool ether_put(network *on, const uint8_t *from, const uint8_t *node, const uint8_t *packet, size_t length)
+/* ---- Sending ---- */
+
+/* The packet in a frame of a kind. Returns whether it is on its way. */
+static bool put_in(network *on, uint8_t kind, const uint8_t *from, const uint8_t *node, const uint8_t *packet, size_t length)
 {
     uint8_t frame[IPXR_LONGEST_FRAME];
-    size_t whole = ipxr_frame_write(on->set->kind, node, from, packet, length, frame, sizeof frame);
+    size_t whole = ipxr_frame_write(kind, node, from, packet, length, frame, sizeof frame);
     if (whole == 0 || !cable_send(on->cable, frame, whole))
         return false;
     capture_frame(frame, whole);
     return true;
 }
 
+/* Frames of a packet that are on their way, and those that are not. */
+typedef struct frames {
+    size_t sent, refused;
+} frames;
+
+static frames put(network *on, const uint8_t *from, const uint8_t *node, const uint8_t *packet, size_t length)
+{
+    frames count = {0};
+    unsigned kinds = on->set->kind == ANY_KIND ? kinds_for(&on->kinds, node) : 1u << on->set->kind;
+    for (uint8_t kind = IPXR_FRAME_ETHERNET2; kind <= IPXR_FRAME_SNAP; kind++) {
+        if ((kinds & 1u << kind) == 0)
+            continue;
+        if (put_in(on, kind, from, node, packet, length))
+            count.sent++;
+        else
+            count.refused++;
+    }
+    return count;
+}
+
+bool ether_put(network *on, const uint8_t *from, const uint8_t *node, const uint8_t *packet, size_t length)
+{
+    return put(on, from, node, packet, length).sent > 0;
+}
+
+/* (a packet is one, in however many kinds it goes out) */
 void ether_send(network *on, const uint8_t *from, const uint8_t *node, const uint8_t *packet, size_t length)
 {
-    if (ether_put(on, from, node, packet, length))
-        on->counts.out++;
-    else
+    frames count = put(on, from, node, packet, length);
+    on->counts.out += count.sent > 0;
+    for (; count.refused > 0; count.refused--)
         gateway_lose(on, NOT_SENT);
 }
+
+/* ---- Hearing ---- */
 
 /* The network that has frames of a kind on a cable; where none has, the cable's first, and *is_there is false. */
 static network *network_of(gateway *it, const cable *on, uint8_t kind, bool *is_there)
 {
-    network *first = NULL;
-    for (size_t k = 0; k < it->count; k++) {
-        network *at = &it->networks[k];
-        *is_there = at->cable == on && at->set->kind == kind;
+    network *first = first_on(it, on);
+    for (network *at = first; at < it->networks + it->count; at++) {
+        *is_there = at->cable == on && (at->set->kind == kind || at->set->kind == ANY_KIND);
         if (*is_there)
             return at;
-        if (at->cable == on && first == NULL)
-            first = at;
     }
     return first;
 }
@@ -100,6 +131,20 @@ static void hear_own(gateway *it, network *on, const uint8_t *packet, size_t len
         gateway_lose(on, OWN_FRAME);
 }
 
+/* Whether a frame is to be heard, as far as its kind goes: where any may come, it tells what its sender uses. */
+static bool is_of_its_kind(network *on, uint8_t kind, const uint8_t *frame, const uint8_t *packet, size_t length)
+{
+    char link[LINK_ROOM];
+    bool was_heard = kinds_has(&on->kinds, kind);
+    if (on->set->kind != ANY_KIND || is_broadcast(frame + NODE) || !has_length(packet, length))
+        return true;
+    if (!kinds_hear(&on->kinds, kind, frame + NODE, is_broadcast(frame)))
+        return false;
+    if (!was_heard)
+        event("network %08" PRIX32 " hears %s: %s", on->set->network, kind_word(kind), cable_words(on->cable, on->set, link));
+    return true;
+}
+
 void ether_hear(gateway *it, cable *on, const uint8_t *frame, size_t length)
 {
     bool is_there = false;
@@ -117,6 +162,8 @@ void ether_hear(gateway *it, cable *on, const uint8_t *frame, size_t length)
         gateway_lose(at, TOO_LONG);
     else if (same_node(frame + NODE, at->node))
         hear_own(it, at, frame + front, length - front);
+    else if (!is_of_its_kind(at, kind, frame, frame + front, length - front))
+        gateway_lose(at, SECOND_KIND);
     else if (at->segment == NULL && !is_broadcast(frame) && !same_node(frame, at->node))
         gateway_lose(at, FOR_ANOTHER);
     else {

@@ -7,7 +7,8 @@
 /* A frame came on a cable; `length` is all that it had, of which the first MOST_RECEIVED bytes are there. */
 void ether_hear(gateway *it, cable *on, const uint8_t *frame, size_t length);
 
-/* Sends a packet in a frame from a node to a node, or to all. */
+/* Sends a packet in a frame from a node to a node, or to all. On a link of any kind it goes to a node in the kind that this uses, and to
+ * all, or to a node that isn't known, in each that was heard lately. */
 void ether_send(network *on, const uint8_t *from, const uint8_t *node, const uint8_t *packet, size_t length);
 
 /* The same, and nothing is counted. Returns whether it is on its way. */

@@ -128,7 +128,7 @@ void gateway_hear(gateway *it, network *on, const uint8_t *packet, size_t length
 
 /* ---- Turns ---- */
 
-static network *first_on(gateway *it, const cable *at)
+network *first_on(gateway *it, const cable *at)
 {
     size_t k = 0;
     while (it->networks[k].cable != at)
@@ -176,7 +176,7 @@ static void receive(gateway *it, cable *at)
     }
 }
 
-/* One second for the tunnels and the segments, however many have passed: who could not be asked meanwhile isn't put out. */
+/* One second for tunnels, segments and kinds of frames, however many have passed: who could not be asked meanwhile isn't put out. */
 static void let_tunnels_pass(gateway *it, uint64_t passed)
 {
     if (it->looked >= passed)
@@ -188,6 +188,8 @@ static void let_tunnels_pass(gateway *it, uint64_t passed)
             tunnel_second(&it->networks[k]);
     speakers_second();
     segments_second(it);
+    for (size_t k = 0; k < it->count; k++)
+        kinds_second(&it->networks[k].kinds);
     loops_second(it);
 }
 

@@ -10,6 +10,7 @@
 #include "ipxr.h"
 #include "ipxr_segment.h"
 #include "ipxr_tunnel.h"
+#include "kinds.h"
 #include "loop.h"
 #include "outgoing.h"
 #include "pings.h"
@@ -38,6 +39,7 @@ typedef struct network {
     ipxr_segment *segment; /* of its network's links, where it is one of several; */
     uint8_t link;          /* and its number there */
     loop loop;             /* whether it is one cable with another of them */
+    kinds kinds;           /* of frames, which its stations use, where they may use any */
 } network;
 
 /* A port of the router: a network with its links. */
@@ -109,9 +111,10 @@ void gateway_put(network *on, const uint8_t *from, const uint8_t *node, const ui
 void gateway_take_ports(gateway *it);
 int32_t gateway_open_segments(gateway *it);
 
-/* The port of a network, and the first link of a port. */
+/* The port of a network, the first link of a port, and the first network of a cable. */
 port *port_of(gateway *it, const network *on);
 network *first_of(gateway *it, const port *at);
+network *first_on(gateway *it, const cable *at);
 
 /* The number of a port's network, by the port's number; 0 where there is no such port. */
 uint32_t port_network(const gateway *it, uint8_t number);

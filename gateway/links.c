@@ -60,6 +60,7 @@ static void look_at(gateway *it, network *on, bool is_up)
     if (!port_follows(it, on, is_up))
         return; /* (no memory: it is tried again with the next look) */
     on->is_up = is_up;
+    kinds_forget_all(&on->kinds);
     segment_change(on);
     if (is_up)
         loop_ask(it, on);

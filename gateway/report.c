@@ -11,7 +11,7 @@
 
 static void show_network(network *on)
 {
-    char words[LINK_ROOM], node[WORDS], extended[40] = "";
+    char words[LINK_ROOM], node[WORDS], kinds[KINDS_ROOM], extended[40] = "";
     const network_setting *set = on->set;
     say("network %08" PRIX32 " %s, cost %u, longest %u, on %s, node %s", set->network, on->is_up ? "up" : "down", set->cost,
         set->longest, cable_words(on->cable, on->set, words), node_words(on->node, node));
@@ -19,6 +19,8 @@ static void show_network(network *on)
         snprintf(extended, sizeof extended, ", extended %" PRIu64, on->counts.extended);
     say("  in %" PRIu64 ", out %" PRIu64 "%s", on->counts.in, on->counts.out, extended);
     counts_show(&on->counts);
+    if (set->kind == ANY_KIND)
+        say("  kinds: %s", kinds_words(&on->kinds, kinds));
     if (set->type == LINK_QEMU_LISTEN)
         say("  connected: %d", on->cable->stream.is_connected ? 1 : 0);
     if (set->type == LINK_QEMU_LISTEN && on->cable->refused > 0)
@@ -59,8 +61,7 @@ void gateway_report(gateway *it)
     for (size_t k = 0; k < it->count; k++)
         show_network(&it->networks[k]);
     for (size_t k = 0; k < it->port_count; k++)
-        if (first_of(it, &it->ports[k])->set->is_of_several)
-            segment_show(it, &it->ports[k]);
+        stations_show(it, &it->ports[k]);
     show_routes(it);
     show_services(it);
     capture_show();

@@ -105,12 +105,32 @@ void segments_second(gateway *it)
         ipxr_segment_second(&it->ports[k].segment); /* (where there is none, nothing is done) */
 }
 
-void segment_show(gateway *it, port *at)
+/* A station with its link, and with its kind of frames where that isn't said by the link. */
+static void show_station(const network *on, const uint8_t station[NODE])
 {
     char node[WORDS], link[LINK_ROOM];
+    uint8_t kind = on->set->kind == ANY_KIND ? kinds_of(&on->kinds, station) : IPXR_NO_FRAME;
+    say("  %s at %s%s%s", node_words(station, node), cable_words(on->cable, on->set, link), kind != IPXR_NO_FRAME ? ", " : "",
+        kind_word(kind));
+}
+
+static void show_stations_of_any_kind(const network *on)
+{
+    const kind_of_station *station;
+    say("stations on %08" PRIX32 ": %zu", on->set->network, kinds_stations(&on->kinds));
+    for (size_t at = 0; (station = kinds_next(&on->kinds, &at)) != NULL;)
+        show_station(on, station->node);
+}
+
+void stations_show(gateway *it, port *at)
+{
     ipxr_station station;
     network *first = first_of(it, at);
+    if (!first->set->is_of_several && first->set->kind == ANY_KIND)
+        show_stations_of_any_kind(first);
+    if (!first->set->is_of_several)
+        return;
     say("stations on %08" PRIX32 ": %zu", first->set->network, ipxr_segment_stations(&at->segment));
     for (size_t k = 0; ipxr_segment_station(&at->segment, k, &station) == 0; k++)
-        say("  %s at %s", node_words(station.node, node), cable_words(first[station.link].cable, first[station.link].set, link));
+        show_station(first + station.link, station.node);
 }

@@ -33,7 +33,7 @@ void segment_next(network *on, const uint8_t *packet, uint8_t node[6]);
 /* A second has passed. */
 void segments_second(gateway *it);
 
-/* Says a line for each station of a network of several links. */
-void segment_show(gateway *it, port *at);
+/* Says a line for each station of a network that has several links, or whose link is of any kind. */
+void stations_show(gateway *it, port *at);
 
 #endif

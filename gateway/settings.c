@@ -38,12 +38,12 @@ enum { LINK_COUNT = sizeof LINKS / sizeof *LINKS };
 #define LINK_WORDS "dosbox, qemu-udp, qemu-tcp, tap or interface"
 #define LINK_WORDS_WITHOUT_CARDS "dosbox, qemu-udp or qemu-tcp"
 
-/* The kinds of frames, and bytes of the longest packet in each; the first stands for the tunnel. */
+/* The kinds of frames, and bytes of the longest packet in each; the first stands for the tunnel, and the last for all of them. */
 static const struct {
     const char *word;
     uint16_t longest;
-} KINDS[] = {{"", 1424}, {"ethernet2", 1500}, {"raw", 1500}, {"llc", 1497}, {"snap", 1492}};
-#define KIND_WORDS "raw, ethernet2, llc or snap"
+} KINDS[] = {{"", 1424}, {"ethernet2", 1500}, {"raw", 1500}, {"llc", 1497}, {"snap", 1492}, {"auto", 1492}};
+#define KIND_WORDS "raw, ethernet2, llc, snap or auto"
 
 const char *kind_word(uint8_t kind)
 {
@@ -190,7 +190,7 @@ static bool read_kind(reader *r, network_setting *it)
     if (it->type == LINK_DOSBOX)
         return true;
     const char *word = reader_word(r);
-    for (uint8_t kind = IPXR_FRAME_ETHERNET2; word != NULL && kind <= IPXR_FRAME_SNAP; kind++)
+    for (uint8_t kind = IPXR_FRAME_ETHERNET2; word != NULL && kind <= ANY_KIND; kind++)
         if (strcmp(word, KINDS[kind].word) == 0) {
             it->kind = kind;
             return true;
@@ -248,13 +248,24 @@ static bool takes_the_same(const network_setting *a, const network_setting *b)
     return (both_datagrams || both_listen) && overlap(&a->local, &b->local);
 }
 
+/* Whether two links that are one are told apart by their kinds of frames. */
+static bool has_own_kind(reader *r, const network_setting *it, const network_setting *other)
+{
+    const char *word = kind_word(it->kind);
+    if (other->kind == ANY_KIND)
+        return reader_fault(r, word, "expected another link, line %zu has all kinds of frames there", other->line);
+    if (it->kind == ANY_KIND)
+        return reader_fault(r, word, "expected one kind of frames, line %zu has another there", other->line);
+    return it->kind != other->kind || reader_fault(r, word, "expected another kind of frames, line %zu has these there", other->line);
+}
+
 static bool is_single(reader *r, const network_setting *it)
 {
     for (size_t k = 0; k < r->into->count; k++) {
         const network_setting *other = &r->into->networks[k];
         bool is_shared = same_link(it, other) && it->type != LINK_DOSBOX;
-        if (is_shared && it->kind == other->kind)
-            return reader_fault(r, kind_word(it->kind), "expected another kind of frames, line %zu has these there", other->line);
+        if (is_shared && !has_own_kind(r, it, other))
+            return false;
         if (!is_shared && takes_the_same(it, other)) {
             char words[ADDRESS_ROOM];
             return reader_fault(r, address_words(&it->local, words), "expected another port, line %zu has this one", other->line);

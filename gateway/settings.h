@@ -11,6 +11,7 @@
 #include "ipxr.h"
 #include "ipxr_segment.h"
 #include "ipxr_tunnel.h"
+#include "kinds.h"
 #include "range.h"
 
 enum {
@@ -48,7 +49,7 @@ typedef struct network_setting {
     address local;             /* where datagrams and connections come in */
     address remote;            /* where they go */
     char name[NAME_ROOM];      /* of a TAP or an interface */
-    uint8_t kind;              /* of its frames; IPXR_NO_FRAME in the tunnel */
+    uint8_t kind;              /* of its frames; ANY_KIND where any may come; IPXR_NO_FRAME in the tunnel */
     bool has_node;             /* whether the line says the gateway's node there */
     uint8_t node[6];
     uint16_t sockets[MOST_SOCKETS]; /* whose broadcasts are extended */

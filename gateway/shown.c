@@ -39,7 +39,7 @@ static void field_hexadecimal(sheet *s, uint16_t value)
 /* ---- Links ---- */
 
 static const column LINK_COLUMNS[] = {{"network", "NETWORK", 8}, {"state", "STATE", 5}, {"cost", "COST", 5}, {"longest", "LONGEST", 7},
-                                      {"node", "NODE", 12}, {"link", "LINK", 40}, {"lacks", "LACKS", 0}, {0}};
+                                      {"node", "NODE", 12}, {"link", "LINK", 40}, {"kinds", "KINDS", 22}, {"lacks", "LACKS", 0}, {0}};
 
 /* What a link lacks, or NULL where it is up. */
 static const char *lack_words(const network *on, char words[LACK_ROOM])
@@ -53,9 +53,17 @@ static const char *lack_words(const network *on, char words[LACK_ROOM])
     return words;
 }
 
+/* The kinds of frames in which a broadcast goes out there, or NULL. */
+static const char *kinds_on(const network *on, char words[KINDS_ROOM])
+{
+    if (on->set->kind == IPXR_NO_FRAME)
+        return NULL;
+    return on->set->kind == ANY_KIND ? kinds_words(&on->kinds, words) : kind_word(on->set->kind);
+}
+
 static bool next_link(gateway *it, cursor *at, sheet *s)
 {
-    char link[LINK_ROOM], lack[LACK_ROOM];
+    char link[LINK_ROOM], lack[LACK_ROOM], kinds[KINDS_ROOM];
     if (at->network == it->count)
         return false;
     const network *on = &it->networks[at->network++];
@@ -66,6 +74,7 @@ static bool next_link(gateway *it, cursor *at, sheet *s)
     field_number(s, on->set->longest);
     field_node(s, on->node);
     field_text(s, cable_words(on->cable, on->set, link));
+    field_text(s, kinds_on(on, kinds));
     field_text(s, lack_words(on, lack));
     record_end(s);
     return true;
@@ -109,25 +118,45 @@ static bool next_client(gateway *it, cursor *at, sheet *s)
     return true;
 }
 
-/* ---- Stations of networks that have several links ---- */
+/* ---- Stations of networks that have several links, and of links of any kind ---- */
 
 static const column STATION_COLUMNS[] = {{"network", "NETWORK", 8}, {"station", "STATION", 12}, {"heard", "HEARD", 5},
-                                         {"link", "LINK", 0}, {0}};
+                                         {"kind", "KIND", 9}, {"link", "LINK", 0}, {0}};
 
 enum { STATION_LASTS = 300 /* seconds */ };
+
+/* The next station of a port, from one on; `index` goes behind it. Returns its link, or NULL where there is none. */
+static const network *station_of(gateway *it, port *of, size_t *index, ipxr_station *station)
+{
+    const network *first = first_of(it, of);
+    if (first->set->is_of_several)
+        return ipxr_segment_station(&of->segment, (*index)++, station) == 0 ? first + station->link : NULL;
+    const kind_of_station *next = kinds_next(&first->kinds, index);
+    if (next == NULL)
+        return NULL;
+    *station = (ipxr_station){.seconds_left = (uint16_t)(STATION_LASTS - (first->kinds.second - next->heard))};
+    memcpy(station->node, next->node, sizeof station->node);
+    return first;
+}
+
+/* The words of a station's kind of frames, or NULL. */
+static const char *kind_on(const network *on, const uint8_t node[6])
+{
+    uint8_t kind = on->set->kind == ANY_KIND ? kinds_of(&on->kinds, node) : on->set->kind;
+    return kind != IPXR_NO_FRAME ? kind_word(kind) : NULL;
+}
 
 static bool next_station(gateway *it, cursor *at, sheet *s)
 {
     char link[LINK_ROOM];
     ipxr_station station;
-    while (at->network < it->port_count && ipxr_segment_station(&it->ports[at->network].segment, at->index, &station) != 0) {
+    const network *on = NULL;
+    while (at->network < it->port_count && (on = station_of(it, &it->ports[at->network], &at->index, &station)) == NULL) {
         at->network++;
         at->index = 0;
     }
-    if (at->network == it->port_count)
+    if (on == NULL)
         return false;
-    const network *on = first_of(it, &it->ports[at->network]) + station.link;
-    at->index++;
     record_begin(s, STATION_COLUMNS);
     field_network(s, on->set->network);
     field_node(s, station.node);
@@ -135,6 +164,7 @@ static bool next_station(gateway *it, cursor *at, sheet *s)
         field_text(s, NULL);
     else
         field_number(s, STATION_LASTS - station.seconds_left);
+    field_text(s, kind_on(on, station.node));
     field_text(s, cable_words(on->cable, on->set, link));
     record_end(s);
     return true;

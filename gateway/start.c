@@ -121,6 +121,7 @@ bool gateway_start(gateway *it)
         complain("ipxr-gateway: the system has no random numbers: %s", fault_words());
         return false;
     }
+    kinds_key(it->key);
     int32_t made = make(it);
     if (made >= 0)
         made = open_tunnels(it);

@@ -5,6 +5,7 @@
 #include <arpa/inet.h>
 #include <errno.h>
 #include <fcntl.h>
+#include <linux/filter.h>
 #include <linux/if_ether.h>
 #include <linux/if_packet.h>
 #include <linux/if_tun.h>
@@ -90,9 +91,37 @@ bool tap_send(int fd, const uint8_t *frame, size_t length)
     return write(fd, frame, length) == (ssize_t)length;
 }
 
-/* The frames that a socket hears: those of the type, those that begin with FFFFh behind a length, or those of 802.2. */
+/* What a socket of any kind lets pass, as the system's own filter: frames that came and have no VLAN tag, of IPX' type, or with a length
+ * and the first bytes of one of the three other kinds. The library looks at what follows. */
+enum { TYPE_OF_IPX = 0x8137, LEAST_TYPE = 0x600, AT_TYPE_OR_LENGTH = 12, BEHIND_LENGTH = 14, RAW = 0xFFFF, LLC = 0xE0E0, SNAP = 0xAAAA };
+static struct sock_filter OF_ANY_KIND[] = {
+    BPF_STMT(BPF_LD | BPF_W | BPF_ABS, (uint32_t)(SKF_AD_OFF + SKF_AD_PKTTYPE)),
+    BPF_JUMP(BPF_JMP | BPF_JEQ | BPF_K, PACKET_OUTGOING, 9, 0),
+    BPF_STMT(BPF_LD | BPF_W | BPF_ABS, (uint32_t)(SKF_AD_OFF + SKF_AD_VLAN_TAG_PRESENT)),
+    BPF_JUMP(BPF_JMP | BPF_JEQ | BPF_K, 0, 0, 7),
+    BPF_STMT(BPF_LD | BPF_H | BPF_ABS, AT_TYPE_OR_LENGTH),
+    BPF_JUMP(BPF_JMP | BPF_JEQ | BPF_K, TYPE_OF_IPX, 6, 0),
+    BPF_JUMP(BPF_JMP | BPF_JGE | BPF_K, LEAST_TYPE, 4, 0),
+    BPF_STMT(BPF_LD | BPF_H | BPF_ABS, BEHIND_LENGTH),
+    BPF_JUMP(BPF_JMP | BPF_JEQ | BPF_K, RAW, 3, 0),
+    BPF_JUMP(BPF_JMP | BPF_JEQ | BPF_K, LLC, 2, 0),
+    BPF_JUMP(BPF_JMP | BPF_JEQ | BPF_K, SNAP, 1, 0),
+    BPF_STMT(BPF_RET | BPF_K, 0),
+    BPF_STMT(BPF_RET | BPF_K, UINT32_MAX),
+};
+
+/* Lets a socket of any kind hear IPX alone, and not what this machine sends. Returns whether it does. */
+static bool filters(int fd, uint8_t kind)
+{
+    struct sock_fprog filter = {.len = sizeof OF_ANY_KIND / sizeof *OF_ANY_KIND, .filter = OF_ANY_KIND};
+    return kind != ANY_KIND || setsockopt(fd, SOL_SOCKET, SO_ATTACH_FILTER, &filter, sizeof filter) == 0;
+}
+
+/* The frames that a socket hears: all of them, those of the type, those that begin with FFFFh behind a length, or those of 802.2. */
 static uint16_t protocol_of(uint8_t kind)
 {
+    if (kind == ANY_KIND)
+        return htons(ETH_P_ALL);
     if (kind == IPXR_FRAME_ETHERNET2)
         return htons(ETH_P_IPX);
     return htons(kind == IPXR_FRAME_RAW ? ETH_P_802_3 : ETH_P_802_2);
@@ -126,7 +155,7 @@ int interface_open(const char *name, uint8_t kind, unsigned *index, uint8_t card
     *index = if_nametoindex(name);
     /* (without a protocol it hears nothing before it is bound) */
     int fd = *index == 0 ? -1 : socket(AF_PACKET, SOCK_RAW | SOCK_NONBLOCK | SOCK_CLOEXEC, 0);
-    if (fd >= 0 && !interface_again(fd, kind, *index)) {
+    if (fd >= 0 && (!filters(fd, kind) || !interface_again(fd, kind, *index))) {
         int why = errno;
         close_any(&fd);
         errno = why;

@@ -8,6 +8,7 @@ import counting
 import dosbox
 import events
 import fair
+import kinds
 import limits
 import links
 import narrow
@@ -26,8 +27,8 @@ import words
 from lab import left_out
 from systems import SYSTEM, Windows
 
-ALL = (counting, words, siphash, unit, orders, status, events, probes, reloading, tunnel, links, segments, troubles, wires, attacks,
-       limits, fair, narrow, dosbox, pc)
+ALL = (counting, words, siphash, unit, orders, status, events, probes, reloading, tunnel, links, segments, kinds, troubles, wires,
+       attacks, limits, fair, narrow, dosbox, pc)
 TESTS = {it.__name__: it for it in ALL}
 
 

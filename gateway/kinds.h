@@ -1,0 +1,64 @@
+/* The kinds of frames of a link on which a station may use any: which of them each station uses, and in which a broadcast goes out. All
+ * zeros, it has heard nobody. */
+#ifndef KINDS_H
+#define KINDS_H
+
+#include <stdbool.h>
+#include <stddef.h>
+#include <stdint.h>
+
+#include "ipxr.h"
+#include "siphash.h"
+
+enum {
+    ANY_KIND = IPXR_FRAME_SNAP + 1, /* of such a link, where others have the number of their one kind */
+    KIND_BUCKETS = 64,              /* a station stands in the bucket of its node's hash, */
+    IN_BUCKET = 8,                  /* one of so many */
+};
+
+/* A station, and the kind of frames that it uses. */
+typedef struct kind_of_station {
+    uint8_t node[6];
+    uint8_t kind;   /* or IPXR_NO_FRAME: nobody stands here */
+    uint32_t heard; /* the second in which it was heard last in this kind */
+} kind_of_station;
+
+typedef struct kinds {
+    uint32_t second;          /* how many have passed */
+    uint32_t until[ANY_KIND]; /* the second before which a kind is in use, by its number */
+    kind_of_station stations[KIND_BUCKETS][IN_BUCKET];
+} kinds;
+
+/* The key of the hash that finds a node's bucket, which nobody else may know. */
+void kinds_key(const uint8_t key[SIPHASH_KEY]);
+
+void kinds_forget_all(kinds *it);
+
+/* A second has passed. */
+void kinds_second(kinds *it);
+
+/* A station says a packet in a kind, to a node or to all. Returns false where it is for all and comes in another kind than what the station
+ * said a moment ago: a copy, or somebody else with its node. */
+bool kinds_hear(kinds *it, uint8_t kind, const uint8_t node[6], bool is_for_all);
+
+/* Whether a kind was heard lately. */
+bool kinds_has(const kinds *it, uint8_t kind);
+
+/* The kinds in which a packet goes to a node, or to all: of each the bit 1 << kind. At least one is set. */
+unsigned kinds_for(const kinds *it, const uint8_t node[6]);
+
+/* The station's kind, or IPXR_NO_FRAME where it isn't known. */
+uint8_t kinds_of(const kinds *it, const uint8_t node[6]);
+
+/* The next station that is known, from one place of the table on; `at` goes behind it. Returns NULL where there is none. */
+const kind_of_station *kinds_next(const kinds *it, size_t *at);
+
+/* How many are known. */
+size_t kinds_stations(const kinds *it);
+
+enum { KINDS_ROOM = 24 /* bytes of the words of all kinds, with the 0 behind */ };
+
+/* The words of the kinds in which a packet goes to all, a comma between two. */
+const char *kinds_words(const kinds *it, char words[KINDS_ROOM]);
+
+#endif
