@@ -1,5 +1,6 @@
 """A real QEMU: a PC whose boot sector drives an NE2000 and sends packets back."""
 import os
+import re
 import shutil
 import subprocess
 import tempfile
@@ -79,6 +80,22 @@ def connections():
     tried(f"qemu-tcp connect {port}", f"socket,listen=127.0.0.1:{port}")
 
 
+def of_any_kind():
+    """A PC in QEMU on a link of any kind is found, and spoken to in the kind in which it answered: each packet comes back once then."""
+    gate, card = free_ports(2)
+    text = tunnels(1) + f"network 30 1 1492 qemu-udp {gate} {card} auto\n"
+    netdev = f"dgram,{inet('local', card)},{inet('remote', gate)}"
+    with tempfile.TemporaryDirectory() as folder, Gateway(text) as it, Pc(folder, netdev) as pc:
+        client = Client(it.ports[0x10])
+        # (its program sends any frame back whose packet stands where a raw one's does, so it answers in two kinds as long as it gets them)
+        assert is_answered(client, pc, b"in which kind")
+        assert re.search(rf"{NODE.hex().upper()} at qemu-udp \S+ \S+ auto, (raw|ethernet2)\n", it.report())
+        said = [b"%d in the same" % k for k in range(3)]
+        for data in said:
+            client.say(address(0x30, NODE, GAME), data)
+        assert [client.hear(lambda it: it[30:] != b"in which kind")[30:] for _ in said] == said, "something came back twice"
+
+
 def on_one_network():
     """A PC in QEMU is on one network with two clients of DOSBox': it answers whoever speaks to it, and the other one hears nothing."""
     gate, card = free_ports(2)
@@ -115,6 +132,7 @@ def main():
     else:
         counts.run(datagrams)
         counts.run(connections)
+        counts.run(of_any_kind)
         counts.run(on_one_network)
         if SYSTEM is Windows:
             left_out("pings that a PC in QEMU answers", "the status socket is Linux' own")
