@@ -8,6 +8,7 @@ import counting
 import dosbox
 import events
 import fair
+import houses
 import kinds
 import limits
 import links
@@ -28,7 +29,7 @@ from lab import left_out
 from systems import SYSTEM, Windows
 
 ALL = (counting, words, siphash, unit, orders, status, events, probes, reloading, tunnel, links, segments, kinds, troubles, wires,
-       attacks, limits, fair, narrow, dosbox, pc)
+       houses, attacks, limits, fair, narrow, dosbox, pc)
 TESTS = {it.__name__: it for it in ALL}
 
 

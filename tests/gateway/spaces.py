@@ -55,8 +55,10 @@ def leave(hosts):
 class Space:
     """One more network: it lasts as long as a process that waits in it."""
 
+    waits = ["unshare", "-n", "sh", "-c", "echo && exec cat"]
+
     def __init__(self):
-        self.holder = subprocess.Popen(["unshare", "-n", "sh", "-c", "echo && exec cat"], stdin=subprocess.PIPE, stdout=subprocess.PIPE)
+        self.holder = subprocess.Popen(self.waits, stdin=subprocess.PIPE, stdout=subprocess.PIPE)
         assert self.holder.stdout.readline(), "no network of its own"
         self.within = ["nsenter", "-t", str(self.holder.pid), "-n"]
         self.ip("link", "set", "lo", "up")
