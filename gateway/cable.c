@@ -10,6 +10,9 @@
 /* Milliseconds from one try to open something to the next. */
 enum { BETWEEN = 1000 };
 
+/* Milliseconds of silence, after which a name is asked for again: a gateway at the other end says something each minute. */
+enum { SILENT = 90000 };
+
 static bool is_connection(const cable *it)
 {
     return it->set->type == LINK_QEMU_LISTEN || it->set->type == LINK_QEMU_CONNECT;
@@ -30,24 +33,35 @@ static const char *open_interface(cable *it)
     return "can't hear all frames there";
 }
 
+/* Opens a link by datagrams, once it is known where they go. */
+static const char *open_datagrams(cable *it)
+{
+    errno = 0;
+    if (!it->remote.is_known)
+        return REMOTE_UNKNOWN;
+    if (same_address(&it->local, &it->remote.at))
+        return "that name is the gateway's own";
+    it->fd = datagram_open(&it->local, &it->remote.at);
+    it->heard = clock_now();
+    return it->fd < 0 ? "can't take the addresses" : NULL;
+}
+
 /* Opens it. Returns NULL, or what went wrong. */
 static const char *open_link(cable *it)
 {
-    const network_setting *set = it->set;
-    switch (set->type) {
+    switch (it->set->type) {
     case LINK_DOSBOX:
         it->fd = datagram_open(&it->local, NULL);
         return it->fd < 0 ? "can't take the address" : NULL;
     case LINK_QEMU_UDP:
-        it->fd = datagram_open(&it->local, &set->remote);
-        return it->fd < 0 ? "can't take the addresses" : NULL;
+        return open_datagrams(it);
     case LINK_QEMU_LISTEN:
         it->listener = listener_open(&it->local);
         return it->listener < 0 ? "can't listen there" : NULL;
     case LINK_QEMU_CONNECT:
         return NULL; /* (it is tried as soon as one asks whether it is up) */
     case LINK_TAP:
-        it->fd = tap_open(set->name, &it->index);
+        it->fd = tap_open(it->set->name, &it->index);
         return it->fd < 0 ? "can't open the TAP" : NULL;
     default:
         return open_interface(it);
@@ -64,10 +78,10 @@ static const char *opened(cable *it)
     return lacks;
 }
 
-/* Whether a fault is of what may come by itself: an address that the machine is given later, a card, a way to another machine. */
+/* Whether a fault is of what may come by itself: an address that the machine is given later, or a name; a card, a way to another machine. */
 static bool is_not_there_yet(int fault)
 {
-    return fault == EADDRNOTAVAIL || fault == ENODEV || fault == ENXIO || fault == ENETDOWN || fault == ENETUNREACH ||
+    return fault == 0 || fault == EADDRNOTAVAIL || fault == ENODEV || fault == ENXIO || fault == ENETDOWN || fault == ENETUNREACH ||
            fault == EHOSTUNREACH;
 }
 
@@ -76,6 +90,7 @@ const char *cable_open(cable *it, const network_setting *set)
     it->set = set;
     it->fd = it->listener = -1;
     stream_clear(&it->stream);
+    remote_begin(&it->remote, set);
     it->tried = clock_now();
     it->lacks = opened(it);
     it->fault = errno;
@@ -100,6 +115,7 @@ void cable_close(cable *it)
 {
     close_any(&it->fd);
     close_any(&it->listener);
+    remote_end(&it->remote);
 }
 
 size_t cable_waits(const cable *it, watch list[2])
@@ -130,7 +146,35 @@ bool cable_was_lost(cable *it)
     return was_lost;
 }
 
+const address *cable_with(const cable *it)
+{
+    if (is_connection(it))
+        return it->set->type == LINK_QEMU_LISTEN || it->set->host[0] != '\0' ? &it->peer : NULL;
+    return it->set->host[0] != '\0' ? &it->remote.at : NULL;
+}
+
 /* ---- Whether it is up ---- */
+
+/* Whether the other end may be gone: nobody is connected, or nothing came for long. */
+static bool may_be_gone(cable *it)
+{
+    if (it->set->type == LINK_QEMU_CONNECT)
+        return !it->stream.is_connected;
+    if (it->has_heard)
+        it->heard = clock_now();
+    it->has_heard = false;
+    return it->fd < 0 || clock_now() - it->heard >= SILENT;
+}
+
+/* Looks for the address of a name. Where it is another one, what goes out goes there from now on, which is told; a connection stays. */
+static void follow_name(cable *it)
+{
+    if (it->set->host[0] == '\0' || !remote_look(&it->remote, it->set, may_be_gone(it)) || it->stream.is_connected)
+        return;
+    it->was_lost = true;
+    close_any(&it->fd);
+    it->tried = 0;
+}
 
 /* Opens what was not there, once a second. Returns whether it is there now. */
 static bool opens_now(cable *it)
@@ -138,7 +182,7 @@ static bool opens_now(cable *it)
     uint64_t now = clock_now();
     if (it->fd >= 0 || it->listener >= 0 || it->set->type == LINK_QEMU_CONNECT)
         return true;
-    if (now - it->tried < BETWEEN)
+    if (it->tried != 0 && now - it->tried < BETWEEN)
         return false;
     it->tried = now;
     const char *lacks = opened(it);
@@ -183,6 +227,7 @@ static bool tap_is_up(cable *it)
 
 bool cable_is_up(cable *it)
 {
+    follow_name(it);
     if (!opens_now(it))
         return false;
     switch (it->set->type) {
@@ -225,7 +270,9 @@ static bool receive_frame(cable *it, arrivals *in)
 
 bool cable_receive(cable *it, arrivals *in)
 {
-    return is_connection(it) || it->set->type == LINK_TAP ? receive_frame(it, in) : datagrams_receive(it->fd, in);
+    bool has_come = is_connection(it) || it->set->type == LINK_TAP ? receive_frame(it, in) : datagrams_receive(it->fd, in);
+    it->has_heard = it->has_heard || has_come;
+    return has_come;
 }
 
 bool cable_send(cable *it, const uint8_t *bytes, size_t length)

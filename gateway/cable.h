@@ -6,6 +6,7 @@
 #include <sys/types.h>
 
 #include "datagram.h"
+#include "remote.h"
 #include "settings.h"
 #include "stream.h"
 #include "watch.h"
@@ -19,7 +20,10 @@ typedef struct cable {
     uint64_t tried;             /* milliseconds of the clock when it was opened, or a connection begun, last */
     unsigned index;             /* of the TAP or the interface */
     address local;              /* where the socket is, with the port that it took */
-    address peer;               /* who came in and is connected */
+    address peer;               /* who is connected */
+    remote remote;              /* where what goes out goes */
+    bool has_heard;             /* something came from there since one looked, */
+    uint64_t heard;             /* and milliseconds of the clock when one last saw so */
     uint64_t refused;           /* how many came in while somebody was */
     uint64_t told;              /* milliseconds of the clock when that was told last */
     bool is_settled;            /* the machine that is connected has said a frame, or has stayed */
@@ -63,6 +67,9 @@ bool cable_is_up(cable *it);
 
 /* The words of a setting's link on it, with the port that it took. */
 const char *cable_words(const cable *it, const network_setting *set, char words[LINK_ROOM]);
+
+/* Who is at the other end where the link's line doesn't say it: who came in, or the address of a name. Else NULL. */
+const address *cable_with(const cable *it);
 
 /* Whether a connection was lost since this was asked last; there may be another already. */
 bool cable_was_lost(cable *it);

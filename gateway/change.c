@@ -14,16 +14,11 @@
 
 /* ---- What differs ---- */
 
-static bool same_place(const address *a, const address *b)
-{
-    return a->port == b->port && memcmp(a->host, b->host, sizeof a->host) == 0;
-}
-
 /* Whether two lines say the same link, so that it stays open. */
 static bool has_same_link(const network_setting *a, const network_setting *b)
 {
-    return a->type == b->type && a->kind == b->kind && strcmp(a->name, b->name) == 0 && same_place(&a->local, &b->local) &&
-           same_place(&a->remote, &b->remote);
+    return a->type == b->type && a->kind == b->kind && strcmp(a->name, b->name) == 0 && strcmp(a->host, b->host) == 0 &&
+           same_address(&a->local, &b->local) && same_address(&a->remote, &b->remote);
 }
 
 static bool has_same_node(const network_setting *a, const network_setting *b)

@@ -19,9 +19,9 @@ const char *link_lacks(const network *on, int *fault)
 static void tell_up(network *on)
 {
     char link[LINK_ROOM], node[WORDS], pc[ADDRESS_ROOM];
-    bool has_come_in = on->set->type == LINK_QEMU_LISTEN;
+    const address *with = cable_with(on->cable);
     event("network %08" PRIX32 " is up: %s, node %s%s%s", on->set->network, cable_words(on->cable, on->set, link),
-          node_words(on->node, node), has_come_in ? ", with " : "", has_come_in ? address_words(&on->cable->peer, pc) : "");
+          node_words(on->node, node), with != NULL ? ", with " : "", with != NULL ? address_words(with, pc) : "");
     on->lacks = NULL;
 }
 

@@ -112,10 +112,16 @@ static bool settles(cable *it)
 static void call(cable *it)
 {
     uint64_t now = clock_now();
+    if (!it->remote.is_known) {
+        it->lacks = REMOTE_UNKNOWN;
+        it->fault = 0;
+        return;
+    }
     if (it->fd < 0 && it->tried != 0 && now - it->tried < BETWEEN)
         return;
     if (it->fd < 0) {
-        it->fd = connection_begin(&it->set->remote);
+        it->fd = connection_begin(&it->remote.at);
+        it->peer = it->remote.at;
         it->tried = now;
     }
     int state = it->fd < 0 ? -1 : connection_state(it->fd);
@@ -128,6 +134,7 @@ static void call(cable *it)
         it->lacks = "can't connect";
         it->fault = errno;
         close_any(&it->fd);
+        remote_fails(&it->remote);
     }
     it->stream.is_connected = state > 0;
 }

@@ -13,6 +13,9 @@
 
 enum { SHORTEST_LONGEST = 576 };
 
+/* Bytes of a name and a port, with the 0 behind. */
+enum { PLACE_ROOM = HOST_ROOM + 8 };
+
 /* Of a network of DOSBox': how many clients it has, how much each receives and how much they may advertise, where its lines don't say it.
  * So the clients of all networks that there may be can't fill a table together. */
 enum {
@@ -95,13 +98,20 @@ static bool read_shares(reader *r, network_setting *it)
     return true;
 }
 
-static bool read_address(reader *r, address *at, bool is_remote)
+/* Where the gateway is. */
+static bool read_local(reader *r, network_setting *it)
 {
     const char *word = reader_word(r);
-    if (word == NULL || !is_address(word, at) || (is_remote && at->port == 0))
-        return reader_fault(r, word, "expected an address in numbers and a port, as 127.0.0.1:5001%s",
-                            is_remote ? "" : ", or a port alone");
-    return true;
+    return (word != NULL && is_address(word, &it->local)) ||
+           reader_fault(r, word, "expected an address in numbers and a port, as 127.0.0.1:5001, or a port alone");
+}
+
+/* Where the other end is. */
+static bool read_remote(reader *r, network_setting *it)
+{
+    const char *word = reader_word(r);
+    return (word != NULL && is_place(word, &it->remote, it->host) && it->remote.port != 0) ||
+           reader_fault(r, word, "expected an address and a port, as 127.0.0.1:5001 or b.example.net:5001");
 }
 
 /* Whether Linux takes it for the name of one interface: with a % it would make up a number, and with the others it takes none. */
@@ -125,11 +135,11 @@ static bool read_connection(reader *r, network_setting *it)
 {
     const char *word = reader_word(r);
     if (word != NULL && strcmp(word, "listen") == 0)
-        return read_address(r, &it->local, false);
+        return read_local(r, it);
     if (word == NULL || strcmp(word, "connect") != 0)
         return reader_fault(r, word, "expected listen or connect");
     it->type = LINK_QEMU_CONNECT;
-    return read_address(r, &it->remote, true);
+    return read_remote(r, it);
 }
 
 static bool is_card(link_type type)
@@ -173,9 +183,9 @@ static bool read_link(reader *r, network_setting *it)
     choose_defaults(it);
     switch (it->type) {
     case LINK_DOSBOX:
-        return read_address(r, &it->local, false);
+        return read_local(r, it);
     case LINK_QEMU_UDP:
-        return read_address(r, &it->local, false) && read_address(r, &it->remote, true);
+        return read_local(r, it) && read_remote(r, it);
     case LINK_QEMU_LISTEN:
     case LINK_QEMU_CONNECT:
         return read_connection(r, it);
@@ -221,15 +231,10 @@ static bool read_node_on_link(reader *r, network_setting *it)
 
 /* ---- What the words say together ---- */
 
-static bool same_address(const address *a, const address *b)
-{
-    return memcmp(a->host, b->host, sizeof a->host) == 0 && a->port == b->port;
-}
-
 bool same_link(const network_setting *a, const network_setting *b)
 {
-    return a->type == b->type && strcmp(a->name, b->name) == 0 && same_address(&a->remote, &b->remote) &&
-           same_address(&a->local, &b->local) && (a->local.port != 0 || a->type == LINK_QEMU_CONNECT || a->name[0] != '\0');
+    return a->type == b->type && strcmp(a->name, b->name) == 0 && strcmp(a->host, b->host) == 0 &&
+           same_address(&a->remote, &b->remote) && same_address(&a->local, &b->local) && (a->local.port != 0 || a->type == LINK_QEMU_CONNECT || a->name[0] != '\0');
 }
 
 /* Whether one address of this machine is, or contains, the other: 0.0.0.0 is all of them. */
@@ -278,7 +283,7 @@ static bool is_single(reader *r, const network_setting *it)
 static bool is_for_another(reader *r, const network_setting *it)
 {
     char words[ADDRESS_ROOM];
-    if (it->type != LINK_QEMU_UDP || !overlap(&it->local, &it->remote))
+    if (it->type != LINK_QEMU_UDP || it->host[0] != '\0' || !overlap(&it->local, &it->remote))
         return true;
     return reader_fault(r, address_words(&it->remote, words), "expected QEMU's address, this is the gateway's own");
 }
@@ -424,11 +429,20 @@ size_t settings_read(settings *it, FILE *file, const char *name, FILE *complaint
 
 /* ---- What a link is called ---- */
 
+/* The other end, as its line says it. */
+static void remote_words(const network_setting *it, char words[PLACE_ROOM])
+{
+    if (it->host[0] != '\0')
+        snprintf(words, PLACE_ROOM, "%s:%u", it->host, it->remote.port);
+    else
+        address_words(&it->remote, words);
+}
+
 const char *link_words(const network_setting *it, char words[LINK_ROOM])
 {
-    char local[ADDRESS_ROOM], remote[ADDRESS_ROOM];
+    char local[ADDRESS_ROOM], remote[PLACE_ROOM];
     address_words(&it->local, local);
-    address_words(&it->remote, remote);
+    remote_words(it, remote);
     const char *kind = kind_word(it->kind);
     switch (it->type) {
     case LINK_DOSBOX:

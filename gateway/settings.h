@@ -47,7 +47,8 @@ typedef struct network_setting {
     uint16_t routes, services; /* shares of the tables, or IPXR_NO_LIMIT */
     link_type type;
     address local;             /* where datagrams and connections come in */
-    address remote;            /* where they go */
+    address remote;            /* where they go; */
+    char host[HOST_ROOM];      /* or the name of the machine there, whose port that has; without one it is empty */
     char name[NAME_ROOM];      /* of a TAP or an interface */
     uint8_t kind;              /* of its frames; ANY_KIND where any may come; IPXR_NO_FRAME in the tunnel */
     bool has_node;             /* whether the line says the gateway's node there */
@@ -83,7 +84,7 @@ size_t settings_read(settings *it, FILE *file, const char *name, FILE *complaint
 /* Whether two networks are on one link, which is opened once for both. */
 bool same_link(const network_setting *a, const network_setting *b);
 
-enum { LINK_ROOM = 96 /* bytes of a link in words, with the 0 behind */ };
+enum { LINK_ROOM = 96 + HOST_ROOM /* bytes of a link in words, with the 0 behind */ };
 
 /* The words of a kind of frame, and of a link with its addresses or name. */
 const char *kind_word(uint8_t kind);

@@ -88,6 +88,39 @@ bool is_address(const char *word, address *at)
     return colon == NULL || colon == word || is_host(word, colon, at->host);
 }
 
+static bool is_letter(char c)
+{
+    return (c >= 'a' && c <= 'z') || (c >= 'A' && c <= 'Z');
+}
+
+/* A name of letters, digits, hyphens and low lines, in parts between dots, none of them empty; the last one has a letter. */
+static bool is_name_of_host(const char *word, const char *end)
+{
+    bool is_begun = false, has_letter = false;
+    for (const char *at = word; at < end; at++) {
+        if (*at == '.' ? !is_begun : !(is_letter(*at) || (*at >= '0' && *at <= '9') || *at == '_' || (*at == '-' && is_begun)))
+            return false;
+        has_letter = *at != '.' && (has_letter || is_letter(*at));
+        is_begun = *at != '.';
+    }
+    return is_begun && has_letter && end - word < HOST_ROOM;
+}
+
+bool is_place(const char *word, address *at, char host[HOST_ROOM])
+{
+    const char *colon = strchr(word, ':');
+    uint32_t port;
+    host[0] = '\0';
+    if (is_address(word, at))
+        return true;
+    if (colon == NULL || !is_name_of_host(word, colon) || !is_number(colon + 1, 65535, &port))
+        return false;
+    *at = (address){.port = (uint16_t)port};
+    memcpy(host, word, (size_t)(colon - word));
+    host[colon - word] = '\0';
+    return true;
+}
+
 bool is_range(const char *word, range *it)
 {
     uint32_t bits = HOST_BITS;

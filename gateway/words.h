@@ -21,6 +21,9 @@ bool is_node(const char *word, uint8_t node[6]);
 /* PORT, :PORT or ADDRESS:PORT, the address by its four numbers; without one it is 127.0.0.1. */
 bool is_address(const char *word, address *at);
 
+/* ADDRESS:PORT as above, or NAME:PORT with the name of a machine; without one `host` is empty. A name that ends by a number is none. */
+bool is_place(const char *word, address *at, char host[HOST_ROOM]);
+
 /* ADDRESS/BITS, or ADDRESS alone for all its bits. */
 bool is_range(const char *word, range *it);
 

@@ -12,6 +12,7 @@ import houses
 import kinds
 import limits
 import links
+import names
 import narrow
 import orders
 import pc
@@ -28,8 +29,8 @@ import words
 from lab import left_out
 from systems import SYSTEM, Windows
 
-ALL = (counting, words, siphash, unit, orders, status, events, probes, reloading, tunnel, links, segments, kinds, troubles, wires,
-       houses, attacks, limits, fair, narrow, dosbox, pc)
+ALL = (counting, words, siphash, unit, orders, status, events, probes, reloading, tunnel, links, names, segments, kinds, troubles,
+       wires, houses, attacks, limits, fair, narrow, dosbox, pc)
 TESTS = {it.__name__: it for it in ALL}
 
 

@@ -1,0 +1,127 @@
+#include "remote.h"
+
+#include <stdlib.h>
+#include <string.h>
+
+#include "clock.h"
+
+/* Milliseconds from one question for a name to the next. */
+enum { MINUTE = 60000 };
+
+const char REMOTE_UNKNOWN[] = "no address of that name is known yet";
+
+/* ---- Questions ---- */
+
+/* What who asks and the thread that waits for the answer share. Whoever of them lets go last frees it. */
+typedef struct question {
+    char host[HOST_ROOM];
+    bool is_answered, is_left;
+    answers found;
+} question;
+
+static void run(void *at)
+{
+    question *it = at;
+    answers found;
+    resolver_ask(it->host, &found);
+    resolver_lock();
+    it->found = found;
+    it->is_answered = true;
+    bool is_left = it->is_left;
+    resolver_unlock();
+    if (is_left)
+        free(it);
+}
+
+/* (where there is no memory or no thread it is asked again with the next look) */
+static void ask(remote *it, const char *host)
+{
+    question *made = calloc(1, sizeof *made);
+    if (made == NULL)
+        return;
+    strcpy(made->host, host);
+    if (!resolver_begin(run, made)) {
+        free(made);
+        return;
+    }
+    it->question = made;
+    it->asked = clock_now();
+}
+
+void remote_end(remote *it)
+{
+    question *left = it->question;
+    it->question = NULL;
+    if (left == NULL)
+        return;
+    resolver_lock();
+    left->is_left = true;
+    bool is_answered = left->is_answered;
+    resolver_unlock();
+    if (is_answered)
+        free(left);
+}
+
+/* Whether an answer has come; it is taken then. */
+static bool takes_answer(remote *it, answers *found)
+{
+    if (it->question == NULL)
+        return false;
+    resolver_lock();
+    bool is_answered = it->question->is_answered;
+    *found = it->question->found;
+    resolver_unlock();
+    if (is_answered)
+        remote_end(it);
+    return is_answered;
+}
+
+/* ---- Addresses ---- */
+
+/* From now on the address of a turn is in use. Returns whether it is another one. */
+static bool use(remote *it, size_t turn, uint16_t port)
+{
+    address before = it->at;
+    bool was_known = it->is_known;
+    it->turn = turn;
+    it->at = it->found.list[turn];
+    it->at.port = port;
+    it->is_known = true;
+    return !was_known || !same_address(&before, &it->at);
+}
+
+/* The turn of the address in use; the first where it isn't among those of the name. */
+static size_t turn_of(const remote *it)
+{
+    for (size_t k = 0; it->is_known && k < it->found.count; k++)
+        if (memcmp(it->found.list[k].host, it->at.host, sizeof it->at.host) == 0)
+            return k;
+    return 0;
+}
+
+void remote_begin(remote *it, const network_setting *set)
+{
+    *it = (remote){.is_known = set->host[0] == '\0', .at = set->remote};
+    if (!it->is_known)
+        ask(it, set->host);
+}
+
+bool remote_look(remote *it, const network_setting *set, bool is_wanted)
+{
+    answers found;
+    if (set->host[0] == '\0')
+        return false;
+    if (takes_answer(it, &found) && found.count > 0) {
+        it->found = found;
+        return use(it, turn_of(it), set->remote.port);
+    }
+    if (it->question == NULL && (it->asked == 0 || ((is_wanted || !it->is_known) && clock_now() - it->asked >= MINUTE)))
+        ask(it, set->host);
+    return false;
+}
+
+void remote_fails(remote *it)
+{
+    if (it->found.count > 0)
+        use(it, (it->turn + 1) % it->found.count, it->at.port);
+}

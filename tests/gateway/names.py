@@ -1,0 +1,202 @@
+"""Names of machines in place of addresses: in a network of the test's own, with names that the test gives out."""
+import contextlib
+import os
+import socket
+import struct
+import subprocess
+import sys
+import tempfile
+
+from frames import Station, Tcp, Udp
+from lab import LIMIT, Client, Clock, Counts, Gateway, comes_next, is_routers, left_out, reaches, tunnels, until
+from links import STATION, both_ways
+from spaces import INSIDE, ip, tried_inside
+from systems import SYSTEM, Windows
+from words import asked
+
+UNKNOWN = "no address of that name is known yet"
+SERVER = ("127.0.0.9", 53)  # that gives out names
+NAME = "house.test"
+MINUTE, SILENT = 61, 91  # seconds after which a name is asked for again: where nobody is, and where nobody says anything
+TWENTY = 20
+
+
+def link(kind):
+    return tunnels(1) + f"network 20 1 1490 {kind} raw\n"
+
+
+def told_with(gate, who):
+    return gate.told("network 00000020 is up").endswith(f", with {who}")
+
+
+def localhost():
+    """A name in place of an address: datagrams and a connection go to its address, which is told."""
+    wire = Udp()
+    with Gateway(link(f"qemu-udp 0 localhost:{wire.port}")) as gate:
+        assert told_with(gate, f"127.0.0.1:{wire.port}")
+        wire.to = gate.ports[0x20]
+        both_ways(gate, Station(wire, "raw", 0x20, STATION, gate.nodes[0x20]), Client(gate.ports[0x10]))
+    with socket.socket() as pc:
+        pc.bind(("127.0.0.1", 0))
+        pc.listen()
+        port = pc.getsockname()[1]
+        with Gateway(link(f"qemu-tcp connect localhost:{port}")) as gate:
+            assert told_with(gate, f"127.0.0.1:{port}")
+            both_ways(gate, Station(Tcp(pc.accept()[0]), "raw", 0x20, STATION, gate.nodes[0x20]), Client(gate.ports[0x10]))
+
+
+def the_longest():
+    """The longest name that there may be is one, and none with a letter more is."""
+    for length, status in ((253, 0), (254, 2)):
+        name = ("b" * 49 + ".") * 5
+        text = f"network 20 1 1490 qemu-tcp connect {name}{'c' * (length - len(name))}:5001 raw\n"
+        assert asked("--check", "/dev/stdin", stdin=text.encode())[0] == status, length
+
+
+# ---- With names that the test gives out ----
+
+
+class Names:
+    """What gives out names: the test answers each question when it likes."""
+
+    def __init__(self):
+        self.folder = tempfile.TemporaryDirectory()
+        self.udp = socket.socket(socket.AF_INET, socket.SOCK_DGRAM)
+        self.udp.bind(SERVER)
+        self.udp.settimeout(LIMIT)
+        for name, text in (("hosts", ""), ("resolv.conf", f"nameserver {SERVER[0]}\noptions timeout:{LIMIT // 2} attempts:1\n"),
+                           ("nsswitch.conf", "hosts: files dns\n")):
+            with open(os.path.join(self.folder.name, name), "w", encoding="ascii") as it:
+                it.write(text)
+        mounts = "".join(f"mount --bind {self.folder.name}/{it} /etc/{it} && " for it in ("hosts", "resolv.conf", "nsswitch.conf"))
+        self.before = ["unshare", "-m", "sh", "-c", f'{mounts}exec "$@"', "sh"]
+
+    def question(self):
+        """Waits for a question."""
+        bytes_, who = self.udp.recvfrom(512)
+        assert NAME.split(".", 1)[0].encode() in bytes_, bytes_
+        return bytes_, who
+
+    def answer(self, question, addresses):
+        """Answers one: with addresses, or that there is none of that name."""
+        bytes_, who = question
+        end = bytes_.index(b"\0", 12) + 5
+        head = bytes_[:2] + struct.pack(">HHHHH", 0x8180 if addresses else 0x8183, 1, len(addresses), 0, 0)
+        records = b"".join(b"\xc0\x0c" + struct.pack(">HHIH", 1, 1, 0, 4) + socket.inet_aton(it) for it in addresses)
+        self.udp.sendto(head + bytes_[12:end] + records, who)
+
+    def gives(self, *addresses):
+        self.answer(self.question(), addresses)
+
+    def __enter__(self):
+        return self
+
+    def __exit__(self, *_):
+        self.udp.close()
+        self.folder.cleanup()
+
+
+@contextlib.contextmanager
+def routing(kind, **how):
+    with Names() as names, Gateway(link(kind), before=names.before, **how) as gate:
+        yield names, gate
+
+
+def nobody_waits():
+    """While a name is asked for, and nobody answers, packets pass; it is told once that it isn't known."""
+    with routing(f"qemu-udp 127.0.0.1:5001 {NAME}:5002") as (names, gate):
+        assert gate.told("network 00000020 is down").endswith(UNKNOWN)
+        question = names.question()
+        anna, ben = Client(gate.ports[0x10]), Client(gate.ports[0x10])
+        for _ in range(TWENTY):
+            assert reaches(anna, ben) and reaches(ben, anna)
+        names.answer(question, ["127.0.0.3"])
+        assert told_with(gate, "127.0.0.3:5002")
+        wire = Udp(5002, "127.0.0.3")
+        wire.to = 5001
+        both_ways(gate, Station(wire, "raw", 0x20, STATION, gate.nodes[0x20]), anna)
+        assert sum(UNKNOWN in it for it in gate.lines) == 1
+
+
+def an_end_doesnt_wait():
+    """A gateway that ends waits for no name, and nothing of its question is left."""
+    with routing(f"qemu-udp 127.0.0.1:5001 {NAME}:5002") as (names, gate):
+        names.question()
+        gate.end()
+
+
+def the_next_address():
+    """Of several addresses each has its turn, until somebody is there who takes a connection."""
+    for host in ("127.0.0.2", "127.0.0.3"):
+        with socket.socket() as pc:
+            pc.bind((host, 0))
+            pc.listen()
+            port = pc.getsockname()[1]
+            with routing(f"qemu-tcp connect {NAME}:{port}") as (names, gate):
+                names.gives("127.0.0.2", "127.0.0.3")
+                assert told_with(gate, f"{host}:{port}")
+
+
+def asked_again():
+    """A name is asked for again after a minute where it isn't known, or where nobody is connected; and its new address is used."""
+    clock = Clock()
+    with socket.socket() as pc:
+        pc.bind(("127.0.0.3", 0))
+        pc.listen()
+        port = pc.getsockname()[1]
+        with routing(f"qemu-tcp connect {NAME}:{port}", program=SYSTEM.fast, environment=clock.environment()) as (names, gate):
+            names.gives()
+            assert gate.told("network 00000020 is down").endswith(UNKNOWN)
+            clock.let_pass(MINUTE)
+            names.gives("127.0.0.2")
+            until(lambda: clock.let_pass(1) or "can't connect" in gate.report(), "nobody at the first address")
+            clock.let_pass(MINUTE)
+            names.gives("127.0.0.3")
+            until(lambda: clock.let_pass(1) or f", with 127.0.0.3:{port}" in gate.report() + "".join(gate.lines), "the second address")
+
+
+def another_address():
+    """Where nothing came for long, a name is asked for again, and datagrams go to its new address."""
+    clock, wires = Clock(), [Udp(5002, "127.0.0.2"), Udp(5002, "127.0.0.3")]
+    for it in wires:
+        it.to = 5001
+    how = {"program": SYSTEM.fast, "environment": clock.environment()}
+    with routing(f"qemu-udp 127.0.0.1:5001 {NAME}:5002", **how) as (names, gate):
+        names.gives("127.0.0.2")
+        until(lambda: clock.let_pass(1) or "is up: qemu-udp" in gate.report() + "".join(gate.lines), "the link")
+        anna = Client(gate.ports[0x10])
+        stations = [Station(it, "raw", 0x20, STATION, gate.nodes[0x20]) for it in wires]
+        both_ways(gate, stations[0], anna)
+        clock.let_pass(1)
+        gate.report()  # (it has seen then that something came)
+        clock.let_pass(SILENT)
+        names.gives("127.0.0.3")
+        until(lambda: clock.let_pass(1) or ", with 127.0.0.3:5002" in gate.report() + "".join(gate.lines), "the new address")
+        both_ways(gate, stations[1], anna)
+
+
+def inside():
+    """In the network of its own."""
+    counts = Counts()
+    ip("link", "set", "lo", "up")
+    mounts = subprocess.run(["unshare", "-m", "sh", "-c", "mount --bind /etc/hosts /etc/hosts"], stderr=subprocess.DEVNULL, check=False)
+    if mounts.returncode == 0 and all(os.path.exists(f"/etc/{it}") for it in ("hosts", "resolv.conf", "nsswitch.conf")):
+        for test in (nobody_waits, an_end_doesnt_wait, the_next_address, asked_again, another_address):
+            counts.run(test)
+    else:
+        left_out("names that the test gives out", "its own can't stand in place of the system's")
+    print(f"{counts.passed} passed, {counts.failed} failed")
+
+
+def main():
+    counts = Counts()
+    counts.run(the_longest)
+    counts.run(localhost)
+    if SYSTEM is not Windows:
+        own = tried_inside(os.path.realpath(__file__), "names that the test gives out")
+        counts.passed, counts.failed = counts.passed + own.passed, counts.failed + own.failed
+    return counts
+
+
+if __name__ == "__main__" and INSIDE in sys.argv[1:]:
+    inside()
