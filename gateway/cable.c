@@ -78,7 +78,7 @@ static const char *opened(cable *it)
     return lacks;
 }
 
-/* Whether a fault is of what may come by itself: an address that the machine is given later, or a name; a card, a way to another machine. */
+/* Whether a fault is of what may come by itself: an address that the machine is given later, a name, a card, a way to another machine. */
 static bool is_not_there_yet(int fault)
 {
     return fault == 0 || fault == EADDRNOTAVAIL || fault == ENODEV || fault == ENXIO || fault == ENETDOWN || fault == ENETUNREACH ||

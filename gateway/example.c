@@ -42,7 +42,7 @@ static const char *const LINES[] = {
     "# The same by a connection that QEMU begins: -netdev stream,id=n,addr.type=inet,addr.host=127.0.0.1,addr.port=5003",
     "#   network 40  1     1500               qemu-tcp listen 127.0.0.1:5003 raw",
     "",
-    "# By one that the gateway begins, to an address or to a name, as b.example.net:5004:",
+    "# By one that the gateway begins, to an address or to a name, as [::1]:5004 or b.example.net:5004:",
     "#                       -netdev stream,id=n,server=on,addr.type=inet,addr.host=127.0.0.1,addr.port=5004",
     "#   network 41  1     1500               qemu-tcp connect 127.0.0.1:5004 raw",
     "",

@@ -9,7 +9,7 @@
 
 static inline address address_of(const uint8_t place[NODE])
 {
-    address at;
+    address at = {.is_six = false};
     memcpy(at.host, place, sizeof at.host);
     at.port = get16(place + sizeof at.host);
     return at;

@@ -15,6 +15,7 @@ const char REMOTE_UNKNOWN[] = "no address of that name is known yet";
 /* What who asks and the thread that waits for the answer share. Whoever of them lets go last frees it. */
 typedef struct question {
     char host[HOST_ROOM];
+    wanted which;
     bool is_answered, is_left;
     answers found;
 } question;
@@ -23,7 +24,7 @@ static void run(void *at)
 {
     question *it = at;
     answers found;
-    resolver_ask(it->host, &found);
+    resolver_ask(it->host, it->which, &found);
     resolver_lock();
     it->found = found;
     it->is_answered = true;
@@ -33,13 +34,22 @@ static void run(void *at)
         free(it);
 }
 
+/* Datagrams go from an address to one of the same kind. */
+static wanted wanted_by(const network_setting *set)
+{
+    if (set->type != LINK_QEMU_UDP)
+        return ANY_ADDRESS;
+    return set->local.is_six ? ADDRESS_OF_IPV6 : ADDRESS_OF_IPV4;
+}
+
 /* (where there is no memory or no thread it is asked again with the next look) */
-static void ask(remote *it, const char *host)
+static void ask(remote *it, const network_setting *set)
 {
     question *made = calloc(1, sizeof *made);
     if (made == NULL)
         return;
-    strcpy(made->host, host);
+    strcpy(made->host, set->host);
+    made->which = wanted_by(set);
     if (!resolver_begin(run, made)) {
         free(made);
         return;
@@ -90,11 +100,19 @@ static bool use(remote *it, size_t turn, uint16_t port)
     return !was_known || !same_address(&before, &it->at);
 }
 
+/* Whether two addresses differ in their ports at most. */
+static bool same_machine(const address *a, const address *b)
+{
+    address here = *a;
+    here.port = b->port;
+    return same_address(&here, b);
+}
+
 /* The turn of the address in use; the first where it isn't among those of the name. */
 static size_t turn_of(const remote *it)
 {
     for (size_t k = 0; it->is_known && k < it->found.count; k++)
-        if (memcmp(it->found.list[k].host, it->at.host, sizeof it->at.host) == 0)
+        if (same_machine(&it->found.list[k], &it->at))
             return k;
     return 0;
 }
@@ -103,7 +121,7 @@ void remote_begin(remote *it, const network_setting *set)
 {
     *it = (remote){.is_known = set->host[0] == '\0', .at = set->remote};
     if (!it->is_known)
-        ask(it, set->host);
+        ask(it, set);
 }
 
 bool remote_look(remote *it, const network_setting *set, bool is_wanted)
@@ -116,7 +134,7 @@ bool remote_look(remote *it, const network_setting *set, bool is_wanted)
         return use(it, turn_of(it), set->remote.port);
     }
     if (it->question == NULL && (it->asked == 0 || ((is_wanted || !it->is_known) && clock_now() - it->asked >= MINUTE)))
-        ask(it, set->host);
+        ask(it, set);
     return false;
 }
 

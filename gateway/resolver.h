@@ -22,7 +22,10 @@ bool resolver_begin(void (*run)(void *), void *with);
 void resolver_lock(void);
 void resolver_unlock(void);
 
+/* Which addresses are wanted. */
+typedef enum { ANY_ADDRESS, ADDRESS_OF_IPV4, ADDRESS_OF_IPV6 } wanted;
+
 /* Asks the system for the addresses of a name, and waits for them. */
-void resolver_ask(const char *host, answers *found);
+void resolver_ask(const char *host, wanted which, answers *found);
 
 #endif

@@ -102,16 +102,20 @@ static bool read_shares(reader *r, network_setting *it)
 static bool read_local(reader *r, network_setting *it)
 {
     const char *word = reader_word(r);
-    return (word != NULL && is_address(word, &it->local)) ||
-           reader_fault(r, word, "expected an address in numbers and a port, as 127.0.0.1:5001, or a port alone");
+    if (word == NULL || !is_address(word, &it->local))
+        return reader_fault(r, word, "expected an address in numbers and a port, as 127.0.0.1:5001, or a port alone");
+    return it->type != LINK_DOSBOX || !it->local.is_six ||
+           reader_fault(r, word, "expected an address of IPv4: a client's node is its address and port, and has six bytes");
 }
 
 /* Where the other end is. */
 static bool read_remote(reader *r, network_setting *it)
 {
     const char *word = reader_word(r);
-    return (word != NULL && is_place(word, &it->remote, it->host) && it->remote.port != 0) ||
-           reader_fault(r, word, "expected an address and a port, as 127.0.0.1:5001 or b.example.net:5001");
+    if (word == NULL || !is_place(word, &it->remote, it->host) || it->remote.port == 0)
+        return reader_fault(r, word, "expected an address and a port, as 127.0.0.1:5001 or b.example.net:5001");
+    return it->type != LINK_QEMU_UDP || it->host[0] != '\0' || it->remote.is_six == it->local.is_six ||
+           reader_fault(r, word, "expected an address of %s, as the one before it", it->local.is_six ? "IPv6" : "IPv4");
 }
 
 /* Whether Linux takes it for the name of one interface: with a % it would make up a number, and with the others it takes none. */
@@ -234,15 +238,21 @@ static bool read_node_on_link(reader *r, network_setting *it)
 bool same_link(const network_setting *a, const network_setting *b)
 {
     return a->type == b->type && strcmp(a->name, b->name) == 0 && strcmp(a->host, b->host) == 0 &&
-           same_address(&a->remote, &b->remote) && same_address(&a->local, &b->local) && (a->local.port != 0 || a->type == LINK_QEMU_CONNECT || a->name[0] != '\0');
+           same_address(&a->remote, &b->remote) && same_address(&a->local, &b->local) &&
+           (a->local.port != 0 || a->type == LINK_QEMU_CONNECT || a->name[0] != '\0');
 }
 
-/* Whether one address of this machine is, or contains, the other: 0.0.0.0 is all of them. */
-static bool overlap(const address *a, const address *b)
+/* Whether it is all addresses of this machine of its kind: 0.0.0.0 or [::]. */
+static bool is_all(const address *at)
 {
     static const address ALL = {.port = 0};
-    bool is_all = memcmp(a->host, ALL.host, sizeof ALL.host) == 0 || memcmp(b->host, ALL.host, sizeof ALL.host) == 0;
-    return a->port != 0 && a->port == b->port && (is_all || same_address(a, b));
+    return memcmp(at->host, ALL.host, sizeof ALL.host) == 0 && memcmp(at->six, ALL.six, sizeof ALL.six) == 0;
+}
+
+/* Whether one address of this machine is, or contains, the other. */
+static bool overlap(const address *a, const address *b)
+{
+    return a->port != 0 && a->port == b->port && a->is_six == b->is_six && (is_all(a) || is_all(b) || same_address(a, b));
 }
 
 /* Whether two links would take one address of this machine. */

@@ -1,5 +1,5 @@
-/* Sockets of IPv4: datagrams, and connections. All are opened so that no call waits. What fails leaves its fault in errno: EAGAIN where
- * there is nothing now, or no room. */
+/* Sockets of IPv4 and IPv6: datagrams, and connections. All are opened so that no call waits. What fails leaves its fault in errno: EAGAIN
+ * where there is nothing now, or no room. */
 #ifndef SOCKETS_H
 #define SOCKETS_H
 

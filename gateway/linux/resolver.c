@@ -60,17 +60,31 @@ void resolver_unlock(void)
     pthread_mutex_unlock(&lock);
 }
 
-void resolver_ask(const char *host, answers *found)
+/* An address as the system says it. */
+static address of_system(const struct sockaddr *at)
 {
-    struct addrinfo wanted = {.ai_family = AF_INET, .ai_socktype = SOCK_DGRAM}, *first = NULL;
-    found->count = 0;
-    if (getaddrinfo(host, NULL, &wanted, &first) != 0)
-        return;
-    for (const struct addrinfo *it = first; it != NULL && found->count < MOST_ANSWERS; it = it->ai_next) {
-        struct sockaddr_in at;
-        memcpy(&at, it->ai_addr, sizeof at);
-        found->list[found->count] = (address){.port = 0};
-        memcpy(found->list[found->count++].host, &at.sin_addr, sizeof found->list[0].host);
+    struct sockaddr_in four;
+    struct sockaddr_in6 six;
+    address it = {.is_six = at->sa_family == AF_INET6};
+    if (it.is_six) {
+        memcpy(&six, at, sizeof six);
+        memcpy(it.six, &six.sin6_addr, sizeof it.six);
+    } else {
+        memcpy(&four, at, sizeof four);
+        memcpy(it.host, &four.sin_addr, sizeof it.host);
     }
+    return it;
+}
+
+void resolver_ask(const char *host, wanted which, answers *found)
+{
+    static const int FAMILIES[] = {[ANY_ADDRESS] = AF_UNSPEC, [ADDRESS_OF_IPV4] = AF_INET, [ADDRESS_OF_IPV6] = AF_INET6};
+    struct addrinfo hints = {.ai_family = FAMILIES[which], .ai_socktype = SOCK_DGRAM}, *first = NULL;
+    found->count = 0;
+    if (getaddrinfo(host, NULL, &hints, &first) != 0)
+        return;
+    for (const struct addrinfo *it = first; it != NULL && found->count < MOST_ANSWERS; it = it->ai_next)
+        if (it->ai_family == AF_INET || it->ai_family == AF_INET6)
+            found->list[found->count++] = of_system(it->ai_addr);
     freeaddrinfo(first);
 }

@@ -51,6 +51,42 @@ static address of_system(const struct sockaddr_in *at)
     return it;
 }
 
+/* An address of either kind as the system takes it. Clients are of IPv4, which is the faster. */
+typedef union any_address {
+    struct sockaddr one;
+    struct sockaddr_in four;
+    struct sockaddr_in6 six;
+} any_address;
+
+static int family_of(const address *at)
+{
+    return at->is_six ? AF_INET6 : AF_INET;
+}
+
+/* Returns its size. */
+static socklen_t to_any(const address *at, any_address *it)
+{
+    memset(it, 0, sizeof *it);
+    if (!at->is_six) {
+        it->four = to_system(at);
+        return sizeof it->four;
+    }
+    it->six.sin6_family = AF_INET6;
+    it->six.sin6_port = htons(at->port);
+    memcpy(&it->six.sin6_addr, at->six, sizeof at->six);
+    return sizeof it->six;
+}
+
+static address of_any(const any_address *at)
+{
+    address it = {.is_six = at->one.sa_family == AF_INET6};
+    if (!it.is_six)
+        return of_system(&at->four);
+    it.port = ntohs(at->six.sin6_port);
+    memcpy(it.six, &at->six.sin6_addr, sizeof it.six);
+    return it;
+}
+
 /* ---- Opening ---- */
 
 /* Makes a socket that doesn't wait, or closes it. */
@@ -65,22 +101,31 @@ static int unwaiting(int fd)
     return -1;
 }
 
+static bool set(int fd, int level, int option, int value)
+{
+    return setsockopt(fd, level, option, &value, sizeof value) == 0;
+}
+
 /* Whether a socket has an address; tells the port that it took. */
 static bool is_bound(int fd, address *local)
 {
-    struct sockaddr_in at = to_system(local);
-    socklen_t size = sizeof at;
-    if (bind(fd, (const struct sockaddr *)&at, size) != 0 || getsockname(fd, (struct sockaddr *)&at, &size) != 0)
+    any_address at;
+    socklen_t size = to_any(local, &at);
+    /* (an address of IPv6 is none of IPv4 too, as other programs may take it) */
+    if (local->is_six && !set(fd, IPPROTO_IPV6, IPV6_V6ONLY, 1))
         return false;
-    *local = of_system(&at);
+    if (bind(fd, &at.one, size) != 0 || getsockname(fd, &at.one, &size) != 0)
+        return false;
+    *local = of_any(&at);
     return true;
 }
 
 /* Whether a connection is there or under way; a socket for datagrams hears that address alone. */
 static bool is_connected(int fd, const address *remote)
 {
-    struct sockaddr_in to = to_system(remote);
-    return connect(fd, (const struct sockaddr *)&to, sizeof to) == 0 || errno == EINPROGRESS;
+    any_address to;
+    socklen_t size = to_any(remote, &to);
+    return connect(fd, &to.one, size) == 0 || errno == EINPROGRESS;
 }
 
 /* The socket, where all is well; else it is closed. */
@@ -93,11 +138,6 @@ static int kept_if(bool is_well, int fd)
     return fd;
 }
 
-static bool set(int fd, int level, int option, int value)
-{
-    return setsockopt(fd, level, option, &value, sizeof value) == 0;
-}
-
 /* Asks for room, as much as the gateway has the right to: by the first option without the limit for all programs, by the second within it.
  * (less is enough: then more is lost when many send at once) */
 static void keep(int fd, int without_limit, int within_limit, int size)
@@ -107,20 +147,23 @@ static void keep(int fd, int without_limit, int within_limit, int size)
 
 int datagram_open(address *local, const address *remote)
 {
-    int fd = unwaiting(socket(AF_INET, SOCK_DGRAM, 0));
+    int fd = unwaiting(socket(family_of(local), SOCK_DGRAM, 0));
     if (fd < 0)
         return -1;
     keep(fd, SO_RCVBUFFORCE, SO_RCVBUF, KEPT);
     keep(fd, SO_SNDBUFFORCE, SO_SNDBUF, KEPT_SENT);
     /* (else anybody who forges a router's complaint makes the system cut what goes to a client, into pieces as small as he likes) */
-    (void)set(fd, IPPROTO_IP, IP_MTU_DISCOVER, IP_PMTUDISC_OMIT);
+    if (local->is_six)
+        (void)set(fd, IPPROTO_IPV6, IPV6_MTU_DISCOVER, IPV6_PMTUDISC_OMIT);
+    else
+        (void)set(fd, IPPROTO_IP, IP_MTU_DISCOVER, IP_PMTUDISC_OMIT);
     return kept_if(is_bound(fd, local) && (remote == NULL || is_connected(fd, remote)), fd);
 }
 
 int listener_open(address *local)
 {
     int yes = 1;
-    int fd = unwaiting(socket(AF_INET, SOCK_STREAM, 0));
+    int fd = unwaiting(socket(family_of(local), SOCK_STREAM, 0));
     if (fd < 0)
         return -1;
     bool is_well = setsockopt(fd, SOL_SOCKET, SO_REUSEADDR, &yes, sizeof yes) == 0 && is_bound(fd, local);
@@ -142,16 +185,16 @@ static int plain_connection(int fd)
 
 int listener_take(int listener, address *from)
 {
-    struct sockaddr_in at = {0};
+    any_address at = {.six = {.sin6_family = AF_INET}};
     socklen_t size = sizeof at;
-    int fd = plain_connection(unwaiting(accept(listener, (struct sockaddr *)&at, &size)));
-    *from = of_system(&at);
+    int fd = plain_connection(unwaiting(accept(listener, &at.one, &size)));
+    *from = of_any(&at);
     return fd;
 }
 
 int connection_begin(const address *remote)
 {
-    int fd = plain_connection(unwaiting(socket(AF_INET, SOCK_STREAM, 0)));
+    int fd = plain_connection(unwaiting(socket(family_of(remote), SOCK_STREAM, 0)));
     return fd < 0 ? -1 : kept_if(is_connected(fd, remote), fd);
 }
 
@@ -177,10 +220,12 @@ void connection_drop(int *fd)
 
 bool connection_is_own(int fd)
 {
-    struct sockaddr_in own = {0}, other = {0};
-    socklen_t size = sizeof own, other_size = sizeof other;
-    return getsockname(fd, (struct sockaddr *)&own, &size) == 0 && getpeername(fd, (struct sockaddr *)&other, &other_size) == 0 &&
-           own.sin_port == other.sin_port && own.sin_addr.s_addr == other.sin_addr.s_addr;
+    any_address at, with;
+    socklen_t size = sizeof at, other_size = sizeof with;
+    if (getsockname(fd, &at.one, &size) != 0 || getpeername(fd, &with.one, &other_size) != 0)
+        return false;
+    address own = of_any(&at), other = of_any(&with);
+    return same_address(&own, &other);
 }
 
 /* (while something is under way nobody is asked whether he is there, and Linux tries for a quarter of an hour. Who acknowledges, but takes
@@ -251,7 +296,7 @@ bool datagrams_receive(int fd, arrivals *in)
     int count = recvmmsg(fd, all->list, MOST_TOGETHER, MSG_TRUNC, NULL);
     for (int k = 0; k < count; k++) {
         in->list[k].length = all->list[k].msg_len;
-        in->list[k].from = of_system(&all->places[k]);
+        in->list[k].from = of_system(&all->places[k]); /* (it is asked for in the tunnel, which is of IPv4) */
         all->list[k].msg_hdr.msg_namelen = sizeof all->places[k];
     }
     in->count = count > 0 ? (size_t)count : 0;

@@ -47,6 +47,42 @@ static address of_system(const struct sockaddr_in *at)
     return it;
 }
 
+/* An address of either kind as the system takes it. Clients are of IPv4, which is the faster. */
+typedef union any_address {
+    struct sockaddr one;
+    struct sockaddr_in four;
+    struct sockaddr_in6 six;
+} any_address;
+
+static int family_of(const address *at)
+{
+    return at->is_six ? AF_INET6 : AF_INET;
+}
+
+/* Returns its size. */
+static int to_any(const address *at, any_address *it)
+{
+    memset(it, 0, sizeof *it);
+    if (!at->is_six) {
+        it->four = to_system(at);
+        return sizeof it->four;
+    }
+    it->six.sin6_family = AF_INET6;
+    it->six.sin6_port = htons(at->port);
+    memcpy(&it->six.sin6_addr, at->six, sizeof at->six);
+    return sizeof it->six;
+}
+
+static address of_any(const any_address *at)
+{
+    address it = {.is_six = at->one.sa_family == AF_INET6};
+    if (!it.is_six)
+        return of_system(&at->four);
+    it.port = ntohs(at->six.sin6_port);
+    memcpy(it.six, &at->six.sin6_addr, sizeof it.six);
+    return it;
+}
+
 /* ---- Opening ---- */
 
 /* The socket, where all is well; else it is closed. */
@@ -78,27 +114,29 @@ static bool set(int fd, int level, int option, int value)
 /* Whether a socket has an address, which no other program takes too; tells the port that it took. */
 static bool is_bound(int fd, address *local)
 {
-    struct sockaddr_in at = to_system(local);
-    int size = sizeof at;
-    if (!set(fd, SOL_SOCKET, SO_EXCLUSIVEADDRUSE, 1) || answered(bind((SOCKET)fd, (const struct sockaddr *)&at, size)) != 0 ||
-        answered(getsockname((SOCKET)fd, (struct sockaddr *)&at, &size)) != 0)
+    any_address at;
+    int size = to_any(local, &at);
+    /* (an address of IPv6 is none of IPv4 too, as Windows has it without a word) */
+    if (!set(fd, SOL_SOCKET, SO_EXCLUSIVEADDRUSE, 1) || answered(bind((SOCKET)fd, &at.one, size)) != 0 ||
+        answered(getsockname((SOCKET)fd, &at.one, &size)) != 0)
         return false;
-    *local = of_system(&at);
+    *local = of_any(&at);
     return true;
 }
 
 /* Whether a connection is there or under way; a socket for datagrams hears that address alone. */
 static bool is_connected(int fd, const address *remote)
 {
-    struct sockaddr_in to = to_system(remote);
-    return answered(connect((SOCKET)fd, (const struct sockaddr *)&to, sizeof to)) == 0 || errno == EAGAIN;
+    any_address to;
+    int size = to_any(remote, &to);
+    return answered(connect((SOCKET)fd, &to.one, size)) == 0 || errno == EAGAIN;
 }
 
 int datagram_open(address *local, const address *remote)
 {
     BOOL tells = FALSE;
     DWORD ignored;
-    int fd = unwaiting(socket(AF_INET, SOCK_DGRAM, 0));
+    int fd = unwaiting(socket(family_of(local), SOCK_DGRAM, 0));
     if (fd < 0)
         return -1;
     /* (that a client has gone is no fault of the socket's) */
@@ -110,7 +148,7 @@ int datagram_open(address *local, const address *remote)
 
 int listener_open(address *local)
 {
-    int fd = unwaiting(socket(AF_INET, SOCK_STREAM, 0));
+    int fd = unwaiting(socket(family_of(local), SOCK_STREAM, 0));
     if (fd < 0)
         return -1;
     return kept_if(is_bound(fd, local) && answered(listen((SOCKET)fd, MOST_WAITING)) == 0, fd);
@@ -132,16 +170,16 @@ static int plain_connection(int fd)
 
 int listener_take(int listener, address *from)
 {
-    struct sockaddr_in at = {.sin_port = 0};
+    any_address at = {.six = {.sin6_family = AF_INET}};
     int size = sizeof at;
-    int fd = plain_connection(unwaiting(accept((SOCKET)listener, (struct sockaddr *)&at, &size)));
-    *from = of_system(&at);
+    int fd = plain_connection(unwaiting(accept((SOCKET)listener, &at.one, &size)));
+    *from = of_any(&at);
     return fd;
 }
 
 int connection_begin(const address *remote)
 {
-    int fd = plain_connection(unwaiting(socket(AF_INET, SOCK_STREAM, 0)));
+    int fd = plain_connection(unwaiting(socket(family_of(remote), SOCK_STREAM, 0)));
     return fd < 0 ? -1 : kept_if(is_connected(fd, remote), fd);
 }
 
@@ -173,11 +211,12 @@ void connection_drop(int *fd)
 
 bool connection_is_own(int fd)
 {
-    struct sockaddr_in own = {.sin_port = 0}, other = {.sin_port = 0};
-    int size = sizeof own, other_size = sizeof other;
-    return getsockname((SOCKET)fd, (struct sockaddr *)&own, &size) == 0 &&
-           getpeername((SOCKET)fd, (struct sockaddr *)&other, &other_size) == 0 && own.sin_port == other.sin_port &&
-           own.sin_addr.s_addr == other.sin_addr.s_addr;
+    any_address at, with;
+    int size = sizeof at, other_size = sizeof with;
+    if (getsockname((SOCKET)fd, &at.one, &size) != 0 || getpeername((SOCKET)fd, &with.one, &other_size) != 0)
+        return false;
+    address own = of_any(&at), other = of_any(&with);
+    return same_address(&own, &other);
 }
 
 /* (Windows ends a connection by itself on which nobody acknowledges what is under way, before a minute is over) */
@@ -207,11 +246,11 @@ static ssize_t received(int length, size_t room)
 bool datagrams_receive(int fd, arrivals *in)
 {
     arrival *first = &in->list[0];
-    struct sockaddr_in at = {.sin_port = 0};
+    any_address at = {.six = {.sin6_family = AF_INET}};
     int size = sizeof at, room = sizeof first->bytes;
-    ssize_t length = received(recvfrom((SOCKET)fd, (char *)first->bytes, room, 0, (struct sockaddr *)&at, &size), (size_t)room);
+    ssize_t length = received(recvfrom((SOCKET)fd, (char *)first->bytes, room, 0, &at.one, &size), (size_t)room);
     first->length = length > 0 ? (size_t)length : 0;
-    first->from = of_system(&at);
+    first->from = of_any(&at);
     in->count = 1;
     return length >= 0;
 }

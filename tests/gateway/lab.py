@@ -181,7 +181,7 @@ class Gateway:
 
     def learn(self, line):
         """What a line tells of a network's port and node."""
-        place = r"\S+ (?:listen )?(?:127[\d.]+:(\d+))?(?:.*, node (\w{12}))?"
+        place = r"\S+ (?:listen )?(?:(?:127[\d.]+|\[::1\]):(\d+))?(?:.*, node (\w{12}))?"
         found = re.search(rf"\bnetwork (\w{{8}}) (?:on|is up:|is down:|has another node:) {place}", line)
         if found:
             self.ports[int(found[1], 16)] = int(found[2] or 0)

@@ -1,5 +1,6 @@
 """Names of machines in place of addresses: in a network of the test's own, with names that the test gives out."""
 import contextlib
+import ipaddress
 import os
 import socket
 import struct
@@ -10,6 +11,7 @@ import tempfile
 from frames import Station, Tcp, Udp
 from lab import LIMIT, Client, Clock, Counts, Gateway, comes_next, is_routers, left_out, reaches, tunnels, until
 from links import STATION, both_ways
+from six import has_six
 from spaces import INSIDE, ip, tried_inside
 from systems import SYSTEM, Windows
 from words import asked
@@ -17,6 +19,7 @@ from words import asked
 UNKNOWN = "no address of that name is known yet"
 SERVER = ("127.0.0.9", 53)  # that gives out names
 NAME = "house.test"
+A, AAAA = 1, 28  # the kinds of addresses of IPv4 and of IPv6 in a question
 MINUTE, SILENT = 61, 91  # seconds after which a name is asked for again: where nobody is, and where nobody says anything
 TWENTY = 20
 
@@ -59,7 +62,8 @@ def the_longest():
 class Names:
     """What gives out names: the test answers each question when it likes."""
 
-    def __init__(self):
+    def __init__(self, questions):
+        self.questions = questions  # at once: one for each kind of address
         self.folder = tempfile.TemporaryDirectory()
         self.udp = socket.socket(socket.AF_INET, socket.SOCK_DGRAM)
         self.udp.bind(SERVER)
@@ -78,15 +82,18 @@ class Names:
         return bytes_, who
 
     def answer(self, question, addresses):
-        """Answers one: with addresses, or that there is none of that name."""
+        """Answers one: with the addresses that it asks for, or that there is none of that name."""
         bytes_, who = question
         end = bytes_.index(b"\0", 12) + 5
-        head = bytes_[:2] + struct.pack(">HHHHH", 0x8180 if addresses else 0x8183, 1, len(addresses), 0, 0)
-        records = b"".join(b"\xc0\x0c" + struct.pack(">HHIH", 1, 1, 0, 4) + socket.inet_aton(it) for it in addresses)
+        kind = int.from_bytes(bytes_[end - 4 : end - 2], "big")
+        wanted = [it.packed for it in map(ipaddress.ip_address, addresses) if {A: 4, AAAA: 6}[kind] == it.version]
+        head = bytes_[:2] + struct.pack(">HHHHH", 0x8180 if addresses else 0x8183, 1, len(wanted), 0, 0)
+        records = b"".join(b"\xc0\x0c" + struct.pack(">HHIH", kind, 1, 0, len(it)) + it for it in wanted)
         self.udp.sendto(head + bytes_[12:end] + records, who)
 
     def gives(self, *addresses):
-        self.answer(self.question(), addresses)
+        for _ in range(self.questions):
+            self.answer(self.question(), addresses)
 
     def __enter__(self):
         return self
@@ -98,7 +105,7 @@ class Names:
 
 @contextlib.contextmanager
 def routing(kind, **how):
-    with Names() as names, Gateway(link(kind), before=names.before, **how) as gate:
+    with Names(2 if kind.startswith("qemu-tcp") else 1) as names, Gateway(link(kind), before=names.before, **how) as gate:
         yield names, gate
 
 
@@ -127,14 +134,22 @@ def an_end_doesnt_wait():
 
 def the_next_address():
     """Of several addresses each has its turn, until somebody is there who takes a connection."""
-    for host in ("127.0.0.2", "127.0.0.3"):
-        with socket.socket() as pc:
+    hosts = [(socket.AF_INET, "127.0.0.2"), (socket.AF_INET, "127.0.0.3"), *([(socket.AF_INET6, "::1")] if has_six() else [])]
+    for family, host in hosts:
+        with socket.socket(family) as pc:
             pc.bind((host, 0))
             pc.listen()
             port = pc.getsockname()[1]
             with routing(f"qemu-tcp connect {NAME}:{port}") as (names, gate):
-                names.gives("127.0.0.2", "127.0.0.3")
-                assert told_with(gate, f"{host}:{port}")
+                names.gives("127.0.0.2", "127.0.0.3", "::1")
+                assert told_with(gate, f"[{host}]:{port}" if ":" in host else f"{host}:{port}")
+
+
+def of_six():
+    """Datagrams from an address of IPv6 go to one of a name, which is asked for these alone."""
+    with routing(f"qemu-udp [::1]:5001 {NAME}:5002") as (names, gate):
+        names.gives("127.0.0.2", "::1")
+        assert told_with(gate, "[::1]:5002")
 
 
 def asked_again():
@@ -183,6 +198,8 @@ def inside():
     if mounts.returncode == 0 and all(os.path.exists(f"/etc/{it}") for it in ("hosts", "resolv.conf", "nsswitch.conf")):
         for test in (nobody_waits, an_end_doesnt_wait, the_next_address, asked_again, another_address):
             counts.run(test)
+        if has_six():
+            counts.run(of_six)
     else:
         left_out("names that the test gives out", "its own can't stand in place of the system's")
     print(f"{counts.passed} passed, {counts.failed} failed")

@@ -20,6 +20,7 @@ import probes
 import reloading
 import segments
 import siphash
+import six
 import status
 import troubles
 import tunnel
@@ -29,8 +30,8 @@ import words
 from lab import left_out
 from systems import SYSTEM, Windows
 
-ALL = (counting, words, siphash, unit, orders, status, events, probes, reloading, tunnel, links, names, segments, kinds, troubles,
-       wires, houses, attacks, limits, fair, narrow, dosbox, pc)
+ALL = (counting, words, siphash, unit, orders, status, events, probes, reloading, tunnel, links, six, names, segments, kinds,
+       troubles, wires, houses, attacks, limits, fair, narrow, dosbox, pc)
 TESTS = {it.__name__: it for it in ALL}
 
 
