@@ -1,7 +1,7 @@
 /* ipxr.h: an IPX router as a value, for C and for whatever can call C.
  *
  * A router takes events (a start, seconds, packets that came in) and says which packets it sends. It has no socket, no
- * clock, no thread and no memory but its own. What each call does is proved from its code; docs/EMBED.md says how far.
+ * clock, no thread and no memory but its own. What each call does is proved from its code; docs/LIBIPXR.md says how far.
  *
  *     ipxr router = IPXR_NONE;
  *     ipxr_port ports[2] = {
@@ -35,7 +35,7 @@
  * there is not, a buffer too short for a packet, ports that make no router, memory that is refused.
  *
  * WHERE IT RUNS. The library is there for 64-bit Linux on x86-64 and on aarch64, and for 64-bit Windows on x86-64:
- * docs/EMBED.md says how each is made. It is called as the system's C is, so whatever calls C there can call it. The header
+ * docs/LIBIPXR.md says how each is made. It is called as the system's C is, so whatever calls C there can call it. The header
  * is plain C, from C89 on, and plain C++, from C++98 on, where the compiler has stdint.h and stdbool.h.
  */
 #ifndef IPXR_H

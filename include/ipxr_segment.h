@@ -4,7 +4,7 @@
  * A segment joins several links, such as cards, TAPs, a PC in QEMU and a tunnel of DOSBox clients, into one network: together they are one
  * cable, and the router is a station on it. It takes events (a packet that was heard at a link, a packet that the router sends, a second)
  * and says which links get the packet. It has no socket, no clock, no thread and no memory but its own. What each call does is proved from
- * its code; docs/SEGMENT.md says what a segment does, docs/EMBED.md how far it is proved.
+ * its code; docs/SEGMENT.md says what a segment does, docs/LIBIPXR.md how far it is proved.
  *
  *     ipxr_segment segment = IPXR_SEGMENT_NONE;
  *     ipxr_segment_setting setting = {0x10, {0, 0, 0, 0, 0, 1}, 2, 1024};

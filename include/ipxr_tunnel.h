@@ -2,7 +2,7 @@
  *
  * A tunnel is the server of what DOSBox calls IPXNET: clients register with it by UDP, and their packets come and go in datagrams. It takes
  * events (a datagram that came, a second, a packet that the router sends) and says who gets what. It has no socket, no clock, no thread and
- * no memory but its own. What each call does is proved from its code; docs/TUNNEL.md says what a tunnel does, docs/EMBED.md how far it is
+ * no memory but its own. What each call does is proved from its code; docs/TUNNEL.md says what a tunnel does, docs/LIBIPXR.md how far it is
  * proved.
  *
  *     ipxr_tunnel tunnel = IPXR_TUNNEL_NONE;

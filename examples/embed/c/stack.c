@@ -1,7 +1,7 @@
 /* Measures how much stack each call takes: it is made on a thread whose stack is painted, and then is looked how far down the paint
  * is gone. The tables are full, and the calls are those that have the most to do.
  *
- * With no word it says of each call whether it stays within what docs/EMBED.md says; with the word `figures` it prints bytes. */
+ * With no word it says of each call whether it stays within what docs/LIBIPXR.md says; with the word `figures` it prints bytes. */
 #define _POSIX_C_SOURCE 200112L
 #include <pthread.h>
 #include <stdio.h>
