@@ -1,6 +1,6 @@
 /* ipxr.h: an IPX router as a value, for C and for whatever can call C.
  *
- * A router takes events (a start, seconds, packets that came in) and says which packets it sends. It has no socket, no
+ * A router takes events (a start, seconds, packets that arrived) and says which packets it sends. It has no socket, no
  * clock, no thread and no memory but its own. What each call does is proved from its code; docs/LIBIPXR.md says how far.
  *
  *     ipxr router = IPXR_NONE;
@@ -16,27 +16,28 @@
  *
  * All numbers are in the machine's own byte order; packets and nodes are bytes as they lie on the wire.
  *
- * WHAT C HAS TO PROMISE. Nothing checks it; where it is broken, anything may happen, unless another thing is said.
+ * WHAT C HAS TO PROMISE. Nothing checks it. If a promise is broken, anything may happen, unless stated otherwise.
  *
- *  1. A handle begins as IPXR_NONE, or with all bytes 0, and is changed by these calls alone. Junk in it is taken for a pointer.
+ *  1. A handle begins as IPXR_NONE, or with all bytes 0, and is changed by these calls alone. Anything else in it is taken for a
+ *     pointer.
  *  2. A handle is never copied. Two copies are one router: freed by both, it is freed twice.
- *  3. A handle that has a router is freed before it is forgotten. Otherwise its memory is lost.
- *  4. One call at a time for one handle. It may go from one thread to another between calls; that is ordered by a lock, or
- *     by what starts or joins the threads. Different handles have nothing in common.
- *  5. No pointer is NULL, not even with a length of 0. A NULL handle is read.
- *  6. Each pointer leads to as many values as its length says, aligned for their type. A buffer that is shorter than its
- *     length says is written past its end.
+ *  3. A handle's router is freed before the handle is discarded. Otherwise its memory is lost.
+ *  4. One call at a time for one handle. It may move to another thread between calls, ordered by a lock, or by what
+ *     starts or joins the threads. Different handles share nothing.
+ *  5. No pointer is NULL, not even with a length of 0. A NULL handle is dereferenced.
+ *  6. Each pointer leads to as many values as its length says, aligned for their type. If a buffer is
+ *     shorter than its length says, the call writes past its end.
  *  7. No two arguments of one call overlap, and no other code writes there during the call.
- *  8. malloc, realloc and free belong to one allocator (include/heap.c), and are not changed while a router is there.
+ *  8. malloc, realloc and free belong to one allocator (include/heap.c), and are not changed while a router exists.
  *  9. No call from a signal handler, nor in the child of a fork of a process with threads.
- * 10. The stack has room for a call, as that of a thread with IPXR_STACK bytes has. A call without room runs over its end.
+ * 10. The stack has room for a call, as that of a thread with IPXR_STACK bytes has. Without room, a call overruns the stack.
  *
  * Everything else is answered with a number: a handle without a router, a second free, a port, a packet or a record that
- * there is not, a buffer too short for a packet, ports that make no router, memory that is refused.
+ * doesn't exist, a buffer too short for a packet, ports from which no router can be made, memory that is refused.
  *
- * WHERE IT RUNS. The library is there for 64-bit Linux on x86-64 and on aarch64, and for 64-bit Windows on x86-64:
- * docs/LIBIPXR.md says how each is made. It is called as the system's C is, so whatever calls C there can call it. The header
- * is plain C, from C89 on, and plain C++, from C++98 on, where the compiler has stdint.h and stdbool.h.
+ * WHERE IT RUNS. The library exists for 64-bit Linux on x86-64 and on aarch64, and for 64-bit Windows on x86-64:
+ * docs/LIBIPXR.md says how each is made. It is called like any C there. The header is plain C, from C89 on, and
+ * plain C++, from C++98 on, if the compiler has stdint.h and stdbool.h.
  */
 #ifndef IPXR_H
 #define IPXR_H
@@ -45,7 +46,7 @@
 #include <stddef.h>
 #include <stdint.h>
 
-/* What stands before each call, if anything. It is there for who wants __declspec(dllimport), which Windows' DLL doesn't need. */
+/* What precedes each call, if anything: for anyone who wants __declspec(dllimport), which Windows' DLL doesn't need. */
 #ifndef IPXR_CALL
 #define IPXR_CALL
 #endif
@@ -54,7 +55,7 @@
 extern "C" {
 #endif
 
-/* How much one router can have. What comes when a table is full is not learned. */
+/* The most that one router can have. A full table learns no further network or service. */
 #define IPXR_MOST_PORTS 32
 #define IPXR_MOST_ROUTES 2048
 #define IPXR_MOST_SERVICES 1024
@@ -65,31 +66,31 @@ extern "C" {
 /* A share that limits nothing. */
 #define IPXR_NO_LIMIT 65535
 
-/* Room for the words of any answer, with the 0 behind them. */
+/* Bytes enough for the words of any answer, with the 0 after them. */
 #define IPXR_MOST_WORD 32
 
-/* Bytes of stack for a thread that makes these calls, ipxr_make among them, which holds a router's tables before they are in their block,
- * 17 bytes a route and 77 a service, up to three times. So it is 384 KB as delivered, and 64 KB for small tables. All other calls take
- * less than 16 KB, whatever the tables. */
+/* Bytes of stack for a thread that makes these calls. ipxr_make needs the most: before a router's tables are in their block, it
+ * holds them on the stack up to three times, 17 bytes a route and 77 a service. So it is 384 KB as delivered, and 64 KB for small
+ * tables. All other calls take less than 16 KB, whatever the tables. */
 #define IPXR_STACK (((17 * IPXR_MOST_ROUTES + 77 * IPXR_MOST_SERVICES) * 3 + 16384 + 65535) / 65536 * 65536)
 
-/* ---- What became of an event: 0 and above. ipxr_word tells the word of each. ---- */
+/* ---- What became of an event: 0 and above. ipxr_word gives the words of each. ---- */
 
 #define IPXR_STARTED 0          /* the router runs from now on */
 #define IPXR_ALREADY_RUNNING 1  /* it was running; nothing was done */
 #define IPXR_STOPPED 2          /* it is stopped, and forgot what it learned */
 #define IPXR_TICKED 3           /* a second passed */
-#define IPXR_LEARNED 4          /* a response was taken; what a full table has no room for is left out */
-#define IPXR_ANSWERED 5         /* a request or a query was heard; also where nothing is sent */
+#define IPXR_LEARNED 4          /* a response was accepted; what a full table has no room for is left out */
+#define IPXR_ANSWERED 5         /* a request or a query was heard; also if nothing is sent */
 #define IPXR_FORWARDED 6        /* the packet goes on towards its network */
-#define IPXR_PROPAGATED 7       /* the packet goes on to the other networks; also where there is none */
+#define IPXR_PROPAGATED 7       /* the packet goes on to the other networks; also if there is none */
 #define IPXR_WENT_DOWN 8        /* the port is down from now on */
 #define IPXR_CAME_UP 9          /* the port is up from now on */
 #define IPXR_ALREADY_DOWN 10    /* the port was down; nothing was done */
 #define IPXR_ALREADY_UP 11      /* the port was up; nothing was done */
 
 /* ---- Why an event was dropped: nothing was done, nothing is sent. The hundreds are the number of the check in
- * docs/ROUTER.md, what is left over tells what was wrong with the bytes. ---- */
+ * docs/ROUTER.md, the rest says what was wrong with the bytes. ---- */
 
 #define IPXR_DROPPED(answer) ((answer) >= 100)
 
@@ -126,7 +127,7 @@ extern "C" {
 #define IPXR_NO_PORT (-2)       /* there is no port of that number */
 #define IPXR_NO_PACKET (-3)     /* there is no packet of that number */
 #define IPXR_NO_RECORD (-4)     /* there is no route or service of that number */
-#define IPXR_SHORT_BUFFER (-5)  /* the packet is longer than the buffer; ipxr_get tells its length */
+#define IPXR_SHORT_BUFFER (-5)  /* the packet is longer than the buffer; ipxr_get gives its length */
 #define IPXR_OUT_OF_MEMORY (-6) /* the allocator refused; the call can be made again */
 /* of ipxr_make alone: */
 #define IPXR_BAD_LONGEST (-11)  /* a port's longest packet is under 576 bytes */
@@ -152,7 +153,7 @@ typedef bool ipxr_flag;
 typedef unsigned char ipxr_flag;
 #endif
 
-/* A router, or none. Begin with none, hand its address to the calls, and look at nothing in it. */
+/* A router, or none. Begin with IPXR_NONE, pass its address to the calls, and don't look inside. */
 typedef struct ipxr {
     ipxr_flag made;
     void *at;
@@ -167,11 +168,11 @@ typedef struct ipxr_port {
     uint8_t node[6];   /* its node there: not the broadcast */
     uint16_t cost;     /* ticks (eighteenths of a second) that a packet takes to cross the network: at least 1 */
     uint16_t longest;  /* bytes of the longest packet that may leave there, its 30 header bytes included: at least 576 */
-    uint16_t routes;   /* how many routes may have come by it: IPXR_NO_LIMIT for any number. 0 learns none */
-    uint16_t services; /* how many services may have come by it, alike */
+    uint16_t routes;   /* the most routes in the table that came by it: IPXR_NO_LIMIT for any number. 0 learns none */
+    uint16_t services; /* the most services, likewise */
 } ipxr_port;
 
-/* A packet that is to be sent, without its bytes. */
+/* A packet to be sent, without its bytes. */
 typedef struct ipxr_packet_sent {
     size_t length;   /* how many bytes it has */
     uint8_t port;    /* the number of the port on which it leaves, from 0 */
@@ -182,7 +183,7 @@ typedef struct ipxr_packet_sent {
 typedef struct ipxr_route_record {
     uint32_t network; /* where it leads */
     uint16_t hops;    /* routers on the way, as the neighbour advertised it: under 16 */
-    uint16_t ticks;   /* ticks for the way, alike */
+    uint16_t ticks;   /* ticks for the way, likewise */
     uint8_t node[6];  /* the neighbour that advertised it */
     uint8_t port;     /* the port by which it came */
     uint8_t age;      /* seconds since it was advertised last: under 180 */
@@ -194,7 +195,7 @@ typedef struct ipxr_service_record {
     uint32_t network;  /* where it is offered: network, node and socket */
     uint8_t node[6];
     uint16_t socket;
-    uint16_t type;     /* its type, as 4 for a file server */
+    uint16_t type;     /* its type, such as 4 for a file server */
     uint16_t hops;     /* routers on the way, as the neighbour advertised it: under 16 */
     uint8_t neighbour[6]; /* the neighbour that advertised it */
     uint8_t port;      /* the port by which it came */
@@ -221,25 +222,25 @@ typedef struct ipxr_service_entry {
     uint32_t network; /* where it is offered: network, node and socket */
     uint8_t node[6];
     uint16_t socket;
-    uint16_t type;    /* its type, as 4 for a file server */
+    uint16_t type;    /* its type, such as 4 for a file server */
     uint16_t hops;    /* routers on the way: 16 where it is unreachable */
 } ipxr_service_entry;
 
 /* ---- Making and freeing ---- */
 
-/* Makes a router of `count` ports, which are numbered from 0. It is stopped, its tables are empty, and nothing is to be
- * sent. The ports are copied. A router that the handle had is freed, but only where the new one could be made.
- * Returns 0, or the first fault: IPXR_NO_PORTS, IPXR_MANY_PORTS; of the first port that is none IPXR_BAD_LONGEST, IPXR_BAD_COST,
- * IPXR_BAD_NETWORK or IPXR_BAD_NODE, in this order; IPXR_SAME_NETWORK; IPXR_OUT_OF_MEMORY. Then the handle is as it was. */
+/* Makes a router of `count` ports, which are numbered from 0. It is stopped, its tables are empty, and it has nothing to send.
+ * The ports are copied. A router that the handle had is freed, but only if the new one could be made. Returns 0, or the first
+ * fault: IPXR_NO_PORTS, IPXR_MANY_PORTS; of the first wrong port IPXR_BAD_LONGEST, IPXR_BAD_COST, IPXR_BAD_NETWORK or
+ * IPXR_BAD_NODE, in this order; IPXR_SAME_NETWORK; IPXR_OUT_OF_MEMORY. Then the handle is as it was. */
 IPXR_CALL int32_t ipxr_make(ipxr *router, const ipxr_port *ports, size_t count);
 
-/* Frees the router, if there is one; the handle then has none. What it would have sent is forgotten. */
+/* Frees the router, if there is one; the handle then has none. Packets that it still had to send are lost. */
 IPXR_CALL void ipxr_free(ipxr *router);
 
 /* ---- Events ----
- * Each returns what became of it. Packets that it sends are appended to those that are to be sent already: take them out with
+ * Each returns what became of it. The packets that it sends are added after those that wait already: take them out with
  * ipxr_sent, ipxr_get and ipxr_clear. IPXR_OUT_OF_MEMORY: there was no memory for the packets that it may send, and nothing
- * happened; the same event can be given again. */
+ * happened; you can give the same event again. */
 
 /* Starts it: IPXR_STARTED or IPXR_ALREADY_RUNNING. All ports are up. */
 IPXR_CALL int32_t ipxr_start(ipxr *router);
@@ -250,7 +251,7 @@ IPXR_CALL int32_t ipxr_stop(ipxr *router);
 /* A second has passed: IPXR_TICKED or IPXR_NOT_RUNNING. Call it once for each second of your clock, late ones too. */
 IPXR_CALL int32_t ipxr_second(ipxr *router);
 
-/* A packet came in on a port. `bytes` is the IPX packet from its checksum on, any bytes at all, without what carried it;
+/* A packet arrived on a port. `bytes` is the IPX packet from its checksum on, any bytes at all, without what carried it;
  * they are only read, and only during the call. */
 IPXR_CALL int32_t ipxr_packet(ipxr *router, uint8_t port, const uint8_t *bytes, size_t length);
 
@@ -263,13 +264,13 @@ IPXR_CALL int32_t ipxr_port_up(ipxr *router, uint8_t port);
 /* How many there are; 0 without a router. */
 IPXR_CALL size_t ipxr_sent(ipxr *router);
 
-/* Copies the packet with exactly `index` others before it: `sent` tells its length, port and next hop, and its bytes come
- * first in `buffer`, which has room for `room` bytes; the rest of it stays as it was. Returns 0. With IPXR_SHORT_BUFFER
- * `sent` is told all the same and no byte is copied; with IPXR_NO_ROUTER and IPXR_NO_PACKET both stay as they were.
- * A buffer as long as the longest port allows, and no shorter than 576, is always long enough. */
+/* Copies packet number `index`, counted from 0: its length, port and next hop into `sent`, its bytes to the front of `buffer`,
+ * which has room for `room` bytes; the rest of the buffer stays as it was. Returns 0. With IPXR_SHORT_BUFFER `sent` is filled all
+ * the same, and no byte is copied; with IPXR_NO_ROUTER and IPXR_NO_PACKET both stay as they were. A buffer as long as the longest
+ * port allows, and no shorter than 576, is always long enough. */
 IPXR_CALL int32_t ipxr_get(ipxr *router, size_t index, ipxr_packet_sent *sent, uint8_t *buffer, size_t room);
 
-/* Clears them: none is to be sent any more. Their memory is kept for the next ones. */
+/* Removes all of them. Their memory is kept for the next ones. */
 IPXR_CALL void ipxr_clear(ipxr *router);
 
 /* ---- What it knows ---- */
@@ -284,8 +285,8 @@ IPXR_CALL int32_t ipxr_is_up(ipxr *router, uint8_t port);
 IPXR_CALL size_t ipxr_routes(ipxr *router);
 IPXR_CALL size_t ipxr_services(ipxr *router);
 
-/* Copies the route with exactly `index` routes to smaller networks, or the service with exactly `index` services before it by
- * type and name. Returns 0; with IPXR_NO_ROUTER and IPXR_NO_RECORD `record` stays as it was. */
+/* Copies route number `index` by network, or service number `index` by type and name, each counted from 0. Returns 0; with
+ * IPXR_NO_ROUTER and IPXR_NO_RECORD `record` stays as it was. */
 IPXR_CALL int32_t ipxr_route(ipxr *router, size_t index, ipxr_route_record *record);
 IPXR_CALL int32_t ipxr_service(ipxr *router, size_t index, ipxr_service_record *record);
 
@@ -303,23 +304,24 @@ IPXR_CALL int32_t ipxr_service(ipxr *router, size_t index, ipxr_service_record *
 #define IPXR_SHORTEST_FRAME 60
 #define IPXR_LONGEST_FRAME 1514
 
-/* Returns how the frame carries a packet, and tells with how many bytes before it: from there to the frame's end is what
- * ipxr_packet takes, which finds by itself what is padding. With IPXR_NO_FRAME `front` stays as it was. A frame begins with its
- * six bytes of destination and six of source; whether it is for you is yours to see. */
+/* Returns how the frame carries a packet, and puts into `front` how many bytes stand before the packet. Give ipxr_packet all
+ * bytes from there to the frame's end: it finds by itself what is padding. With IPXR_NO_FRAME `front` stays as it was. A frame
+ * begins with its six bytes of destination and six of source; check yourself whether it is for you. */
 IPXR_CALL uint8_t ipxr_frame_read(const uint8_t *frame, size_t length, size_t *front);
 
-/* Writes the frame in which a packet is sent to a node from a node: its type, or its length and header, the packet, and zeros up to
- * IPXR_SHORTEST_FRAME. Returns its length; the rest of the buffer stays as it was. Returns 0, and writes nothing, where `kind` is
- * none of the four, header and packet are more than 1,500 bytes, the frame is longer than `room`, or a raw frame would carry a packet
- * with a checksum, since nobody would know it as IPX. */
+/* Writes the frame in which a packet is sent to a node from a node: its type, or its length and header, the packet, and zeros up
+ * to IPXR_SHORTEST_FRAME. Returns its length; the rest of the buffer stays as it was. Returns 0, and writes nothing, if `kind` is
+ * none of the four, header and packet are more than 1,500 bytes, the frame is longer than `room`, or a raw frame would carry a
+ * packet with a checksum, since nobody would recognize it as IPX. */
 IPXR_CALL size_t ipxr_frame_write(uint8_t kind, const uint8_t to[6], const uint8_t from[6], const uint8_t *packet, size_t length,
                                   uint8_t *frame, size_t room);
 
 /* ---- Packets of your own ----
- * For what a program puts on its networks itself: a server or a client inside of it, or a test. They need no router and keep nothing.
- * Each writes a whole packet, without a checksum (FFFFh), to the front of `buffer`, which has room for `room` bytes, and returns its
- * length; the rest of the buffer stays as it was. Or it returns the first of its faults, in the order in which they stand here, and
- * writes nothing. What was written is what ipxr_packet takes, ipxr_frame_write carries, and a router on the way reads. */
+ * For what a program puts on its networks itself: a server or a client inside it, or a test. They need no router and keep
+ * nothing. Each writes a whole packet, without a checksum (FFFFh), to the front of `buffer`, which has room for `room` bytes, and
+ * returns its length; the rest of the buffer stays as it was. Or it returns the first of its faults, in the order in which they
+ * are listed, and writes nothing. What was written is what ipxr_packet takes, ipxr_frame_write carries, and a router on the way
+ * reads. */
 
 /* The sockets to which routing information and service advertising go, and from which routers send them. */
 #define IPXR_RIP_SOCKET 0x0453
@@ -329,7 +331,7 @@ IPXR_CALL size_t ipxr_frame_write(uint8_t kind, const uint8_t to[6], const uint8
 #define IPXR_RIP_REQUEST 1
 #define IPXR_RIP_RESPONSE 2
 
-/* How many routes, and how many services, one packet has at most. 576 bytes are room enough for as many. */
+/* The most routes, and the most services, of one packet. 576 bytes are room enough for them. */
 #define IPXR_PACKET_ROUTES 50
 #define IPXR_PACKET_SERVICES 7
 
@@ -338,28 +340,28 @@ IPXR_CALL size_t ipxr_frame_write(uint8_t kind, const uint8_t to[6], const uint8
 IPXR_CALL int32_t ipxr_write_rip(const ipxr_address *from, const ipxr_address *to, uint16_t operation, const ipxr_route_entry *routes,
                                  size_t count, uint8_t *buffer, size_t room);
 
-/* Writes a query for the services of a type, or of every type, which is FFFFh: for all of them where `nearest` is 0, and otherwise for
+/* Writes a query for the services of a type, or of every type, which is FFFFh: for all of them if `nearest` is 0, otherwise for
  * the nearest one. It has 34 bytes. IPXR_SHORT_BUFFER. */
 IPXR_CALL int32_t ipxr_write_query(const ipxr_address *from, const ipxr_address *to, uint8_t nearest, uint16_t type, uint8_t *buffer,
                                    size_t room);
 
-/* Writes a response of `count` services: a general one where `nearest` is 0, and otherwise one to a query for the nearest service. It
- * has 32 bytes, and 64 for each. IPXR_NO_ENTRIES, IPXR_MANY_ENTRIES, IPXR_BAD_NAME, IPXR_SHORT_BUFFER. */
+/* Writes a response of `count` services: a general one if `nearest` is 0, otherwise an answer to a query for the nearest service.
+ * It has 32 bytes, and 64 for each. IPXR_NO_ENTRIES, IPXR_MANY_ENTRIES, IPXR_BAD_NAME, IPXR_SHORT_BUFFER. */
 IPXR_CALL int32_t ipxr_write_sap(const ipxr_address *from, const ipxr_address *to, uint8_t nearest, const ipxr_service_entry *services,
                                  size_t count, uint8_t *buffer, size_t room);
 
-/* Writes a packet of any type: 30 bytes, and its data. `control` is how many routers it came through: 0 of a packet that sets out. Of
- * type 20, NetBIOS, the data begin with 32 bytes of room for the networks crossed, of which the first `control` tell one each; those of
- * a packet that sets out are 0. IPXR_LONG_PACKET, IPXR_SHORT_BUFFER. */
+/* Writes a packet of any type: 30 bytes, and its data. `control` is how many routers it came through: 0 for a new packet. The
+ * data of type 20, NetBIOS, begin with 32 bytes of room for the networks crossed: the first `control` places have one each. In a
+ * new packet all are zeros. IPXR_LONG_PACKET, IPXR_SHORT_BUFFER. */
 IPXR_CALL int32_t ipxr_write_packet(const ipxr_address *from, const ipxr_address *to, uint8_t type, uint8_t control, const uint8_t *data,
                                     size_t length, uint8_t *buffer, size_t room);
 
 /* ---- Words ---- */
 
-/* Copies the words of an answer into `buffer`, which has room for `room` bytes, with a 0 behind them: of an event its outcome, as
- * "forwarded"; of a drop what `ipxr replay` prints, as "drop NoRoute" or "drop Malformed:Short"; of a fault what it is, as
- * "no such port". Returns their length without the 0. Where words and 0 don't fit, nothing is copied. An answer that is no
- * number of this page has no words: 0 is returned. IPXR_MOST_WORD bytes are always enough. */
+/* Copies the words of an answer into `buffer`, which has room for `room` bytes, with a 0 after them: for an event its outcome,
+ * such as "forwarded"; for a drop what `ipxr replay` prints, such as "drop NoRoute" or "drop Malformed:Short"; for a fault what
+ * it is, such as "no such port". Returns their length without the 0. If words and 0 don't fit, nothing is copied. A number that
+ * isn't in this header has no words: it returns 0. IPXR_MOST_WORD bytes are always enough. */
 IPXR_CALL size_t ipxr_word(int32_t answer, uint8_t *buffer, size_t room);
 
 /* The same, into a text. */

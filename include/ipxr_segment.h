@@ -1,10 +1,10 @@
-/* ipxr_segment.h: one network over several links, as a value, for C and for whatever can call C. It belongs to ipxr.h and lies in the same
- * library.
+/* ipxr_segment.h: one network over several links, as a value, for C and for whatever can call C. It belongs to ipxr.h and is in
+ * the same library.
  *
- * A segment joins several links, such as cards, TAPs, a PC in QEMU and a tunnel of DOSBox clients, into one network: together they are one
- * cable, and the router is a station on it. It takes events (a packet that was heard at a link, a packet that the router sends, a second)
- * and says which links get the packet. It has no socket, no clock, no thread and no memory but its own. What each call does is proved from
- * its code; docs/SEGMENT.md says what a segment does, docs/LIBIPXR.md how far it is proved.
+ * A segment joins several links, such as cards, TAPs, a PC in QEMU and a tunnel of DOSBox clients, into one network: together
+ * they are one cable, and the router is a station on it. It takes events (a packet that was heard at a link, a packet that the
+ * router sends, a second) and says which links get the packet. It has no socket, no clock, no thread and no memory but its own.
+ * What each call does is proved from its code; docs/SEGMENT.md says what a segment does, docs/LIBIPXR.md how far it is proved.
  *
  *     ipxr_segment segment = IPXR_SEGMENT_NONE;
  *     ipxr_segment_setting setting = {0x10, {0, 0, 0, 0, 0, 1}, 2, 1024};
@@ -17,16 +17,17 @@
  *     ...  -- send the packet to the link of each ipxr_segment_receiver and, if heard is 1, give it to the router
  *     ipxr_segment_free(&segment);
  *
- * LINKS have numbers from 0, and are down at first. A cable is a link such as Ethernet, where whoever is heard is a station. A sure link
- * proves who is there, such as a tunnel: its stations come and leave by calls of their own, and no word from another link moves them. Each
- * link has a share: the most stations of it that are known at one time.
+ * LINKS have numbers from 0, and are down at first. A cable is a link such as Ethernet, where every node that is heard is a
+ * station. A sure link, such as a tunnel, proves who is there: its stations come and leave through calls of their own, and
+ * nothing that another link says moves them. Each link has a share: the most stations of it that are known at one time.
  *
- * NODES. On a link with frames, the source and the destination are those of the frame, and not those of the packet's header. Where there
- * are no frames, as in a tunnel, the source is the client's node, and ipxr_segment_next_node has the destination.
+ * NODES. On a link with frames, the source and the destination are those of the frame, and not those of the packet's header.
+ * Where there are no frames, such as in a tunnel, the source is the client's node, and ipxr_segment_next_node has the
+ * destination.
  *
- * WHAT C HAS TO PROMISE is what ipxr.h says, of this handle too. Everything else is answered with a number: a handle without a segment, a
- * second free, a link that there is not, a packet of any nodes, a setting that is too large, memory that is refused. ipxr_word has the
- * words of the faults. */
+ * WHAT C HAS TO PROMISE is what ipxr.h says, of this handle too. Everything else is answered with a number: a handle without a
+ * segment, a second free, a link that doesn't exist, a packet of any nodes, a setting that is too large, memory that is refused.
+ * ipxr_word has the words of the faults. */
 #ifndef IPXR_SEGMENT_H
 #define IPXR_SEGMENT_H
 
@@ -36,14 +37,14 @@
 extern "C" {
 #endif
 
-/* How many links one segment can have, and how many stations it can know. */
+/* The most links that one segment can have, and the most stations that it can know. */
 #define IPXR_MOST_LINKS 32
 #define IPXR_MOST_STATIONS 8192
 
 /* ---- What a link is. These numbers have no words. ---- */
 
-#define IPXR_LINK_DOWN 0  /* nothing goes there, and what comes from there counts for nothing */
-#define IPXR_LINK_CABLE 1 /* whoever is heard there is a station */
+#define IPXR_LINK_DOWN 0  /* nothing goes there, and what comes from there is ignored */
+#define IPXR_LINK_CABLE 1 /* every node that is heard there is a station */
 #define IPXR_LINK_SURE 2  /* it proves who is there: its stations come and leave */
 
 /* ---- Faults: below 0. The call did nothing. ---- */
@@ -58,7 +59,7 @@ extern "C" {
 
 /* ---- Values ---- */
 
-/* A segment, or none. Begin with none, hand its address to the calls, and look at nothing in it. */
+/* A segment, or none. Begin with IPXR_SEGMENT_NONE, pass its address to the calls, and don't look inside. */
 typedef struct ipxr_segment {
     ipxr_flag made;
     void *at;
@@ -67,7 +68,7 @@ typedef struct ipxr_segment {
 /* A handle without a segment, to begin with: ipxr_segment segment = IPXR_SEGMENT_NONE; */
 #define IPXR_SEGMENT_NONE {0, NULL}
 
-/* What a segment is told when it is made. */
+/* What a segment is made from. */
 typedef struct ipxr_segment_setting {
     uint32_t network;  /* the number of its network, as the router's port there has it */
     uint8_t node[6];   /* the router's node there: no station's */
@@ -78,7 +79,7 @@ typedef struct ipxr_segment_setting {
 /* A link. */
 typedef struct ipxr_link {
     uint8_t kind;   /* IPXR_LINK_DOWN, IPXR_LINK_CABLE or IPXR_LINK_SURE */
-    uint16_t share; /* the most stations of it that are known at one time. Down it has none, whatever stands here */
+    uint16_t share; /* the most stations of it that are known at one time. A link that is down has none */
 } ipxr_link;
 
 /* A station that is known. */
@@ -91,24 +92,24 @@ typedef struct ipxr_station {
 
 /* ---- Making and freeing ---- */
 
-/* Makes a segment with that setting, which is copied. All its links are down. A segment that the handle had is freed, but only where the
- * new one could be made. Returns 0; or IPXR_MANY_LINKS, else IPXR_MANY_STATIONS, else IPXR_OUT_OF_MEMORY, and then the handle is as it
- * was. */
+/* Makes a segment with that setting, which is copied. All its links are down. A segment that the handle had is freed, but only if
+ * the new one could be made. Returns 0; or IPXR_MANY_LINKS, else IPXR_MANY_STATIONS, else IPXR_OUT_OF_MEMORY, and then the handle
+ * is as it was. */
 IPXR_CALL int32_t ipxr_segment_make(ipxr_segment *segment, const ipxr_segment_setting *setting);
 
 /* Frees the segment, if there is one; the handle then has none. */
 IPXR_CALL void ipxr_segment_free(ipxr_segment *segment);
 
 /* ---- Events ----
- * Which links get an event's packet is read by ipxr_segment_receiver, until the next event; of an event without a packet there are none. No
- * event takes memory. IPXR_NO_SEGMENT, IPXR_NO_LINK, IPXR_BAD_LINK: nothing was done, in that order where several hold. */
+ * ipxr_segment_receiver says which links get an event's packet, until the next event; none if it has no packet. No event takes
+ * memory. IPXR_NO_SEGMENT, IPXR_NO_LINK, IPXR_BAD_LINK: nothing was done; if several hold, the first of these. */
 
-/* A link goes up or down, or is another than it was. Its stations are forgotten in any case. Returns 0. */
+/* A link goes up or down, or changes. Its stations are forgotten in any case. Returns 0. */
 IPXR_CALL int32_t ipxr_segment_change(ipxr_segment *segment, uint8_t link, const ipxr_link *to);
 
-/* A packet was heard at a link, from a node for a node, or for all. Returns 1 if the router hears it: give it to ipxr_packet then. Else it
- * returns 0: the packet is for another node, or it counts for nothing, since its link is down, or its source is the router's node, the node
- * that stands for all, or a station that came to another link. */
+/* A packet was heard at a link, from a node for a node, or for all. Returns 1 if the router hears it: then give it to
+ * ipxr_packet. Otherwise it returns 0: the packet is for another node, or is ignored, since its link is down, or its source is
+ * the router's node, the node that stands for all, or a station that came to another link. */
 IPXR_CALL int32_t ipxr_segment_hear(ipxr_segment *segment, uint8_t link, const uint8_t source[6], const uint8_t destination[6]);
 
 /* A node came to a link, or left it. Coming counts at a sure link alone. Each returns 0. */
@@ -122,8 +123,8 @@ IPXR_CALL int32_t ipxr_segment_second(ipxr_segment *segment);
 IPXR_CALL int32_t ipxr_segment_send(ipxr_segment *segment, const uint8_t node[6]);
 
 /* ---- What a segment has ----
- * Of each there is a count, 0 without a segment, and a call that copies the one with exactly `index` others before it. That call returns 0;
- * with IPXR_NO_SEGMENT and IPXR_NO_RECORD what is lent for it stays as it was. */
+ * For each there is a count, 0 without a segment, and a call that copies number `index`, counted from 0. That call returns 0;
+ * with IPXR_NO_SEGMENT and IPXR_NO_RECORD what you lent for it stays as it was. */
 
 /* The links that get the packet of the last event, in order. */
 IPXR_CALL size_t ipxr_segment_receivers(ipxr_segment *segment);
@@ -136,8 +137,9 @@ IPXR_CALL int32_t ipxr_segment_station(ipxr_segment *segment, size_t index, ipxr
 /* Copies what the link of that number is. Returns 0; with IPXR_NO_SEGMENT and IPXR_NO_LINK `values` stays as it was. */
 IPXR_CALL int32_t ipxr_segment_link(ipxr_segment *segment, uint8_t link, ipxr_link *values);
 
-/* Copies the node that a packet with that destination goes to on the segment's network, where no frame says it: the destination's node if
- * its network is this one (its number, 0 or FFFFFFFFh), and else the router's. Returns 0; with IPXR_NO_SEGMENT `node` stays as it was. */
+/* Copies the node that a packet with that destination goes to on the segment's network, if no frame says it: the destination's
+ * node if its network is this one (its number, 0 or FFFFFFFFh), otherwise the router's. Returns 0; with IPXR_NO_SEGMENT `node`
+ * stays as it was. */
 IPXR_CALL int32_t ipxr_segment_next_node(ipxr_segment *segment, const ipxr_address *destination, uint8_t node[6]);
 
 #ifdef __cplusplus
