@@ -76,62 +76,17 @@ static bool is_host(const char *word, const char *end, uint8_t host[4])
     return at == end;
 }
 
-/* One to four hexadecimal digits. Returns what is behind them, or NULL. */
-static const char *read_group(const char *at, uint8_t group[2])
-{
-    unsigned value = 0;
-    const char *first = at;
-    for (; at - first < 4 && digit(*at) >= 0; at++)
-        value = value << 4 | (unsigned)digit(*at);
-    group[0] = (uint8_t)(value >> 8);
-    group[1] = (uint8_t)value;
-    return at == first ? NULL : at;
-}
-
-/* Puts the zeros that two colons stand for between the bytes before and behind them. */
-static void spread(uint8_t six[16], size_t gap, size_t count)
-{
-    size_t behind = count - gap, zeros = 16 - count;
-    memmove(six + gap + zeros, six + gap, behind);
-    memset(six + gap, 0, zeros);
-}
-
-/* An address of IPv6 up to a bracket: eight groups of digits between colons, where two colons stand once for groups of zeros. */
-static bool is_six(const char *word, const char *end, uint8_t six[16])
-{
-    enum { NONE = 17 };
-    const char *at = word;
-    size_t count = 0, gap = NONE;
-    bool is_behind_colon = true;
-    while (at < end) {
-        if (at[0] == ':' && at[1] == ':' && gap == NONE) {
-            gap = count;
-            at += 2;
-        } else if (at[0] == ':' && !is_behind_colon) {
-            at++;
-            if (at == end)
-                return false;
-        } else if (!is_behind_colon || count == 16 || (at = read_group(at, six + count)) == NULL) {
-            return false;
-        } else {
-            count += 2;
-        }
-        is_behind_colon = at[-1] == ':';
-    }
-    if (gap != NONE && count < 16)
-        spread(six, gap, count);
-    return at == end && (gap != NONE ? count < 16 : count == 16);
-}
-
 static bool is_six_and_port(const char *word, address *at)
 {
     const char *end = strchr(word, ']');
+    char digits[SIX_ROOM];
     uint32_t port;
     *at = (address){.is_six = true};
-    if (end == NULL || end[1] != ':' || !is_number(end + 2, 65535, &port) || !is_six(word + 1, end, at->six))
+    if (end == NULL || end[1] != ':' || end - word > SIX_ROOM || !is_number(end + 2, 65535, &port))
         return false;
+    snprintf(digits, sizeof digits, "%.*s", (int)(end - word - 1), word + 1);
     at->port = (uint16_t)port;
-    return true;
+    return six_of_words(digits, at->six);
 }
 
 bool is_address(const char *word, address *at)
@@ -191,44 +146,12 @@ bool is_range(const char *word, range *it)
     return is_host(word, end != NULL ? end : word + strlen(word), it->host);
 }
 
-static unsigned group_of(const uint8_t six[16], size_t k)
-{
-    return (unsigned)six[2 * k] << 8 | six[2 * k + 1];
-}
-
-/* How many groups are zeros from one on. */
-static size_t zeros_from(const uint8_t six[16], size_t k)
-{
-    size_t count = 0;
-    while (k + count < 8 && group_of(six, k + count) == 0)
-        count++;
-    return count;
-}
-
-/* As RFC 5952 wants it: two colons for the first of the longest rows of groups that are zeros, if that has two. */
-static void six_words(const uint8_t six[16], char words[ADDRESS_ROOM])
-{
-    size_t first = 8, most = 1, length = 0;
-    for (size_t k = 0; k < 8; k++)
-        if (zeros_from(six, k) > most) {
-            first = k;
-            most = zeros_from(six, k);
-        }
-    for (size_t k = 0; k < 8; k = k == first ? k + most : k + 1) {
-        bool is_after_gap = first < 8 && k == first + most;
-        if (k == first)
-            length += (size_t)snprintf(words + length, ADDRESS_ROOM - length, "::");
-        else
-            length += (size_t)snprintf(words + length, ADDRESS_ROOM - length, "%s%x", k == 0 || is_after_gap ? "" : ":", group_of(six, k));
-    }
-}
-
 const char *address_words(const address *at, char words[ADDRESS_ROOM])
 {
-    char six[ADDRESS_ROOM];
+    char six[SIX_ROOM];
     if (at->is_six) {
         six_words(at->six, six);
-        snprintf(words, ADDRESS_ROOM, "[%.39s]:%u", six, at->port);
+        snprintf(words, ADDRESS_ROOM, "[%s]:%u", six, at->port);
     } else {
         snprintf(words, ADDRESS_ROOM, "%u.%u.%u.%u:%u", at->host[0], at->host[1], at->host[2], at->host[3], at->port);
     }

@@ -27,7 +27,7 @@ bool is_place(const char *word, address *at, char host[HOST_ROOM]);
 /* ADDRESS/BITS, or ADDRESS alone for all its bits. */
 bool is_range(const char *word, range *it);
 
-enum { ADDRESS_ROOM = 48 /* bytes of an address in words, with the 0 behind */ };
+enum { ADDRESS_ROOM = SIX_ROOM + 8 /* bytes of an address in words, with the 0 behind */ };
 
 /* The words of an address, with its port. */
 const char *address_words(const address *at, char words[ADDRESS_ROOM]);

@@ -2,6 +2,7 @@
 #define _GNU_SOURCE
 #include "../sockets.h"
 
+#include <arpa/inet.h>
 #include <errno.h>
 #include <fcntl.h>
 #include <linux/sockios.h>
@@ -49,6 +50,17 @@ static address of_system(const struct sockaddr_in *at)
     address it = {.port = ntohs(at->sin_port)};
     memcpy(it.host, &at->sin_addr, sizeof it.host);
     return it;
+}
+
+bool six_of_words(const char *digits, uint8_t six[16])
+{
+    return inet_pton(AF_INET6, digits, six) == 1;
+}
+
+void six_words(const uint8_t six[16], char digits[SIX_ROOM])
+{
+    if (inet_ntop(AF_INET6, six, digits, SIX_ROOM) == NULL)
+        digits[0] = '\0';
 }
 
 /* An address of either kind as the system takes it. Clients are of IPv4, which is the faster. */
