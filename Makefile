@@ -68,7 +68,7 @@ fuzz: build embed
 	@tools/fuzz $(MINUTES)
 
 # Plays everything at once to the gateway, under the sanitizers, for SOAK minutes, while players play, who may lose 2 % at most. Needs Linux,
-# a C compiler, Python and the right to make networks. The last line is 'N datagrams, M faults'; docs/GATEWAY.md.
+# a C compiler, Python and the right to make networks. The last line is 'N datagrams, M faults'; docs/authors/GATEWAY-TESTS.md.
 soak:
 	@tools/gateway soak $(SOAK)
 

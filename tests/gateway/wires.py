@@ -238,7 +238,7 @@ def as_nobody(*groups):
 
 
 def rights_of_a_group():
-    """Rights that a group alone has, as GATEWAY.md gives them: a user in it has cards and TAPs; others can't start the gateway."""
+    """Rights that a group alone has, as GATEWAY-REFERENCE.md gives them: a user in it has cards and TAPs; others can't start the gateway."""
     make_pair()
     text = "network 20 1 1490 interface v0 raw\n"
     # (the device for TAPs is everybody's, as systems have it; it needs the right too)
