@@ -77,12 +77,12 @@ module _ {O : Type 0} (rules : Rules O) where
       ≡ second_later (cond (l && nat_lt n lifetime) (record { offer = offer; age = n } ∷ rest) rest)
   older_or_ended false n offer rest = refl
   older_or_ended true n offer rest =
-      elim (cases_Bool (nat_lt n 180)) [
-        | inl e ↦ rw e (elim (cases_Bool (n + 1 == 180)) [
-          | inl last ↦ let no : nat_lt (n + 1) 180 ≡ false = le-ltb (n + 1) 180 (omega (arith, eqb-true (n + 1) 180 last)) in rw (last, no) refl
-          | inr more ↦ let yes : nat_lt (n + 1) 180 ≡ true = lt-ltb (n + 1) 180 (omega (arith, ltb-true n 180 e, eqb-false (n + 1) 180 more)) in rw (more, yes) refl
+      elim (cases_Bool (nat_lt n lifetime)) [
+        | inl e ↦ rw e (elim (cases_Bool (n + 1 == lifetime)) [
+          | inl last ↦ let no : nat_lt (n + 1) lifetime ≡ false = le-ltb (n + 1) lifetime (omega (arith, eqb-true (n + 1) lifetime last)) in rw (last, no) refl
+          | inr more ↦ let yes : nat_lt (n + 1) lifetime ≡ true = lt-ltb (n + 1) lifetime (omega (arith, ltb-true n lifetime e, eqb-false (n + 1) lifetime more)) in rw (more, yes) refl
         ])
-        | inr e ↦ let no : nat_lt (n + 1) 180 ≡ false = le-ltb (n + 1) 180 (omega (arith, ltb-false n 180 e)) in rw (e, no) refl
+        | inr e ↦ let no : nat_lt (n + 1) lifetime ≡ false = le-ltb (n + 1) lifetime (omega (arith, ltb-false n lifetime e)) in rw (e, no) refl
       ]
 
   pub alive-second : (ms : List (Marked O)) (m : Bool) → alive rules (ms ++ (Second, m) ∷ []) ≡ second_later (alive rules ms)

@@ -39,9 +39,9 @@ module _ {O : Type 0} (by_key : O → O → Ordering) (total : IsTotalOrder by_k
   younger : (held : List (Held O)) → AllByRecursion (λ h. h.age < lifetime) held → AllByRecursion (λ h. h.age < lifetime) (second_later held)
   younger [] young = tt
   younger (h ∷ held) young =
-      elim (cases_Bool (h.age + 1 == 180)) [
+      elim (cases_Bool (h.age + 1 == lifetime)) [
         | inl e ↦ rw e (younger held young.1)
-        | inr e ↦ rw e (omega (arith, young.0, eqb-false (h.age + 1) 180 e), younger held young.1)
+        | inr e ↦ rw e (omega (arith, young.0, eqb-false (h.age + 1) lifetime e), younger held young.1)
       ]
 
   pub kept-second : (held : List (Held O)) → IsKept by_key held → IsKept by_key (second_later held)
