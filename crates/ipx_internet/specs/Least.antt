@@ -149,4 +149,4 @@ ticks_right (Some way) = if way.hops == 0 then most_ticks_gone else most_ticks_g
 
 -- about every network
 abbrev pub most_ticks_right : ℕ
-most_ticks_right = 2940
+most_ticks_right = most_ticks_gone + period

@@ -1,9 +1,11 @@
 -- Time that passes in an internet: ticks, in each of which every router has one second, in any order, and deliveries happen in
 -- between, until nothing waits.
-use Rattle.std.specs.Prelude.{◌≡◌, ℕ, ◌<◌, ◌==◌, ◌&&◌, Bool, true, false, List, [], ◌∷◌, ◌++◌, length, map, replicate}
+use Rattle.std.specs.Prelude.{◌≡◌, ℕ, ◌*◌, ◌<◌, ◌==◌, ◌&&◌, Bool, true, false, List, [], ◌∷◌, ◌++◌, length, map, replicate}
 use Rattle.std.specs.List.{AllByRecursion, filter}
 use Rattle.ipx_wire.specs.Crossed.{is_among}
 use Rattle.ipx_wire.specs.declared.network.Network.{Network}
+use Rattle.ipx_table.specs.Alive.{lifetime}
+use Rattle.ipx_router.specs.Numbers.{unreachable}
 use Rattle.ipx_router.specs.History.{History, Second, is_second, ports_up}
 use Rattle.ipx_router.specs.Port.{port_at, numbers}
 use Rattle.ipx_internet.specs.Internet.{Internet, ports_of}
@@ -54,9 +56,9 @@ pub record IsOrder (net : Internet) (order : List ℕ) : Type 0 where
   pub there : AllByRecursion (λ router. router < length net) order
   pub once : (router : ℕ) → router < length net → length (filter (λ other. other == router) order) ≡ 1
 
--- the ticks after which what is gone is gone everywhere: 180 for each number of hops from 0 to 15
+-- the ticks after which what is gone is gone everywhere: the lifetime of an offer for each number of hops from 0 to 15, 2880 in all
 abbrev pub most_ticks_gone : ℕ
-most_ticks_gone = 2880
+most_ticks_gone = unreachable * lifetime
 
 -- the ports of a router that are up
 abbrev pub ups : Internet → List History → ℕ → List ℕ

@@ -14,6 +14,7 @@ use Rattle.ipx_wire.specs.declared.node.Node.{Node}
 use Rattle.ipx_wire.specs.declared.rip.Operation.{Operation}
 use Rattle.ipx_wire.specs.declared.rip.Operation.TheVariants.{Request, Response}
 use Rattle.ipx_wire.specs.declared.rip.RipEntry.{RipEntry}
+use Rattle.ipx_table.specs.Alive.{lifetime}
 use Rattle.ipx_router.specs.Facts.{route_offer, route_facts, route_facts_of, routes_offered, routes_heard, heard_after, routes_held, offers}
 use Rattle.ipx_router.specs.Heard.{Heard, HeardRip, HeardSap, heard_in, heard_near}
 use Rattle.ipx_router.specs.History.{Event, History, Start, Stop, Second, Packet, PortDown, PortUp, IsOnPort, IsOfBytes, is_stop, takes_down, running, ports_up}
@@ -149,7 +150,7 @@ module _ (net : Internet) (laws : Layouts) (is : IsInternet net) (most_routes mo
   pub real_held : (router : ℕ) (history : History) → AllByRecursion (IsReal net up router) (offers (routes_held (ports_of net router) most_routes history))
       → RealAt router (route_facts (ports_of net router) history)
   real_held router history real =
-      all_then (λ h. IsReal net up router h.offer) (λ h. IsReal net up router h.offer ⊎ (most_ticks_gone ≤ 180 * h.offer.hops + h.age)) (λ h fine. inl fine) _
+      all_then (λ h. IsReal net up router h.offer) (λ h. IsReal net up router h.offer ⊎ (most_ticks_gone ≤ lifetime * h.offer.hops + h.age)) (λ h fine. inl fine) _
       (all-from_order (route_rules (ports_of net router) most_routes).by_key
       (rules_total route_reading network_order network_total most_routes (map (λ p. p.route_share) (ports_of net router)))
       (λ h. IsReal net up router h.offer) _ (of_offers (IsReal net up router) (routes_held (ports_of net router) most_routes history) real))

@@ -6,7 +6,7 @@ use Rattle.std.specs.Cmp.{IsTotalOrder}
 use Rattle.std.specs.Ordering.{is_gt}
 use Rattle.std.proofs.lemmas.Bool.{cases_Bool, both_ways, eqb-true}
 use Rattle.ipx_table.specs.Accepted.{marked, has_share, may_replace}
-use Rattle.ipx_table.specs.Alive.{alive}
+use Rattle.ipx_table.specs.Alive.{alive, lifetime}
 use Rattle.ipx_table.specs.Facts.{Fact, Offered, Second, PortEnd, End}
 use Rattle.ipx_table.specs.Reading.{Reading, Rules, rules_of, one_source, rank_order}
 use Rattle.ipx_table.specs.Stands.{IsDistinct, older, second_later}
@@ -286,7 +286,7 @@ module _ {O K S : Type 0} (reading : Reading O K) (order : K → K → Ordering)
   -- what is fresh gets older; a record that ends was fresh, or who offered it is late
   module _ (Fresh Then Late Still : S → ℕ → Type 0) (Later After : Type 0) (Same : O → Type 0) (grows : (s : S) (age : ℕ) → Fresh s age → Then s (age + 1))
       (late : (s : S) (h : Held O) → Good s h.offer → Late s h.age → Still s (h.age + 1)) (later : Later → After)
-      (ends : (s : S) (h : Held O) → Good s h.offer → Fresh s 179 ⊎ Late s 179 → After) (facts : List (Fact O)) where
+      (ends : (s : S) (h : Held O) → Good s h.offer → h.age + 1 ≡ lifetime → Fresh s h.age ⊎ Late s h.age → After) (facts : List (Fact O)) where
     next : known (facts ++ Second ∷ []) ≡ known_in (second_later (records facts))
     next = ap known_in (alive_after-second rules facts)
 
@@ -306,8 +306,8 @@ module _ {O K S : Type 0} (reading : Reading O K) (order : K → K → Ordering)
         of_it : (h g : Held O) → known facts ≡ Some h → known facts ≡ Some g → (Is : O → Type 0) → Is g.offer → Is h.offer
         of_it h g one two Is is = it_is (λ (x : Held O). Is x.offer) h g (sym two ∙ one) is
 
-        ended : (h : Held O) (s : S) → known facts ≡ Some h → h.age ≡ 179 → Good s h.offer → After
-        ended h s some age good = ends s h good (subst (λ (n : ℕ). Fresh s n ⊎ Late s n) age (state.aged h s some good))
+        ended : (h : Held O) (s : S) → known facts ≡ Some h → h.age + 1 ≡ lifetime → Good s h.offer → After
+        ended h s some last good = ends s h good last (state.aged h s some good)
 
         by : (k : Option (Held O)) → known facts ≡ k → State Then Still After Same (known_in (second_later (records facts)))
         by None none =
@@ -341,8 +341,8 @@ module _ {O K S : Type 0} (reading : Reading O K) (order : K → K → Ordering)
             aged = λ g s e right. nothing (sym gone.1 ∙ e);
             holds = elim state.holds [
               | inl (g, s, is_g, good, same) ↦
-                  let last : h.age + 1 ≡ 180 = eqb-true (h.age + 1) 180 gone.0 in
-                  inr (ended h s some (omega (arith, last)) (of_it h g some is_g (Good s) good))
+                  let last : h.age + 1 ≡ lifetime = eqb-true (h.age + 1) lifetime gone.0 in
+                  inr (ended h s some last (of_it h g some is_g (Good s) good))
               | inr missing ↦ inr (later missing)
             ];
           }

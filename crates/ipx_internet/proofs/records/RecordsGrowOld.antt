@@ -97,11 +97,11 @@ module _ {O K : Type 0} (reading : Reading O K) (order : K → K → Ordering) (
   module _ (Fine : O → Type 0) where
     -- a record is fine, or so old after so many seconds
     abbrev pub IsOld : ℕ → Held O → Type 0
-    IsOld had h = Fine h.offer ⊎ (had ≤ 180 * hops h.offer + h.age)
+    IsOld had h = Fine h.offer ⊎ (had ≤ lifetime * hops h.offer + h.age)
 
     -- an offer that comes in such a second is fine or tells of something as old, if it is alive
     abbrev pub IsOldOffer : ℕ → O → Type 0
-    IsOldOffer had o = hops o < unreachable → Fine o ⊎ (had ≤ 180 * hops o)
+    IsOldOffer had o = hops o < unreachable → Fine o ⊎ (had ≤ lifetime * hops o)
 
     abbrev pub Aged : ℕ → List (Fact O) → Type 0
     Aged had facts = AllByRecursion (IsOld had) (alive_after facts)
@@ -130,7 +130,7 @@ module _ {O K : Type 0} (reading : Reading O K) (order : K → K → Ordering) (
         (subst (λ (hs : List (Held O)). AllByRecursion (IsOld had) hs) (sym (alive_after-offered rules facts offer))
         (all_after_offer (IsOld had) (alive_after facts) offer (λ up. one (all.0 (leb-false unreachable (hops offer) (sym (down offer) ∙ up)))) aged)))
       where
-        one : Fine offer ⊎ (had ≤ 180 * hops offer) → IsOld had (fresh offer)
+        one : Fine offer ⊎ (had ≤ lifetime * hops offer) → IsOld had (fresh offer)
         one (inl fine) = inl fine
         one (inr old) = inr (omega (arith, old))
     after_offers had (Second ∷ new) facts all aged = absurd all.0
@@ -169,7 +169,7 @@ module _ {O K : Type 0} (reading : Reading O K) (order : K → K → Ordering) (
 
     -- what is held then is fine, or so old, and reached
     abbrev pub IsOldHeld : ℕ → O → Type 0
-    IsOldHeld had o = (Fine o ⊎ (had ≤ 180 * hops o + 179)) × (hops o < unreachable)
+    IsOldHeld had o = (Fine o ⊎ (had < lifetime * (hops o + 1))) × (hops o < unreachable)
 
     pub old_held : (had : ℕ) (facts : List (Fact O)) → Aged had facts → AllByRecursion (IsOldHeld had) (offers (held rules facts))
     old_held had facts aged =
@@ -178,7 +178,7 @@ module _ {O K : Type 0} (reading : Reading O K) (order : K → K → Ordering) (
         (all_then (λ h. IsOld had h × IsNear h) (λ h. IsOldHeld had h.offer) (λ h both. (one h both.0 both.1.1, both.1.0)) (alive_after facts)
         (all_both (IsOld had) IsNear (alive_after facts) aged (near_young facts))))
       where
-        one : (h : Held O) → IsOld had h → h.age < lifetime → Fine h.offer ⊎ (had ≤ 180 * hops h.offer + 179)
+        one : (h : Held O) → IsOld had h → h.age < lifetime → Fine h.offer ⊎ (had < lifetime * (hops h.offer + 1))
         one h (inl fine) young = inl fine
         one h (inr old) young = inr (omega (arith, old, young))
 

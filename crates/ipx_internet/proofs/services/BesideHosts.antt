@@ -124,7 +124,7 @@ module _ (net : Internet) (laws : Layouts) (is : IsInternet net) (most_routes mo
         → AllByRecursion (AllByRecursion (SaysOnly (NamesOnly (IsListedName names)))) ticks
         → AreInTime net most_routes most_services server up start ticks → known_after ticks
     has ticks long =
-        let count : ℕ = length ticks - 60 in
+        let count : ℕ = length ticks - period in
         let before = take count ticks in
         let window = drop count ticks in
         let whole = take-append-drop count ticks in

@@ -10,10 +10,11 @@ use Rattle.ipx_wire.specs.declared.node.Node.{Node}
 use Rattle.ipx_wire.specs.declared.sap.Sap.TheVariants.{Query, Response as SapResponse}
 use Rattle.ipx_wire.specs.declared.sap_entries.SapEntry.{SapEntry}
 use Rattle.ipx_wire.specs.declared.service.Service.{Service}
+use Rattle.ipx_table.specs.Alive.{lifetime}
 use Rattle.ipx_router.specs.Facts.{services_offered, services_heard, heard_after, service_facts, service_facts_of, services_held, offers}
 use Rattle.ipx_router.specs.Heard.{Heard, HeardRip, HeardSap}
 use Rattle.ipx_router.specs.History.{Event, History, Start, Stop, Second, Packet, PortDown, PortUp, running, ports_up}
-use Rattle.ipx_router.specs.Numbers.{unreachable}
+use Rattle.ipx_router.specs.Numbers.{unreachable, period}
 use Rattle.ipx_router.specs.Port.{Port, is_up}
 use Rattle.ipx_router.specs.Services.{service_reading, service_order}
 use Rattle.ipx_router.specs.declared.service_offer.ServiceOffer.{ServiceOffer}
@@ -175,7 +176,7 @@ module _ (net : Internet) (laws : Layouts) (is : IsInternet net) (most_routes mo
   abbrev pub Young : ℕ → ℕ → ℕ → Type 0
   Young top left age = age + left ≤ top
 
-  module _ (top : ℕ) (few : top ≤ 178) (some : 1 ≤ top) where
+  module _ (top : ℕ) (few : top + 1 < lifetime) (some : 1 ≤ top) where
     abbrev Q : ℕ → (Source → Type 0) → History → Type 0
     Q left Late history = S (Young top left) Late (Missing Late) (service_facts ports history)
 
@@ -189,8 +190,8 @@ module _ (net : Internet) (laws : Layouts) (is : IsInternet net) (most_routes mo
           | inl runs ↦
               rw runs (second_keeps service_reading service_order service_total most_services ss K one R Of (λ s age. Young top (suc rest) age)
               (λ s age. Young top rest age) (λ s age. Late s) (λ s age. Late s) (Missing Late) (Missing Late) (λ o. Unit {0}) (λ s age young. omega (arith, young))
-              (λ s h good late. late) (λ missing. missing) (λ s h good either. elim either [
-                | inl old ↦ absurd (omega (arith, old, few))
+              (λ s h good late. late) (λ missing. missing) (λ s h good last either. elim either [
+                | inl old ↦ absurd (omega (arith, last, old, few))
                 | inr late ↦ (h.offer, good.0, subst Late (sym good.1) late)
               ]) facts state)
           | inr stopped ↦
@@ -226,7 +227,7 @@ module _ (net : Internet) (laws : Layouts) (is : IsInternet net) (most_routes mo
           fit : (name : List ℕ) → e.name ≡ Some name → Fit (service_offer number node e name)
           fit name named near = sooner (all.0.fine on near name named)
             where
-              sooner : {A : Type 0} → A ⊎ (ticks ≤ 180 * e.hops) → A ⊎ (had ≤ 180 * e.hops)
+              sooner : {A : Type 0} → A ⊎ (ticks ≤ lifetime * e.hops) → A ⊎ (had ≤ lifetime * e.hops)
               sooner (inl fine) = inl fine
               sooner (inr soon) = inr (omega (arith, soon, late))
 
@@ -499,14 +500,14 @@ module _ (net : Internet) (laws : Layouts) (is : IsInternet net) (most_routes mo
   abbrev Waiting_for : Run → List (List Step) → Source → Type 0
   Waiting_for run ticks s = HeardWithinTicks net most_routes most_services server (at s.0) (host s) run ticks
 
-  ticks_track : (so_far top : ℕ) (run : Run) (ticks : List (List Step)) → most_ticks_gone ≤ so_far → top + length ticks ≤ 60
+  ticks_track : (so_far top : ℕ) (run : Run) (ticks : List (List Step)) → most_ticks_gone ≤ so_far → top + length ticks ≤ period
       → Rests net laws is most_routes most_services up server L so_far run → EachTick net most_routes most_services (IsBusyTick net most_routes most_services) run ticks
       → AllByRecursion (AllByRecursion LeavesPorts) ticks → AllByRecursion (AllByRecursion (SaysNoFalse net server)) ticks
       → AllByRecursion (AllByRecursion (SaysOnly (NamesOnly L))) ticks → EachTick net most_routes most_services Surely run ticks
       → S (λ age. age ≤ top) (Waiting_for run ticks) (Missing (Waiting_for run ticks)) (service_facts ports (history_of run.histories r))
-      → S (λ age. age ≤ 60) (λ s. ⊥) (Missing (λ s. ⊥)) (service_facts ports (history_of (ticked net most_routes most_services run ticks).histories r))
+      → S (λ age. age ≤ period) (λ s. ⊥) (Missing (λ s. ⊥)) (service_facts ports (history_of (ticked net most_routes most_services run ticks).histories r))
   ticks_track so_far top run [] long few rests busy leave say names surely state =
-      passes_by (λ age. age ≤ top) (λ age. age ≤ 60) (Waiting_for run []) (λ s. ⊥) (service_facts ports (history_of run.histories r))
+      passes_by (λ age. age ≤ top) (λ age. age ≤ period) (Waiting_for run []) (λ s. ⊥) (service_facts ports (history_of run.histories r))
       (λ age young. omega (arith, young, few)) (λ s late. late) state
   ticks_track so_far top run (steps ∷ ticks) long few rests busy leave say names surely state =
       let next = run_of net most_routes most_services run steps in
@@ -524,7 +525,7 @@ module _ (net : Internet) (laws : Layouts) (is : IsInternet net) (most_routes mo
       (λ age young. omega (arith, young)) (λ s late. late) done)
 
   -- so it is known then, from one of them
-  module _ (so_far : ℕ) (run : Run) (window : List (List Step)) (long : most_ticks_gone ≤ so_far) (few : length window ≤ 60)
+  module _ (so_far : ℕ) (run : Run) (window : List (List Step)) (long : most_ticks_gone ≤ so_far) (few : length window ≤ period)
       (rests : Rests net laws is most_routes most_services up server L so_far run)
       (busy : EachTick net most_routes most_services (IsBusyTick net most_routes most_services) run window)
       (leave : AllByRecursion (AllByRecursion LeavesPorts) window) (say : AllByRecursion (AllByRecursion (SaysNoFalse net server)) window)
@@ -535,14 +536,14 @@ module _ (net : Internet) (laws : Layouts) (is : IsInternet net) (most_routes mo
     abbrev last : Run
     last = ticked net most_routes most_services run window
 
-    all_heard : S (λ age. age ≤ 60) (λ s. ⊥) (Missing (λ s. ⊥)) (service_facts ports (history_of last.histories r))
+    all_heard : S (λ age. age ≤ period) (λ s. ⊥) (Missing (λ s. ⊥)) (service_facts ports (history_of last.histories r))
     all_heard = ticks_track so_far 0 run window long (omega (arith, few)) rests busy leave say named surely (record {
       aged = λ h s e is_good. inr (subst (Waiting_for run window) is_good.1 (in_time h.offer is_good.0));
       holds = inr (g, good, in_time g good);
     })
 
     pub known_right : IsRight last
-    known_right = right_now (λ age. age ≤ 60) last all_heard
+    known_right = right_now (λ age. age ≤ period) last all_heard
 
     -- and at each moment of one tick more
     pub known_each : (steps : List Step) → IsBusyTick net most_routes most_services last steps → AllByRecursion LeavesPorts steps
@@ -552,7 +553,7 @@ module _ (net : Internet) (laws : Layouts) (is : IsInternet net) (most_routes mo
         let begun : ℕ = length window + so_far in
         let one_second = tick.each r inside in
         let rests_then = ticks_rest net laws is most_routes most_services up server L so_far run window rests busy leave say named in
-        steps_right 61 (omega arith) (omega arith) (suc begun) (omega (arith, long)) steps last tick.happens leaves says naming sure_then
+        steps_right (period + 1) (omega arith) (omega arith) (suc begun) (omega (arith, long)) steps last tick.happens leaves says naming sure_then
         (begins net laws is most_routes most_services up server L W N E begun last steps rests_then tick)
-        (passes_by (λ age. age ≤ 60) (Young 61 (seconds_of r steps)) (λ s. ⊥) (λ s. ⊥) (service_facts ports (history_of last.histories r))
+        (passes_by (λ age. age ≤ period) (Young (period + 1) (seconds_of r steps)) (λ s. ⊥) (λ s. ⊥) (service_facts ports (history_of last.histories r))
         (λ age young. omega (arith, young, one_second)) (λ s none. none) all_heard)

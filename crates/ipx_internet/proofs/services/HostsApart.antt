@@ -53,16 +53,16 @@ module _ (net : Internet) (most_routes most_services : ℕ) (server : Server) wh
       → period ≤ length ticks → HostsApart net up server
   hosts_apart up run ticks one_voice in_time long = record {
     from_routers = λ which host place listed there on same.
-        not_in_ticks host place same run (take 60 ticks)
-        (in_time which host place listed on there [] (take 60 ticks) (drop 60 ticks) (sym whole) minute);
+        not_in_ticks host place same run (take period ticks)
+        (in_time which host place listed on there [] (take period ticks) (drop period ticks) (sym whole) minute);
     one_voice = one_voice;
   }
     where
-      whole : take 60 ticks ++ drop 60 ticks ≡ ticks
-      whole = take-append-drop 60 ticks
+      whole : take period ticks ++ drop period ticks ≡ ticks
+      whole = take-append-drop period ticks
 
-      minute : length (take 60 ticks) ≡ period
+      minute : length (take period ticks) ≡ period
       minute =
-          let behind = length-drop 60 ticks in
-          let both : length (take 60 ticks) + length (drop 60 ticks) ≡ length ticks = sym (length-append (take 60 ticks) (drop 60 ticks)) ∙ ap length whole in
+          let behind = length-drop period ticks in
+          let both : length (take period ticks) + length (drop period ticks) ≡ length ticks = sym (length-append (take period ticks) (drop period ticks)) ∙ ap length whole in
           omega (arith, both, behind, long)

@@ -280,7 +280,7 @@ module _ (net : Internet) (laws : Layouts) (is : IsInternet net) (most_routes mo
 
     parts : (ticks : List (List Step)) → most_ticks_known nearest far ≤ length ticks → Parts ticks
     parts ticks long =
-        let count : ℕ = length ticks - 60 in
+        let count : ℕ = length ticks - period in
         let whole = take-append-drop count ticks in
         let behind = length-drop count ticks in
         let minute : length (drop count ticks) ≡ period = omega (arith, behind, long) in

@@ -12,6 +12,7 @@ use Rattle.ipx_table.proofs.Standing.{rules_total}
 use Rattle.ipx_wire.specs.declared.node.Node.{Node}
 use Rattle.ipx_wire.specs.declared.sap_entries.SapEntry.{SapEntry}
 use Rattle.ipx_wire.specs.declared.service.Service.{Service}
+use Rattle.ipx_table.specs.Alive.{lifetime}
 use Rattle.ipx_router.specs.Numbers.{unreachable}
 use Rattle.ipx_router.specs.Port.{broadcast, is_up}
 use Rattle.ipx_router.specs.Services.{service_reading, service_order}
@@ -230,7 +231,7 @@ module _ (net : Internet) (up : ℕ → List ℕ) (server : Server) (names : Lis
           honest = λ s g good same. (honest of g good.0 same, sym (same_source of g (source_parts (g.port, g.node) (o.port, o.node) same)) ∙ good.1);
         }
       where
-        by : e.hops < unreachable → Fine net up server Listed most_services r o ⊎ (begun ≤ 180 * e.hops) → IsOf server o.service → Real o
+        by : e.hops < unreachable → Fine net up server Listed most_services r o ⊎ (begun ≤ lifetime * e.hops) → IsOf server o.service → Real o
         by near (inl fine) of = fine.1 of
         by near (inr soon) of = absurd (omega (arith, near, soon, long))
 

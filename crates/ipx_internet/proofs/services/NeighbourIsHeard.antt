@@ -10,7 +10,7 @@ use Rattle.ipx_wire.specs.declared.service.Service.{Service}
 use Rattle.ipx_router.specs.Facts.{services_held, offers}
 use Rattle.ipx_router.specs.Heard.{HeardSap, heard}
 use Rattle.ipx_router.specs.History.{Event, History, Start, Stop, Second, Packet, PortDown, PortUp, is_second, present_run, running, seconds_run, ports_up}
-use Rattle.ipx_router.specs.Numbers.{unreachable}
+use Rattle.ipx_router.specs.Numbers.{unreachable, period}
 use Rattle.ipx_router.specs.Port.{is_up, own_services}
 use Rattle.ipx_router.specs.Told.{farther, is_service_told}
 use Rattle.ipx_router.specs.declared.service_offer.ServiceOffer.{ServiceOffer}
@@ -136,11 +136,11 @@ module _ (net : Internet) (laws : Layouts) (is : IsInternet net) (differ : Nodes
   -- ---- one event
 
   abbrev clock : List History → ℕ
-  clock histories = seconds_run (history_of histories from.router) % 60
+  clock histories = seconds_run (history_of histories from.router) % period
 
   -- the neighbour's periodic second is due in this tick
   abbrev Due : ℕ → List History → Type 0
-  Due left histories = (clock histories ≡ 59) × (left ≡ 1)
+  Due left histories = (clock histories + 1 ≡ period) × (left ≡ 1)
 
   -- or what it says waits
   abbrev State : ℕ → Queued → Type 0
@@ -161,19 +161,19 @@ module _ (net : Internet) (laws : Layouts) (is : IsInternet net) (differ : Nodes
         → AnyIs (λ s. (s.service ≡ at_hops server hops) × ((s.port == from.port) ≡ false))
         (offers (services_held (ports_of net from.router) most_services (past ++ event ∷ [])))
         → Due left histories
-        → (seconds_run (past ++ event ∷ []) % 60 ≡ 59) × (rest ≡ 1)
+        → (seconds_run (past ++ event ∷ []) % period + 1 ≡ period) × (rest ≡ 1)
         ⊎ AnyIs Names (flat_map (deliveries_of net from.router) (sends_at net most_routes most_services histories from.router event))
     own_state Second left rest leaves same holds due =
         let ports = ports_of net from.router in
         let now = past ++ Second ∷ [] in
         let last = due.0 in
-        let next : (seconds_run past + 1) % 60 ≡ 0 = omega (arith, last) in
+        let next : (seconds_run past + 1) % period ≡ 0 = omega (arith, last) in
         let ups_now = ports_stay ports past Second refl refl (λ j. refl) (λ j. refl) ∙ stay from.router in
         let on : is_up (ports_up ports now) from.port ≡ true = subst (λ (us : List ℕ). is_up us from.port ≡ true) (sym ups_now) link.there in
         inr (waits_for net from here word link.other (is_place histories stay here link.here) link.network
         (sends_at net most_routes most_services histories from.router Second)
         (second_says net laws is most_routes most_services histories are from (is_place histories stay from link.there) word (runs histories stay from link.there)
-        (eq-eqb ((seconds_run past + 1) % 60) 0 next) (number_any from.port (ports_up ports now) on)
+        (eq-eqb ((seconds_run past + 1) % period) 0 next) (number_any from.port (ports_up ports now) on)
         (told_there (offers (services_held ports most_services now)) from.port (at_hops server hops)
         (any_then (λ s. (s.service ≡ at_hops server hops) × ((s.port == from.port) ≡ false))
         (λ o. (o.service ≡ at_hops server hops) × (is_service_told from.port o ≡ true))
@@ -189,7 +189,7 @@ module _ (net : Internet) (laws : Layouts) (is : IsInternet net) (differ : Nodes
         let last = due.0 in
         let one = due.1 in
         let as_many : seconds_run (past ++ Packet number bytes ∷ []) ≡ seconds_run past = omega (arith, more) in
-        inl (ap (λ n. n % 60) as_many ∙ last, omega (arith, same, one))
+        inl (ap (λ n. n % period + 1) as_many ∙ last, omega (arith, same, one))
     own_state Start left rest leaves same holds due = absurd leaves
     own_state Stop left rest leaves same holds due = absurd leaves
     own_state (PortDown number) left rest leaves same holds due = absurd leaves
@@ -209,7 +209,7 @@ module _ (net : Internet) (laws : Layouts) (is : IsInternet net) (differ : Nodes
           let same = other off in
           let one = due.1 in
           let stays = get_or-set_other histories k from.router (history_of histories k ++ event ∷ []) [] off in
-          inl (ap (λ (h : History). seconds_run h % 60) stays ∙ due.0, omega (arith, same, one))
+          inl (ap (λ (h : History). seconds_run h % period + 1) stays ∙ due.0, omega (arith, same, one))
       | inl here_now ↦ moved here_now leaves (own here_now) holds
     ]
       where
@@ -225,7 +225,7 @@ module _ (net : Internet) (laws : Layouts) (is : IsInternet net) (differ : Nodes
             elim (own_state event left rest leave same
             (subst (λ (h : History). AnyIs (λ s. (s.service ≡ at_hops server hops) × ((s.port == from.port) ≡ false))
             (offers (services_held (ports_of net from.router) most_services h))) is_now has) due) [
-              | inl later ↦ inl (ap (λ (h : History). seconds_run h % 60) is_now ∙ later.0, later.1)
+              | inl later ↦ inl (ap (λ (h : History). seconds_run h % period + 1) is_now ∙ later.0, later.1)
               | inr waits ↦
                   inr (any_behind Names queue (flat_map (deliveries_of net from.router) (sends_at net most_routes most_services histories from.router event)) waits)
             ]
@@ -357,22 +357,22 @@ module _ (net : Internet) (laws : Layouts) (is : IsInternet net) (differ : Nodes
           (λ same. omega arith) (λ off. refl) in
           omega (arith, now)
 
-  pub heard_once : (run : Run) (ticks : List (List Step)) → IsKept run → 60 ≤ clock run.histories + length ticks
+  pub heard_once : (run : Run) (ticks : List (List Step)) → IsKept run → period ≤ clock run.histories + length ticks
       → EachTick net most_routes most_services (IsBusyTick net most_routes most_services) run ticks → AllByRecursion (AllByRecursion LeavesPorts) ticks
       → EachTick net most_routes most_services (AtEach net most_routes most_services server Holds) run ticks
       → HeardWithinTicks net most_routes most_services server here voice run ticks
   heard_once run [] kept long busy leave holds =
-      let below = mod_below (seconds_run (history_of run.histories from.router)) 60 (omega arith) in
+      let below = mod_below (seconds_run (history_of run.histories from.router)) period (omega arith) in
       absurd (omega (arith, long, below))
   heard_once run (steps ∷ ticks) kept long busy leave holds =
       let one = busy.0.each from.router (from_there run.histories kept.stay) in
-      elim (cases_eq (clock run.histories) 59) [
+      elim (cases_eq (clock run.histories + 1) period) [
         | inl last ↦
             steps_hear (λ next. HeardWithinTicks net most_routes most_services server here voice next ticks) steps run busy.0.happens leave.0 kept holds.0 busy.0.quiet
             (inl (last, one))
         | inr early ↦
             let next = run_of net most_routes most_services run steps in
-            let below = mod_below (seconds_run (history_of run.histories from.router)) 60 (omega arith) in
+            let below = mod_below (seconds_run (history_of run.histories from.router)) period (omega arith) in
             let count = steps_count steps run busy.0.happens leave.0 kept in
             let more : clock next.histories ≡ clock run.histories + 1 = omega (arith, count, one, early, below) in
             later_hears (λ now. HeardWithinTicks net most_routes most_services server here voice now ticks) steps run

@@ -6,6 +6,7 @@ use Rattle.ipx_wire.specs.declared.node.Node.{Node}
 use Rattle.ipx_wire.specs.declared.sap.Sap.TheVariants.{Query, Response as SapResponse}
 use Rattle.ipx_wire.specs.declared.sap_entries.SapEntry.{SapEntry}
 use Rattle.ipx_wire.specs.declared.service.Service.{Service}
+use Rattle.ipx_table.specs.Alive.{lifetime}
 use Rattle.ipx_router.specs.Facts.{services_offered, services_heard, heard_after, service_facts, service_facts_of, services_held, offers}
 use Rattle.ipx_router.specs.Heard.{Heard, HeardRip, HeardSap}
 use Rattle.ipx_router.specs.History.{Event, History, Start, Stop, Second, Packet, PortDown, PortUp, running, ports_up}
@@ -81,7 +82,7 @@ module _ (net : Internet) (up : ℕ → List ℕ) (server : Server) (Listed : �
           all-append (OffersOf ServiceOld) _ (services_offered number node entries) (by e.name (λ name is near. sooner (all.0.fine on near name is)))
           (services_old number on node entries all.1)
         where
-          sooner : {A : Type 0} → A ⊎ (begun ≤ 180 * e.hops) → A ⊎ (had ≤ 180 * e.hops)
+          sooner : {A : Type 0} → A ⊎ (begun ≤ lifetime * e.hops) → A ⊎ (had ≤ lifetime * e.hops)
           sooner (inl fine) = inl fine
           sooner (inr soon) = inr (omega (arith, soon, late))
 
@@ -151,10 +152,10 @@ module _ (net : Internet) (up : ℕ → List ℕ) (server : Server) (Listed : �
         from : Place
         from = record { router = router; port = j }
 
-        by : Fine s ⊎ (had ≤ 180 * s.service.hops + 179)
+        by : Fine s ⊎ (had < lifetime * (s.service.hops + 1))
             → ((to : Place) → Reaches net up from to → is_up (up to.router) to.port ≡ true
             → IsFine net up server Listed to.router (record { service = farther s.service; port = to.port; node = (port_of net from).node }))
-            ⊎ (begun ≤ 180 * (s.service.hops + 1))
+            ⊎ (begun ≤ lifetime * (s.service.hops + 1))
         by (inr old) = inr (omega (arith, old, soon))
         by (inl fine) = inl (λ to reaches here. (fine.0, (λ of. passed_on from s reaches.other here reaches.on reaches.network refl refl near (fine.1 of))))
 

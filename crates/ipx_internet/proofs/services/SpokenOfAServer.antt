@@ -16,6 +16,7 @@ use Rattle.ipx_wire.specs.declared.rip.RipFault.{RipFault}
 use Rattle.ipx_wire.specs.declared.sap.Sap.TheVariants.{Query, Response as SapResponse}
 use Rattle.ipx_wire.specs.declared.sap_entries.SapEntry.{SapEntry}
 use Rattle.ipx_wire.specs.declared.service.Service.{Service}
+use Rattle.ipx_table.specs.Alive.{lifetime}
 use Rattle.ipx_router.specs.Heard.{Heard, HeardRip, HeardSap, heard_in}
 use Rattle.ipx_router.specs.Numbers.{rip_socket, sap_socket, unreachable}
 use Rattle.ipx_router.specs.Port.{Port, port_at, is_local, is_up, own_address, own_services, everyone, every_server}
@@ -69,7 +70,7 @@ module _ (net : Internet) (up : ℕ → List ℕ) (server : Server) (Listed : �
   IsSoon begun from s =
       s.hops < unreachable
       → ((to : Place) → Reaches net up from to → is_up (up to.router) to.port ≡ true
-      → IsFine to.router (record { service = s; port = to.port; node = (port_of net from).node })) ⊎ (begun ≤ 180 * s.hops)
+      → IsFine to.router (record { service = s; port = to.port; node = (port_of net from).node })) ⊎ (begun ≤ lifetime * s.hops)
 
   -- ---- what doesn't name it
 
@@ -112,7 +113,7 @@ module _ (net : Internet) (up : ℕ → List ℕ) (server : Server) (Listed : �
     pub record EntrySaid (begun : ℕ) (to : Place) (node : Node) (e : SapEntry) : Type 0 where
       pub who : (name : List ℕ) → e.name ≡ Some name → IsOf server (service_of e name) → Who to node (service_of e name)
       pub fine : is_up (up to.router) to.port ≡ true → e.hops < unreachable → (name : List ℕ) → e.name ≡ Some name
-          → IsFine to.router (service_offer to.port node e name) ⊎ (begun ≤ 180 * e.hops)
+          → IsFine to.router (service_offer to.port node e name) ⊎ (begun ≤ lifetime * e.hops)
 
     abbrev pub Told : ℕ → Place → Heard → Type 0
     Told begun to (HeardRip source rip) = AsksElsewhere source rip.operation
@@ -218,8 +219,8 @@ module _ (net : Internet) (up : ℕ → List ℕ) (server : Server) (Listed : �
         where
           by : is_up (up to.router) to.port ≡ true → (name : List ℕ) → Some s.name ≡ Some name
               → ((other : Place) → Reaches net up from other → is_up (up other.router) other.port ≡ true
-              → IsFine other.router (record { service = s; port = other.port; node = port.node })) ⊎ (begun ≤ 180 * s.hops)
-              → IsFine to.router (service_offer to.port port.node (sap_entry s) name) ⊎ (begun ≤ 180 * s.hops)
+              → IsFine other.router (record { service = s; port = other.port; node = port.node })) ⊎ (begun ≤ lifetime * s.hops)
+              → IsFine to.router (service_offer to.port port.node (sap_entry s) name) ⊎ (begun ≤ lifetime * s.hops)
           by here name same (inr soon) = inr soon
           by here name same (inl fine) =
               inl (it_is (λ (n : List ℕ). IsFine to.router (service_offer to.port port.node (sap_entry s) n)) name s.name same (fine to reaches here))

@@ -14,7 +14,7 @@ use Rattle.ipx_router.specs.Heard.{Heard, HeardRip, heard}
 use Rattle.ipx_router.specs.History.{Event, History, Packet, IsOnPort, IsOfBytes, seconds_run, running, ports_up}
 use Rattle.ipx_router.specs.News.{news}
 use Rattle.ipx_router.specs.Port.{Port, port_at, is_up, takes_no_route, own_address}
-use Rattle.ipx_router.specs.Numbers.{unreachable}
+use Rattle.ipx_router.specs.Numbers.{unreachable, period}
 use Rattle.ipx_router.specs.Relays.{Sent}
 use Rattle.ipx_router.specs.Sends.{Holding, holding, news_on}
 use Rattle.ipx_router.specs.Told.{told}
@@ -55,7 +55,7 @@ use Rattle.ipx_internet.proofs.ticks.TickAfterTick.{all_come, packet_spoken, ins
 
 module _ (net : Internet) (laws : Layouts) (is : IsInternet net) (differ : NodesDiffer net) (cheap : AreCheap net) (up : ℕ → List ℕ)
     (in_ports : (router : ℕ) → AllByRecursion (λ j. j < length (ports_of net router)) (up router)) (most_routes most_services : ℕ) (room : HasRoom net most_routes)
-    (network : Network) (suffice : FifteenSuffice net up network) (before : ℕ) (long : most_ticks_gone ≤ before) (clock : ℕ → ℕ) (few_seconds : (router : ℕ) → clock router < 60)
+    (network : Network) (suffice : FifteenSuffice net up network) (before : ℕ) (long : most_ticks_gone ≤ before) (clock : ℕ → ℕ) (few_seconds : (router : ℕ) → clock router < period)
     (at_start : ℕ → Option RouteOffer) where
   abbrev Good_of : List History → ℕ → Type 0
   Good_of = IsGood net laws is differ cheap up in_ports most_routes most_services room network suffice
@@ -268,7 +268,7 @@ module _ (net : Internet) (laws : Layouts) (is : IsInternet net) (differ : Nodes
           → RightFor net laws is differ cheap up in_ports most_routes most_services room network suffice x w f h.offer → Fresh_by f h.age ⊎ Late_by f h.age
           → Fresh_by f h.age ⊎ Late net laws is differ cheap up in_ports most_routes most_services room network suffice before clock few_seconds at_start (left x) left histories queue x f h.age
       aged_by h f e right (inl young) = inl young
-      aged_by h f e right (inr late) = elim (taken f ((h.age + left x ≤ 61) ⊎ (before < most_ticks_right)) late) [
+      aged_by h f e right (inr late) = elim (taken f ((h.age + left x ≤ period + 1) ⊎ (before < most_ticks_right)) late) [
         | inl still ↦ inr still
         | inr pending ↦ elim ((comes f h.offer.port right.source pending).aged h f e right) [
           | inl young ↦ inl young
@@ -561,22 +561,22 @@ module _ (net : Internet) (laws : Layouts) (is : IsInternet net) (differ : Nodes
             (elsewhere net laws is differ cheap up in_ports most_routes most_services room network suffice before clock few_seconds at_start
             (left k) left histories d queue k off w (route_facts (ports_of net k) (history_of histories k)) (righted.states k w)))
 
-    clock_now : (router port : ℕ) → is_up (up router) port ≡ true → (seconds_run (history_of after_it router) + left router) % 60 ≡ clock router
+    clock_now : (router port : ℕ) → is_up (up router) port ≡ true → (seconds_run (history_of after_it router) + left router) % period ≡ clock router
     clock_now router port here = by (cases_eq router x)
       where
-        by : (router ≡ x) ⊎ (router ≢ x) → (seconds_run (history_of after_it router) + left router) % 60 ≡ clock router
+        by : (router ≡ x) ⊎ (router ≢ x) → (seconds_run (history_of after_it router) + left router) % period ≡ clock router
         by (inl same) = moved same here
           where
             Now : ℕ → Type 0
-            Now r = is_up (up r) port ≡ true → (seconds_run (history_of after_it r) + left r) % 60 ≡ clock r
+            Now r = is_up (up r) port ≡ true → (seconds_run (history_of after_it r) + left r) % period ≡ clock r
 
             moved : router ≡ x → Now router
             moved e =
-                subst Now (sym e) (λ there_is. subst (λ (h : History). (seconds_run h + left x) % 60 ≡ clock x) (sym is_now)
-                (ap (λ n. (n + left x) % 60) (seconds_stay past event refl refl (runs_where net up most_routes x port count past there_is endured))
+                subst Now (sym e) (λ there_is. subst (λ (h : History). (seconds_run h + left x) % period ≡ clock x) (sym is_now)
+                (ap (λ n. (n + left x) % period) (seconds_stay past event refl refl (runs_where net up most_routes x port count past there_is endured))
                 ∙ righted.clocks x port there_is))
         by (inr off) =
-            subst (λ (h : History). (seconds_run h + left router) % 60 ≡ clock router) (sym (same_history router off)) (righted.clocks router port here)
+            subst (λ (h : History). (seconds_run h + left router) % period ≡ clock router) (sym (same_history router off)) (righted.clocks router port here)
 
     pub delivery_rights : Righted_at left (queued net most_routes most_services (record { histories = histories; queue = queue }) x event)
     delivery_rights = record {

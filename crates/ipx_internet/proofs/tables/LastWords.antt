@@ -13,6 +13,7 @@ use Rattle.ipx_wire.specs.declared.network.Network.{Network}
 use Rattle.ipx_wire.specs.declared.rip.Operation.{Operation}
 use Rattle.ipx_wire.specs.declared.rip.Operation.TheVariants.{Request, Response}
 use Rattle.ipx_wire.specs.declared.rip.RipEntry.{RipEntry}
+use Rattle.ipx_router.specs.Numbers.{period}
 use Rattle.ipx_router.specs.Facts.{route_facts}
 use Rattle.ipx_router.specs.Heard.{Heard, HeardRip, HeardSap}
 use Rattle.ipx_router.specs.History.{History, seconds_run}
@@ -174,7 +175,7 @@ module _ (net : Internet) (laws : Layouts) (is : IsInternet net) (differ : Nodes
 
     -- ---- a router that isn't right yet
 
-    module _ (clock : ℕ → ℕ) (few_seconds : (router : ℕ) → clock router < 60) (at_start : ℕ → Option RouteOffer) where
+    module _ (clock : ℕ → ℕ) (few_seconds : (router : ℕ) → clock router < period) (at_start : ℕ → Option RouteOffer) where
       -- why a router needn't be right yet by a port: with a condition where only its router's second or its last word is waited for
       abbrev pub Waits : (ℕ → ℕ) → List History → List Delivery → ℕ → Place → Type 0 → Type 0
       Waits left histories queue x f S =
@@ -199,7 +200,7 @@ module _ (net : Internet) (laws : Layouts) (is : IsInternet net) (differ : Nodes
       Fresh mine f age = age + mine ≤ clock f.router + 1
 
       abbrev pub Aging : ℕ → ℕ → Type 0
-      Aging mine age = (age + mine ≤ 61) ⊎ Unsteady
+      Aging mine age = (age + mine ≤ period + 1) ⊎ Unsteady
 
       abbrev pub Late : ℕ → (ℕ → ℕ) → List History → List Delivery → ℕ → Place → ℕ → Type 0
       Late mine left histories queue x f age = Waits left histories queue x f (Aging mine age)
@@ -260,7 +261,7 @@ module _ (net : Internet) (laws : Layouts) (is : IsInternet net) (differ : Nodes
         pub going : Going net laws is most_routes most_services up (suc before) left q
         pub states : (x : ℕ) (w : WantsOf x) → StateWith (left x) left q.histories q.queue x w (facts_of q.histories x)
         pub calm : (x port : ℕ) (f : Place) (w : WantsOf x) → Sources x w.v port f → IsGood q.histories f.router → Calm x f q.queue
-        pub clocks : (router port : ℕ) → is_up (up router) port ≡ true → (seconds_run (history_of q.histories router) + left router) % 60 ≡ clock router
+        pub clocks : (router port : ℕ) → is_up (up router) port ≡ true → (seconds_run (history_of q.histories router) + left router) % period ≡ clock router
 
       -- a router whose state has a route is right
       pub good_state : (mine : ℕ) (left : ℕ → ℕ) (histories : List History) (queue : List Delivery) (x : ℕ) (facts : List (Fact RouteOffer))

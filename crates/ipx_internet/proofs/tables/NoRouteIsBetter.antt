@@ -10,7 +10,7 @@ use Rattle.ipx_router.specs.Told.{told_at, direct_entry, entry_of}
 use Rattle.ipx_router.specs.declared.route_offer.RouteOffer.{RouteOffer}
 use Rattle.ipx_router.proofs.port_values.PortOfEachNumber.{one_up, port-all}
 use Rattle.ipx_internet.specs.Internet.{Internet, Place, IsInternet, IsPlace, ports_of, port_of, network_of}
-use Rattle.ipx_internet.specs.Least.{Way, is_on, by_port, way_of, AreCheap, FifteenSuffice}
+use Rattle.ipx_internet.specs.Least.{Way, is_on, by_port, way_of, AreCheap, FifteenSuffice, most_cost}
 use Rattle.ipx_internet.specs.Real.{IsReal, IsTaken, next, farther}
 use Rattle.ipx_internet.proofs.lists.EachElement.{all_or}
 use Rattle.ipx_internet.proofs.places.OneReceiverOfANode.{one_port, apart_at}
@@ -42,9 +42,9 @@ module _ (net : Internet) (is : IsInternet net) (cheap : AreCheap net) (up : ℕ
   there_where_up router port on =
       one_up (λ k. k < length (ports_of net router)) (up router) port (in_ports router) on
 
-  pub most : (from : Place) → IsPlace net from → cost_of from ≤ 4095
+  pub most : (from : Place) → IsPlace net from → cost_of from ≤ most_cost
   most from there =
-      port-all (λ p. p.cost ≤ 4095) (ports_of net from.router) from.port (all_or (AllByRecursion (λ p. p.cost ≤ 4095)) net from.router [] cheap tt) there
+      port-all (λ p. p.cost ≤ most_cost) (ports_of net from.router) from.port (all_or (AllByRecursion (λ p. p.cost ≤ most_cost)) net from.router [] cheap tt) there
 
   -- ---- routes of real ways
 
@@ -57,7 +57,7 @@ module _ (net : Internet) (is : IsInternet net) (cheap : AreCheap net) (up : ℕ
     pub way : Way
     pub by : way_of r ≡ by_port (cost_of from) way
     pub few_hops : way.hops ≤ 14
-    pub few_ticks : way.ticks ≤ 4095 * (way.hops + 1)
+    pub few_ticks : way.ticks ≤ most_cost * (way.hops + 1)
     pub least : Way
     pub there : within net up in_ports network way.hops from.router ≡ Some least
     pub no_worse : NoWorse least way
@@ -124,7 +124,7 @@ module _ (net : Internet) (is : IsInternet net) (cheap : AreCheap net) (up : ℕ
       let c = most rest.from rest.neighbour.place in
       let some = rest.few_ticks in
       let short : s.hops ≤ 14 = omega (arith, h, near) in
-      let ticks : s.ticks ≤ 4095 * (s.hops + 1) = omega (arith, hops_by, ticks_by, c, some) in
+      let ticks : s.ticks ≤ most_cost * (s.hops + 1) = omega (arith, hops_by, ticks_by, c, some) in
       let (v, is_v, least) = none_better net up in_ports network rest.way.hops from.router s.port rest.from rest.least rest.neighbour rest.off rest.there in
       let one_more : suc rest.way.hops ≡ s.hops = omega (arith, hops_by) in
       let less : NoWorse v (way_of s) =

@@ -5,6 +5,7 @@ use Rattle.std.proofs.lemmas.Bool.{cases_Bool, cases_eq, cases_lt, eq-eqb, ne_eq
 use Rattle.std.proofs.lemmas.Nat.{mod_below}
 use Rattle.ipx_table.specs.declared.held.Held.{Held}
 use Rattle.ipx_wire.specs.declared.network.Network.{Network}
+use Rattle.ipx_router.specs.Numbers.{period}
 use Rattle.ipx_router.specs.Facts.{route_facts, routes_held, offers}
 use Rattle.ipx_router.specs.History.{History, seconds_run}
 use Rattle.ipx_router.specs.Port.{is_up}
@@ -30,11 +31,11 @@ use Rattle.ipx_internet.proofs.ticks.TickAfterTick.{IsCalmTick, CalmTicks, IsKep
 use Rattle.ipx_internet.proofs.trees.RunIsALog.{router_there}
 
 -- a clock that goes round
-next_clock : (n : ℕ) → ((n + 1) % 60 ≡ n % 60 + 1) ⊎ (((n + 1) % 60 ≡ 0) × (n % 60 ≡ 59))
-next_clock n = elim (cases_eq (n % 60) 59) [
+next_clock : (n : ℕ) → ((n + 1) % period ≡ n % period + 1) ⊎ (((n + 1) % period ≡ 0) × (n % period + 1 ≡ period))
+next_clock n = elim (cases_eq (n % period + 1) period) [
   | inl last ↦ inr (omega (arith, last), last)
   | inr other ↦
-      let below = mod_below n 60 (omega arith) in
+      let below = mod_below n period (omega arith) in
       inl (omega (arith, other, below))
 ]
 
@@ -83,7 +84,7 @@ module _ (net : Internet) (laws : Layouts) (is : IsInternet net) (differ : Nodes
   RightOf = RightFor net laws is differ cheap up in_ports most_routes most_services room network suffice
 
   abbrev clock_in : Run → ℕ → ℕ
-  clock_in run router = seconds_run (history_of run.histories router) % 60
+  clock_in run router = seconds_run (history_of run.histories router) % period
 
   -- the route that a router holds to the network
   abbrev pub route_of : Run → ℕ → Option RouteOffer
@@ -129,7 +130,7 @@ module _ (net : Internet) (laws : Layouts) (is : IsInternet net) (differ : Nodes
         right_way net is differ cheap up in_ports most_routes room network suffice x w.v w.off w.least held.1 held.0.offer held.3,
       )
       | inr (port, f, source, inl early) ↦
-          let c = mod_below (seconds_run (history_of run.histories f.router)) 60 (omega arith) in
+          let c = mod_below (seconds_run (history_of run.histories f.router)) period (omega arith) in
           absurd (omega (arith, early, c, long))
       | inr (port, f, source, inr bad) ↦
           let one_less = ap (λ (y : Way). y.hops) source.by in
@@ -147,10 +148,10 @@ module _ (net : Internet) (laws : Layouts) (is : IsInternet net) (differ : Nodes
   module _ (before : ℕ) (long : most_ticks_gone ≤ before) (run : Run) (steps : List Step) (rest : AtRest before run)
       (tick : IsCalmTick net most_routes most_services run steps) where
     abbrev clock : ℕ → ℕ
-    clock router = (seconds_run (history_of run.histories router) + 1) % 60
+    clock router = (seconds_run (history_of run.histories router) + 1) % period
 
-    pub few_seconds : (router : ℕ) → clock router < 60
-    few_seconds router = mod_below (seconds_run (history_of run.histories router) + 1) 60 (omega arith)
+    pub few_seconds : (router : ℕ) → clock router < period
+    few_seconds router = mod_below (seconds_run (history_of run.histories router) + 1) period (omega arith)
 
     abbrev at_start : ℕ → Option RouteOffer
     at_start router = route_of run router
@@ -178,7 +179,7 @@ module _ (net : Internet) (laws : Layouts) (is : IsInternet net) (differ : Nodes
           record {
             aged = λ h f e right. elim (state.aged h f e right) [
               | inl young ↦ inl (omega (arith, a, young))
-              | inr late ↦ inr (waits x f ((h.age + left x ≤ 61) ⊎ (before < most_ticks_right)) ((h.age + rest_left x ≤ 61) ⊎ (before < most_ticks_right))
+              | inr late ↦ inr (waits x f ((h.age + left x ≤ period + 1) ⊎ (before < most_ticks_right)) ((h.age + rest_left x ≤ period + 1) ⊎ (before < most_ticks_right))
                   (λ either. elim either [ inl fewer ↦ inl (omega (arith, a, fewer)) | inr unsteady ↦ inr unsteady ]) late)
             ];
             holds = elim state.holds [
@@ -187,7 +188,7 @@ module _ (net : Internet) (laws : Layouts) (is : IsInternet net) (differ : Nodes
             ];
           };
       calm = righted.calm;
-      clocks = λ router port here. ap (λ n. (seconds_run (history_of q.histories router) + n) % 60) (sym (alike router)) ∙ righted.clocks router port here;
+      clocks = λ router port here. ap (λ n. (seconds_run (history_of q.histories router) + n) % period) (sym (alike router)) ∙ righted.clocks router port here;
     }
       where
         waits : (x : ℕ) (f : Place) (S T : Type 0) → (S → T) → Waits_by left q.histories q.queue x f S → Waits_by rest_left q.histories q.queue x f T
@@ -205,7 +206,7 @@ module _ (net : Internet) (laws : Layouts) (is : IsInternet net) (differ : Nodes
           record {
             aged = λ h f e right. elim (state.aged h f e right) [
               | inl young ↦ inl young
-              | inr late ↦ inr (waits x f ((h.age + left x ≤ 61) ⊎ (before < most_ticks_right)) late)
+              | inr late ↦ inr (waits x f ((h.age + left x ≤ period + 1) ⊎ (before < most_ticks_right)) late)
             ];
             holds = elim state.holds [
               | inl held ↦ inl held
@@ -277,14 +278,14 @@ module _ (net : Internet) (laws : Layouts) (is : IsInternet net) (differ : Nodes
         ];
       };
       calm = λ x port f w source good. inl (none_waits _ run.waiting rest.rests.quiet);
-      clocks = λ router port here. ap (λ n. (seconds_run (history_of run.histories router) + n) % 60) (tick.busy.each router (router_there net router port
+      clocks = λ router port here. ap (λ n. (seconds_run (history_of run.histories router) + n) % period) (tick.busy.each router (router_there net router port
           (there_where_up net is cheap up in_ports network router port here)));
     }
       where
         aged_by : (x : ℕ) (w : Wanting x) (h : Held RouteOffer) (f : Place) → RightOf x w f h.offer → left x ≡ 1
-            → (clock f.router ≡ clock_in run f.router + 1) ⊎ ((clock f.router ≡ 0) × (clock_in run f.router ≡ 59))
+            → (clock f.router ≡ clock_in run f.router + 1) ⊎ ((clock f.router ≡ 0) × (clock_in run f.router + 1 ≡ period))
             → (h.age ≤ clock_in run f.router + 1) ⊎ Still before run f
-            → (h.age + left x ≤ clock f.router + 1) ⊎ Waits_by left run.histories queue x f ((h.age + left x ≤ 61) ⊎ (before < most_ticks_right))
+            → (h.age + left x ≤ clock f.router + 1) ⊎ Waits_by left run.histories queue x f ((h.age + left x ≤ period + 1) ⊎ (before < most_ticks_right))
         aged_by x w h f right here (inl next) (inl young) = inl (omega (arith, here, next, young))
         aged_by x w h f right here (inr (at_zero, end)) (inl young) =
             inr (inr (inl (
@@ -295,7 +296,7 @@ module _ (net : Internet) (laws : Layouts) (is : IsInternet net) (differ : Nodes
         aged_by x w h f right here next (inr still) = inr (weaker (waits_then x f h.offer.port w right.source still))
           where
             weaker : Waits_by left run.histories queue x f (before < most_ticks_right)
-                → Waits_by left run.histories queue x f ((h.age + left x ≤ 61) ⊎ (before < most_ticks_right))
+                → Waits_by left run.histories queue x f ((h.age + left x ≤ period + 1) ⊎ (before < most_ticks_right))
             weaker (inl early) = inl early
             weaker (inr (inl (zero_now, due, s))) = inr (inl (zero_now, due, inr s))
             weaker (inr (inr (inl bad))) = inr (inr (inl bad))
@@ -310,7 +311,7 @@ module _ (net : Internet) (laws : Layouts) (is : IsInternet net) (differ : Nodes
     clock_is : (router port : ℕ) → is_up (up router) port ≡ true → clock_in last router ≡ clock router
     clock_is router port here =
         let sum : seconds_run (history_of last.histories router) + 0 ≡ seconds_run (history_of last.histories router) = omega arith in
-        ap (λ n. n % 60) (sym sum) ∙ ended.clocks router port here
+        ap (λ n. n % period) (sym sum) ∙ ended.clocks router port here
 
     none_ends : (x : ℕ) (f : Place) (waiting : List Waiting) → waiting ≡ []
         → Ends net laws is differ cheap up in_ports most_routes most_services room network suffice before x f (map (λ w. w.delivery) waiting) → ⊥
@@ -335,7 +336,7 @@ module _ (net : Internet) (laws : Layouts) (is : IsInternet net) (differ : Nodes
         | inl young ↦
             let c = clock_is f.router f.port right.source.neighbour.on_there in
             inl (omega (arith, c, young))
-        | inr late ↦ inr (still_then ((h.age + 0 ≤ 61) ⊎ (before < most_ticks_right)) x h.offer.port f w right.source late)
+        | inr late ↦ inr (still_then ((h.age + 0 ≤ period + 1) ⊎ (before < most_ticks_right)) x h.offer.port f w right.source late)
       ];
       holds = λ x w. elim (ended.states x w).holds [
         | inl held ↦ inl (held.0, held.1, held.2, held.3)

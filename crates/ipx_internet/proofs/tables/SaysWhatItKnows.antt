@@ -23,7 +23,7 @@ use Rattle.ipx_router.proofs.changes.DiffersByOneFact.{found}
 use Rattle.ipx_router.proofs.tables.HeldWasOffered.{all_in_order, all_offers}
 use Rattle.ipx_internet.specs.Delivery.{receives, delivered}
 use Rattle.ipx_internet.specs.Internet.{Internet, Place, IsInternet, NodesDiffer, IsPlace, ports_of, port_of, network_of, places}
-use Rattle.ipx_internet.specs.Least.{Way, is_on, way_of, AreCheap, HasRoom, FifteenSuffice}
+use Rattle.ipx_internet.specs.Least.{Way, is_on, way_of, AreCheap, HasRoom, FifteenSuffice, most_cost}
 use Rattle.ipx_internet.specs.Queue.{Delivery, deliveries_of}
 use Rattle.ipx_internet.specs.Rounds.{IsDelivery}
 use Rattle.ipx_internet.proofs.lists.EachElement.{all_or, all_then, all_of}
@@ -76,7 +76,7 @@ module _ (net : Internet) (laws : Layouts) (is : IsInternet net) (differ : Nodes
       record { v = v; off = off; least = e; wanted = rw (not_zero, not_all, off) refl }
 
   -- ticks aren't too many
-  few_ticks : (hops router : ℕ) (v : Way) → within net up in_ports network hops router ≡ Some v → OnOrOff net up in_ports network router → v.ticks ≤ 4095 *
+  few_ticks : (hops router : ℕ) (v : Way) → within net up in_ports network hops router ≡ Some v → OnOrOff net up in_ports network router → v.ticks ≤ most_cost *
       (v.hops + 1)
   few_ticks hops router v e (inl on) =
       let there = is_there net up in_ports network hops router v e in
@@ -96,9 +96,9 @@ module _ (net : Internet) (laws : Layouts) (is : IsInternet net) (differ : Nodes
       let t = ap (λ (w : Way). w.ticks) c.by in
       omega (arith, h, t, rest, cost)
 
-  cost_few : (router j : ℕ) → (port_at (ports_of net router) j).cost ≤ 4095
+  cost_few : (router j : ℕ) → (port_at (ports_of net router) j).cost ≤ most_cost
   cost_few router j =
-      all_or (λ p. p.cost ≤ 4095) (ports_of net router) j (port_at [] 0) (all_or (AllByRecursion (λ p. p.cost ≤ 4095)) net router [] cheap tt) (omega arith)
+      all_or (λ p. p.cost ≤ most_cost) (ports_of net router) j (port_at [] 0) (all_or (AllByRecursion (λ p. p.cost ≤ most_cost)) net router [] cheap tt) (omega arith)
 
   -- the tables of a router
   abbrev pub StateFor : (router : ℕ) → Wants router → (Place → ℕ → Type 0) → (Place → ℕ → Type 0) → Type 0 → (RouteOffer → Type 0) → Option (Held RouteOffer)

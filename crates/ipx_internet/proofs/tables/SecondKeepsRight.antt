@@ -8,6 +8,7 @@ use Rattle.ipx_wire.specs.Piece.{IsBytes}
 use Rattle.ipx_wire.specs.Rip.{IsEntry}
 use Rattle.ipx_wire.specs.declared.network.Network.{Network}
 use Rattle.ipx_wire.specs.declared.rip.RipEntry.{RipEntry}
+use Rattle.ipx_router.specs.Numbers.{period}
 use Rattle.ipx_router.specs.Facts.{route_facts, route_facts_of, routes_held, offers}
 use Rattle.ipx_router.specs.History.{Event, History, Second, IsOnPort, IsOfBytes, is_second, present_run, seconds_run, running}
 use Rattle.ipx_router.specs.News.{news}
@@ -49,7 +50,7 @@ use Rattle.ipx_internet.proofs.ticks.TickAfterTick.{all_come, second_spoken, sec
 
 module _ (net : Internet) (laws : Layouts) (is : IsInternet net) (differ : NodesDiffer net) (cheap : AreCheap net) (up : ℕ → List ℕ)
     (in_ports : (router : ℕ) → AllByRecursion (λ j. j < length (ports_of net router)) (up router)) (most_routes most_services : ℕ) (room : HasRoom net most_routes)
-    (network : Network) (suffice : FifteenSuffice net up network) (before : ℕ) (long : most_ticks_gone ≤ before) (clock : ℕ → ℕ) (few_seconds : (router : ℕ) → clock router < 60)
+    (network : Network) (suffice : FifteenSuffice net up network) (before : ℕ) (long : most_ticks_gone ≤ before) (clock : ℕ → ℕ) (few_seconds : (router : ℕ) → clock router < period)
     (at_start : ℕ → Option RouteOffer) where
   abbrev Good_of : List History → ℕ → Type 0
   Good_of = IsGood net laws is differ cheap up in_ports most_routes most_services room network suffice
@@ -126,25 +127,25 @@ module _ (net : Internet) (laws : Layouts) (is : IsInternet net) (differ : Nodes
         (Same net laws is differ cheap up in_ports most_routes most_services room network suffice before clock few_seconds at_start x)
         (λ f age young. let o = own in let y = young in omega (arith, o, y))
         (λ f h right late. waits_map net laws is differ cheap up in_ports most_routes most_services room network suffice before clock few_seconds at_start
-        left histories queue x f ((h.age + left x ≤ 61) ⊎ (before < most_ticks_right)) ((h.age + 1 + rest x ≤ 61) ⊎ (before < most_ticks_right))
+        left histories queue x f ((h.age + left x ≤ period + 1) ⊎ (before < most_ticks_right)) ((h.age + 1 + rest x ≤ period + 1) ⊎ (before < most_ticks_right))
         (λ either. elim either [
           | inl few_left ↦ inl (let o = own in let y = few_left in omega (arith, o, y))
           | inr unsteady ↦ inr unsteady
         ]) late)
         (λ later. later)
-        (λ f h right either. elim either [
+        (λ f h right last either. elim either [
           | inl young ↦
               let y = young in
               let c = few_seconds f.router in
-              absurd (omega (arith, y, c))
+              absurd (omega (arith, last, y, c))
           | inr late ↦ (
             h.offer.port,
             f,
             right.source,
             waits_map net laws is differ cheap up in_ports most_routes most_services room network suffice before clock few_seconds at_start
-                left histories queue x f ((179 + left x ≤ 61) ⊎ (before < most_ticks_right)) (before < most_ticks_right)
+                left histories queue x f ((h.age + left x ≤ period + 1) ⊎ (before < most_ticks_right)) (before < most_ticks_right)
                 (λ one. elim one [
-                  | inl old ↦ let y = old in absurd (omega (arith, y))
+                  | inl old ↦ let y = old in absurd (omega (arith, last, y))
                   | inr unsteady ↦ unsteady
                 ]) late,
           )
@@ -325,7 +326,7 @@ module _ (net : Internet) (laws : Layouts) (is : IsInternet net) (differ : Nodes
           periodic : is_periodic past ≡ true
           periodic =
               let sum : seconds_run past + left x ≡ seconds_run past + 1 = omega (arith, due) in
-              eq-eqb ((seconds_run past + 1) % 60) 0 (sym (ap (λ n. n % 60) sum) ∙ righted.clocks x j source.neighbour.on_there ∙ at_zero)
+              eq-eqb ((seconds_run past + 1) % period) 0 (sym (ap (λ n. n % period) sum) ∙ righted.clocks x j source.neighbour.on_there ∙ at_zero)
 
     is_place : (f : Place) → f.router ≡ x → f ≡ place f.port
     is_place f here = ap (λ r. record { router = r; port = f.port }) here
@@ -371,7 +372,7 @@ module _ (net : Internet) (laws : Layouts) (is : IsInternet net) (differ : Nodes
             (subst (λ (n : ℕ). State_of n rest after_it (queue ++ new) k w (route_facts (ports_of net k) (history_of histories k))) (others k off)
             (then_so (left k) k w (route_facts (ports_of net k) (history_of histories k)) (righted.states k w)))
 
-    clock_now : (router port : ℕ) → is_up (up router) port ≡ true → (seconds_run (history_of after_it router) + rest router) % 60 ≡ clock router
+    clock_now : (router port : ℕ) → is_up (up router) port ≡ true → (seconds_run (history_of after_it router) + rest router) % period ≡ clock router
     clock_now router port here = by (cases_eq router x)
       where
         later : running past ≡ true → seconds_run now ≡ seconds_run past + 1
@@ -380,27 +381,27 @@ module _ (net : Internet) (laws : Layouts) (is : IsInternet net) (differ : Nodes
             ∙ ap length (filter-append is_second (present_run past) (Second ∷ []))
             ∙ length-append (filter is_second (present_run past)) (Second ∷ [])
 
-        own_clock : is_up (up x) port ≡ true → (seconds_run now + rest x) % 60 ≡ clock x
+        own_clock : is_up (up x) port ≡ true → (seconds_run now + rest x) % period ≡ clock x
         own_clock there =
             let after = later (runs_where net up most_routes x port before past there endured) in
             let o = own in
             let sum : seconds_run now + rest x ≡ seconds_run past + left x = omega (arith, after, o) in
-            ap (λ n. n % 60) sum ∙ righted.clocks x port there
+            ap (λ n. n % period) sum ∙ righted.clocks x port there
 
-        by : (router ≡ x) ⊎ (router ≢ x) → (seconds_run (history_of after_it router) + rest router) % 60 ≡ clock router
+        by : (router ≡ x) ⊎ (router ≢ x) → (seconds_run (history_of after_it router) + rest router) % period ≡ clock router
         by (inl same) = moved same here
           where
             Now : ℕ → Type 0
-            Now r = is_up (up r) port ≡ true → (seconds_run (history_of after_it r) + rest r) % 60 ≡ clock r
+            Now r = is_up (up r) port ≡ true → (seconds_run (history_of after_it r) + rest r) % period ≡ clock r
 
             moved : router ≡ x → Now router
             moved e =
-                subst Now (sym e) (λ there. subst (λ (h : History). (seconds_run h + rest x) % 60 ≡ clock x) (sym is_now) (own_clock there))
+                subst Now (sym e) (λ there. subst (λ (h : History). (seconds_run h + rest x) % period ≡ clock x) (sym is_now) (own_clock there))
         by (inr off) =
             let same : seconds_run (history_of histories router) + rest router ≡ seconds_run (history_of histories router) + left router =
             ap (λ n. seconds_run (history_of histories router) + n) (sym (others router off)) in
-            subst (λ (h : History). (seconds_run h + rest router) % 60 ≡ clock router) (sym (same_history router off))
-            (ap (λ n. n % 60) same ∙ righted.clocks router port here)
+            subst (λ (h : History). (seconds_run h + rest router) % period ≡ clock router) (sym (same_history router off))
+            (ap (λ n. n % period) same ∙ righted.clocks router port here)
 
     pub second_rights : Righted_at rest (queued net most_routes most_services (record { histories = histories; queue = queue }) x Second)
     second_rights = record {

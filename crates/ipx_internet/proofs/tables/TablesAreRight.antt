@@ -4,6 +4,7 @@ use Rattle.std.specs.List.{AllByRecursion}
 use Rattle.std.proofs.lemmas.Bool.{cases_Bool, ne_eqb, both_ways}
 use Rattle.std.proofs.lemmas.Nat.{mod_below}
 use Rattle.ipx_wire.specs.declared.network.Network.{Network}
+use Rattle.ipx_router.specs.Numbers.{period}
 use Rattle.ipx_router.specs.Facts.{route_facts, routes_held, offers}
 use Rattle.ipx_router.specs.History.{History, seconds_run}
 use Rattle.ipx_router.specs.Outgoing.{route_to}
@@ -37,7 +38,7 @@ some_ticks None ticks sure = sure
 some_ticks (Some way) ticks sure = elim (cases_Bool (way.hops == 0)) [
   | inl none ↦ rw none at sure
   | inr some ↦
-      let more : most_ticks_gone + 60 ≤ ticks = rw some at sure in
+      let more : most_ticks_gone + period ≤ ticks = rw some at sure in
       omega (arith, more)
 ]
 
@@ -52,7 +53,7 @@ soon_enough (Some way) = elim (cases_Bool (way.hops == 0)) [
 pub all_ticks : (way : Way) (ticks : ℕ) → ticks_right (Some way) ≤ ticks → 1 ≤ way.hops → most_ticks_right ≤ ticks
 all_ticks way ticks sure some =
     let off : (way.hops == 0) ≡ false = ne_eqb way.hops 0 (λ none. omega (arith, none, some)) in
-    let more : most_ticks_gone + 60 ≤ ticks = rw off at sure in
+    let more : most_ticks_gone + period ≤ ticks = rw off at sure in
     omega (arith, more)
 
 module _ (net : Internet) (laws : Layouts) (is : IsInternet net) (differ : NodesDiffer net) (cheap : AreCheap net) (up : ℕ → List ℕ)
@@ -146,7 +147,7 @@ module _ (net : Internet) (laws : Layouts) (is : IsInternet net) (differ : Nodes
                 node = right_node net is differ cheap up in_ports most_routes room network suffice router w.v w.off w.least f h.offer right;
               }
           | inr (port, f, source, inl early) ↦
-              let clock = mod_below (seconds_run (history_of run.histories f.router)) 60 (omega arith) in
+              let clock = mod_below (seconds_run (history_of run.histories f.router)) period (omega arith) in
               absurd (omega (arith, early, clock, sure))
           | inr (port, f, source, inr bad) ↦
               absurd (bad (good_then net laws is differ cheap up in_ports most_routes most_services room network suffice ticks run rest sure f.router))

@@ -4,6 +4,7 @@ use Rattle.std.specs.List.{AllByRecursion}
 use Rattle.std.proofs.lemmas.Bool.{cases_eq, cases_lt}
 use Rattle.ipx_table.specs.Facts.{Fact}
 use Rattle.ipx_wire.specs.declared.network.Network.{Network}
+use Rattle.ipx_router.specs.Numbers.{period}
 use Rattle.ipx_router.specs.Facts.{route_facts}
 use Rattle.ipx_router.specs.History.{History}
 use Rattle.ipx_router.specs.declared.route_offer.RouteOffer.{RouteOffer}
@@ -17,7 +18,7 @@ use Rattle.ipx_internet.proofs.tables.LastWords.{WantsOf, Sources, GoodBy, IsGoo
 
 module _ (net : Internet) (laws : Layouts) (is : IsInternet net) (differ : NodesDiffer net) (cheap : AreCheap net) (up : ℕ → List ℕ)
     (in_ports : (router : ℕ) → AllByRecursion (λ j. j < length (ports_of net router)) (up router)) (most_routes most_services : ℕ) (room : HasRoom net most_routes)
-    (network : Network) (suffice : FifteenSuffice net up network) (before : ℕ) (clock : ℕ → ℕ) (few_seconds : (router : ℕ) → clock router < 60) (at_start : ℕ → Option RouteOffer) where
+    (network : Network) (suffice : FifteenSuffice net up network) (before : ℕ) (clock : ℕ → ℕ) (few_seconds : (router : ℕ) → clock router < period) (at_start : ℕ → Option RouteOffer) where
   abbrev Waits_by : (ℕ → ℕ) → List History → List Delivery → ℕ → Place → Type 0 → Type 0
   Waits_by = Waits net laws is differ cheap up in_ports most_routes most_services room network suffice before clock few_seconds at_start
 
@@ -141,7 +142,7 @@ module _ (net : Internet) (laws : Layouts) (is : IsInternet net) (differ : Nodes
     state_then mine x w facts state = record {
       aged = λ h f e right. elim (state.aged h f e right) [
         | inl young ↦ inl young
-        | inr late ↦ inr (waits_then ((h.age + mine ≤ 61) ⊎ (before < most_ticks_right)) (λ unsteady. inr unsteady) x h.offer.port f w right.source late)
+        | inr late ↦ inr (waits_then ((h.age + mine ≤ period + 1) ⊎ (before < most_ticks_right)) (λ unsteady. inr unsteady) x h.offer.port f w right.source late)
       ];
       holds = elim state.holds [
         | inl held ↦ inl held

@@ -11,6 +11,7 @@ use Rattle.ipx_wire.specs.declared.rip.RipEntry.{RipEntry}
 use Rattle.ipx_wire.specs.declared.sap.Sap.TheVariants.{Query, Response as SapResponse}
 use Rattle.ipx_wire.specs.declared.sap_entries.SapEntry.{SapEntry}
 use Rattle.ipx_wire.specs.declared.service.Service.{Service}
+use Rattle.ipx_table.specs.Alive.{lifetime}
 use Rattle.ipx_router.specs.Facts.{route_offer, routes_offered, routes_heard, services_heard, heard_after, route_facts, service_facts, route_facts_of, service_facts_of, routes_held, services_held, offers}
 use Rattle.ipx_router.specs.Heard.{Heard, HeardRip, HeardSap}
 use Rattle.ipx_router.specs.History.{Event, History, Packet, running, ports_up}
@@ -60,13 +61,13 @@ module _ (IsFine : Network → Type 0) (IsServed : Service → Type 0) where
   -- ---- what is said, when so many ticks have begun: of what is reached, what is fine, or was told soon enough
 
   abbrev pub RouteSaid : ℕ → RipEntry → Type 0
-  RouteSaid begun e = e.hops < unreachable → IsFine e.network ⊎ (begun ≤ 180 * e.hops)
+  RouteSaid begun e = e.hops < unreachable → IsFine e.network ⊎ (begun ≤ lifetime * e.hops)
 
   abbrev pub ServiceSaid : ℕ → Service → Type 0
-  ServiceSaid begun s = s.hops < unreachable → IsFineService s ⊎ (begun ≤ 180 * s.hops)
+  ServiceSaid begun s = s.hops < unreachable → IsFineService s ⊎ (begun ≤ lifetime * s.hops)
 
   abbrev pub EntrySaid : ℕ → SapEntry → Type 0
-  EntrySaid begun e = e.hops < unreachable → (name : List ℕ) → e.name ≡ Some name → IsFineService (service_of e name) ⊎ (begun ≤ 180 * e.hops)
+  EntrySaid begun e = e.hops < unreachable → (name : List ℕ) → e.name ≡ Some name → IsFineService (service_of e name) ⊎ (begun ≤ lifetime * e.hops)
 
   -- every network, and every service
   abbrev pub AllFine : Type 0
@@ -132,7 +133,7 @@ module _ (IsFine : Network → Type 0) (IsServed : Service → Type 0) where
       ServiceOld =
           IsOldOffer service_reading service_order service_total most_services (map (λ p. p.service_share) ports) (λ s. s.service.hops) (λ s. refl) FineService had
 
-      sooner : {A : Type 0} (hops : ℕ) → A ⊎ (begun ≤ 180 * hops) → A ⊎ (had ≤ 180 * hops)
+      sooner : {A : Type 0} (hops : ℕ) → A ⊎ (begun ≤ lifetime * hops) → A ⊎ (had ≤ lifetime * hops)
       sooner hops (inl fine) = inl fine
       sooner hops (inr soon) = inr (omega (arith, soon, late))
 

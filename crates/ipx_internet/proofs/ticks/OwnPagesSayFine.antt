@@ -18,6 +18,7 @@ use Rattle.ipx_wire.specs.declared.sap.Sap.{Sap}
 use Rattle.ipx_wire.specs.declared.sap.Sap.TheVariants.{Query, Response as SapResponse}
 use Rattle.ipx_wire.specs.declared.sap.SapFault.{SapFault}
 use Rattle.ipx_wire.specs.declared.service.Service.{Service}
+use Rattle.ipx_table.specs.Alive.{lifetime}
 use Rattle.ipx_router.specs.Heard.{Heard, HeardRip, HeardSap, heard_in}
 use Rattle.ipx_router.specs.Numbers.{rip_socket, sap_socket, every_service}
 use Rattle.ipx_router.specs.Port.{Port, IsPort, port_at, own_address, everyone, own_services, every_server}
@@ -107,10 +108,10 @@ module _ (IsFine : Network → Type 0) (IsServed : Service → Type 0) (begun : 
             (all_then Named (λ s. EntrySaid IsFine IsServed begun (sap_entry s)) (λ s said near name same. named s name same (said near)) page.page page.each))
       ]
     where
-      named : (s : Service) (name : List ℕ) → Some s.name ≡ Some name → IsFineService IsFine IsServed s ⊎ (begun ≤ 180 * s.hops)
-          → IsFineService IsFine IsServed (service_of (sap_entry s) name) ⊎ (begun ≤ 180 * s.hops)
+      named : (s : Service) (name : List ℕ) → Some s.name ≡ Some name → IsFineService IsFine IsServed s ⊎ (begun ≤ lifetime * s.hops)
+          → IsFineService IsFine IsServed (service_of (sap_entry s) name) ⊎ (begun ≤ lifetime * s.hops)
       named s name same said =
-          it_is (λ (n : List ℕ). IsFineService IsFine IsServed (service_of (sap_entry s) n) ⊎ (begun ≤ 180 * s.hops)) name s.name same said
+          it_is (λ (n : List ℕ). IsFineService IsFine IsServed (service_of (sap_entry s) n) ⊎ (begun ≤ lifetime * s.hops)) name s.name same said
 
       by : (p : Parts) → Answers p.payload → heard_in p ≡ Some m → to.socket.0 ≡ rip_socket
           → elim (rip_of p.payload) [ Ok rip ↦ Some (HeardRip p.header.source rip) | Err fault ↦ None ] ≡ Some m

@@ -4,6 +4,7 @@ use Rattle.std.specs.List.{AllByRecursion}
 use Rattle.ipx_table.specs.declared.held.Held.{Held}
 use Rattle.ipx_table.proofs.Order.{all-from_order}
 use Rattle.ipx_table.proofs.Standing.{rules_total}
+use Rattle.ipx_table.specs.Alive.{lifetime}
 use Rattle.ipx_router.specs.Facts.{routes_held, offers}
 use Rattle.ipx_router.specs.History.{History}
 use Rattle.ipx_router.specs.Routes.{route_rules, route_reading, network_order}
@@ -30,7 +31,7 @@ module _ (net : Internet) (laws : Layouts) (is : IsInternet net) (most_routes mo
   endures router inside = record {
     routes =
         all_then (λ h. IsReal net (ups net histories) router h.offer)
-        (λ h. IsReal net (ups net histories) router h.offer ⊎ (most_ticks_gone ≤ 180 * h.offer.hops + h.age)) (λ h fine. inl fine) _
+        (λ h. IsReal net (ups net histories) router h.offer ⊎ (most_ticks_gone ≤ lifetime * h.offer.hops + h.age)) (λ h fine. inl fine) _
         (all-from_order (route_rules (ports_of net router) most_routes).by_key
         (rules_total route_reading network_order network_total most_routes (map (λ p. p.route_share) (ports_of net router)))
         (λ h. IsReal net (ups net histories) router h.offer) _

@@ -7,6 +7,7 @@ use Rattle.ipx_table.specs.Facts.{Fact}
 use Rattle.ipx_wire.specs.Packet.{Parts, packet_of}
 use Rattle.ipx_wire.specs.declared.rip.Operation.TheVariants.{Response}
 use Rattle.ipx_wire.specs.declared.rip.RipEntry.{RipEntry}
+use Rattle.ipx_table.specs.Alive.{lifetime}
 use Rattle.ipx_router.specs.Facts.{route_offer, routes_offered, routes_heard, heard_after, route_facts, route_facts_of, routes_held, offers}
 use Rattle.ipx_router.specs.Heard.{Heard, HeardRip, heard_in}
 use Rattle.ipx_router.specs.History.{History, Second, Packet, running, ports_up}
@@ -54,7 +55,7 @@ module _ (net : Internet) (up : ℕ → List ℕ) where
   abbrev pub RouteSaid : ℕ → Place → RipEntry → Type 0
   RouteSaid begun from e =
       e.hops < unreachable
-      → ((to : Place) → Reaches from to → Hears to e → IsReal net up to.router (route_offer to.port (port_of net from).node e)) ⊎ (begun ≤ 180 * e.hops)
+      → ((to : Place) → Reaches from to → Hears to e → IsReal net up to.router (route_offer to.port (port_of net from).node e)) ⊎ (begun ≤ lifetime * e.hops)
 
   -- what a port says that reaches another one: a page of such entries, or what tells of no route
   abbrev pub Comes : (Place → RipEntry → Type 0) → Place → List ℕ → Type 0
@@ -140,8 +141,8 @@ module _ (net : Internet) (up : ℕ → List ℕ) where
       ]
         where
           one : takes_no_route ports e.network ≡ false
-              → ((to : Place) → Reaches from to → Hears to e → IsReal net up to.router (route_offer to.port (port_of net from).node e)) ⊎ (begun ≤ 180 * e.hops)
-              → IsReal net up router (route_offer number (port_of net from).node e) ⊎ (had ≤ 180 * e.hops)
+              → ((to : Place) → Reaches from to → Hears to e → IsReal net up to.router (route_offer to.port (port_of net from).node e)) ⊎ (begun ≤ lifetime * e.hops)
+              → IsReal net up router (route_offer number (port_of net from).node e) ⊎ (had ≤ lifetime * e.hops)
           one wanted (inl real) = inl (real (record { router = router; port = number }) reaches (record { up_here = on; wanted = wanted }))
           one wanted (inr soon) = inr (omega (arith, soon, late))
 
@@ -218,8 +219,8 @@ module _ (net : Internet) (up : ℕ → List ℕ) where
           e : RipEntry
           e = told_at (port_at ports j).cost (entry_of r)
 
-          by : IsReal net up router r ⊎ (had ≤ 180 * r.hops + 179)
-              → ((to : Place) → Reaches (place j) to → Hears to e → IsReal net up to.router (route_offer to.port (port_of net (place j)).node e)) ⊎ (begun ≤ 180 * e.hops)
+          by : IsReal net up router r ⊎ (had < lifetime * (r.hops + 1))
+              → ((to : Place) → Reaches (place j) to → Hears to e → IsReal net up to.router (route_offer to.port (port_of net (place j)).node e)) ⊎ (begun ≤ lifetime * e.hops)
           by (inr old) = inr (omega (arith, old, soon))
           by (inl real) =
               inl (λ to reaches hears. farther (place j) r (eqb-false r.port j apart)

@@ -10,6 +10,7 @@ use Rattle.ipx_wire.specs.declared.rip.Operation.TheVariants.{Request, Response}
 use Rattle.ipx_wire.specs.declared.rip.RipEntry.{RipEntry}
 use Rattle.ipx_wire.specs.declared.sap.Sap.TheVariants.{Query, Response as SapResponse}
 use Rattle.ipx_wire.specs.declared.service.Service.{Service}
+use Rattle.ipx_table.specs.Alive.{lifetime}
 use Rattle.ipx_router.specs.Facts.{heard_after, route_facts, service_facts, routes_held, services_held, offers}
 use Rattle.ipx_router.specs.Heard.{Heard, HeardRip, HeardSap}
 use Rattle.ipx_router.specs.History.{Event, History, Start, Stop, Second, Packet, PortDown, PortUp, IsOnPort, IsOfBytes, running, ports_up}
@@ -113,7 +114,7 @@ module _ (IsFine : Network → Type 0) (IsServed : Service → Type 0) (begun : 
     learned_said : (cost : ℕ) (r : RouteOffer) → RouteHeld r → E (told_at cost (entry_of r))
     learned_said cost r held near = by held.0
       where
-        by : IsFine r.network ⊎ (had ≤ 180 * r.hops + 179) → IsFine r.network ⊎ (begun ≤ 180 * (r.hops + 1))
+        by : IsFine r.network ⊎ (had < lifetime * (r.hops + 1)) → IsFine r.network ⊎ (begun ≤ lifetime * (r.hops + 1))
         by (inl fine) = inl fine
         by (inr old) = inr (omega (arith, old, soon))
 
@@ -123,8 +124,8 @@ module _ (IsFine : Network → Type 0) (IsServed : Service → Type 0) (begun : 
     service_said : (s : ServiceOffer) → ServiceHeld s → N (farther s.service)
     service_said s held near = by held.0
       where
-        by : IsFineService IsFine IsServed s.service ⊎ (had ≤ 180 * s.service.hops + 179)
-            → IsFineService IsFine IsServed (farther s.service) ⊎ (begun ≤ 180 * (s.service.hops + 1))
+        by : IsFineService IsFine IsServed s.service ⊎ (had < lifetime * (s.service.hops + 1))
+            → IsFineService IsFine IsServed (farther s.service) ⊎ (begun ≤ lifetime * (s.service.hops + 1))
         by (inl fine) = inl (farther_fine IsFine IsServed s.service fine)
         by (inr old) = inr (omega (arith, old, soon))
 

@@ -1,5 +1,5 @@
 -- Step by step, while tables stay: what waits asks nothing, and in 60 seconds a router sends once all that it advertises.
-use Rattle.std.proofs.Common.{◌≡◌, ◌≢◌, refl, sym, ap, ◌∙◌, subst, ℕ, suc, ◌+◌, ◌%◌, ◌<◌, ◌≤◌, ◌==◌, ◌&&◌, nat_lt, Bool, true, false, if◌then◌else◌, List, [], ◌∷◌, ◌++◌, length, map, filter, flat_map, Option, None, inl, inr, arith, true≢false, append-nil, length-append, get_or-set_same, get_or-set_other}
+use Rattle.std.proofs.Common.{◌≡◌, ◌≢◌, refl, sym, ap, ◌∙◌, subst, ℕ, suc, ◌+◌, ◌*◌, ◌%◌, ◌<◌, ◌≤◌, ◌==◌, ◌&&◌, nat_lt, Bool, true, false, if◌then◌else◌, List, [], ◌∷◌, ◌++◌, length, map, filter, flat_map, Option, None, inl, inr, arith, true≢false, append-nil, length-append, get_or-set_same, get_or-set_other}
 use Rattle.std.specs.List.{AllByRecursion}
 use Rattle.std.proofs.lemmas.Bool.{cases_Bool, cases_eq, eq-eqb, ne_eqb, lt-ltb, le-ltb}
 use Rattle.std.proofs.lemmas.List.{map-append}
@@ -121,23 +121,23 @@ module _ (router number : ℕ) (routes : List RouteOffer) where
 
 -- what a router still sends in so many seconds, where it has run for that many: all, if a period ends in them
 abbrev pub owed : List Sent → ℕ → ℕ → List Sent
-owed all ran left = if nat_lt (ran % 60 + left) 60 then [] else all
+owed all ran left = if nat_lt (ran % period + left) period then [] else all
 
-turns : (all : List Sent) (ran left : ℕ) → ran % 60 + suc left < 120
+turns : (all : List Sent) (ran left : ℕ) → ran % period + suc left < 2 * period
     → (if (ran + 1) % period == 0 then all else []) ++ owed all (ran + 1) left ≡ owed all ran (suc left)
-turns all ran left few = elim (cases_eq (ran % 60) 59) [
+turns all ran left few = elim (cases_eq (ran % period + 1) period) [
   | inl last ↦
-      let at_zero : (ran + 1) % 60 ≡ 0 = omega (arith, last) in
-      let is_zero : ((ran + 1) % 60 == 0) ≡ true = eq-eqb ((ran + 1) % 60) 0 at_zero in
-      let now : nat_lt (ran % 60 + suc left) 60 ≡ false = le-ltb (ran % 60 + suc left) 60 (omega (arith, last)) in
-      let later : nat_lt ((ran + 1) % 60 + left) 60 ≡ true = lt-ltb ((ran + 1) % 60 + left) 60 (omega (arith, at_zero, few, last)) in
+      let at_zero : (ran + 1) % period ≡ 0 = omega (arith, last) in
+      let is_zero : ((ran + 1) % period == 0) ≡ true = eq-eqb ((ran + 1) % period) 0 at_zero in
+      let now : nat_lt (ran % period + suc left) period ≡ false = le-ltb (ran % period + suc left) period (omega (arith, last)) in
+      let later : nat_lt ((ran + 1) % period + left) period ≡ true = lt-ltb ((ran + 1) % period + left) period (omega (arith, at_zero, few, last)) in
       rw (is_zero, now, later) (append-nil all)
   | inr other ↦
-      let below = mod_below ran 60 (omega arith) in
-      let next : (ran + 1) % 60 ≡ ran % 60 + 1 = omega (arith, other, below) in
-      let not_zero : ((ran + 1) % 60 == 0) ≡ false = ne_eqb ((ran + 1) % 60) 0 (λ e. omega (arith, e, next)) in
-      let same : (ran + 1) % 60 + left ≡ ran % 60 + suc left = omega (arith, next) in
-      rw not_zero (ap (λ n. if nat_lt n 60 then [] else all) same)
+      let below = mod_below ran period (omega arith) in
+      let next : (ran + 1) % period ≡ ran % period + 1 = omega (arith, other, below) in
+      let not_zero : ((ran + 1) % period == 0) ≡ false = ne_eqb ((ran + 1) % period) 0 (λ e. omega (arith, e, next)) in
+      let same : (ran + 1) % period + left ≡ ran % period + suc left = omega (arith, next) in
+      rw not_zero (ap (λ n. if nat_lt n period then [] else all) same)
 ]
 
 -- all that is advertised on a port, by what a router has
@@ -155,10 +155,10 @@ one_more past runs =
     ∙ length-append (filter is_second (present_run past)) (Second ∷ [])
 
 -- a clock is at most one further
-mod_step : (n : ℕ) → (n + 1) % 60 ≤ n % 60 + 1
-mod_step n = elim (cases_eq (n % 60) 59) [
+mod_step : (n : ℕ) → (n + 1) % period ≤ n % period + 1
+mod_step n = elim (cases_eq (n % period + 1) period) [
   | inl last ↦ omega (arith, last)
-  | inr other ↦ let below = mod_below n 60 (omega arith) in omega (arith, other, below)
+  | inr other ↦ let below = mod_below n period (omega arith) in omega (arith, other, below)
 ]
 
 module _ (net : Internet) (laws : Layouts) (is : IsInternet net) (most_routes most_services : ℕ) (old : List History) where
@@ -425,7 +425,7 @@ module _ (net : Internet) (laws : Layouts) (is : IsInternet net) (most_routes mo
         → let next = happens net most_routes most_services run router Second None in
         Same next.histories
         → (Keeps next.histories (queue_of next) → (ran next.histories ≡ ran run.histories + 1) → departed next rest ≡ owed all (ran run.histories + 1) (seconds_of router rest))
-        → ran run.histories % 60 + seconds_of router (Happens router Second ∷ rest) < 120
+        → ran run.histories % period + seconds_of router (Happens router Second ∷ rest) < 2 * period
         → Goes run (Happens router Second ∷ rest)
     second_own run rest keeps within same goes few =
         let next = happens net most_routes most_services run router Second None in
@@ -447,11 +447,11 @@ module _ (net : Internet) (laws : Layouts) (is : IsInternet net) (most_routes mo
     abbrev Deeper : List Step → Type 0
     Deeper rest =
         (next : Run) → Keeps next.histories (queue_of next) → TablesStay net most_routes most_services old next rest
-        → ran next.histories % 60 + seconds_of router rest < 120 → Goes next rest
+        → ran next.histories % period + seconds_of router rest < 2 * period → Goes next rest
 
     second_goes : (x : ℕ) (rest : List Step) (run : Run) → Keeps run.histories (queue_of run) → x < length net
         → TablesStay net most_routes most_services old run (Happens x Second ∷ rest)
-        → ran run.histories % 60 + seconds_of router (Happens x Second ∷ rest) < 120 → Deeper rest → Goes run (Happens x Second ∷ rest)
+        → ran run.histories % period + seconds_of router (Happens x Second ∷ rest) < 2 * period → Deeper rest → Goes run (Happens x Second ∷ rest)
     second_goes x rest run keeps within stay few deeper = elim (cases_eq x router) [
       | inl e ↦ subst Here (sym e) own within stay few
       | inr off ↦ other off
@@ -460,14 +460,14 @@ module _ (net : Internet) (laws : Layouts) (is : IsInternet net) (most_routes mo
         Here : ℕ → Type 0
         Here k =
             k < length net → TablesStay net most_routes most_services old run (Happens k Second ∷ rest)
-            → ran run.histories % 60 + seconds_of router (Happens k Second ∷ rest) < 120 → Goes run (Happens k Second ∷ rest)
+            → ran run.histories % period + seconds_of router (Happens k Second ∷ rest) < 2 * period → Goes run (Happens k Second ∷ rest)
 
         own : Here router
         own within stay few =
             let step = second_here router rest in
             second_own run rest keeps within stay.0
             (λ next_keeps later. deeper (happens net most_routes most_services run router Second None) next_keeps stay.1
-            (let clock = ap (λ k. k % 60) later in let most = mod_step (ran run.histories) in omega (arith, few, step, clock, most))
+            (let clock = ap (λ k. k % period) later in let most = mod_step (ran run.histories) in omega (arith, few, step, clock, most))
             ∙ ap (λ k. owed all k (seconds_of router rest)) later) few
 
         other : x ≢ router → Goes run (Happens x Second ∷ rest)
@@ -477,7 +477,7 @@ module _ (net : Internet) (laws : Layouts) (is : IsInternet net) (most_routes mo
             let same = second_there x router Second rest (λ e. off (sym e)) in
             let still : ran next.histories ≡ ran run.histories =
             ap seconds_run (get_or-set_other run.histories x router (history_of run.histories x ++ Second ∷ []) [] (λ e. off (sym e))) in
-            let clock = ap (λ k. k % 60) still in
+            let clock = ap (λ k. k % period) still in
             sent_more router number (departures_at net most_routes most_services run.histories x Second) (departures net most_routes most_services next rest)
             ∙ ap (λ (ss : List Sent). ss ++ departed next rest)
             (other_sent router number (routes_then net most_routes most_services run.histories x Second) x off (sends_at net most_routes most_services run.histories x Second))
@@ -487,7 +487,7 @@ module _ (net : Internet) (laws : Layouts) (is : IsInternet net) (most_routes mo
     settles_goes : (rest : List Step) (histories : List History) (log : List Reception) (waiting : List Waiting)
         → let now : Run = record { histories = histories; waiting = waiting; log = log } in
         Keeps histories (queue_of now) → TablesStay net most_routes most_services old now (Settles ∷ rest)
-        → ran histories % 60 + seconds_of router rest < 120 → Deeper rest → Goes now (Settles ∷ rest)
+        → ran histories % period + seconds_of router rest < 2 * period → Deeper rest → Goes now (Settles ∷ rest)
     settles_goes rest histories log [] keeps stay few deeper = deeper (record { histories = histories; waiting = []; log = log }) keeps stay.1 few
     settles_goes rest histories log (w ∷ waiting) keeps stay few deeper =
         let d = w.delivery in
@@ -496,14 +496,14 @@ module _ (net : Internet) (laws : Layouts) (is : IsInternet net) (most_routes mo
         packet_goes histories waiting log d.to.router d.to.port d.bytes w.origin rest less
         (there net laws is most_routes most_services histories keeps.are d keeps.calm.0.0) keeps.calm.0 stay.0
         (λ next_keeps still. deeper (happens net most_routes most_services now d.to.router (Packet d.to.port d.bytes) w.origin) next_keeps stay.1
-        (let clock = ap (λ k. k % 60) still in omega (arith, few, clock))
+        (let clock = ap (λ k. k % period) still in omega (arith, few, clock))
         ∙ ap (λ k. owed all k (seconds_of router rest)) still)
 
     pub goes : (steps : List Step) (run : Run) → Keeps run.histories (queue_of run) → AllByRecursion (IsOfUpkeep net) steps
-        → TablesStay net most_routes most_services old run steps → ran run.histories % 60 + seconds_of router steps < 120 → Goes run steps
+        → TablesStay net most_routes most_services old run steps → ran run.histories % period + seconds_of router steps < 2 * period → Goes run steps
     goes [] run keeps of stay few =
-        let below = mod_below (ran run.histories) 60 (omega arith) in
-        let less : nat_lt (ran run.histories % 60 + 0) 60 ≡ true = lt-ltb (ran run.histories % 60 + 0) 60 (omega (arith, below)) in
+        let below = mod_below (ran run.histories) period (omega arith) in
+        let less : nat_lt (ran run.histories % period + 0) period ≡ true = lt-ltb (ran run.histories % period + 0) period (omega (arith, below)) in
         rw less refl
     goes (Happens x Second ∷ rest) run keeps of stay few =
         second_goes x rest run keeps of.0 stay few (λ next next_keeps next_stay. goes rest next next_keeps of.1 next_stay)
@@ -515,7 +515,7 @@ module _ (net : Internet) (laws : Layouts) (is : IsInternet net) (most_routes mo
         let same = no_second x n bytes rest in
         packet_goes run.histories run.waiting run.log x n bytes None rest keeps of.0.0 (record { place = of.0.1; bytes = of.0.2 }, of.0.3) stay.0
         (λ next_keeps still. goes rest (happens net most_routes most_services run x (Packet n bytes) None) next_keeps of.1 stay.1
-        (let clock = ap (λ k. k % 60) still in omega (arith, few, same, clock))
+        (let clock = ap (λ k. k % period) still in omega (arith, few, same, clock))
         ∙ ap (λ k. owed all k (seconds_of router rest)) still)
         ∙ ap (owed all (ran run.histories)) (sym same)
     goes (Settles ∷ rest) run keeps of stay few =

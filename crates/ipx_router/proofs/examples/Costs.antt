@@ -1,5 +1,5 @@
 -- Ports of unequal costs: what is told costs as much more as the port on which it is told, and a network of the router as much as its own port.
-use Rattle.std.proofs.Common.{◌≡◌, ℕ, List, [], ◌∷◌, ◌++◌, refl, codes, replicate}
+use Rattle.std.proofs.Common.{◌≡◌, ◌-◌, ℕ, List, [], ◌∷◌, ◌++◌, refl, codes, replicate}
 use Rattle.hex.specs.Hex.{decode_pairs}
 use Rattle.ipx_wire.specs.Address.{address_bytes, address_at}
 use Rattle.ipx_wire.specs.Crossed.{network_bytes, network_at}
@@ -12,6 +12,7 @@ use Rattle.ipx_wire.specs.Sap.{sap_of}
 use Rattle.ipx_wire.specs.SapEntries.{sap_entry_at}
 use Rattle.ipx_wire.specs.WriteServices.{service_bytes}
 use Rattle.ipx_router.specs.History.{Event, History, Start, Second, Packet, PortDown, PortUp}
+use Rattle.ipx_router.specs.Numbers.{period}
 use Rattle.ipx_router.proofs.examples.Words.{hex, node, port_on, out, all_nodes, general_request, response}
 use Rattle.ipx_router.specs.Port.{Port}
 use Rattle.ipx_router.specs.Relays.{Sent}
@@ -71,7 +72,7 @@ unfolding decode_pairs header_bytes address_bytes entry_bytes network_bytes serv
 costs_of_another_answer = refl
 
 -- at a period each port tells its own
-pub costs_at_a_period : sent_at (heard ++ replicate 59 Second) Second
+pub costs_at_a_period : sent_at (heard ++ replicate (period - 1) Second) Second
     ≡ out 0 all_nodes (hex (codes "FFFF0038000100000010FFFFFFFFFFFF045300000010000000000001" ++ codes "04530002000000200001000A00000030000200050000004000010004"))
     ∷ out 1 all_nodes (hex (codes "FFFF0030000100000020FFFFFFFFFFFF045300000020000000000002" ++ codes "04530002000000100001000A0000004000010008"))
     ∷ out 2 all_nodes (hex (codes "FFFF0038000100000040FFFFFFFFFFFF045300000040000000000004" ++ codes "04530002000000100001000400000020000100080000003000020003"))

@@ -1,5 +1,5 @@
 -- The default route: it serves packets for networks of which nothing is known, and is told as any other route.
-use Rattle.std.proofs.Common.{◌≡◌, ℕ, List, [], ◌∷◌, ◌++◌, refl, codes, replicate, Option, Some}
+use Rattle.std.proofs.Common.{◌≡◌, ◌-◌, ℕ, List, [], ◌∷◌, ◌++◌, refl, codes, replicate, Option, Some}
 use Rattle.hex.specs.Hex.{decode_pairs}
 use Rattle.ipx_wire.specs.Address.{address_bytes, address_at}
 use Rattle.ipx_wire.specs.Crossed.{network_bytes, network_at}
@@ -13,6 +13,7 @@ use Rattle.ipx_wire.specs.SapEntries.{sap_entry_at}
 use Rattle.ipx_wire.specs.WriteServices.{service_bytes}
 use Rattle.ipx_router.specs.Facts.{routes_held, offers}
 use Rattle.ipx_router.specs.History.{History, Start, Second, Packet, PortDown, running, ports_up}
+use Rattle.ipx_router.specs.Numbers.{period}
 use Rattle.ipx_router.specs.Why.{why}
 use Rattle.ipx_router.specs.declared.why.Why.TheVariants.{FarSide, NoRoute, TooLong}
 use Rattle.ipx_router.specs.declared.why.Why.{Why}
@@ -194,7 +195,7 @@ unfolding decode_pairs header_bytes address_bytes entry_bytes network_bytes serv
 asked_for = refl
 
 -- at a period it is told among the rest
-pub told_at_a_period : sent_by (Start ∷ Packet 1 default_by_b ∷ replicate 59 Second) Second
+pub told_at_a_period : sent_by (Start ∷ Packet 1 default_by_b ∷ replicate (period - 1) Second) Second
     ≡ out 0 all_nodes (hex (codes "FFFF0030000100000010FFFFFFFFFFFF0453000000100000000000010453" ++ codes "00020000002000010002FFFFFFFE00020003"))
     ∷ out 1 all_nodes (hex (codes "FFFF0028000100000020FFFFFFFFFFFF0453000000200000000000020453" ++ codes "00020000001000010002"))
     ∷ []

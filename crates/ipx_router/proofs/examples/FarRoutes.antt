@@ -1,5 +1,5 @@
 -- Routes fourteen and fifteen hops away: the next router on reaches the one, and not the other.
-use Rattle.std.proofs.Common.{◌≡◌, ℕ, List, [], ◌∷◌, ◌++◌, refl, codes, replicate}
+use Rattle.std.proofs.Common.{◌≡◌, ◌-◌, ℕ, List, [], ◌∷◌, ◌++◌, refl, codes, replicate}
 use Rattle.hex.specs.Hex.{decode_pairs}
 use Rattle.ipx_wire.specs.Address.{address_bytes, address_at}
 use Rattle.ipx_wire.specs.Crossed.{network_bytes, network_at}
@@ -12,6 +12,7 @@ use Rattle.ipx_wire.specs.Sap.{sap_of}
 use Rattle.ipx_wire.specs.SapEntries.{sap_entry_at}
 use Rattle.ipx_wire.specs.WriteServices.{service_bytes}
 use Rattle.ipx_router.specs.History.{Start, Stop, Second, Packet, PortDown}
+use Rattle.ipx_router.specs.Numbers.{period}
 use Rattle.ipx_router.proofs.examples.Words.{hex, node, sent_by, out, all_nodes, general_request}
 
 -- node BBh on network 20h tells network 30h fourteen and network 31h fifteen hops away
@@ -33,7 +34,7 @@ unfolding decode_pairs header_bytes address_bytes entry_bytes network_bytes serv
 far_and_asked_for = refl
 
 -- so it is at a period
-pub far_at_a_period : sent_by (Start ∷ Packet 1 far ∷ replicate 59 Second) Second
+pub far_at_a_period : sent_by (Start ∷ Packet 1 far ∷ replicate (period - 1) Second) Second
     ≡ out 0 all_nodes (hex (codes "FFFF0030000100000010FFFFFFFFFFFF0453000000100000000000010453" ++ codes "0002000000200001000200000030000F0003"))
     ∷ out 1 all_nodes (hex (codes "FFFF0028000100000020FFFFFFFFFFFF0453000000200000000000020453" ++ codes "00020000001000010002"))
     ∷ []

@@ -1,5 +1,5 @@
 -- A service fifteen hops away: the next hop doesn't reach it.
-use Rattle.std.proofs.Common.{◌≡◌, ℕ, List, [], ◌∷◌, ◌++◌, refl, codes, replicate}
+use Rattle.std.proofs.Common.{◌≡◌, ◌-◌, ℕ, List, [], ◌∷◌, ◌++◌, refl, codes, replicate}
 use Rattle.hex.specs.Hex.{decode_pairs}
 use Rattle.ipx_wire.specs.Address.{address_bytes, address_at}
 use Rattle.ipx_wire.specs.Crossed.{network_bytes, network_at}
@@ -12,6 +12,7 @@ use Rattle.ipx_wire.specs.Sap.{sap_of}
 use Rattle.ipx_wire.specs.SapEntries.{sap_entry_at}
 use Rattle.ipx_wire.specs.WriteServices.{service_bytes}
 use Rattle.ipx_router.specs.History.{Start, Stop, Second, Packet}
+use Rattle.ipx_router.specs.Numbers.{period}
 use Rattle.ipx_router.proofs.examples.Words.{hex, node, sent_by, out, all_nodes}
 
 -- node BBh on network 20h tells services A fifteen and B fourteen hops away
@@ -51,7 +52,7 @@ unfolding decode_pairs header_bytes address_bytes entry_bytes network_bytes serv
 far_is_no_nearest = refl
 
 -- at a period it isn't told
-pub far_at_a_period : sent_by (Start ∷ Packet 1 far ∷ replicate 59 Second) Second
+pub far_at_a_period : sent_by (Start ∷ Packet 1 far ∷ replicate (period - 1) Second) Second
     ≡ out 0 all_nodes (hex (codes "FFFF0028000100000010FFFFFFFFFFFF045300000010000000000001" ++ codes "045300020000002000010002"))
     ∷ out 0 all_nodes (hex (codes "FFFF0060000400000010FFFFFFFFFFFF045200000010000000000001" ++ codes "04520002000442") ++ replicate 50 0 ++ hex (codes "300000000000010451000F"))
     ∷ out 1 all_nodes (hex (codes "FFFF0028000100000020FFFFFFFFFFFF045300000020000000000002" ++ codes "045300020000001000010002"))

@@ -1,5 +1,5 @@
 -- Lists longer than a packet: fifty entries or seven services go into one, and the rest into the next.
-use Rattle.std.proofs.Common.{◌≡◌, ℕ, List, [], ◌∷◌, ◌++◌, refl, codes, replicate, Some}
+use Rattle.std.proofs.Common.{◌≡◌, ◌-◌, ℕ, List, [], ◌∷◌, ◌++◌, refl, codes, replicate, Some}
 use Rattle.hex.specs.Hex.{decode_pairs}
 use Rattle.ipx_wire.specs.Address.{address_bytes, address_at}
 use Rattle.ipx_wire.specs.Crossed.{network_bytes, network_at}
@@ -13,6 +13,7 @@ use Rattle.ipx_wire.specs.SapEntries.{sap_entry_at}
 use Rattle.ipx_wire.specs.WriteServices.{service_bytes}
 use Rattle.ipx_wire.specs.declared.rip.RipFault.TheVariants.{TooMany}
 use Rattle.ipx_router.specs.History.{Start, Second, Packet}
+use Rattle.ipx_router.specs.Numbers.{period}
 use Rattle.ipx_router.specs.declared.why.Why.TheVariants.{BadRip}
 use Rattle.ipx_router.proofs.examples.Words.{hex, node, sent_by, dropped_by, out, all_nodes, entries, fifty}
 
@@ -49,7 +50,7 @@ unfolding decode_pairs header_bytes address_bytes entry_bytes network_bytes serv
 fifty_one_in_none = refl
 
 -- with the network of the other port they are one too many: the last goes into a packet of its own
-pub a_second_packet : sent_by (Start ∷ Packet 0 fifty ∷ replicate 59 Second) Second
+pub a_second_packet : sent_by (Start ∷ Packet 0 fifty ∷ replicate (period - 1) Second) Second
     ≡ out 0 all_nodes (hex (codes "FFFF0028000100000010FFFFFFFFFFFF0453000000100000000000010453" ++ codes "00020000002000010002"))
     ∷ out 1 all_nodes (hex (codes "FFFF01B0000100000020FFFFFFFFFFFF0453000000200000000000020453" ++ codes "00020000001000010002") ++ entries 1 1 49 2 3)
     ∷ out 1 all_nodes (hex (codes "FFFF0028000100000020FFFFFFFFFFFF0453000000200000000000020453" ++ codes "0002") ++ entries 1 50 1 2 3)

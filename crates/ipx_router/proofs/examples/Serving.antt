@@ -1,5 +1,5 @@
 -- Services are learned, told, asked for, changed and ended.
-use Rattle.std.proofs.Common.{◌≡◌, ℕ, List, [], ◌∷◌, ◌++◌, refl, codes, replicate}
+use Rattle.std.proofs.Common.{◌≡◌, ◌-◌, ℕ, List, [], ◌∷◌, ◌++◌, refl, codes, replicate}
 use Rattle.hex.specs.Hex.{decode_pairs}
 use Rattle.ipx_wire.specs.Address.{address_bytes, address_at}
 use Rattle.ipx_wire.specs.Crossed.{network_bytes, network_at}
@@ -11,7 +11,9 @@ use Rattle.ipx_wire.specs.Rip.{rip_of, entry_at, entry_bytes}
 use Rattle.ipx_wire.specs.Sap.{sap_of}
 use Rattle.ipx_wire.specs.SapEntries.{sap_entry_at}
 use Rattle.ipx_wire.specs.WriteServices.{service_bytes}
+use Rattle.ipx_table.specs.Alive.{lifetime}
 use Rattle.ipx_router.specs.History.{History, Start, Stop, Second, Packet}
+use Rattle.ipx_router.specs.Numbers.{period}
 use Rattle.ipx_router.proofs.examples.Words.{hex, node, sent_by, out, all_nodes}
 
 -- node BBh on network 20h tells services B and A of type 4, and C of type 5
@@ -126,7 +128,7 @@ unfolding decode_pairs header_bytes address_bytes entry_bytes network_bytes serv
 without_a_name = refl
 
 -- at a period routes go before services on each port
-pub routes_before_services : sent_by (known ++ replicate 59 Second) Second
+pub routes_before_services : sent_by (known ++ replicate (period - 1) Second) Second
     ≡ out 0 all_nodes (hex (codes "FFFF0028000100000010FFFFFFFFFFFF045300000010000000000001" ++ codes "045300020000002000010002"))
     ∷ out 0 all_nodes (hex (codes "FFFF00E0000400000010FFFFFFFFFFFF045200000010000000000001" ++ codes "04520002000441") ++ replicate 50 0 ++ hex (codes "3000000000000104510003000442") ++ replicate 50 0 ++ hex (codes "3000000000000104510003000543") ++ replicate 50 0 ++ hex (codes "3000000000000104510002"))
     ∷ out 1 all_nodes (hex (codes "FFFF0028000100000020FFFFFFFFFFFF045300000020000000000002" ++ codes "045300020000001000010002"))
@@ -134,8 +136,8 @@ pub routes_before_services : sent_by (known ++ replicate 59 Second) Second
 unfolding decode_pairs header_bytes address_bytes entry_bytes network_bytes service_bytes name_field packet_of header_at address_at rip_of entry_at sap_of items sap_entry_at name_of network_at
 routes_before_services = refl
 
--- at their 180th second they stand as down among the rest
-pub services_end : sent_by (known ++ replicate 179 Second) Second
+-- in the last second of their lifetime they stand as down among the rest
+pub services_end : sent_by (known ++ replicate (lifetime - 1) Second) Second
     ≡ out 0 all_nodes (hex (codes "FFFF0028000100000010FFFFFFFFFFFF045300000010000000000001" ++ codes "045300020000002000010002"))
     ∷ out 0 all_nodes (hex (codes "FFFF00E0000400000010FFFFFFFFFFFF045200000010000000000001" ++ codes "04520002000441") ++ replicate 50 0 ++ hex (codes "3000000000000104510010000442") ++ replicate 50 0 ++ hex (codes "3000000000000104510010000543") ++ replicate 50 0 ++ hex (codes "3000000000000104510010"))
     ∷ out 1 all_nodes (hex (codes "FFFF0028000100000020FFFFFFFFFFFF045300000020000000000002" ++ codes "045300020000001000010002"))
@@ -157,14 +159,14 @@ abbrev a_alone : List ℕ
 a_alone = hex (codes "FFFF0060000400000020FFFFFFFFFFFF0452000000200000000000BB" ++ codes "04520002000441") ++ replicate 50 0 ++ hex (codes "3000000000000104510002")
 
 -- a service that ends between two periods is told as down at that second
-pub a_service_ends_between_periods : sent_by (Start ∷ Second ∷ Packet 1 a_alone ∷ replicate 179 Second) Second
+pub a_service_ends_between_periods : sent_by (Start ∷ Second ∷ Packet 1 a_alone ∷ replicate (lifetime - 1) Second) Second
     ≡ out 0 all_nodes (hex (codes "FFFF0060000400000010FFFFFFFFFFFF045200000010000000000001" ++ codes "04520002000441") ++ replicate 50 0 ++ hex (codes "3000000000000104510010"))
     ∷ []
 unfolding decode_pairs header_bytes address_bytes entry_bytes network_bytes service_bytes name_field packet_of header_at address_at rip_of entry_at sap_of items sap_entry_at name_of network_at
 a_service_ends_between_periods = refl
 
 -- and not before
-pub not_yet_ended : sent_by (Start ∷ Second ∷ Packet 1 a_alone ∷ replicate 178 Second) Second
+pub not_yet_ended : sent_by (Start ∷ Second ∷ Packet 1 a_alone ∷ replicate (lifetime - 2) Second) Second
     ≡ out 0 all_nodes (hex (codes "FFFF0028000100000010FFFFFFFFFFFF045300000010000000000001" ++ codes "045300020000002000010002"))
     ∷ out 0 all_nodes (hex (codes "FFFF0060000400000010FFFFFFFFFFFF045200000010000000000001" ++ codes "04520002000441") ++ replicate 50 0 ++ hex (codes "3000000000000104510003"))
     ∷ out 1 all_nodes (hex (codes "FFFF0028000100000020FFFFFFFFFFFF045300000020000000000002" ++ codes "045300020000001000010002"))

@@ -1,5 +1,5 @@
 -- A router stops: all that it told is dead, and it forgets it.
-use Rattle.std.proofs.Common.{◌≡◌, [], ◌∷◌, ◌++◌, refl, codes, replicate}
+use Rattle.std.proofs.Common.{◌≡◌, ◌-◌, [], ◌∷◌, ◌++◌, refl, codes, replicate}
 use Rattle.hex.specs.Hex.{decode_pairs}
 use Rattle.ipx_wire.specs.Address.{address_bytes, address_at}
 use Rattle.ipx_wire.specs.Crossed.{network_bytes, network_at}
@@ -12,6 +12,7 @@ use Rattle.ipx_wire.specs.Sap.{sap_of}
 use Rattle.ipx_wire.specs.SapEntries.{sap_entry_at}
 use Rattle.ipx_wire.specs.WriteServices.{service_bytes}
 use Rattle.ipx_router.specs.History.{Start, Stop, Second, Packet}
+use Rattle.ipx_router.specs.Numbers.{period}
 use Rattle.ipx_router.proofs.examples.Words.{hex, node, sent_by, out, all_nodes, general_request, heard_of_30}
 
 -- all that was told is told as dead
@@ -29,7 +30,7 @@ unfolding decode_pairs header_bytes address_bytes entry_bytes network_bytes serv
 a_stopped_router_answers_nothing = refl
 
 -- for a stopped router no second counts
-pub nor_does_time_pass : sent_by (Stop ∷ replicate 59 Second) Second
+pub nor_does_time_pass : sent_by (Stop ∷ replicate (period - 1) Second) Second
     ≡ []
 unfolding decode_pairs header_bytes address_bytes entry_bytes network_bytes service_bytes name_field packet_of header_at address_at rip_of entry_at sap_of items sap_entry_at name_of network_at
 nor_does_time_pass = refl
@@ -48,7 +49,7 @@ unfolding decode_pairs header_bytes address_bytes entry_bytes network_bytes serv
 it_has_forgotten = refl
 
 -- its seconds count from the later start
-pub seconds_count_from_the_start : sent_by (heard_of_30 ++ replicate 30 Second ++ Stop ∷ Second ∷ Start ∷ replicate 59 Second) Second
+pub seconds_count_from_the_start : sent_by (heard_of_30 ++ replicate 30 Second ++ Stop ∷ Second ∷ Start ∷ replicate (period - 1) Second) Second
     ≡ out 0 all_nodes (hex (codes "FFFF0028000100000010FFFFFFFFFFFF045300000010000000000001" ++ codes "045300020000002000010002"))
     ∷ out 1 all_nodes (hex (codes "FFFF0028000100000020FFFFFFFFFFFF045300000020000000000002" ++ codes "045300020000001000010002"))
     ∷ []

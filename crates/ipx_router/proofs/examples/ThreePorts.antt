@@ -1,5 +1,5 @@
 -- A router of three ports: they are served in order, and a packet never leaves by the port on which it came.
-use Rattle.std.proofs.Common.{◌≡◌, ℕ, List, [], ◌∷◌, ◌++◌, refl, codes, replicate}
+use Rattle.std.proofs.Common.{◌≡◌, ◌-◌, ℕ, List, [], ◌∷◌, ◌++◌, refl, codes, replicate}
 use Rattle.hex.specs.Hex.{decode_pairs}
 use Rattle.ipx_wire.specs.Address.{address_bytes, address_at}
 use Rattle.ipx_wire.specs.Crossed.{network_bytes, network_at}
@@ -12,6 +12,7 @@ use Rattle.ipx_wire.specs.Sap.{sap_of}
 use Rattle.ipx_wire.specs.SapEntries.{sap_entry_at}
 use Rattle.ipx_wire.specs.WriteServices.{service_bytes}
 use Rattle.ipx_router.specs.History.{Start, Stop, Second, Packet}
+use Rattle.ipx_router.specs.Numbers.{period}
 use Rattle.ipx_router.proofs.examples.Words.{hex, sent_by_three, out, all_nodes, response}
 
 -- node BBh on network 20h tells service A of type 4
@@ -58,7 +59,7 @@ unfolding decode_pairs header_bytes address_bytes entry_bytes network_bytes serv
 services_on_the_others = refl
 
 -- at a period a port tells its routes and then its services, before the next one does
-pub three_at_a_period : sent_by_three (Start ∷ Packet 1 response ∷ Packet 1 service ∷ replicate 59 Second) Second
+pub three_at_a_period : sent_by_three (Start ∷ Packet 1 response ∷ Packet 1 service ∷ replicate (period - 1) Second) Second
     ≡ out 0 all_nodes (hex (codes "FFFF0038000100000010FFFFFFFFFFFF045300000010000000000001" ++ codes "04530002000000200001000200000030000200030000004000010002"))
     ∷ out 0 all_nodes (hex (codes "FFFF0060000400000010FFFFFFFFFFFF045200000010000000000001" ++ codes "04520002000441") ++ replicate 50 0 ++ hex (codes "3000000000000104510003"))
     ∷ out 1 all_nodes (hex (codes "FFFF0030000100000020FFFFFFFFFFFF045300000020000000000002" ++ codes "0453000200000010000100020000004000010002"))

@@ -1,5 +1,6 @@
--- A table of two: what has no room, what a refresh saves, what the 180th second ends, and what room that makes.
-use Rattle.std.proofs.Common.{◌≡◌, List, [], ◌∷◌, ◌++◌, false, refl, replicate}
+-- A table of two: what has no room, what a refresh saves, what the last second of a lifetime ends, and what room that makes.
+use Rattle.std.proofs.Common.{◌≡◌, ◌-◌, List, [], ◌∷◌, ◌++◌, false, refl, replicate}
+use Rattle.ipx_table.specs.Alive.{lifetime}
 use Rattle.ipx_table.specs.Facts.{Fact, Offered, Second, End}
 use Rattle.ipx_table.specs.Stands.{in_order, ended}
 use Rattle.ipx_table.specs.declared.taken.Taken.TheVariants.{Refreshed, Admitted, Full}
@@ -18,7 +19,7 @@ abbrev full : List (Fact Way)
 full = Offered second ∷ Offered first ∷ Offered third ∷ []
 
 abbrev old : List (Fact Way)
-old = full ++ replicate 179 Second
+old = full ++ replicate (lifetime - 1) Second
 
 abbrev refreshed : List (Fact Way)
 refreshed = old ++ Offered first ∷ []
@@ -33,17 +34,17 @@ the_third_has_no_room = refl
 pub both_stay : alive_after 2 full ≡ held second 0 ∷ held first 0 ∷ []
 both_stay = refl
 
--- after 179 seconds both are alive
-pub both_are_old : alive_after 2 old ≡ held second 179 ∷ held first 179 ∷ []
+-- a second before their lifetime is over both are alive
+pub both_are_old : alive_after 2 old ≡ held second (lifetime - 1) ∷ held first (lifetime - 1) ∷ []
 both_are_old = refl
 
 pub unchanged : answer_after 2 old first ≡ Refreshed false
 unchanged = refl
 
-pub one_is_young_again : alive_after 2 refreshed ≡ held second 179 ∷ held first 0 ∷ []
+pub one_is_young_again : alive_after 2 refreshed ≡ held second (lifetime - 1) ∷ held first 0 ∷ []
 one_is_young_again = refl
 
--- the 180th second ends the other
+-- the last second of its lifetime ends the other
 pub one_ends : ended (in_order (ways 2).by_key (alive_after 2 refreshed)) ≡ second ∷ []
 one_ends = refl
 

@@ -1,8 +1,9 @@
-use Rattle.std.proofs.Common.{◌≡◌, refl, sym, ap, ◌∙◌, subst, ℕ, ◌+◌, ◌%◌, ◌<◌, nat_lt, false, List, [], map, length, arith}
+use Rattle.std.proofs.Common.{◌≡◌, refl, sym, ap, ◌∙◌, subst, ℕ, ◌+◌, ◌*◌, ◌%◌, ◌<◌, nat_lt, false, List, [], map, length, arith}
 use Rattle.std.specs.List.{AllByRecursion}
 use Rattle.std.proofs.lemmas.Bool.{le-ltb}
 use Rattle.std.proofs.lemmas.Nat.{mod_below}
 use Rattle.ipx_wire.specs.WriteServices.{IsService}
+use Rattle.ipx_router.specs.Numbers.{period}
 use Rattle.ipx_router.specs.Facts.{routes_held, offers}
 use Rattle.ipx_router.specs.History.{seconds_run}
 use Rattle.ipx_router.specs.Port.{IsPort}
@@ -60,9 +61,9 @@ at_first c net is most_routes most_services run are quiet = record {
 pub returns-clause-pages : goal.returns-clause-pages
 returns-clause-pages c net most_routes most_services run steps router number is are quiet of stay sixty on =
     let ran = seconds_run (history_of run.histories router) in
-    let below = mod_below ran 60 (omega arith) in
-    let few : ran % 60 + seconds_of router steps < 120 = omega (arith, below, sixty) in
-    let whole : nat_lt (ran % 60 + 60) 60 ≡ false = le-ltb (ran % 60 + 60) 60 (omega arith) in
+    let below = mod_below ran period (omega arith) in
+    let few : ran % period + seconds_of router steps < 2 * period = omega (arith, below, sixty) in
+    let whole : nat_lt (ran % period + period) period ≡ false = le-ltb (ran % period + period) period (omega arith) in
     let all = all_pages (ports_of net router) (has net most_routes most_services run.histories router) number in
     goes net (layouts c) is most_routes most_services run.histories router number on steps run
     (at_first c net is most_routes most_services run are quiet) of stay few
