@@ -41,7 +41,7 @@ module _ (net : Internet) (most_routes most_services : ℕ) (server : Server) wh
   HeardInTicks to host run [] = ⊥
   HeardInTicks to host run (steps ∷ ticks) = HeardInSteps to host (λ next. HeardInTicks to host next ticks) run steps
 
-  -- each host that announces the service is heard in any 60 ticks, on every port of its network that is up
+  -- each host that announces the service is heard in the ticks of any period, on every port of its network that is up
   abbrev pub AreInTime : (ℕ → List ℕ) → Run → List (List Step) → Type 0
   AreInTime up run ticks =
       (which : ℕ) (host : Announcer) (to : Place) → slice_get server.announcers which ≡ Some host → is_up (up to.router) to.port ≡ true
@@ -64,7 +64,7 @@ pub record HasRoomFor (net : Internet) (most_services : ℕ) (names : List (ℕ 
   pub shares : AllByRecursion (λ ports. AllByRecursion (λ p. length names ≤ p.service_share) ports) net
 
 -- the ticks after which a router has a service whose fewest hops there are so many, where each host says that many hops at least: those after which
--- what is false of it is gone, and 60 for each router on the way
+-- what is false of it is gone, and a period for each router on the way
 abbrev pub most_ticks_known : ℕ → ℕ → ℕ
 most_ticks_known nearest hops = most_ticks_gone + period * suc (hops - nearest)
 

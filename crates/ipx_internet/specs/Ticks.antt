@@ -56,7 +56,7 @@ pub record IsOrder (net : Internet) (order : List ℕ) : Type 0 where
   pub there : AllByRecursion (λ router. router < length net) order
   pub once : (router : ℕ) → router < length net → length (filter (λ other. other == router) order) ≡ 1
 
--- the ticks after which what is gone is gone everywhere: the lifetime of an offer for each number of hops from 0 to 15, 2880 in all
+-- the ticks after which what is gone is gone everywhere: the lifetime of an offer for each number of hops that is reachable
 abbrev pub most_ticks_gone : ℕ
 most_ticks_gone = unreachable * lifetime
 

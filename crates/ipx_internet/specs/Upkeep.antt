@@ -1,4 +1,4 @@
--- What it costs to keep tables as they are: while they stay, each router sends the pages of what it advertises once in 60 seconds.
+-- What it costs to keep tables as they are: while they stay, each router sends the pages of what it advertises once in a period.
 use Rattle.std.specs.Prelude.{◌≡◌, ℕ, ◌+◌, ◌*◌, ◌<◌, ◌==◌, ◌&&◌, true, false, List, [], ◌∷◌, length, map, Ok, Some}
 use Rattle.std.specs.List.{filter, flat_map}
 use Rattle.ipx_wire.specs.Packet.{Parts, packet_of}

@@ -1,4 +1,4 @@
--- Which offers are alive: accepted, not 180 seconds old, not ended, and not cut by a later offer.
+-- Which offers are alive: accepted, younger than a lifetime, not ended, and not cut by a later offer.
 use Rattle.std.specs.Prelude.{◌≡◌, ℕ, suc, ◌<◌, ◌==◌, nat_lt, Bool, true, false, not, ◌&&◌, ◌||◌, if◌then◌else◌, List, [], ◌∷◌, drop, slice_get, Some}
 use Rattle.ipx_table.specs.Reading.{Rules, same_key}
 use Rattle.ipx_table.specs.Facts.{Offered, Second, PortEnd, End, Marked, seconds}
@@ -21,7 +21,7 @@ module _ {O : Type 0} (rules : Rules O) where
   lasts offer ((PortEnd port, mark) ∷ rest) = not (rules.port offer == port) && lasts offer rest
   lasts offer ((End, mark) ∷ rest) = false
 
-  -- the offer of a place is alive: it is accepted and lasts, and under 180 seconds stand after it; its age is their number
+  -- the offer of a place is alive: it is accepted and lasts, and fewer seconds than a lifetime stand after it; its age is their number
   pub record IsAliveAt (facts : List (Marked O)) (place : ℕ) (held : Held O) : Type 0 where
     pub accepted : slice_get facts place ≡ Some (Offered held.offer, true)
     pub lasting : lasts held.offer (drop (suc place) facts) ≡ true

@@ -15,6 +15,7 @@ use Rattle.ipx_wire.specs.SapEntries.{sap_entry_at}
 use Rattle.ipx_wire.specs.WriteServices.{service_bytes, entry_of}
 use Rattle.ipx_wire.specs.declared.network.Network.{Network}
 use Rattle.ipx_wire.specs.declared.sap.Sap.TheVariants.{Response}
+use Rattle.ipx_router.specs.Numbers.{period}
 use Rattle.ipx_router.specs.Facts.{services_held, offers}
 use Rattle.ipx_router.specs.Heard.{Heard, HeardSap, heard}
 use Rattle.ipx_router.specs.History.{History, Second, Packet, running}
@@ -133,7 +134,7 @@ module _ (laws : Layouts) where
             absurd (true≢false (sym none))
       ]
 
-  heard_in : (window after : List (List Step)) → length window ≡ 60 → AllByRecursion IsOne (window ++ after) → (run : Run) → IsKept run
+  heard_in : (window after : List (List Step)) → length window ≡ period → AllByRecursion IsOne (window ++ after) → (run : Run) → IsKept run
       → HeardInTicks segment 8 8 (server 0x10) (at 0 0) host run window
   heard_in [] after minute ones run kept = absurd (omega (arith, minute))
   heard_in (steps ∷ window) after minute ones run kept =

@@ -11,6 +11,7 @@ use Rattle.ipx_wire.specs.Packet.{packet_of}
 use Rattle.ipx_wire.specs.Rip.{entry_bytes, entry_at, rip_of}
 use Rattle.ipx_wire.specs.Sap.{sap_of}
 use Rattle.ipx_wire.specs.declared.network.Network.{Network}
+use Rattle.ipx_router.specs.Numbers.{period}
 use Rattle.ipx_router.specs.History.{Event, History, Start, Stop, Second, Packet, PortDown, PortUp, IsOnPort, IsOfBytes}
 use Rattle.ipx_router.specs.Outgoing.{route_to}
 use Rattle.ipx_router.specs.Port.{Port, port_at}
@@ -200,9 +201,9 @@ room = record { table = (omega arith, (omega arith, tt)); shares = ((omega arith
 
 -- nobody hears anybody any more, so no second makes a delivery
 abbrev quiet_minute : List ℕ
-quiet_minute = replicate 60 0
+quiet_minute = replicate period 0
 
-none_left : left 8 lost quiet_minute ≡ replicate 60 0
+none_left : left 8 lost quiet_minute ≡ replicate period 0
 unfolding header_bytes address_bytes network_bytes packet_of header_at address_at items network_at entry_bytes entry_at rip_of sap_of
 none_left = refl
 

@@ -1,6 +1,6 @@
 -- What the laws ask for is needed: what becomes of packets and of tables where ports of two routers have one node on one network, which no
 -- program can make, and of tables without room.
-use Rattle.std.proofs.Common.{◌≡◌, refl, lit<, ℕ, ◌==◌, if◌then◌else◌, List, [], ◌∷◌, ◌++◌, length, replicate, map, None, Option, option_map, arith}
+use Rattle.std.proofs.Common.{◌≡◌, refl, lit<, ℕ, ◌-◌, ◌==◌, if◌then◌else◌, List, [], ◌∷◌, ◌++◌, length, replicate, map, None, Option, option_map, arith}
 use Rattle.ipx_wire.specs.Address.{address_bytes, address_at}
 use Rattle.ipx_wire.specs.Crossed.{network_bytes, network_at}
 use Rattle.ipx_wire.specs.Items.{items}
@@ -8,6 +8,7 @@ use Rattle.ipx_wire.specs.Header.{header_bytes, header_at}
 use Rattle.ipx_wire.specs.Packet.{packet_of}
 use Rattle.ipx_wire.specs.Rip.{entry_bytes, entry_at, rip_of}
 use Rattle.ipx_wire.specs.Sap.{sap_of}
+use Rattle.ipx_router.specs.Numbers.{period}
 use Rattle.ipx_router.specs.History.{Start}
 use Rattle.ipx_router.specs.Outgoing.{route_to}
 use Rattle.ipx_internet.specs.Internet.{Internet, NodesDiffer}
@@ -42,11 +43,11 @@ three_ports = refl
 
 -- ---- tables, after a minute from none: every route is real at first, since there is none
 
-abbrev sixty : List (List Step)
-sixty = replicate 59 (a_tick 2 0) ++ a_tick 2 2 ∷ []
+abbrev a_period : List (List Step)
+a_period = replicate (period - 1) (a_tick 2 0) ++ a_tick 2 2 ∷ []
 
 abbrev a_minute : Internet → ℕ → Run
-a_minute net most_routes = ticked net most_routes 1 (begun ((Start ∷ []) ∷ (Start ∷ []) ∷ [])) sixty
+a_minute net most_routes = ticked net most_routes 1 (begun ((Start ∷ []) ∷ (Start ∷ []) ∷ [])) a_period
 
 -- hops and ticks of the first router's route to 30h and of the second one's to 10h, and those of their least ways
 abbrev known : Internet → ℕ → List (Option Way)

@@ -1,6 +1,6 @@
 -- What the laws of time ask for is met: by two routers on one segment, as of `Waiting`, that were started and of which what they sent was
--- lost; by 60 ticks of them, with nothing that waits; by a tick in which a host announces a server, and by a packet of a host.
-use Rattle.std.proofs.Common.{◌≡◌, refl, ap, get_or, drop, ℕ, zero, suc, ◌+◌, ◌<◌, ◌≤◌, false, List, [], ◌∷◌, ◌++◌, length, replicate, arith}
+-- lost; by the ticks of a period, with nothing that waits; by a tick in which a host announces a server, and by a packet of a host.
+use Rattle.std.proofs.Common.{◌≡◌, refl, ap, get_or, drop, ℕ, ◌-◌, zero, suc, ◌+◌, ◌<◌, ◌≤◌, false, List, [], ◌∷◌, ◌++◌, length, replicate, arith}
 use Rattle.std.specs.List.{AllByRecursion}
 use Rattle.ipx_wire.specs.Address.{address_bytes, address_at}
 use Rattle.ipx_wire.specs.Crossed.{network_bytes, network_at}
@@ -13,6 +13,7 @@ use Rattle.ipx_wire.specs.Rip.{entry_bytes, entry_at, rip_of}
 use Rattle.ipx_wire.specs.Sap.{sap_of}
 use Rattle.ipx_wire.specs.SapEntries.{sap_entry_at}
 use Rattle.ipx_wire.specs.WriteServices.{service_bytes}
+use Rattle.ipx_router.specs.Numbers.{period}
 use Rattle.ipx_router.specs.Facts.{routes_held, services_held, offers}
 use Rattle.ipx_router.specs.History.{History, Start, IsOnPort, IsOfBytes}
 use Rattle.ipx_router.specs.Outgoing.{is_own_port}
@@ -51,10 +52,10 @@ are = record { each = refl; on_ports = on_ports; of_bytes = of_bytes }
     of_bytes (suc zero) = (tt, tt)
     of_bytes (suc (suc router)) = tt
 
--- ---- sixty ticks, of which the last has two deliveries
+-- ---- the ticks of a period, of which the last has two deliveries
 
-abbrev pub sixty : List ℕ
-sixty = replicate 59 0 ++ 2 ∷ []
+abbrev pub a_period : List ℕ
+a_period = replicate (period - 1) 0 ++ 2 ∷ []
 
 abbrev pub ticks : List ℕ → List (List Step)
 ticks [] = []
@@ -67,7 +68,7 @@ left most run (deliveries ∷ more) =
     let next = run_of segment most most run (a_tick 2 deliveries) in
     length next.waiting ∷ left most next more
 
-none_left : left 1 (begun started) sixty ≡ replicate 60 0
+none_left : left 1 (begun started) a_period ≡ replicate period 0
 unfolding header_bytes address_bytes network_bytes packet_of header_at address_at items network_at entry_bytes entry_at rip_of sap_of
 none_left = refl
 
@@ -97,11 +98,11 @@ are_by most run (n ∷ counts) e =
       are_by most next counts (ap (drop 1) e),
     )
 
-pub are_ticks : AreTicks segment 1 1 (begun started) (ticks sixty)
-are_ticks = are_by 1 (begun started) sixty none_left
+pub are_ticks : AreTicks segment 1 1 (begun started) (ticks a_period)
+are_ticks = are_by 1 (begun started) a_period none_left
 
 -- from real routes, without services, they are enough for a hop
-pub enough : ticks_right (least_route segment (ups segment started) 0 (network 0x30)) ≤ most_ticks_gone + length (ticks sixty)
+pub enough : ticks_right (least_route segment (ups segment started) 0 (network 0x30)) ≤ most_ticks_gone + length (ticks a_period)
 enough = omega arith
 
 pub all_real : (router : ℕ) → router < 2

@@ -1,7 +1,7 @@
 -- Two routers on one segment, as of `Waiting`: what the law of right tables asks for holds, and once they were started and what they sent
--- was handed out, both tables have the least ways; where it was lost, after 60 ticks, and not after 59. And an internet of seventeen routers of
--- which the law wouldn't be true.
-use Rattle.std.proofs.Common.{◌≡◌, ◌≢◌, refl, sym, ap, get_or, lit<, ℕ, zero, suc, length, ◌+◌, ◌*◌, ◌<◌, ◌==◌, if◌then◌else◌, List, [], ◌∷◌, ◌++◌, replicate, map, None, Option, option_map, arith}
+-- was handed out, both tables have the least ways; where it was lost, after the ticks of a period, and not after one fewer. And an
+-- internet of seventeen routers of which the law wouldn't be true.
+use Rattle.std.proofs.Common.{◌≡◌, ◌≢◌, refl, sym, ap, get_or, lit<, ℕ, ◌-◌, zero, suc, length, ◌+◌, ◌*◌, ◌<◌, ◌==◌, if◌then◌else◌, List, [], ◌∷◌, ◌++◌, replicate, map, None, Option, option_map, arith}
 use Rattle.ipx_wire.specs.Address.{address_bytes, address_at}
 use Rattle.ipx_wire.specs.Crossed.{network_bytes, network_at}
 use Rattle.ipx_wire.specs.Items.{items}
@@ -11,12 +11,13 @@ use Rattle.ipx_wire.specs.Rip.{entry_bytes, entry_at, rip_of}
 use Rattle.ipx_wire.specs.Sap.{sap_of}
 use Rattle.ipx_wire.specs.declared.network.Network.{Network}
 use Rattle.ipx_wire.specs.declared.node.Node.{Node}
+use Rattle.ipx_router.specs.Numbers.{period}
 use Rattle.ipx_router.specs.Facts.{routes_held, offers}
 use Rattle.ipx_router.specs.History.{Start}
 use Rattle.ipx_router.specs.Outgoing.{route_to}
 use Rattle.ipx_router.specs.Port.{Port, IsPort, numbers}
 use Rattle.ipx_internet.specs.Internet.{Internet, IsInternet, NodesDiffer, ports_of, port_of}
-use Rattle.ipx_internet.specs.Least.{Way, least, least_route, way_of, ticks_right, AreCheap, HasRoom, FifteenSuffice}
+use Rattle.ipx_internet.specs.Least.{Way, least, least_route, way_of, ticks_right, AreCheap, HasRoom, FifteenSuffice, most_ticks_right}
 use Rattle.ipx_internet.specs.Queue.{history_of}
 use Rattle.ipx_internet.specs.Run.{Step, Run, begun}
 use Rattle.ipx_internet.specs.Ticks.{a_tick, ticked, ups}
@@ -47,8 +48,8 @@ pub as_they_should : should 0 ∷ should 1 ∷ [] ≡ (None ∷ None ∷ way 1 2
 unfolding header_bytes address_bytes network_bytes packet_of header_at address_at items network_at entry_bytes entry_at rip_of sap_of
 as_they_should = refl
 
--- by the law each is right about it after 2,940 ticks, whatever it held before
-pub one_hop : ticks_right (least_route segment (all segment) 0 (network 0x30)) ≡ 2940
+-- by the law each is right about it after the most ticks, whatever it held before
+pub one_hop : ticks_right (least_route segment (all segment) 0 (network 0x30)) ≡ most_ticks_right
 one_hop = refl
 
 pub cheap : AreCheap segment
@@ -123,7 +124,7 @@ made = record {
     off : (m n : ℕ) → (m ≡ n → ⊥) → network m ≢ network n
     off m n apart e = apart (ap (λ (x : Network). x.0) e)
 
--- ---- sixty ticks for one hop
+-- ---- the ticks of a period for one hop
 
 -- both were started, and what they sent was lost; then ticks
 abbrev since : List (List Step) → Run
@@ -135,16 +136,16 @@ known_since ticks =
     map (λ router. option_map way_of (route_to (offers (routes_held (ports_of segment router) 1 (history_of (since ticks).histories router)))
     (if router == 0 then 0x30 else 0x10))) (0 ∷ 1 ∷ [])
 
-abbrev fifty_nine : List (List Step)
-fifty_nine = replicate 59 (a_tick 2 0)
+abbrev one_too_few : List (List Step)
+one_too_few = replicate (period - 1) (a_tick 2 0)
 
--- 59 ticks are too few, where there is no route at first, so that every route is real
-pub not_yet : known_since fifty_nine ≡ None ∷ None ∷ []
+-- one tick fewer is too few, where there is no route at first, so that every route is real
+pub not_yet : known_since one_too_few ≡ None ∷ None ∷ []
 unfolding header_bytes address_bytes network_bytes packet_of header_at address_at items network_at entry_bytes entry_at rip_of sap_of
 not_yet = refl
 
 -- in the next both advertise
-pub then_right : known_since (fifty_nine ++ a_tick 2 2 ∷ []) ≡ way 1 2 ∷ way 1 2 ∷ []
+pub then_right : known_since (one_too_few ++ a_tick 2 2 ∷ []) ≡ way 1 2 ∷ way 1 2 ∷ []
 unfolding header_bytes address_bytes network_bytes packet_of header_at address_at items network_at entry_bytes entry_at rip_of sap_of
 then_right = refl
 

@@ -1,6 +1,7 @@
--- What the law of tables that stay asks for is met by the two routers on one segment of `Premises`, that were started and of which what they sent was
--- lost: by 60 ticks and 60 more, and by 60 ticks in which a host announces a server, and one more in which it does so again: the services stay.
-use Rattle.std.proofs.Common.{◌≡◌, refl, ap, sym, ◌∙◌, get_or, drop, ℕ, zero, suc, ◌<◌, List, [], ◌∷◌, ◌++◌, length, map, replicate, arith}
+-- What the law of tables that stay asks for is met by the two routers on one segment of `Premises`, that were started and
+-- of which what they sent was lost: by the ticks of two periods, and by those of one in which a host announces a server, and one more in
+-- which it does so again: the services stay.
+use Rattle.std.proofs.Common.{◌≡◌, refl, ap, sym, ◌∙◌, get_or, drop, ℕ, ◌+◌, ◌*◌, ◌-◌, zero, suc, ◌<◌, List, [], ◌∷◌, ◌++◌, length, map, replicate, arith}
 use Rattle.std.specs.List.{AllByRecursion}
 use Rattle.ipx_wire.specs.Address.{address_bytes, address_at}
 use Rattle.ipx_wire.specs.Crossed.{network_bytes, network_at}
@@ -13,6 +14,7 @@ use Rattle.ipx_wire.specs.Sap.{sap_of}
 use Rattle.ipx_wire.specs.SapEntries.{sap_entry_at}
 use Rattle.ipx_wire.specs.WriteServices.{service_bytes}
 use Rattle.ipx_wire.specs.declared.network.Network.{Network}
+use Rattle.ipx_router.specs.Numbers.{period}
 use Rattle.ipx_router.specs.History.{Second, Packet}
 use Rattle.ipx_router.specs.Port.{numbers}
 use Rattle.ipx_router.specs.declared.service_offer.ServiceOffer.{ServiceOffer}
@@ -21,7 +23,7 @@ use Rattle.ipx_internet.specs.Meanwhile.{TellsNoRoute, LeavesPorts, SaysOnly, Is
 use Rattle.ipx_internet.specs.Run.{Step, Happens, Settles, IsStep, Run, begun, stepped, run_of}
 use Rattle.ipx_internet.specs.Ticks.{seconds_of, AreTicks, a_tick, ticked, ups}
 use Rattle.ipx_internet.specs.Upkeep.{has, HaveTheServices, ServicesStay, steps_of}
-use Rattle.ipx_internet.proofs.examples.Premises.{started, ticks, sixty, left, are_by, each_once, bytes}
+use Rattle.ipx_internet.proofs.examples.Premises.{started, ticks, a_period, left, are_by, each_once, bytes}
 use Rattle.ipx_internet.proofs.examples.Rights.{made}
 use Rattle.ipx_internet.proofs.examples.Servers.{server, announcement}
 use Rattle.ipx_internet.proofs.examples.Waiting.{segment}
@@ -34,12 +36,12 @@ suffice n = of_few_routers segment (ups segment started) (ups_within segment sta
 
 -- ---- nothing but ticks
 
-none_left : left 1 (begun started) (sixty ++ sixty) ≡ replicate 120 0
+none_left : left 1 (begun started) (a_period ++ a_period) ≡ replicate (2 * period) 0
 unfolding header_bytes address_bytes network_bytes packet_of header_at address_at items network_at entry_bytes entry_at rip_of sap_of
 none_left = refl
 
-pub alone : AreTicks segment 1 1 (begun started) (ticks sixty ++ ticks sixty)
-alone = are_by 1 (begun started) (sixty ++ sixty) none_left
+pub alone : AreTicks segment 1 1 (begun started) (ticks a_period ++ ticks a_period)
+alone = are_by 1 (begun started) (a_period ++ a_period) none_left
 
 -- ---- a host announces a server
 
@@ -48,9 +50,9 @@ abbrev tick_of : ℕ → List Step
 tick_of zero = Happens 0 Second ∷ Happens 0 (Packet 0 announcement) ∷ Happens 1 Second ∷ replicate 4 Settles
 tick_of (suc n) = a_tick 2 n
 
--- in the first of sixty, of which the last has three deliveries, and then again
+-- in the first tick of a period, of which the last has three deliveries, and then again
 abbrev first_minute : List ℕ
-first_minute = 0 ∷ replicate 58 1 ++ 4 ∷ []
+first_minute = 0 ∷ replicate (period - 2) 1 ++ 4 ∷ []
 
 abbrev ticks_of : List ℕ → List (List Step)
 ticks_of kinds = map tick_of kinds
@@ -62,7 +64,7 @@ waits run (kind ∷ kinds) =
     let next = run_of segment 8 8 run (tick_of kind) in
     length next.waiting ∷ waits next kinds
 
-none_waits : waits (begun started) (first_minute ++ 0 ∷ []) ≡ replicate 61 0
+none_waits : waits (begun started) (first_minute ++ 0 ∷ []) ≡ replicate (period + 1) 0
 unfolding header_bytes address_bytes network_bytes service_bytes name_field packet_of header_at address_at items network_at entry_bytes entry_at rip_of sap_of sap_entry_at name_of
 none_waits = refl
 

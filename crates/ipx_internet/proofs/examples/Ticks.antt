@@ -1,6 +1,6 @@
--- Two routers on one segment have routes to 99h, where nobody has a port: the first heard of it from a host, 179 seconds ago, the
--- second from the first. One tick later neither has one, and the second has a route of a real way.
-use Rattle.std.proofs.Common.{◌≡◌, refl, ℕ, zero, suc, ◌<◌, ◌==◌, List, [], ◌∷◌, length, map, filter, replicate, None, arith}
+-- Two routers on one segment have routes to 99h, where nobody has a port: the first heard of it from a host, and it ends in
+-- the next second; the second heard of it from the first. One tick later neither has one, and the second has a route of a real way.
+use Rattle.std.proofs.Common.{◌≡◌, refl, ℕ, ◌-◌, zero, suc, ◌<◌, ◌==◌, List, [], ◌∷◌, length, map, filter, replicate, None, arith}
 use Rattle.ipx_wire.specs.Address.{address_bytes, address_at}
 use Rattle.ipx_wire.specs.Crossed.{network_bytes, network_at}
 use Rattle.ipx_wire.specs.Items.{items}
@@ -11,6 +11,7 @@ use Rattle.ipx_wire.specs.Sap.{sap_of}
 use Rattle.ipx_wire.specs.Write.{rip_packet}
 use Rattle.ipx_wire.specs.declared.rip.Operation.TheVariants.{Response}
 use Rattle.ipx_wire.specs.declared.rip.RipEntry.{RipEntry}
+use Rattle.ipx_table.specs.Alive.{lifetime}
 use Rattle.ipx_router.specs.Facts.{routes_held, offers}
 use Rattle.ipx_router.specs.History.{History, Start, Second, Packet}
 use Rattle.ipx_router.specs.Port.{own_address, everyone}
@@ -28,9 +29,10 @@ said n k entries = rip_packet (own_address (port_on n k)) (everyone (port_on n k
 abbrev entry : ℕ → ℕ → RipEntry
 entry hops ticks = record { network = network 0x99; hops = hops; ticks = ticks }
 
--- a host on 10h said that 99h is one hop away, and 179 seconds passed; the first router said that it is two hops away
+-- a host on 10h said that 99h is one hop away, and all seconds of its lifetime but one passed; the first router said that it is two hops
+-- away
 abbrev pub before : List History
-before = (Start ∷ Packet 0 (said 0x10 0xAA (entry 1 2 ∷ [])) ∷ replicate 179 Second) ∷ (Start ∷ Packet 0 (said 0x20 2 (entry 2 3 ∷ [])) ∷ []) ∷ []
+before = (Start ∷ Packet 0 (said 0x10 0xAA (entry 1 2 ∷ [])) ∷ replicate (lifetime - 1) Second) ∷ (Start ∷ Packet 0 (said 0x20 2 (entry 2 3 ∷ [])) ∷ []) ∷ []
 
 abbrev pub networks : List History → ℕ → List ℕ
 networks histories router = map (λ r. r.network.0) (offers (routes_held (ports_of segment router) 8 (history_of histories router)))

@@ -1,6 +1,6 @@
--- Two routers on one segment, as of `Waiting`, of which each knows the other's network: in 60 seconds their tables stay as they are, and each
+-- Two routers on one segment, as of `Waiting`, of which each knows the other's network: in a period their tables stay as they are, and each
 -- sends the other one page; but a route that is old ends. And how much a page is for internets of some sizes.
-use Rattle.std.proofs.Common.{◌≡◌, refl, sym, ap, ◌∙◌, get_or, drop, ℕ, zero, suc, ◌<◌, ◌-◌, ◌*◌, ◌/◌, flat_map, List, [], ◌∷◌, ◌++◌, length, map, replicate, arith}
+use Rattle.std.proofs.Common.{◌≡◌, refl, sym, ap, ◌∙◌, get_or, drop, ℕ, ◌+◌, zero, suc, ◌<◌, ◌-◌, ◌*◌, ◌/◌, flat_map, List, [], ◌∷◌, ◌++◌, length, map, replicate, arith}
 use Rattle.ipx_wire.specs.Address.{address_bytes, address_at}
 use Rattle.ipx_wire.specs.Crossed.{network_bytes, network_at}
 use Rattle.ipx_wire.specs.Items.{items}
@@ -8,6 +8,8 @@ use Rattle.ipx_wire.specs.Header.{header_bytes, header_at}
 use Rattle.ipx_wire.specs.Packet.{packet_of}
 use Rattle.ipx_wire.specs.Rip.{entry_bytes, entry_at, rip_of}
 use Rattle.ipx_wire.specs.Sap.{sap_of}
+use Rattle.ipx_table.specs.Alive.{lifetime}
+use Rattle.ipx_router.specs.Numbers.{period}
 use Rattle.ipx_router.specs.History.{History, Second}
 use Rattle.ipx_router.specs.Port.{numbers}
 use Rattle.ipx_router.specs.declared.route_offer.RouteOffer.{RouteOffer}
@@ -20,20 +22,20 @@ use Rattle.ipx_internet.specs.Upkeep.{has, HaveTheSame, TablesStay, sent_by, upk
 use Rattle.ipx_internet.proofs.examples.Waiting.{segment, after}
 use Rattle.ipx_internet.proofs.examples.Words.{route}
 
--- ---- sixty seconds
+-- ---- the seconds of a period
 
 abbrev pub settled : List History
 settled = (after 8).histories
 
 -- in each second but the last no delivery, and in the last two
 abbrev pub minute : List Step
-minute = flat_map (λ n. a_tick 2 0) (numbers 59) ++ a_tick 2 2
+minute = flat_map (λ n. a_tick 2 0) (numbers (period - 1)) ++ a_tick 2 2
 
--- each router has sixty seconds in it
-pub sixty : (router : ℕ) → router < 2 → seconds_of router minute ≡ 60
-sixty zero within = refl
-sixty (suc zero) within = refl
-sixty (suc (suc router)) within = absurd (omega (arith, within))
+-- each router has as many seconds in it
+pub a_period : (router : ℕ) → router < 2 → seconds_of router minute ≡ period
+a_period zero within = refl
+a_period (suc zero) within = refl
+a_period (suc (suc router)) within = absurd (omega (arith, within))
 
 -- routes and services of both after each step
 abbrev tables : List History → List (List RouteOffer × List ServiceOffer)
@@ -43,7 +45,7 @@ abbrev each_has : Run → List Step → List (List (List RouteOffer × List Serv
 each_has run [] = []
 each_has run (step ∷ steps) = let next = stepped segment 8 8 run step in tables next.histories ∷ each_has next steps
 
-always_so : each_has (begun settled) minute ≡ replicate 122 (((route 0x30 1 3 ∷ []), []) ∷ ((route 0x10 0 2 ∷ []), []) ∷ [])
+always_so : each_has (begun settled) minute ≡ replicate (2 * period + 2) (((route 0x30 1 3 ∷ []), []) ∷ ((route 0x10 0 2 ∷ []), []) ∷ [])
 unfolding header_bytes address_bytes network_bytes packet_of header_at address_at items network_at entry_bytes entry_at rip_of sap_of
 always_so = refl
 
@@ -64,11 +66,12 @@ stay_by run (step ∷ steps) e = (
 )
 
 pub tables_stay : TablesStay segment 8 8 settled (begun settled) minute
-tables_stay = stay_by (begun settled) minute (always_so ∙ ap (replicate 122) (sym first_so))
+tables_stay = stay_by (begun settled) minute (always_so ∙ ap (replicate (2 * period + 2)) (sym first_so))
 
--- where one router hasn't been told for 179 seconds, both tables are as above at first; a second later it has no route
+-- where one router hasn't been told for all seconds of the lifetime but one, both tables are as above at first; a second later it has no
+-- route
 abbrev untold : List History
-untold = (history_of settled 0 ++ replicate 179 Second) ∷ history_of settled 1 ∷ []
+untold = (history_of settled 0 ++ replicate (lifetime - 1) Second) ∷ history_of settled 1 ∷ []
 
 pub still_right : tables untold ≡ ((route 0x30 1 3 ∷ []), []) ∷ ((route 0x10 0 2 ∷ []), []) ∷ []
 unfolding header_bytes address_bytes network_bytes packet_of header_at address_at items network_at entry_bytes entry_at rip_of sap_of
@@ -92,9 +95,9 @@ networks_alone = refl
 pub services_alone : map {B = ℕ × ℕ} (λ n. (upkeep_packets 0 n, upkeep_bytes 0 n)) (10 ∷ 100 ∷ 1000 ∷ []) ≡ (2, 704) ∷ (15, 6880) ∷ (143, 68576) ∷ []
 services_alone = refl
 
--- the bytes that a line of so many bits in a second can carry in 60 seconds
+-- the bytes that a line of so many bits in a second can carry in a period
 abbrev pub carried : ℕ → ℕ
-carried bits = bits * 60 / 8
+carried bits = bits * period / 8
 
 pub lines : map carried (9600 ∷ 56000 ∷ []) ≡ 72000 ∷ 420000 ∷ []
 lines = refl

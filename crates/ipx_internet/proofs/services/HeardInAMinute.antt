@@ -1,5 +1,5 @@
--- A router has a service with its fewest hops after any 60 ticks in which all that say it so were heard, and all routers that are nearer were right;
--- and at each moment of the tick that follows.
+-- A router has a service with its fewest hops after the ticks of any period in which all that say it so were heard, and all routers that
+-- are nearer were right; and at each moment of the tick that follows.
 use Rattle.std.proofs.Common.{◌≡◌, ◌≢◌, refl, sym, ap, ◌∙◌, subst, ◌⊎◌, ℕ, zero, suc, ◌+◌, ◌-◌, ◌*◌, ◌<◌, ◌≤◌, true, List, [], ◌∷◌, ◌++◌, length, Option, None, Some, option_map, inl, inr, arith, append-nil, is_eq, slice_get, get_or-set_same, get_or-set_other}
 use Rattle.std.specs.List.{AllByRecursion}
 use Rattle.std.proofs.lemmas.Bool.{cases_Bool, cases_eq}

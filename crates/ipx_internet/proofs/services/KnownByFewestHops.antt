@@ -1,4 +1,4 @@
--- Each router has a service with the fewest hops of all its ways there: by induction on these hops, 60 ticks for each, and at each moment of the
+-- Each router has a service with the fewest hops of all its ways there: by induction on these hops, a period for each, and at each moment of the
 -- ticks that follow.
 use Rattle.std.proofs.Common.{◌≡◌, refl, sym, ap, ◌∙◌, subst, ◌⊎◌, ℕ, zero, suc, ◌+◌, ◌-◌, ◌*◌, ◌<◌, ◌≤◌, true, List, [], ◌∷◌, ◌++◌, length, take, drop, Some, inl, inr, arith, append_assoc, append-nil, slice_get}
 use Rattle.std.specs.List.{AllByRecursion}

@@ -1,4 +1,4 @@
--- A neighbour that is one hop nearer to a service, and has it with those hops all the time, is heard to tell it within any 60 ticks.
+-- A neighbour that is one hop nearer to a service, and has it with those hops all the time, is heard to tell it in any period.
 use Rattle.std.proofs.Common.{◌≡◌, refl, sym, subst, ℕ, suc, ◌<◌, ◌≤◌, ◌==◌, true, false, List, length, Some, arith}
 use Rattle.std.specs.List.{AllByRecursion}
 use Rattle.ipx_router.specs.Facts.{services_held, offers}

@@ -1,4 +1,5 @@
--- A neighbour that has a service all the time, and didn't learn it on the common network, is heard to tell it there within any 60 ticks.
+-- A neighbour that has a service all the time, and didn't learn it on the common network, is heard to tell it there in any
+-- period.
 use Rattle.std.proofs.Common.{◌≡◌, ◌≢◌, refl, sym, ap, ◌∙◌, subst, ◌⊎◌, ℕ, zero, suc, ◌+◌, ◌%◌, ◌<◌, ◌≤◌, ◌==◌, nat_lt, Bool, true, false, List, [], ◌∷◌, ◌++◌, length, map, filter, flat_map, Some, None, inl, inr, arith, true≢false, slice_get, get_or-set_same, get_or-set_other, length-append}
 use Rattle.std.specs.List.{AllByRecursion}
 use Rattle.std.proofs.lemmas.Bool.{cases_Bool, cases_eq, eq-eqb, lt-ltb}

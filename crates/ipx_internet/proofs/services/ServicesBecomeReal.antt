@@ -1,4 +1,5 @@
--- After 2,880 ticks what a router has of a service that hosts announce is as it may know it: at its address, on a way of as many hops.
+-- After the ticks by which what is gone is gone, what a router has of a service that hosts announce is as it may know it: at its address, on a
+-- way of as many hops.
 use Rattle.std.proofs.Common.{◌≡◌, refl, sym, ap, ◌∙◌, subst, ℕ, suc, ◌<◌, ◌≤◌, List, [], ◌∷◌, length, map, Option, Some, None, IfSome, arith}
 use Rattle.std.specs.List.{AllByRecursion}
 use Rattle.ipx_wire.specs.declared.sap.Sap.TheVariants.{Query, Response as SapResponse}

@@ -115,7 +115,7 @@ module _ (net : Internet) (laws : Layouts) (is : IsInternet net) (differ : Nodes
         inr (port, f, source, inl (omega (arith, few_ticks)));
   }
 
-  -- ---- sixty ticks later all are right
+  -- ---- a period later all are right
 
   module _ (ticks : ℕ) (run : Run) (rest : AtRest ticks run) (long : most_ticks_right ≤ ticks) where
     all_good : (hops x : ℕ) (w : Wanting x) → w.v.hops ≤ hops → (h : Held RouteOffer) × (known_in run x w ≡ Some h) × (way_of h.offer ≡ w.v)

@@ -1,4 +1,4 @@
--- Whatever else happens meanwhile, after 2,880 ticks there is no route to a network that is gone, and no service that nobody announces.
+-- Whatever else happens meanwhile, after the most ticks there is no route to a network that is gone, and no service that nobody announces.
 use Rattle.std.proofs.Common.{◌≡◌, ◌≢◌, refl, ap, subst, ℕ, suc, ◌+◌, ◌<◌, ◌≤◌, true, List, [], ◌∷◌, length, map, inl, inr, arith}
 use Rattle.std.specs.List.{AllByRecursion}
 use Rattle.std.proofs.lemmas.Bool.{both_ways}

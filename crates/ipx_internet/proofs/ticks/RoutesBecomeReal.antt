@@ -1,4 +1,4 @@
--- After 2,880 ticks each route is of a real way, so that none is to a network that is gone.
+-- After the ticks by which what is gone is gone, each route is of a real way, so that none is to a network that is gone.
 use Rattle.std.proofs.Common.{◌≡◌, ◌≢◌, refl, sym, ap, ◌∙◌, subst, ℕ, ◌≤◌, ◌<◌, ◌==◌, true, false, List, [], ◌∷◌, length, map, inl, inr}
 use Rattle.std.specs.List.{AllByRecursion}
 use Rattle.std.proofs.lemmas.Bool.{both_ways, eq-eqb, eqb-true, or_cases, or_left, or_right}

@@ -1,4 +1,4 @@
--- Whatever else happens meanwhile, after 2,880 ticks there is no service but those that hosts announced in them.
+-- Whatever else happens meanwhile, after the most ticks there is no service but those that hosts announced in them.
 use Rattle.std.proofs.Common.{◌≡◌, refl, sym, ap, ◌∙◌, subst, ℕ, suc, ◌+◌, ◌<◌, ◌≤◌, List, [], ◌∷◌, ◌++◌, length, map, Option, Some, IfSome, inl, inr, arith}
 use Rattle.std.specs.List.{AllByRecursion}
 use Rattle.std.proofs.lemmas.List.{append_assoc}

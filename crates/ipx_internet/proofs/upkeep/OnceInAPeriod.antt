@@ -1,4 +1,4 @@
--- Step by step, while tables stay: what waits asks nothing, and in 60 seconds a router sends once all that it advertises.
+-- Step by step, while tables stay: what waits asks nothing, and in a period a router sends once all that it advertises.
 use Rattle.std.proofs.Common.{◌≡◌, ◌≢◌, refl, sym, ap, ◌∙◌, subst, ℕ, suc, ◌+◌, ◌*◌, ◌%◌, ◌<◌, ◌≤◌, ◌==◌, ◌&&◌, nat_lt, Bool, true, false, if◌then◌else◌, List, [], ◌∷◌, ◌++◌, length, map, filter, flat_map, Option, None, inl, inr, arith, true≢false, append-nil, length-append, get_or-set_same, get_or-set_other}
 use Rattle.std.specs.List.{AllByRecursion}
 use Rattle.std.proofs.lemmas.Bool.{cases_Bool, cases_eq, eq-eqb, ne_eqb, lt-ltb, le-ltb}
