@@ -4,12 +4,14 @@ import collections
 from . import internets, judges, packets
 from .played import Broken, Played
 
-# Tables that are good for so long stay so: longer than a record lives without being heard again, and a broadcast.
-STAYS = 240
-PERIOD = 60
+# How long a record lives without being heard again, and how far apart broadcasts of all are, in seconds.
+LIFETIME, PERIOD = 180, 60
+# Tables that are good for so long stay so.
+STAYS = LIFETIME + PERIOD
 SECONDS_AT_ONCE = 30
-# The bounds of laws, in seconds.
-GONE, RIGHT, AT_ONCE = 2880, 2940, 60
+# The bounds of laws, in seconds; a network is unreachable from sixteen hops on.
+GONE = 16 * LIFETIME
+RIGHT, AT_ONCE = GONE + PERIOD, PERIOD
 
 
 class Server(collections.namedtuple("Server", "network hops")):

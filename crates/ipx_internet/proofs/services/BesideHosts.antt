@@ -1,4 +1,4 @@
--- Ticks in which hosts announce a service and all of them are heard: a router beside the nearest one has it from the 2,940th on.
+-- Ticks in which hosts announce a service and all of them are heard: a router beside the nearest one has it once all tables are right.
 use Rattle.std.proofs.Common.{◌≡◌, refl, sym, ap, ◌∙◌, subst, ℕ, suc, ◌+◌, ◌-◌, ◌<◌, ◌≤◌, true, List, [], ◌∷◌, ◌++◌, length, take, drop, Some, inl, inr, arith, append-nil, slice_get}
 use Rattle.std.specs.List.{AllByRecursion}
 use Rattle.std.proofs.lemmas.List.{take-append-drop, length-drop, length-append}
