@@ -4,6 +4,7 @@ pub mod ChangeIsSaid
 pub mod ComputedIsLeast
 pub mod DeliveryKeepsRight
 pub mod FifteenHopsSuffice
+pub mod Given
 pub mod GoodRoutesStay
 pub mod LastWords
 pub mod LeastRouteSurvives

@@ -22,6 +22,7 @@ use Rattle.ipx_internet.proofs.gains.RightWhenQuiet.{HasRight, GoodNow}
 use Rattle.ipx_internet.proofs.lists.EachElement.{all_then}
 use Rattle.ipx_internet.proofs.lists.FoundInAList.{nothing, it_is}
 use Rattle.ipx_internet.proofs.packets.SentOnOrReply.{Layouts}
+use Rattle.ipx_internet.proofs.tables.Given.{Given}
 use Rattle.ipx_internet.proofs.tables.GoodRoutesStay.{right_where_least}
 use Rattle.ipx_internet.proofs.tables.LastWords.{WantsOf, Sources, known_by, good_or_not}
 use Rattle.ipx_internet.proofs.tables.LeastRouteSurvives.{known_is}
@@ -35,19 +36,19 @@ held_with : (v : Way) (o : Option (Held RouteOffer)) → option_map way_of (opti
 held_with v None e = nothing e
 held_with v (Some h) e = (h, refl, it_is (λ (z : Way). way_of h.offer ≡ z) v (way_of h.offer) e refl)
 
-module _ (net : Internet) (laws : Layouts) (is : IsInternet net) (differ : NodesDiffer net) (cheap : AreCheap net) (up : ℕ → List ℕ)
-    (in_ports : (router : ℕ) → AllByRecursion (λ j. j < length (ports_of net router)) (up router)) (most_routes most_services : ℕ) (room : HasRoom net most_routes)
-    (network : Network) (suffice : FifteenSuffice net up network) (histories : List History)
-    (more_up : (router j : ℕ) → is_up (ups net histories router) j ≡ true → is_up (up router) j ≡ true)
-    (real : AreReal net most_routes histories (ups net histories)) (right : AreRight net most_routes histories (ups net histories)) where
+module _ (given : Given) (histories : List History)
+    (more_up : (router j : ℕ) → is_up (ups given.net histories router) j ≡ true → is_up (given.up router) j ≡ true)
+    (real : AreReal given.net given.most_routes histories (ups given.net histories)) (right : AreRight given.net given.most_routes histories (ups given.net histories)) where
+  open given use {net, laws, is, differ, cheap, up, in_ports, most_routes, most_services, room, network, suffice}
+
   abbrev Wanting : ℕ → Type 0
-  Wanting = WantsOf net laws is differ cheap up in_ports most_routes most_services room network suffice
+  Wanting = WantsOf given
 
   abbrev at_first : ℕ → Option Way
   at_first router = within net (ups net histories) (ups_within net histories) network 15 router
 
   abbrev known : (x : ℕ) → Wanting x → Option (Held RouteOffer)
-  known x w = known_by net laws is differ cheap up in_ports most_routes most_services room network suffice x w (route_facts (ports_of net x) (history_of histories x))
+  known x w = known_by given x w (route_facts (ports_of net x) (history_of histories x))
 
   -- what a router holds is of its least way at first
   least_off : (x : ℕ) → is_on (ports_of net x) network ≡ false → least_route net (ups net histories) x network ≡ at_first x
@@ -56,12 +57,12 @@ module _ (net : Internet) (laws : Layouts) (is : IsInternet net) (differ : Nodes
   held_first : (x : ℕ) (w : Wanting x) → option_map way_of (option_map (λ h. h.offer) (known x w)) ≡ at_first x
   held_first x w =
       let routes = offers (routes_held (ports_of net x) most_routes (history_of histories x)) in
-      ap (option_map way_of) (sym (found_so net laws is differ cheap up in_ports most_routes most_services room network suffice x w (history_of histories x)))
+      ap (option_map way_of) (sym (found_so given x w (history_of histories x)))
       ∙ ap (option_map way_of) (sym (find_same (λ r. r.network.0 == network.0) (λ o. is_eq (network_order o.network network)) (λ r. tied r.network.0 network.0) routes))
       ∙ right x network (is_there net up in_ports network 15 x w.v w.least) ∙ least_off x w.off
 
   -- where that is the least way in the end, too, it is right
-  right_held : (x : ℕ) (w : Wanting x) → at_first x ≡ Some w.v → HasRight net laws is differ cheap up in_ports most_routes most_services room network suffice histories x w
+  right_held : (x : ℕ) (w : Wanting x) → at_first x ≡ Some w.v → HasRight given histories x w
   right_held x w e =
       let (h, some, way) = held_with w.v (known x w) (held_first x w ∙ e) in
       let found = known_is net is differ cheap up in_ports most_routes room network suffice x w.v w.off w.least w.wanted most_ticks_gone (omega arith)
@@ -77,7 +78,7 @@ module _ (net : Internet) (laws : Layouts) (is : IsInternet net) (differ : Nodes
 
   -- a neighbour that is right for now had its way at first
   neighbour_had : (y : ℕ) (way : Way) → within net up in_ports network 15 y ≡ Some way
-      → GoodNow net laws is differ cheap up in_ports most_routes most_services room network suffice histories y → at_first y ≡ Some way
+      → GoodNow given histories y → at_first y ≡ Some way
   neighbour_had y way e good = by (on_or_off net up in_ports network y)
     where
       there : y < length net
@@ -91,15 +92,15 @@ module _ (net : Internet) (laws : Layouts) (is : IsInternet net) (differ : Nodes
           let last = own net up in_ports network 15 y there on in
           first ∙ sym (own_too net is (ups net histories) up (ups_within net histories) in_ports more_up network y u some) ∙ sym last ∙ e
       by (inr off) =
-          let second = wants net laws is differ cheap up in_ports most_routes most_services room network suffice y way off e in
+          let second = wants given y way off e in
           let (h, some, same) = good.0 second in
           let v = same_some net up in_ports network (within net up in_ports network 15 y) second.v way second.least e in
           sym (held_first y second) ∙ ap (λ (o : Option (Held RouteOffer)). option_map way_of (option_map (λ h. h.offer) o)) some ∙ ap Some (same ∙ v)
 
   -- so a router whose neighbour is right for now, and whose ports are up, had it too
-  router_had : (x : ℕ) (w : Wanting x) (port : ℕ) (f : Place) → (source : Sources net laws is differ cheap up in_ports most_routes most_services room network suffice x w.v port f)
+  router_had : (x : ℕ) (w : Wanting x) (port : ℕ) (f : Place) → (source : Sources given x w.v port f)
       → is_up (ups net histories x) port ≡ true → is_up (ups net histories f.router) f.port ≡ true
-      → GoodNow net laws is differ cheap up in_ports most_routes most_services room network suffice histories f.router → at_first x ≡ Some w.v
+      → GoodNow given histories f.router → at_first x ≡ Some w.v
   router_had x w port f source here there good =
       let hops = ap (λ (y : Way). y.hops) source.by in
       let bound = few net up in_ports network 15 x w.v w.least in
@@ -123,11 +124,11 @@ module _ (net : Internet) (laws : Layouts) (is : IsInternet net) (differ : Nodes
   abbrev pub NotYet : ℕ → ℕ → Place → Type 0
   NotYet x port f =
       (is_up (ups net histories x) port ≡ false) ⊎ ((is_up (ups net histories f.router) f.port ≡ false)
-      ⊎ (GoodNow net laws is differ cheap up in_ports most_routes most_services room network suffice histories f.router → ⊥))
+      ⊎ (GoodNow given histories f.router → ⊥))
 
-  good_now : (y : ℕ) → GoodNow net laws is differ cheap up in_ports most_routes most_services room network suffice histories y
-      ⊎ (GoodNow net laws is differ cheap up in_ports most_routes most_services room network suffice histories y → ⊥)
-  good_now y = elim (good_or_not net laws is differ cheap up in_ports most_routes most_services room network suffice y (route_facts (ports_of net y) (history_of histories y))) [
+  good_now : (y : ℕ) → GoodNow given histories y
+      ⊎ (GoodNow given histories y → ⊥)
+  good_now y = elim (good_or_not given y (route_facts (ports_of net y) (history_of histories y))) [
     | inr bad ↦ inr (λ good. bad good.0)
     | inl good ↦ elim (cases_Bool (is_up_on (ports_of net y) (ups net histories y) network)) [
       | inl there ↦ inl (good, λ on. there)
@@ -138,8 +139,8 @@ module _ (net : Internet) (laws : Layouts) (is : IsInternet net) (differ : Nodes
     ]
   ]
 
-  pub turning : (x : ℕ) (w : Wanting x) → HasRight net laws is differ cheap up in_ports most_routes most_services room network suffice histories x w
-      ⊎ ((port : ℕ) × (f : Place) × Sources net laws is differ cheap up in_ports most_routes most_services room network suffice x w.v port f × NotYet x port f)
+  pub turning : (x : ℕ) (w : Wanting x) → HasRight given histories x w
+      ⊎ ((port : ℕ) × (f : Place) × Sources given x w.v port f × NotYet x port f)
   turning x w =
       let (port, f, source) = a_source net is cheap up in_ports network suffice x w.v w.off w.least in
       elim (cases_Bool (is_up (ups net histories x) port)) [

@@ -14,6 +14,7 @@ use Rattle.ipx_internet.specs.Least.{Way, is_on, is_up_on, least_route, way_of, 
 use Rattle.ipx_internet.specs.Queue.{history_of}
 use Rattle.ipx_internet.specs.Ticks.{most_ticks_gone, ups}
 use Rattle.ipx_internet.proofs.packets.SentOnOrReply.{Layouts}
+use Rattle.ipx_internet.proofs.tables.Given.{Given}
 use Rattle.ipx_internet.proofs.tables.GoodRoutesStay.{right_way}
 use Rattle.ipx_internet.proofs.tables.LastWords.{WantsOf, Sources, known_by, IsGood}
 use Rattle.ipx_internet.proofs.tables.LeastWays.{within, on_or_off, OnOrOff, came, same_some, is_there, own, own_is, port_up}
@@ -22,32 +23,32 @@ use Rattle.ipx_internet.proofs.tables.SaysWhatItKnows.{RightFor, wants, found_th
 use Rattle.ipx_internet.proofs.tables.TablesAreRight.{none_on, none_without}
 use Rattle.ipx_internet.proofs.ticks.RealOrSoonEnded.{Endures}
 
-module _ (net : Internet) (laws : Layouts) (is : IsInternet net) (differ : NodesDiffer net) (cheap : AreCheap net) (up : ℕ → List ℕ)
-    (in_ports : (router : ℕ) → AllByRecursion (λ j. j < length (ports_of net router)) (up router)) (most_routes most_services : ℕ) (room : HasRoom net most_routes)
-    (network : Network) (suffice : FifteenSuffice net up network) (histories : List History) where
+module _ (given : Given) (histories : List History) where
+  open given use {net, is, differ, cheap, up, in_ports, most_routes, room, network, suffice}
+
   abbrev Wanting : ℕ → Type 0
-  Wanting = WantsOf net laws is differ cheap up in_ports most_routes most_services room network suffice
+  Wanting = WantsOf given
 
   abbrev known : (x : ℕ) → Wanting x → Option (Held RouteOffer)
-  known x w = known_by net laws is differ cheap up in_ports most_routes most_services room network suffice x w (route_facts (ports_of net x) (history_of histories x))
+  known x w = known_by given x w (route_facts (ports_of net x) (history_of histories x))
 
   -- a router is right for now: where it should have a route in the end, it has one of the least way, and a port of its own on the network is up
   abbrev pub GoodNow : ℕ → Type 0
   GoodNow x =
-      IsGood net laws is differ cheap up in_ports most_routes most_services room network suffice histories x
+      IsGood given histories x
       × (is_on (ports_of net x) network ≡ true → is_up_on (ports_of net x) (ups net histories x) network ≡ true)
 
   -- it has the route of its least way, from that neighbour
   abbrev pub HasRight : (x : ℕ) → Wanting x → Type 0
   HasRight x w =
       (h : Held RouteOffer) × (f : Place) × (known x w ≡ Some h)
-      × RightFor net laws is differ cheap up in_ports most_routes most_services room network suffice x w f h.offer
+      × RightFor given x w f h.offer
 
   -- or a neighbour from which its least way comes isn't right
   abbrev pub RightOrNot : Type 0
   RightOrNot =
       (x : ℕ) (w : Wanting x) → HasRight x w
-      ⊎ ((port : ℕ) × (f : Place) × Sources net laws is differ cheap up in_ports most_routes most_services room network suffice x w.v port f × (GoodNow f.router → ⊥))
+      ⊎ ((port : ℕ) × (f : Place) × Sources given x w.v port f × (GoodNow f.router → ⊥))
 
   module _ (all : RightOrNot) (same_up : (router : ℕ) → ups net histories router ≡ up router) where
     all_good : (hops x : ℕ) (w : Wanting x) → w.v.hops ≤ hops → HasRight x w
@@ -97,12 +98,12 @@ module _ (net : Internet) (laws : Layouts) (is : IsInternet net) (differ : Nodes
 
       has_way : (v : Way) → is_on (ports_of net router) network ≡ false → within net up in_ports network 15 router ≡ Some v → option_map way_of found ≡ Some v
       has_way v off is_v =
-          let w = wants net laws is differ cheap up in_ports most_routes most_services room network suffice router v off is_v in
+          let w = wants given router v off is_v in
           let (h, f, some, right) = all_good w.v.hops router w (omega arith) in
           let way = right_way net is differ cheap up in_ports most_routes room network suffice router w.v w.off w.least f h.offer right in
           let same = same_some net up in_ports network (within net up in_ports network 15 router) w.v v w.least is_v in
           ap (option_map way_of)
-          (found_there net laws is differ cheap up in_ports most_routes most_services room network suffice router w (history_of histories router) h some
+          (found_there given router w (history_of histories router) h some
           (ap (λ (r : RouteOffer). r.network) right.same) way)
           ∙ ap Some (way ∙ same)
 
@@ -112,9 +113,9 @@ module _ (net : Internet) (laws : Layouts) (is : IsInternet net) (differ : Nodes
           by : OnOrOff net up in_ports network router → (o : Option Way) → within net up in_ports network 15 router ≡ o
               → option_map way_of found ≡ least_route net up router network
           by (inl on) o e =
-              ap (option_map way_of) (none_on net laws is differ cheap up in_ports most_routes most_services room network suffice router most_ticks_gone (omega arith)
+              ap (option_map way_of) (none_on given router most_ticks_gone (omega arith)
               (history_of histories router) endures on) ∙ rw on refl
           by (inr off) None e =
-              ap (option_map way_of) (none_without net laws is differ cheap up in_ports most_routes most_services room network suffice router most_ticks_gone
+              ap (option_map way_of) (none_without given router most_ticks_gone
               (omega arith) (history_of histories router) endures e) ∙ rw off (sym e)
           by (inr off) (Some v) e = has_way v off e ∙ rw off (sym e)

@@ -14,23 +14,24 @@ use Rattle.ipx_internet.specs.Rounds.{IsDelivery}
 use Rattle.ipx_internet.specs.Run.{Step, Run, AreHistories, begun, run_of}
 use Rattle.ipx_internet.specs.Ticks.{ticked, ups, most_ticks_gone}
 use Rattle.ipx_internet.proofs.packets.SentOnOrReply.{Layouts}
+use Rattle.ipx_internet.proofs.tables.Given.{Given, given_of}
 use Rattle.ipx_internet.proofs.tables.LeastWays.{ups_within}
 use Rattle.ipx_internet.proofs.tables.RightWithinAMinute.{AtRest, at_first, ticks_rest_right}
 use Rattle.ipx_internet.proofs.ticks.FirstTickClears.{begins_after}
 use Rattle.ipx_internet.proofs.ticks.RealFromTheFirst.{rests_at_once}
 use Rattle.ipx_internet.proofs.ticks.TickAfterTick.{CalmTicks, Rests, tick_rests, quiet_rests}
 
-module _ (net : Internet) (laws : Layouts) (is : IsInternet net) (differ : NodesDiffer net) (cheap : AreCheap net) (up : ℕ → List ℕ)
-    (in_ports : (router : ℕ) → AllByRecursion (λ j. j < length (ports_of net router)) (up router)) (most_routes most_services : ℕ) (room : HasRoom net most_routes)
-    (network : Network) (suffice : FifteenSuffice net up network) where
+module _ (given : Given) where
+  open given use {net, laws, is, up, most_routes, most_services}
+
   abbrev Rest : ℕ → Run → Type 0
-  Rest = AtRest net laws is differ cheap up in_ports most_routes most_services room network suffice
+  Rest = AtRest given
 
   climbs : (so_far : ℕ) (run : Run) (ticks : List (List Step)) → Rests net laws is most_routes most_services up so_far run → CalmTicks net most_routes most_services run ticks
       → so_far ≤ most_ticks_gone → most_ticks_gone ≤ length ticks + so_far → Rest (length ticks + so_far) (ticked net most_routes most_services run ticks)
   climbs so_far run [] rests are few long =
       let same : so_far ≡ 0 + so_far = omega arith in
-      subst (λ (n : ℕ). Rest n run) same (at_first net laws is differ cheap up in_ports most_routes most_services room network suffice so_far run few rests)
+      subst (λ (n : ℕ). Rest n run) same (at_first given so_far run few rests)
   climbs so_far run (steps ∷ ticks) rests are few long = elim (cases_lt so_far most_ticks_gone) [
     | inl less ↦
         let next = run_of net most_routes most_services run steps in
@@ -38,8 +39,8 @@ module _ (net : Internet) (laws : Layouts) (is : IsInternet net) (differ : Nodes
         subst (λ (n : ℕ). Rest n (ticked net most_routes most_services next ticks)) same
         (climbs (suc so_far) next ticks (tick_rests net laws is most_routes most_services up so_far run steps rests are.0) are.1 (omega (arith, less)) (omega (arith, long)))
     | inr full ↦
-        ticks_rest_right net laws is differ cheap up in_ports most_routes most_services room network suffice so_far full run (steps ∷ ticks)
-        (at_first net laws is differ cheap up in_ports most_routes most_services room network suffice so_far run few rests) are
+        ticks_rest_right given so_far full run (steps ∷ ticks)
+        (at_first given so_far run few rests) are
   ]
 
   from_none : (run : Run) (ticks : List (List Step)) → Rests net laws is most_routes most_services up 0 run → CalmTicks net most_routes most_services run ticks
@@ -54,27 +55,27 @@ module _ (net : Internet) (laws : Layouts) (is : IsInternet net) (differ : Nodes
       (calm : CalmTicks net most_routes most_services (begun histories) ticks) where
     -- whatever is held
     pub from_any : most_ticks_gone ≤ length ticks
-        → AtRest net laws is differ cheap (ups net histories) (ups_within net histories) most_routes most_services room network suffice (length ticks)
+        → AtRest (given_of net laws is differ cheap (ups net histories) (ups_within net histories) most_routes most_services room network suffice) (length ticks)
         (ticked net most_routes most_services (begun histories) ticks)
     from_any long =
-        from_none net laws is differ cheap (ups net histories) (ups_within net histories) most_routes most_services room network suffice (begun histories) ticks
+        from_none (given_of net laws is differ cheap (ups net histories) (ups_within net histories) most_routes most_services room network suffice) (begun histories) ticks
         (quiet_rests net laws is most_routes most_services (ups net histories) (begun histories) are (λ router. refl) refl) calm long
 
     -- where all routes are real
     pub from_real : ((other : ℕ) → other < length net
         → AllByRecursion (IsReal net (ups net histories) other) (offers (routes_held (ports_of net other) most_routes (history_of histories other))))
-        → AtRest net laws is differ cheap (ups net histories) (ups_within net histories) most_routes most_services room network suffice (length ticks + most_ticks_gone)
+        → AtRest (given_of net laws is differ cheap (ups net histories) (ups_within net histories) most_routes most_services room network suffice) (length ticks + most_ticks_gone)
         (ticked net most_routes most_services (begun histories) ticks)
     from_real real =
-        climbs net laws is differ cheap (ups net histories) (ups_within net histories) most_routes most_services room network suffice most_ticks_gone
+        climbs (given_of net laws is differ cheap (ups net histories) (ups_within net histories) most_routes most_services room network suffice) most_ticks_gone
         (begun histories) ticks (rests_at_once net laws is most_routes most_services histories are real) calm (omega arith) (omega arith)
 
   -- whatever waits: the first tick ends with nothing that waits
   pub from_run : (run : Run) → AreHistories net run.histories → AllByRecursion (λ w. IsDelivery net w.delivery) run.waiting
       → (suffice : FifteenSuffice net (ups net run.histories) network) (first : List Step) (ticks : List (List Step)) → IsBusyTick net most_routes most_services run first
       → AllByRecursion LeavesPorts first → CalmTicks net most_routes most_services (run_of net most_routes most_services run first) ticks → most_ticks_gone ≤ length ticks
-      → AtRest net laws is differ cheap (ups net run.histories) (ups_within net run.histories) most_routes most_services room network suffice (length ticks)
+      → AtRest (given_of net laws is differ cheap (ups net run.histories) (ups_within net run.histories) most_routes most_services room network suffice) (length ticks)
       (ticked net most_routes most_services (run_of net most_routes most_services run first) ticks)
   from_run run are waits suffice first ticks busy leaves calm long =
-      from_none net laws is differ cheap (ups net run.histories) (ups_within net run.histories) most_routes most_services room network suffice
+      from_none (given_of net laws is differ cheap (ups net run.histories) (ups_within net run.histories) most_routes most_services room network suffice)
       (run_of net most_routes most_services run first) ticks (begins_after net laws is most_routes most_services run are waits first busy leaves) calm long

@@ -41,6 +41,7 @@ use Rattle.ipx_internet.proofs.packets.SentOnOrReply.{Layouts, said_so}
 use Rattle.ipx_internet.proofs.packets.SentOnSaysTheSame.{heard_message}
 use Rattle.ipx_internet.proofs.packets.PagesAreHeard.{heard_page}
 use Rattle.ipx_internet.proofs.places.OneReceiverOfANode.{ports_at, port_is, one_port, apart_at}
+use Rattle.ipx_internet.proofs.tables.Given.{Given}
 use Rattle.ipx_internet.proofs.tables.GoodRoutesStay.{right_offer, same_offer, decide}
 use Rattle.ipx_internet.proofs.tables.LastWords.{WantsOf, Sources, known_by, GoodBy, IsGood, facts_of, good_or_not, WordOf, PendingFor, Fine, comes_fine, Calm, Waits, Fresh, Late, Later, Same, free, StateWith, Righted, good_state, popped, calm_popped, elsewhere}
 use Rattle.ipx_internet.proofs.tables.LeastRouteSurvives.{EntryIs, entries_keep, entries_come, entries_any}
@@ -53,36 +54,36 @@ use Rattle.ipx_internet.proofs.tables.TurnsAreSaid.{calm_then, state_then}
 use Rattle.ipx_internet.proofs.ticks.RealOrSoonEnded.{Reaches, RouteSaid, Comes, Endures, runs_where, routes_said, changes_said}
 use Rattle.ipx_internet.proofs.ticks.TickAfterTick.{all_come, packet_spoken, inside, packet_lasted, packet_lasts, delivery_goes}
 
-module _ (net : Internet) (laws : Layouts) (is : IsInternet net) (differ : NodesDiffer net) (cheap : AreCheap net) (up : ℕ → List ℕ)
-    (in_ports : (router : ℕ) → AllByRecursion (λ j. j < length (ports_of net router)) (up router)) (most_routes most_services : ℕ) (room : HasRoom net most_routes)
-    (network : Network) (suffice : FifteenSuffice net up network) (before : ℕ) (long : most_ticks_gone ≤ before) (clock : ℕ → ℕ) (few_seconds : (router : ℕ) → clock router < period)
+module _ (given : Given) (before : ℕ) (long : most_ticks_gone ≤ before) (clock : ℕ → ℕ) (few_seconds : (router : ℕ) → clock router < period)
     (at_start : ℕ → Option RouteOffer) where
+  open given use {net, laws, is, differ, cheap, up, in_ports, most_routes, most_services, room, network, suffice}
+
   abbrev Good_of : List History → ℕ → Type 0
-  Good_of = IsGood net laws is differ cheap up in_ports most_routes most_services room network suffice
+  Good_of = IsGood given
 
   abbrev Wanting : ℕ → Type 0
-  Wanting = WantsOf net laws is differ cheap up in_ports most_routes most_services room network suffice
+  Wanting = WantsOf given
 
   abbrev Source_of : ℕ → Way → ℕ → Place → Type 0
-  Source_of = Sources net laws is differ cheap up in_ports most_routes most_services room network suffice
+  Source_of = Sources given
 
   abbrev Words : Place → RipEntry → Type 0
-  Words = WordOf net laws is differ cheap up in_ports most_routes most_services room network suffice before
+  Words = WordOf given before
 
   abbrev Is_fine : Place → Delivery → Type 0
-  Is_fine = Fine net laws is differ cheap up in_ports most_routes most_services room network suffice before
+  Is_fine = Fine given before
 
   abbrev Pends : ℕ → Place → Delivery → Type 0
-  Pends = PendingFor net laws is differ cheap up in_ports most_routes most_services room network suffice before
+  Pends = PendingFor given before
 
   abbrev State_of : ℕ → (ℕ → ℕ) → List History → List Delivery → (x : ℕ) → Wanting x → List (Fact RouteOffer) → Type 0
-  State_of = StateWith net laws is differ cheap up in_ports most_routes most_services room network suffice before clock few_seconds at_start
+  State_of = StateWith given before clock few_seconds at_start
 
   abbrev Righted_at : (ℕ → ℕ) → Queued → Type 0
-  Righted_at = Righted net laws is differ cheap up in_ports most_routes most_services room network suffice before clock few_seconds at_start
+  Righted_at = Righted given before clock few_seconds at_start
 
   abbrev Waits_by : (ℕ → ℕ) → List History → List Delivery → ℕ → Place → Type 0 → Type 0
-  Waits_by = Waits net laws is differ cheap up in_ports most_routes most_services room network suffice before clock few_seconds at_start
+  Waits_by = Waits given before clock few_seconds at_start
 
   module _ (histories : List History) (queue : List Delivery) (d : Delivery) (left : ℕ → ℕ)
       (righted : Righted_at left (record { histories = histories; queue = d ∷ queue })) where
@@ -145,7 +146,7 @@ module _ (net : Internet) (laws : Layouts) (is : IsInternet net) (differ : Nodes
 
     steady_before : most_ticks_right ≤ before → (k : ℕ) → Good_of histories k
     steady_before steady k =
-        good_state net laws is differ cheap up in_ports most_routes most_services room network suffice before clock few_seconds at_start
+        good_state given before clock few_seconds at_start
         (left k) left histories (d ∷ queue) k (route_facts (ports_of net k) (history_of histories k)) (righted.states k) steady
 
     unsteady_if : (k : ℕ) → (Good_of histories k → ⊥) → before < most_ticks_right
@@ -156,7 +157,7 @@ module _ (net : Internet) (laws : Layouts) (is : IsInternet net) (differ : Nodes
 
     -- the delivery is taken from the queue
     taken : (f : Place) (S : Type 0) → Waits_by left histories (d ∷ queue) x f S → Waits_by left histories queue x f S ⊎ Pends x f d
-    taken = popped net laws is differ cheap up in_ports most_routes most_services room network suffice before clock few_seconds at_start left histories d queue x
+    taken = popped given before clock few_seconds at_start left histories d queue x
 
     -- ---- the router's own state
 
@@ -172,22 +173,22 @@ module _ (net : Internet) (laws : Layouts) (is : IsInternet net) (differ : Nodes
 
     module _ (w : Wanting x) where
       abbrev Fresh_by : Place → ℕ → Type 0
-      Fresh_by = Fresh net laws is differ cheap up in_ports most_routes most_services room network suffice before clock few_seconds at_start (left x)
+      Fresh_by = Fresh given before clock few_seconds at_start (left x)
 
       abbrev Late_by : Place → ℕ → Type 0
-      Late_by = Late net laws is differ cheap up in_ports most_routes most_services room network suffice before clock few_seconds at_start (left x) left histories (d ∷ queue) x
+      Late_by = Late given before clock few_seconds at_start (left x) left histories (d ∷ queue) x
 
       abbrev Later_by : Type 0
-      Later_by = Later net laws is differ cheap up in_ports most_routes most_services room network suffice before clock few_seconds at_start left histories (d ∷ queue) x w
+      Later_by = Later given before clock few_seconds at_start left histories (d ∷ queue) x w
 
       abbrev Later_then : Type 0
-      Later_then = Later net laws is differ cheap up in_ports most_routes most_services room network suffice before clock few_seconds at_start left histories queue x w
+      Later_then = Later given before clock few_seconds at_start left histories queue x w
 
       abbrev Same_by : RouteOffer → Type 0
-      Same_by = Same net laws is differ cheap up in_ports most_routes most_services room network suffice before clock few_seconds at_start x
+      Same_by = Same given before clock few_seconds at_start x
 
       free_by : Later_by → (o : RouteOffer) → Same_by o
-      free_by = free net laws is differ cheap up in_ports most_routes most_services room network suffice before clock few_seconds at_start left histories (d ∷ queue) x w
+      free_by = free given before clock few_seconds at_start left histories (d ∷ queue) x w
 
       abbrev Before : List (Fact RouteOffer) → Type 0
       Before facts = State_of (left x) left histories (d ∷ queue) x w facts
@@ -234,8 +235,8 @@ module _ (net : Internet) (laws : Layouts) (is : IsInternet net) (differ : Nodes
       module _ (f : Place) (port : ℕ) (source : Source_of x w.v port f) (pending : Pends x f d) where
         abbrev Come : List (Fact RouteOffer) → Type 0
         Come facts =
-            StateFor net laws is differ cheap up in_ports most_routes most_services room network suffice
-            x w Fresh_by (λ g age. Late_by g age × (g ≢ f)) ⊥ Same_by (known_by net laws is differ cheap up in_ports most_routes most_services room network suffice x w facts)
+            StateFor given
+            x w Fresh_by (λ g age. Late_by g age × (g ≢ f)) ⊥ Same_by (known_by given x w facts)
 
         on_now : is_up (up x) d.to.port ≡ true
         on_now =
@@ -251,7 +252,7 @@ module _ (net : Internet) (laws : Layouts) (is : IsInternet net) (differ : Nodes
             (subst (λ (us : List ℕ). is_up us d.to.port ≡ true) (sym endured.ups) on_now)
             (port_of net f) (sym nb.network)
             (λ same. differ f d.to nb.place place_is nb.other (sym nb.network) same) (port_is net is f nb.place).node
-            (Said net laws is differ cheap up in_ports most_routes most_services room network suffice (suc before) f) d.bytes pending.page
+            (Said given (suc before) f) d.bytes pending.page
 
         comes : Come (route_facts ports now)
         comes =
@@ -261,12 +262,12 @@ module _ (net : Internet) (laws : Layouts) (is : IsInternet net) (differ : Nodes
             Fresh_by fresh_now Same_by Late_by Later_by free_by
             (record { neighbour = neighbour_of f pending.reaches on_now; way = source.way; there = source.there; by = source.by })
             pending.page.page (route_facts ports past)
-            (all_then (Said net laws is differ cheap up in_ports most_routes most_services room network suffice (suc before) f) (IsRight f pending.reaches on_now)
+            (all_then (Said given (suc before) f) (IsRight f pending.reaches on_now)
             (λ e said. is_right f pending.reaches on_now e said.0 (λ s. said.1)) pending.page.page pending.page.each) pending.has endured.routes state_before)
 
-      aged_by : (h : Held RouteOffer) (f : Place) → known_by net laws is differ cheap up in_ports most_routes most_services room network suffice x w (route_facts ports now) ≡ Some h
-          → RightFor net laws is differ cheap up in_ports most_routes most_services room network suffice x w f h.offer → Fresh_by f h.age ⊎ Late_by f h.age
-          → Fresh_by f h.age ⊎ Late net laws is differ cheap up in_ports most_routes most_services room network suffice before clock few_seconds at_start (left x) left histories queue x f h.age
+      aged_by : (h : Held RouteOffer) (f : Place) → known_by given x w (route_facts ports now) ≡ Some h
+          → RightFor given x w f h.offer → Fresh_by f h.age ⊎ Late_by f h.age
+          → Fresh_by f h.age ⊎ Late given before clock few_seconds at_start (left x) left histories queue x f h.age
       aged_by h f e right (inl young) = inl young
       aged_by h f e right (inr late) = elim (taken f ((h.age + left x ≤ period + 1) ⊎ (before < most_ticks_right)) late) [
         | inl still ↦ inr still
@@ -312,11 +313,11 @@ module _ (net : Internet) (laws : Layouts) (is : IsInternet net) (differ : Nodes
               (λ e both. is_right g reaches on e both.0 both.1) entries
               (all_both (RouteSaid net up (suc before) g) (λ e. Source_of x w.v d.to.port g → Words g e) entries said words)) state_before))
 
-          loose : StateFor net laws is differ cheap up in_ports most_routes most_services room network suffice x w Fresh_by Late_by (Unit {0}) (λ r. Unit {0})
-              (known_by net laws is differ cheap up in_ports most_routes most_services room network suffice x w (route_facts ports now))
+          loose : StateFor given x w Fresh_by Late_by (Unit {0}) (λ r. Unit {0})
+              (known_by given x w (route_facts ports now))
           loose =
-              subst (λ (fs : List (Fact RouteOffer)). StateFor net laws is differ cheap up in_ports most_routes most_services room network suffice x w Fresh_by Late_by (Unit {0}) (λ r. Unit {0})
-              (known_by net laws is differ cheap up in_ports most_routes most_services room network suffice x w fs)) (sym facts_so)
+              subst (λ (fs : List (Fact RouteOffer)). StateFor given x w Fresh_by Late_by (Unit {0}) (λ r. Unit {0})
+              (known_by given x w fs)) (sym facts_so)
               (entries_any net is differ cheap up in_ports most_routes room network suffice x w.v w.off w.least w.wanted count enough d.to.port g (neighbour_of g reaches on)
               Fresh_by fresh_now (λ r. Unit {0}) Late_by (Unit {0}) tt entries (route_facts ports past) (record { aged = state_before.aged; holds = inr tt }))
 
@@ -330,14 +331,14 @@ module _ (net : Internet) (laws : Layouts) (is : IsInternet net) (differ : Nodes
           heard_page_of : Then (route_facts ports now)
           heard_page_of = elim (decide net is differ cheap up in_ports most_routes room network suffice x w.v w.off w.least d.to.port g (neighbour_of g reaches on)) [
             | inr no_source ↦ kept_if (all_of (λ e. Source_of x w.v d.to.port g → Words g e) (λ e source. absurd (no_source source)) entries)
-            | inl source ↦ elim (good_or_not net laws is differ cheap up in_ports most_routes most_services room network suffice g.router
-                (facts_of net laws is differ cheap up in_ports most_routes most_services room network suffice histories g.router)) [
+            | inl source ↦ elim (good_or_not given g.router
+                (facts_of given histories g.router)) [
                   | inr bad ↦ any_if (d.to.port, g, source, inr (inr (inl (unsteady_if g.router bad, bad))))
                   | inl good ↦ by source (righted.calm x d.to.port g w source good)
                 ]
           ]
             where
-              by : Source_of x w.v d.to.port g → Calm net laws is differ cheap up in_ports most_routes most_services room network suffice before x g (d ∷ queue)
+              by : Source_of x w.v d.to.port g → Calm given before x g (d ∷ queue)
                   → Then (route_facts ports now)
               by source (inl all) =
                   let words = all.0 (own_address (port_of net g)) (record { operation = Response; entries = entries })
@@ -377,18 +378,18 @@ module _ (net : Internet) (laws : Layouts) (is : IsInternet net) (differ : Nodes
           ]
 
     abbrev GoodNow : Type 0
-    GoodNow = GoodBy net laws is differ cheap up in_ports most_routes most_services room network suffice x (route_facts ports now)
+    GoodNow = GoodBy given x (route_facts ports now)
 
     good_here : Good_of after_it x → GoodNow
-    good_here good = subst (λ (h : History). GoodBy net laws is differ cheap up in_ports most_routes most_services room network suffice x (route_facts ports h)) is_now good
+    good_here good = subst (λ (h : History). GoodBy given x (route_facts ports h)) is_now good
 
     good_there : GoodNow → Good_of after_it x
     good_there good =
-        subst (λ (h : History). GoodBy net laws is differ cheap up in_ports most_routes most_services room network suffice x (route_facts ports h)) (sym is_now) good
+        subst (λ (h : History). GoodBy given x (route_facts ports h)) (sym is_now) good
 
     steady_now : most_ticks_right ≤ before → Good_of after_it x
     steady_now steady =
-        good_there (good_state net laws is differ cheap up in_ports most_routes most_services room network suffice before clock few_seconds at_start
+        good_there (good_state given before clock few_seconds at_start
         (left x) left histories queue x (route_facts ports now) own_state steady)
 
     -- ---- what is said
@@ -414,7 +415,7 @@ module _ (net : Internet) (laws : Layouts) (is : IsInternet net) (differ : Nodes
 
     if_good : (j : ℕ) (entries : List RipEntry) → (GoodNow → AllByRecursion (Words (place j)) entries)
         → AllByRecursion (λ e. Good_of after_it x → Words (place j) e) entries
-    if_good j entries words = elim (good_or_not net laws is differ cheap up in_ports most_routes most_services room network suffice x (route_facts ports now)) [
+    if_good j entries words = elim (good_or_not given x (route_facts ports now)) [
       | inl good ↦ all_then (Words (place j)) (λ e. Good_of after_it x → Words (place j) e) (λ e word good_now. word) entries (words good)
       | inr bad ↦ all_of (λ e. Good_of after_it x → Words (place j) e) (λ e good. absurd (bad (good_here good))) entries
     ]
@@ -432,23 +433,23 @@ module _ (net : Internet) (laws : Layouts) (is : IsInternet net) (differ : Nodes
         all_both (RouteSaid net up (suc before) (place j)) (λ e. Good_of after_it x → Words (place j) e) (told ports (up x) old j)
         (routes_said net up most_routes x count (suc before) soon past endured j)
         (if_good j (told ports (up x) old j) (λ good.
-        let good_before : GoodBy net laws is differ cheap up in_ports most_routes most_services room network suffice x (route_facts ports past) =
-        subst (λ (fs : List (Fact RouteOffer)). GoodBy net laws is differ cheap up in_ports most_routes most_services room network suffice x fs) (same_facts m e silent) good in
-        all_words net laws is differ cheap up in_ports most_routes most_services room network suffice (suc before)
+        let good_before : GoodBy given x (route_facts ports past) =
+        subst (λ (fs : List (Fact RouteOffer)). GoodBy given x fs) (same_facts m e silent) good in
+        all_words given (suc before)
         (place j) (told ports (up x) old j) (λ u is_u near.
-        words_told net laws is differ cheap up in_ports most_routes most_services room network suffice (suc before) x u is_u near old
-        (knows net laws is differ cheap up in_ports most_routes most_services room network suffice (suc before) x count past enough endured good_before u is_u near) j)))
+        words_told given (suc before) x u is_u near old
+        (knows given (suc before) x count past enough endured good_before u is_u near) j)))
 
     said_news : (j : ℕ) → AllByRecursion (Says (place j)) (news ports old routes j)
     said_news j =
         all_both (RouteSaid net up (suc before) (place j)) (λ e. Good_of after_it x → Words (place j) e) (news ports old routes j)
         (changes_said net up most_routes x count (suc before) soon now endures_now old j)
         (if_good j (news ports old routes j) (λ good.
-        all_words net laws is differ cheap up in_ports most_routes most_services room network suffice (suc before)
+        all_words given (suc before)
         (place j) (news ports old routes j) (λ u is_u near.
-        words_news net laws is differ cheap up in_ports most_routes most_services room network suffice (suc before) x u is_u near old routes
-        (knows net laws is differ cheap up in_ports most_routes most_services room network suffice (suc before) x count now enough endures_now good u is_u near)
-        (all_off net laws is differ cheap up in_ports most_routes most_services room network suffice (suc before) x count past enough endured) j)))
+        words_news given (suc before) x u is_u near old routes
+        (knows given (suc before) x count now enough endures_now good u is_u near)
+        (all_off given (suc before) x count past enough endured) j)))
 
     abbrev sent : List Sent
     sent = sends_at net most_routes most_services histories x event
@@ -465,7 +466,7 @@ module _ (net : Internet) (laws : Layouts) (is : IsInternet net) (differ : Nodes
     fine : (f : Place) → Good_of after_it f.router → AllByRecursion (Is_fine f) new
     fine f good =
         all_then (λ d. IsDelivery net d × Comes net up Says d.to d.bytes) (Is_fine f)
-        (λ e both. comes_fine net laws is differ cheap up in_ports most_routes most_services room network suffice before Says f e both.1 (λ one says. says.1 good)) new come
+        (λ e both. comes_fine given before Says f e both.1 (λ one says. says.1 good)) new come
 
     -- ---- where it turns right it tells its neighbours
 
@@ -479,7 +480,7 @@ module _ (net : Internet) (laws : Layouts) (is : IsInternet net) (differ : Nodes
     still = all-append IsOfBytes past (event ∷ []) (righted.going.are.of_bytes x) (righted.going.waiting.0.delivery.bytes, tt)
 
     abbrev SaidBy : ℕ → RipEntry → Type 0
-    SaidBy j = Said net laws is differ cheap up in_ports most_routes most_services room network suffice (suc before) (place j)
+    SaidBy j = Said given (suc before) (place j)
 
     news_writable : (j : ℕ) → Good_of after_it x → AllByRecursion (Writable (SaidBy j)) (news ports old routes j)
     news_writable j good =
@@ -494,7 +495,7 @@ module _ (net : Internet) (laws : Layouts) (is : IsInternet net) (differ : Nodes
       where
         unchanged : route_facts ports now ≡ route_facts ports past → sent ≡ flat_map (news_on ports bef aft) aft.up
         unchanged same =
-            absurd (bad (subst (λ (fs : List (Fact RouteOffer)). GoodBy net laws is differ cheap up in_ports most_routes most_services room network suffice x fs) same good))
+            absurd (bad (subst (λ (fs : List (Fact RouteOffer)). GoodBy given x fs) same good))
 
         by : (o : Option Heard) → heard_after ports past d.to.port d.bytes ≡ o → sent ≡ flat_map (news_on ports bef aft) aft.up
         by None e =
@@ -515,12 +516,12 @@ module _ (net : Internet) (laws : Layouts) (is : IsInternet net) (differ : Nodes
 
     turns : (y port : ℕ) (w : Wanting y) (j : ℕ) → Source_of y w.v port (place j) → Good_of after_it x → (Good_of histories x → ⊥) → AnyIs (Pends y (place j)) new
     turns y port w j source good bad =
-        pends net laws is differ cheap up in_ports most_routes most_services room network suffice (suc before) y w port (place j) source sent sent_bytes
+        pends given (suc before) y w port (place j) source sent sent_bytes
         (subst (λ (ss : List Sent). AnyIs (Tells ports network source.way (SaidBy j) j) ss) (sym (sends_news (good_here good) bad))
         (news_tell ports network source.way laws.readings laws.again j (port-all _ ports j (ports_at net is x) source.neighbour.place) (SaidBy j) bef aft
         (subst (λ (us : List ℕ). AnyIs (λ k. k ≡ j) us) (sym endures_now.ups) (number_any j (up x) source.neighbour.on_there))
         (news_writable j good)
-        (turn_is_news net laws is differ cheap up in_ports most_routes most_services room network suffice (suc before) count past now enough y port w (place j)
+        (turn_is_news given (suc before) count past now enough y port w (place j)
         source endures_now (good_here good) bad)))
 
     turned : (y port : ℕ) (f : Place) (w : Wanting y) → Source_of y w.v port f → f.router ≡ x → Good_of after_it x → (Good_of histories x → ⊥)
@@ -538,7 +539,7 @@ module _ (net : Internet) (laws : Layouts) (is : IsInternet net) (differ : Nodes
     then_so : (mine k : ℕ) (w : Wanting k) (facts : List (Fact RouteOffer)) → State_of mine left histories queue k w facts
         → State_of mine left after_it (queue ++ new) k w facts
     then_so =
-        state_then net laws is differ cheap up in_ports most_routes most_services room network suffice before clock few_seconds at_start
+        state_then given before clock few_seconds at_start
         left left histories after_it queue new x (λ k off. refl) same_history steady_before steady_now fine turned
         (λ y port f w source here at_zero due. inl due)
 
@@ -558,7 +559,7 @@ module _ (net : Internet) (laws : Layouts) (is : IsInternet net) (differ : Nodes
         by (inr off) =
             subst (λ (h : History). State_of (left k) left after_it (queue ++ new) k w (route_facts (ports_of net k) h)) (sym (same_history k off))
             (then_so (left k) k w (route_facts (ports_of net k) (history_of histories k))
-            (elsewhere net laws is differ cheap up in_ports most_routes most_services room network suffice before clock few_seconds at_start
+            (elsewhere given before clock few_seconds at_start
             (left k) left histories d queue k off w (route_facts (ports_of net k) (history_of histories k)) (righted.states k w)))
 
     clock_now : (router port : ℕ) → is_up (up router) port ≡ true → (seconds_run (history_of after_it router) + left router) % period ≡ clock router
@@ -583,10 +584,10 @@ module _ (net : Internet) (laws : Layouts) (is : IsInternet net) (differ : Nodes
       going = delivery_goes net laws is most_routes most_services up (suc before) histories queue d left righted.going;
       states = state_now;
       calm =
-          calm_then net laws is differ cheap up in_ports most_routes most_services room network suffice before clock few_seconds at_start
+          calm_then given before clock few_seconds at_start
           left left histories after_it queue new x (λ k off. refl) same_history steady_before steady_now fine turned
           (λ y port f w source here at_zero due. inl due)
-          (λ y port f w source good. calm_popped net laws is differ cheap up in_ports most_routes most_services room network suffice before clock few_seconds at_start
+          (λ y port f w source good. calm_popped given before clock few_seconds at_start
           d queue y f (righted.calm y port f w source good));
       clocks = clock_now;
     }

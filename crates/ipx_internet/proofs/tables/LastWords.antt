@@ -31,6 +31,7 @@ use Rattle.ipx_internet.proofs.packets.RoutesOrSilence.{Silent, own_heard}
 use Rattle.ipx_internet.proofs.packets.SentOnOrReply.{Layouts}
 use Rattle.ipx_internet.proofs.packets.SentOnSaysTheSame.{of_packet, message_heard}
 use Rattle.ipx_internet.proofs.places.OneReceiverOfANode.{same_place}
+use Rattle.ipx_internet.proofs.tables.Given.{Given}
 use Rattle.ipx_internet.proofs.tables.GoodRoutesStay.{right_way}
 use Rattle.ipx_internet.proofs.tables.LeastWays.{within, on_or_off, OnOrOff, same_some, same_way}
 use Rattle.ipx_internet.proofs.tables.NoRouteIsBetter.{there_where_up}
@@ -38,17 +39,17 @@ use Rattle.ipx_internet.proofs.tables.SaysWhatItKnows.{Wants, wants, StateFor, k
 use Rattle.ipx_internet.proofs.ticks.RealOrSoonEnded.{Reaches, Comes}
 use Rattle.ipx_internet.proofs.ticks.TickAfterTick.{Going}
 
-module _ (net : Internet) (laws : Layouts) (is : IsInternet net) (differ : NodesDiffer net) (cheap : AreCheap net) (up : ℕ → List ℕ)
-    (in_ports : (router : ℕ) → AllByRecursion (λ j. j < length (ports_of net router)) (up router)) (most_routes most_services : ℕ) (room : HasRoom net most_routes)
-    (network : Network) (suffice : FifteenSuffice net up network) where
+module _ (given : Given) where
+  open given use {net, laws, is, differ, cheap, up, in_ports, most_routes, most_services, room, network, suffice}
+
   abbrev pub WantsOf : ℕ → Type 0
-  WantsOf = Wants net laws is differ cheap up in_ports most_routes most_services room network suffice
+  WantsOf = Wants given
 
   abbrev pub Sources : ℕ → Way → ℕ → Place → Type 0
-  Sources = SourceOf net laws is differ cheap up in_ports most_routes most_services room network suffice
+  Sources = SourceOf given
 
   abbrev pub known_by : (router : ℕ) → WantsOf router → List (Fact RouteOffer) → Option (Held RouteOffer)
-  known_by = known_of net laws is differ cheap up in_ports most_routes most_services room network suffice
+  known_by = known_of given
 
   -- ---- a router that is right
 
@@ -90,17 +91,17 @@ module _ (net : Internet) (laws : Layouts) (is : IsInternet net) (differ : Nodes
       by (inl on) o e = inl (λ w. absurd (both_ways (is_on (ports_of net router) network) w.off on))
       by (inr off) None e = inl (λ w. nothing (sym e ∙ w.least))
       by (inr off) (Some v) e =
-          let first = wants net laws is differ cheap up in_ports most_routes most_services room network suffice router v off e in
+          let first = wants given router v off e in
           held first (known_by router first facts) refl
 
   module _ (before : ℕ) where
     -- ---- what waits
 
     abbrev pub WordOf : Place → RipEntry → Type 0
-    WordOf = Word net laws is differ cheap up in_ports most_routes most_services room network suffice (suc before)
+    WordOf = Word given (suc before)
 
     abbrev pub PendingFor : ℕ → Place → Delivery → Type 0
-    PendingFor = Pending net laws is differ cheap up in_ports most_routes most_services room network suffice (suc before)
+    PendingFor = Pending given (suc before)
 
     -- what a delivery says of routes is right, if it is from that port
     abbrev pub Fine : Place → Delivery → Type 0
@@ -220,7 +221,7 @@ module _ (net : Internet) (laws : Layouts) (is : IsInternet net) (differ : Nodes
       -- what a router has, with as many seconds left of its own
       abbrev pub StateWith : ℕ → (ℕ → ℕ) → List History → List Delivery → (x : ℕ) → WantsOf x → List (Fact RouteOffer) → Type 0
       StateWith mine left histories queue x w facts =
-          StateFor net laws is differ cheap up in_ports most_routes most_services room network suffice
+          StateFor given
           x w (Fresh mine) (Late mine left histories queue x) (Later left histories queue x w) (Same x) (known_by x w facts)
 
       -- ---- the first that waits is handed out

@@ -39,6 +39,7 @@ use Rattle.ipx_internet.proofs.packets.SentOnOrReply.{Layouts}
 use Rattle.ipx_internet.proofs.places.EachPortOnce.{places_within, places_differ}
 use Rattle.ipx_internet.proofs.places.OneReceiverOfANode.{port_is, same_number, same_place, receives_is}
 use Rattle.ipx_internet.proofs.records.SameSource.{same_bytes, bytes_same}
+use Rattle.ipx_internet.proofs.tables.Given.{given_of}
 use Rattle.ipx_internet.proofs.tables.LeastWays.{IsNeighbour, within, own, own_is, on_or_off, OnOrOff, came, is_there, at_numbers, port_on, port_up, all_places, in_neighbours}
 use Rattle.ipx_internet.proofs.tables.NoRouteIsBetter.{Source}
 use Rattle.ipx_internet.proofs.tables.RightWithinAMinute.{AtRest, find_none}
@@ -145,7 +146,7 @@ module _ (net : Internet) (up : ℕ → List ℕ) (in_ports : (router : ℕ) →
 module _ (net : Internet) (laws : Layouts) (is : IsInternet net) (differ : NodesDiffer net) (cheap : AreCheap net) (up : ℕ → List ℕ)
     (in_ports : (router : ℕ) → AllByRecursion (λ j. j < length (ports_of net router)) (up router)) (most_routes most_services : ℕ) (room : HasRoom net most_routes)
     (to : Address) (suffice : FifteenSuffice net up to.network)
-    (ticks : ℕ) (run : Run) (rest : AtRest net laws is differ cheap up in_ports most_routes most_services room to.network suffice
+    (ticks : ℕ) (run : Run) (rest : AtRest (given_of net laws is differ cheap up in_ports most_routes most_services room to.network suffice)
     ticks run) (long : most_ticks_gone ≤ ticks) where
   abbrev routers : List Router
   routers = routers_after net most_routes run.histories
@@ -180,7 +181,7 @@ module _ (net : Internet) (laws : Layouts) (is : IsInternet net) (differ : Nodes
         (few_control : p.header.control < 16) where
       other_network : is_local (port_at ports number) p.header.destination.network ≡ false
       other_network =
-          let (place, there, named) = some_port net laws is differ cheap up in_ports most_routes most_services room to.network suffice
+          let (place, there, named) = some_port (given_of net laws is differ cheap up in_ports most_routes most_services room to.network suffice)
           15 q v least (on_or_off net up in_ports to.network q) in
           let some = (port_is net is place there).some_network in
           let number_is = ap (λ (n : Network). n.0) named in
@@ -384,9 +385,9 @@ module _ (net : Internet) (laws : Layouts) (is : IsInternet net) (differ : Nodes
       by (inr off) deeper =
           let inside = router_there net q port here in
           let enough : most_ticks_right ≤ ticks = sure (omega arith) in
-          let has = route_is net laws is differ cheap up in_ports most_routes most_services room to.network suffice
+          let has = route_is (given_of net laws is differ cheap up in_ports most_routes most_services room to.network suffice)
           ticks run rest long q inside v off least enough in
-          let held = by_number net laws is differ cheap up in_ports most_routes most_services room to.network suffice ticks run rest long q inside ∙ has.held in
+          let held = by_number (given_of net laws is differ cheap up in_ports most_routes most_services room to.network suffice) ticks run rest long q inside ∙ has.held in
           let out : Outway = record { port = has.route.port; link = has.route.node } in
           let routed = way_by_route q inside off has.route held in
           let leaves = has.source.neighbour.here in

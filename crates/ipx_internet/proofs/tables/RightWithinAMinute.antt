@@ -20,6 +20,7 @@ use Rattle.ipx_internet.specs.Ticks.{ticked, most_ticks_gone}
 use Rattle.ipx_internet.proofs.packets.RoutesOrSilence.{Silent}
 use Rattle.ipx_internet.proofs.packets.SentOnOrReply.{Layouts}
 use Rattle.ipx_internet.proofs.tables.DeliveryKeepsRight.{delivery_rights}
+use Rattle.ipx_internet.proofs.tables.Given.{Given}
 use Rattle.ipx_internet.proofs.tables.GoodRoutesStay.{right_way}
 use Rattle.ipx_internet.proofs.tables.LastWords.{WantsOf, Sources, known_by, IsGood, silent_fine, Ends, Waits, Righted, waits_unsteady}
 use Rattle.ipx_internet.proofs.tables.LeastWays.{within, came, same_some, is_there}
@@ -65,23 +66,23 @@ tied a b = elim (cases_eq a b) [
       | inr off ↦ ne_eqb a b off ∙ sym e
     ]
 
-module _ (net : Internet) (laws : Layouts) (is : IsInternet net) (differ : NodesDiffer net) (cheap : AreCheap net) (up : ℕ → List ℕ)
-    (in_ports : (router : ℕ) → AllByRecursion (λ j. j < length (ports_of net router)) (up router)) (most_routes most_services : ℕ) (room : HasRoom net most_routes)
-    (network : Network) (suffice : FifteenSuffice net up network) where
+module _ (given : Given) where
+  open given use {net, laws, is, differ, cheap, up, in_ports, most_routes, most_services, room, network, suffice}
+
   abbrev Good_of : Run → ℕ → Type 0
-  Good_of run = IsGood net laws is differ cheap up in_ports most_routes most_services room network suffice run.histories
+  Good_of run = IsGood given run.histories
 
   abbrev Wanting : ℕ → Type 0
-  Wanting = WantsOf net laws is differ cheap up in_ports most_routes most_services room network suffice
+  Wanting = WantsOf given
 
   abbrev Source_of : ℕ → Way → ℕ → Place → Type 0
-  Source_of = Sources net laws is differ cheap up in_ports most_routes most_services room network suffice
+  Source_of = Sources given
 
   abbrev known_in : Run → (x : ℕ) → Wanting x → Option (Held RouteOffer)
-  known_in run x w = known_by net laws is differ cheap up in_ports most_routes most_services room network suffice x w (route_facts (ports_of net x) (history_of run.histories x))
+  known_in run x w = known_by given x w (route_facts (ports_of net x) (history_of run.histories x))
 
   abbrev RightOf : (x : ℕ) → Wanting x → Place → RouteOffer → Type 0
-  RightOf = RightFor net laws is differ cheap up in_ports most_routes most_services room network suffice
+  RightOf = RightFor given
 
   abbrev clock_in : Run → ℕ → ℕ
   clock_in run router = seconds_run (history_of run.histories router) % period
@@ -163,10 +164,10 @@ module _ (net : Internet) (laws : Layouts) (is : IsInternet net) (differ : Nodes
     queue = map (λ w. w.delivery) run.waiting
 
     abbrev pub RightedOf : (ℕ → ℕ) → Queued → Type 0
-    RightedOf = Righted net laws is differ cheap up in_ports most_routes most_services room network suffice before clock few_seconds at_start
+    RightedOf = Righted given before clock few_seconds at_start
 
     abbrev Waits_by : (ℕ → ℕ) → List History → List Delivery → ℕ → Place → Type 0 → Type 0
-    Waits_by = Waits net laws is differ cheap up in_ports most_routes most_services room network suffice before clock few_seconds at_start
+    Waits_by = Waits given before clock few_seconds at_start
 
     -- ---- each step keeps it
 
@@ -214,7 +215,7 @@ module _ (net : Internet) (laws : Layouts) (is : IsInternet net) (differ : Nodes
             ];
           };
       calm = λ x port f w source good. elim (righted.calm x port f w source good) [
-        | inl all ↦ inl (silent_fine net laws is differ cheap up in_ports most_routes most_services room network suffice before f d silent, all)
+        | inl all ↦ inl (silent_fine given before f d silent, all)
         | inr (unsteady, ending) ↦ inr (unsteady, inl ending)
       ];
       clocks = righted.clocks;
@@ -229,8 +230,8 @@ module _ (net : Internet) (laws : Layouts) (is : IsInternet net) (differ : Nodes
     pub kept : IsKept net laws is most_routes most_services up RightedOf
     kept = record {
       same = same_left;
-      second = second_rights net laws is differ cheap up in_ports most_routes most_services room network suffice before long clock few_seconds at_start;
-      delivery = delivery_rights net laws is differ cheap up in_ports most_routes most_services room network suffice before long clock few_seconds at_start;
+      second = second_rights given before long clock few_seconds at_start;
+      delivery = delivery_rights given before long clock few_seconds at_start;
       comes = silent_in_front;
     }
 
@@ -270,7 +271,7 @@ module _ (net : Internet) (laws : Layouts) (is : IsInternet net) (differ : Nodes
             held.2,
             held.3,
             λ steady.
-                found_there net laws is differ cheap up in_ports most_routes most_services room network suffice x w (history_of run.histories x) held.0 held.2
+                found_there given x w (history_of run.histories x) held.0 held.2
                 (ap (λ (r : RouteOffer). r.network) held.3.same)
                 (right_way net is differ cheap up in_ports most_routes room network suffice x w.v w.off w.least held.1 held.0.offer held.3),
           )
@@ -314,10 +315,10 @@ module _ (net : Internet) (laws : Layouts) (is : IsInternet net) (differ : Nodes
         ap (λ n. n % period) (sym sum) ∙ ended.clocks router port here
 
     none_ends : (x : ℕ) (f : Place) (waiting : List Waiting) → waiting ≡ []
-        → Ends net laws is differ cheap up in_ports most_routes most_services room network suffice before x f (map (λ w. w.delivery) waiting) → ⊥
+        → Ends given before x f (map (λ w. w.delivery) waiting) → ⊥
     none_ends x f waiting none any =
-        let gone : Ends net laws is differ cheap up in_ports most_routes most_services room network suffice before x f [] =
-        subst (λ (ws : List Waiting). Ends net laws is differ cheap up in_ports most_routes most_services room network suffice before x f (map (λ w. w.delivery) ws)) none any in
+        let gone : Ends given before x f [] =
+        subst (λ (ws : List Waiting). Ends given before x f (map (λ w. w.delivery) ws)) none any in
         gone
 
     still_then : (S : Type 0) (x port : ℕ) (f : Place) (w : Wanting x) → Source_of x w.v port f
@@ -348,12 +349,12 @@ module _ (net : Internet) (laws : Layouts) (is : IsInternet net) (differ : Nodes
     pub held_now : (left_now : ℕ → ℕ) (now : Run) → RightedOf left_now (forgotten now) → (x : ℕ) (w : Wanting x) → most_ticks_right ≤ before → route_of now x ≡ route_of run x
     held_now left_now now righted x w steady = elim (righted.states x w).holds [
       | inl held ↦
-          found_there net laws is differ cheap up in_ports most_routes most_services room network suffice x w (history_of now.histories x) held.0 held.2
+          found_there given x w (history_of now.histories x) held.0 held.2
           (ap (λ (r : RouteOffer). r.network) held.3.same)
           (right_way net is differ cheap up in_ports most_routes room network suffice x w.v w.off w.least held.1 held.0.offer held.3)
           ∙ sym (held.4 steady)
       | inr (port, f, source, late) ↦
-          let unsteady = waits_unsteady net laws is differ cheap up in_ports most_routes most_services room network suffice before clock few_seconds at_start
+          let unsteady = waits_unsteady given before clock few_seconds at_start
           left_now now.histories (map (λ w. w.delivery) now.waiting) x f late in
           absurd (omega (arith, unsteady, steady))
     ]

@@ -10,6 +10,7 @@ use Rattle.ipx_internet.specs.Run.{Step, Run, forgotten, run_of}
 use Rattle.ipx_internet.specs.Ticks.{most_ticks_gone}
 use Rattle.ipx_internet.specs.Upkeep.{steps_of}
 use Rattle.ipx_internet.proofs.packets.SentOnOrReply.{Layouts}
+use Rattle.ipx_internet.proofs.tables.Given.{Given}
 use Rattle.ipx_internet.proofs.tables.LeastWays.{within, on_or_off, OnOrOff}
 use Rattle.ipx_internet.proofs.tables.RightWithinAMinute.{AtRest, route_of, RightedOf, kept, begins_right, ended, held_now, tick_rests}
 use Rattle.ipx_internet.proofs.tables.SaysWhatItKnows.{wants}
@@ -18,14 +19,14 @@ use Rattle.ipx_internet.proofs.ticks.AfterEachStep.{AfterEach, each_then, each-a
 use Rattle.ipx_internet.proofs.ticks.RealOrSoonEnded.{Endures}
 use Rattle.ipx_internet.proofs.ticks.TickAfterTick.{IsCalmTick, CalmTicks, left_of}
 
-module _ (net : Internet) (laws : Layouts) (is : IsInternet net) (differ : NodesDiffer net) (cheap : AreCheap net) (up : ℕ → List ℕ)
-    (in_ports : (router : ℕ) → AllByRecursion (λ j. j < length (ports_of net router)) (up router)) (most_routes most_services : ℕ) (room : HasRoom net most_routes)
-    (network : Network) (suffice : FifteenSuffice net up network) where
+module _ (given : Given) where
+  open given use {net, laws, is, up, in_ports, most_routes, most_services, network}
+
   abbrev Rest : ℕ → Run → Type 0
-  Rest = AtRest net laws is differ cheap up in_ports most_routes most_services room network suffice
+  Rest = AtRest given
 
   abbrev RouteOf : Run → ℕ → Option RouteOffer
-  RouteOf = route_of net laws is differ cheap up in_ports most_routes most_services room network suffice
+  RouteOf = route_of given
 
   -- each router has the route to the network that it has in another run
   abbrev pub SameRoute : Run → Run → Type 0
@@ -40,7 +41,7 @@ module _ (net : Internet) (laws : Layouts) (is : IsInternet net) (differ : Nodes
 
     abbrev Righted_of : (ℕ → ℕ) → Run → Type 0
     Righted_of left now =
-        RightedOf net laws is differ cheap up in_ports most_routes most_services room network suffice before long run steps rest tick left (forgotten now)
+        RightedOf given before long run steps rest tick left (forgotten now)
 
     same_now : (left : ℕ → ℕ) (now : Run) → Righted_of left now → SameRoute run now
     same_now left now righted router inside = by (on_or_off net up in_ports network router) (within net up in_ports network 15 router) refl
@@ -57,31 +58,31 @@ module _ (net : Internet) (laws : Layouts) (is : IsInternet net) (differ : Nodes
 
         by : OnOrOff net up in_ports network router → (o : Option Way) → within net up in_ports network 15 router ≡ o → RouteOf now router ≡ RouteOf run router
         by (inl on) o e =
-            none_on net laws is differ cheap up in_ports most_routes most_services room network suffice router (suc before - left router) enough
+            none_on given router (suc before - left router) enough
             (history_of now.histories router) endures_now on
-            ∙ sym (none_on net laws is differ cheap up in_ports most_routes most_services room network suffice router before long
+            ∙ sym (none_on given router before long
             (history_of run.histories router) (rest.rests.routers router inside) on)
         by (inr off) None e =
-            none_without net laws is differ cheap up in_ports most_routes most_services room network suffice router (suc before - left router) enough
+            none_without given router (suc before - left router) enough
             (history_of now.histories router) endures_now e
-            ∙ sym (none_without net laws is differ cheap up in_ports most_routes most_services room network suffice router before long
+            ∙ sym (none_without given router before long
             (history_of run.histories router) (rest.rests.routers router inside) e)
         by (inr off) (Some v) e =
-            held_now net laws is differ cheap up in_ports most_routes most_services room network suffice before long run steps rest tick left now righted router
-            (wants net laws is differ cheap up in_ports most_routes most_services room network suffice router v off e) steady
+            held_now given before long run steps rest tick left now righted router
+            (wants given router v off e) steady
 
     each_same : AfterEach net most_routes most_services (SameRoute run) run steps
     each_same =
         goes_each net laws is most_routes most_services up
-        (RightedOf net laws is differ cheap up in_ports most_routes most_services room network suffice before long run steps rest tick)
-        (kept net laws is differ cheap up in_ports most_routes most_services room network suffice before long run steps rest tick)
+        (RightedOf given before long run steps rest tick)
+        (kept given before long run steps rest tick)
         (SameRoute run) same_now steps run tick.busy.happens tick.leaves tick.says
-        (begins_right net laws is differ cheap up in_ports most_routes most_services room network suffice before long run steps rest tick)
+        (begins_right given before long run steps rest tick)
 
     last_same : SameRoute run (run_of net most_routes most_services run steps)
     last_same =
         same_now (left_of net laws is most_routes most_services up []) (run_of net most_routes most_services run steps)
-        (ended net laws is differ cheap up in_ports most_routes most_services room network suffice before long run steps rest tick)
+        (ended given before long run steps rest tick)
 
   -- ---- ticks, one after the other
 
@@ -95,5 +96,5 @@ module _ (net : Internet) (laws : Layouts) (is : IsInternet net) (differ : Nodes
       (each_then net most_routes most_services (SameRoute run) (SameRoute first) (λ now stays router inside. stays router inside ∙ same router inside) run steps
       (each_same so_far steady run steps rest are.0))
       (routes_stay (suc so_far) (omega (arith, steady)) first next ticks
-      (tick_rests net laws is differ cheap up in_ports most_routes most_services room network suffice so_far long run steps rest are.0) are.1
+      (tick_rests given so_far long run steps rest are.0) are.1
       (λ router inside. last_same so_far steady run steps rest are.0 router inside ∙ same router inside))

@@ -32,6 +32,7 @@ use Rattle.ipx_internet.proofs.lists.SomeElement.{any_passes, only_found, find_a
 use Rattle.ipx_internet.proofs.packets.PagesReadAgain.{IsRipPage}
 use Rattle.ipx_internet.proofs.packets.SentOnOrReply.{Layouts}
 use Rattle.ipx_internet.proofs.places.OneReceiverOfANode.{one_port, apart_at, port_is}
+use Rattle.ipx_internet.proofs.tables.Given.{Given}
 use Rattle.ipx_internet.proofs.tables.GoodRoutesStay.{Right, right_way}
 use Rattle.ipx_internet.proofs.tables.LeastRouteSurvives.{StateOf, known, records}
 use Rattle.ipx_internet.proofs.tables.LeastWays.{within, own, own_is, on_or_off, OnOrOff, came, first, none_of_own, same_some, is_there, all_places, on_port, port_on}
@@ -40,9 +41,9 @@ use Rattle.ipx_internet.proofs.tables.RoomForEachNetwork.{equal_where_same}
 use Rattle.ipx_internet.proofs.tables.SaysItsLeastWay.{IsWord, HasWay, told_words, news_words, told_route, told_direct, Tells}
 use Rattle.ipx_internet.proofs.ticks.RealOrSoonEnded.{Reaches, RouteSaid}
 
-module _ (net : Internet) (laws : Layouts) (is : IsInternet net) (differ : NodesDiffer net) (cheap : AreCheap net) (up : ℕ → List ℕ)
-    (in_ports : (router : ℕ) → AllByRecursion (λ j. j < length (ports_of net router)) (up router)) (most_routes most_services : ℕ) (room : HasRoom net most_routes)
-    (network : Network) (suffice : FifteenSuffice net up network) where
+module _ (given : Given) where
+  open given use {net, is, differ, cheap, up, in_ports, most_routes, room, network, suffice}
+
   -- ---- a router that should have a route
 
   -- it isn't on the network, and there is a way

@@ -38,6 +38,7 @@ use Rattle.ipx_internet.proofs.lists.SomeElement.{number_any, AnyIs}
 use Rattle.ipx_internet.proofs.packets.SentOnOrReply.{Layouts}
 use Rattle.ipx_internet.proofs.places.OneReceiverOfANode.{ports_at}
 use Rattle.ipx_internet.proofs.records.BestIsKept.{second_keeps}
+use Rattle.ipx_internet.proofs.tables.Given.{Given}
 use Rattle.ipx_internet.proofs.tables.GoodRoutesStay.{shares, one}
 use Rattle.ipx_internet.proofs.tables.LastWords.{WantsOf, Sources, GoodBy, IsGood, good_or_not, WordOf, PendingFor, Fine, comes_fine, waits_map, Fresh, Late, Later, Same, StateWith, Righted, good_state}
 use Rattle.ipx_internet.proofs.tables.LeastWays.{on_or_off, OnOrOff, came, few}
@@ -48,33 +49,33 @@ use Rattle.ipx_internet.proofs.tables.TurnsAreSaid.{calm_then, state_then}
 use Rattle.ipx_internet.proofs.ticks.RealOrSoonEnded.{RouteSaid, Comes, Endures, second_endures, runs_where, routes_said, changes_said}
 use Rattle.ipx_internet.proofs.ticks.TickAfterTick.{all_come, second_spoken, second_goes}
 
-module _ (net : Internet) (laws : Layouts) (is : IsInternet net) (differ : NodesDiffer net) (cheap : AreCheap net) (up : ℕ → List ℕ)
-    (in_ports : (router : ℕ) → AllByRecursion (λ j. j < length (ports_of net router)) (up router)) (most_routes most_services : ℕ) (room : HasRoom net most_routes)
-    (network : Network) (suffice : FifteenSuffice net up network) (before : ℕ) (long : most_ticks_gone ≤ before) (clock : ℕ → ℕ) (few_seconds : (router : ℕ) → clock router < period)
+module _ (given : Given) (before : ℕ) (long : most_ticks_gone ≤ before) (clock : ℕ → ℕ) (few_seconds : (router : ℕ) → clock router < period)
     (at_start : ℕ → Option RouteOffer) where
+  open given use {net, laws, is, differ, cheap, up, in_ports, most_routes, most_services, room, network, suffice}
+
   abbrev Good_of : List History → ℕ → Type 0
-  Good_of = IsGood net laws is differ cheap up in_ports most_routes most_services room network suffice
+  Good_of = IsGood given
 
   abbrev Wanting : ℕ → Type 0
-  Wanting = WantsOf net laws is differ cheap up in_ports most_routes most_services room network suffice
+  Wanting = WantsOf given
 
   abbrev Source_of : ℕ → Way → ℕ → Place → Type 0
-  Source_of = Sources net laws is differ cheap up in_ports most_routes most_services room network suffice
+  Source_of = Sources given
 
   abbrev Words : Place → RipEntry → Type 0
-  Words = WordOf net laws is differ cheap up in_ports most_routes most_services room network suffice before
+  Words = WordOf given before
 
   abbrev Is_fine : Place → Delivery → Type 0
-  Is_fine = Fine net laws is differ cheap up in_ports most_routes most_services room network suffice before
+  Is_fine = Fine given before
 
   abbrev Pends : ℕ → Place → Delivery → Type 0
-  Pends = PendingFor net laws is differ cheap up in_ports most_routes most_services room network suffice before
+  Pends = PendingFor given before
 
   abbrev State_of : ℕ → (ℕ → ℕ) → List History → List Delivery → (x : ℕ) → Wanting x → List (Fact RouteOffer) → Type 0
-  State_of = StateWith net laws is differ cheap up in_ports most_routes most_services room network suffice before clock few_seconds at_start
+  State_of = StateWith given before clock few_seconds at_start
 
   abbrev Righted_at : (ℕ → ℕ) → Queued → Type 0
-  Righted_at = Righted net laws is differ cheap up in_ports most_routes most_services room network suffice before clock few_seconds at_start
+  Righted_at = Righted given before clock few_seconds at_start
 
   module _ (histories : List History) (queue : List Delivery) (x : ℕ) (left rest : ℕ → ℕ) (inside : x < length net)
       (own : left x ≡ suc (rest x)) (others : (other : ℕ) → other ≢ x → left other ≡ rest other)
@@ -117,16 +118,16 @@ module _ (net : Internet) (laws : Layouts) (is : IsInternet net) (differ : Nodes
         (second_keeps route_reading network_order network_total most_routes
         (shares net is differ cheap up in_ports most_routes room network suffice x w.v w.off w.least) network
         (one net is differ cheap up in_ports most_routes room network suffice x w.v w.off w.least) (IsReal net up x)
-        (RightFor net laws is differ cheap up in_ports most_routes most_services room network suffice x w)
-        (Fresh net laws is differ cheap up in_ports most_routes most_services room network suffice before clock few_seconds at_start (left x))
-        (Fresh net laws is differ cheap up in_ports most_routes most_services room network suffice before clock few_seconds at_start (rest x))
-        (Late net laws is differ cheap up in_ports most_routes most_services room network suffice before clock few_seconds at_start (left x) left histories queue x)
-        (Late net laws is differ cheap up in_ports most_routes most_services room network suffice before clock few_seconds at_start (rest x) left histories queue x)
-        (Later net laws is differ cheap up in_ports most_routes most_services room network suffice before clock few_seconds at_start left histories queue x w)
-        (Later net laws is differ cheap up in_ports most_routes most_services room network suffice before clock few_seconds at_start left histories queue x w)
-        (Same net laws is differ cheap up in_ports most_routes most_services room network suffice before clock few_seconds at_start x)
+        (RightFor given x w)
+        (Fresh given before clock few_seconds at_start (left x))
+        (Fresh given before clock few_seconds at_start (rest x))
+        (Late given before clock few_seconds at_start (left x) left histories queue x)
+        (Late given before clock few_seconds at_start (rest x) left histories queue x)
+        (Later given before clock few_seconds at_start left histories queue x w)
+        (Later given before clock few_seconds at_start left histories queue x w)
+        (Same given before clock few_seconds at_start x)
         (λ f age young. let o = own in let y = young in omega (arith, o, y))
-        (λ f h right late. waits_map net laws is differ cheap up in_ports most_routes most_services room network suffice before clock few_seconds at_start
+        (λ f h right late. waits_map given before clock few_seconds at_start
         left histories queue x f ((h.age + left x ≤ period + 1) ⊎ (before < most_ticks_right)) ((h.age + 1 + rest x ≤ period + 1) ⊎ (before < most_ticks_right))
         (λ either. elim either [
           | inl few_left ↦ inl (let o = own in let y = few_left in omega (arith, o, y))
@@ -142,7 +143,7 @@ module _ (net : Internet) (laws : Layouts) (is : IsInternet net) (differ : Nodes
             h.offer.port,
             f,
             right.source,
-            waits_map net laws is differ cheap up in_ports most_routes most_services room network suffice before clock few_seconds at_start
+            waits_map given before clock few_seconds at_start
                 left histories queue x f ((h.age + left x ≤ period + 1) ⊎ (before < most_ticks_right)) (before < most_ticks_right)
                 (λ one. elim one [
                   | inl old ↦ let y = old in absurd (omega (arith, last, y))
@@ -159,23 +160,23 @@ module _ (net : Internet) (laws : Layouts) (is : IsInternet net) (differ : Nodes
             ∙ ap (λ b. route_facts ports past ++ (if b then PassedSecond ∷ [] else [])) (runs_where net up most_routes x c.port before past c.neighbour.on_here endured)
 
     abbrev GoodNow : Type 0
-    GoodNow = GoodBy net laws is differ cheap up in_ports most_routes most_services room network suffice x (route_facts ports now)
+    GoodNow = GoodBy given x (route_facts ports now)
 
     good_here : Good_of after_it x → GoodNow
-    good_here good = subst (λ (h : History). GoodBy net laws is differ cheap up in_ports most_routes most_services room network suffice x (route_facts ports h)) is_now good
+    good_here good = subst (λ (h : History). GoodBy given x (route_facts ports h)) is_now good
 
     good_there : GoodNow → Good_of after_it x
     good_there good =
-        subst (λ (h : History). GoodBy net laws is differ cheap up in_ports most_routes most_services room network suffice x (route_facts ports h)) (sym is_now) good
+        subst (λ (h : History). GoodBy given x (route_facts ports h)) (sym is_now) good
 
     steady_now : most_ticks_right ≤ before → Good_of after_it x
     steady_now steady =
-        good_there (good_state net laws is differ cheap up in_ports most_routes most_services room network suffice before clock few_seconds at_start
+        good_there (good_state given before clock few_seconds at_start
         (rest x) left histories queue x (route_facts ports now) own_state steady)
 
     steady_before : most_ticks_right ≤ before → (k : ℕ) → Good_of histories k
     steady_before steady k =
-        good_state net laws is differ cheap up in_ports most_routes most_services room network suffice before clock few_seconds at_start
+        good_state given before clock few_seconds at_start
         (left k) left histories queue k (route_facts (ports_of net k) (history_of histories k)) (righted.states k) steady
 
     -- ---- what it says
@@ -195,7 +196,7 @@ module _ (net : Internet) (laws : Layouts) (is : IsInternet net) (differ : Nodes
 
     if_good : (j : ℕ) (entries : List RipEntry) → (GoodNow → AllByRecursion (Words (place j)) entries)
         → AllByRecursion (λ e. Good_of after_it x → Words (place j) e) entries
-    if_good j entries words = elim (good_or_not net laws is differ cheap up in_ports most_routes most_services room network suffice x (route_facts ports now)) [
+    if_good j entries words = elim (good_or_not given x (route_facts ports now)) [
       | inl good ↦ all_then (Words (place j)) (λ e. Good_of after_it x → Words (place j) e) (λ e word good_now. word) entries (words good)
       | inr bad ↦ all_of (λ e. Good_of after_it x → Words (place j) e) (λ e good. absurd (bad (good_here good))) entries
     ]
@@ -208,21 +209,21 @@ module _ (net : Internet) (laws : Layouts) (is : IsInternet net) (differ : Nodes
         all_both (RouteSaid net up (suc before) (place j)) (λ e. Good_of after_it x → Words (place j) e) (told ports (up x) routes j)
         (routes_said net up most_routes x (suc before) (suc before) (omega arith) now endures_now j)
         (if_good j (told ports (up x) routes j) (λ good.
-        all_words net laws is differ cheap up in_ports most_routes most_services room network suffice (suc before)
+        all_words given (suc before)
         (place j) (told ports (up x) routes j) (λ u is_u near.
-        words_told net laws is differ cheap up in_ports most_routes most_services room network suffice (suc before) x u is_u near routes
-        (knows net laws is differ cheap up in_ports most_routes most_services room network suffice (suc before) x (suc before) now enough endures_now good u is_u near) j)))
+        words_told given (suc before) x u is_u near routes
+        (knows given (suc before) x (suc before) now enough endures_now good u is_u near) j)))
 
     said_news : (j : ℕ) → AllByRecursion (Says (place j)) (news ports old routes j)
     said_news j =
         all_both (RouteSaid net up (suc before) (place j)) (λ e. Good_of after_it x → Words (place j) e) (news ports old routes j)
         (changes_said net up most_routes x (suc before) (suc before) (omega arith) now endures_now old j)
         (if_good j (news ports old routes j) (λ good.
-        all_words net laws is differ cheap up in_ports most_routes most_services room network suffice (suc before)
+        all_words given (suc before)
         (place j) (news ports old routes j) (λ u is_u near.
-        words_news net laws is differ cheap up in_ports most_routes most_services room network suffice (suc before) x u is_u near old routes
-        (knows net laws is differ cheap up in_ports most_routes most_services room network suffice (suc before) x (suc before) now enough endures_now good u is_u near)
-        (all_off net laws is differ cheap up in_ports most_routes most_services room network suffice (suc before) x before past long endured) j)))
+        words_news given (suc before) x u is_u near old routes
+        (knows given (suc before) x (suc before) now enough endures_now good u is_u near)
+        (all_off given (suc before) x before past long endured) j)))
 
     abbrev sent : List Sent
     sent = sends_at net most_routes most_services histories x Second
@@ -238,7 +239,7 @@ module _ (net : Internet) (laws : Layouts) (is : IsInternet net) (differ : Nodes
     fine : (f : Place) → Good_of after_it f.router → AllByRecursion (Is_fine f) new
     fine f good =
         all_then (λ d. IsDelivery net d × Comes net up Says d.to d.bytes) (Is_fine f)
-        (λ d both. comes_fine net laws is differ cheap up in_ports most_routes most_services room network suffice before Says f d both.1 (λ e says. says.1 good)) new come
+        (λ d both. comes_fine given before Says f d both.1 (λ e says. says.1 good)) new come
 
     -- ---- it tells its neighbours, at a periodic second and where it turns right
 
@@ -258,7 +259,7 @@ module _ (net : Internet) (laws : Layouts) (is : IsInternet net) (differ : Nodes
     still = all-append IsOfBytes past (Second ∷ []) (righted.going.are.of_bytes x) (tt, tt)
 
     abbrev SaidBy : ℕ → RipEntry → Type 0
-    SaidBy j = Said net laws is differ cheap up in_ports most_routes most_services room network suffice (suc before) (place j)
+    SaidBy j = Said given (suc before) (place j)
 
     with_words : (j : ℕ) → Good_of after_it x → (entries : List RipEntry) → AllByRecursion (Says (place j)) entries → AllByRecursion (SaidBy j) entries
     with_words j good entries all = all_then (Says (place j)) (SaidBy j) (λ e says. (says.0, says.1 good)) entries all
@@ -288,14 +289,14 @@ module _ (net : Internet) (laws : Layouts) (is : IsInternet net) (differ : Nodes
 
       pend : AnyIs (Tells ports network source.way (SaidBy j) j) sent → AnyIs (Pends y (place j)) new
       pend any =
-          pends net laws is differ cheap up in_ports most_routes most_services room network suffice (suc before) y w port (place j) source sent sent_bytes any
+          pends given (suc before) y w port (place j) source sent sent_bytes any
 
       turns : (Good_of histories x → ⊥) → AnyIs (Pends y (place j)) new
       turns bad =
           pend (subst (λ (ss : List Sent). AnyIs (Tells ports network source.way (SaidBy j) j) ss) (sym (sends (is_periodic past) refl))
           (change_tells ports network source.way laws.readings laws.again j (port-all _ ports j (ports_at net is x) source.neighbour.place) (SaidBy j) bef aft
           on_up (news_writable j good) (told_writable j good) (is_periodic past)
-          (turn_is_news net laws is differ cheap up in_ports most_routes most_services room network suffice (suc before) (suc before) past now enough y port w (place j)
+          (turn_is_news given (suc before) (suc before) past now enough y port w (place j)
           source endures_now (good_here good) bad)))
 
       hops : w.v.hops ≡ source.way.hops + 1
@@ -309,12 +310,12 @@ module _ (net : Internet) (laws : Layouts) (is : IsInternet net) (differ : Nodes
 
       has : OnOrOff net up in_ports network x → AnyIs (λ e. e.network ≡ network) (told ports (up x) routes j)
       has (inl on) =
-          told_own net laws is differ cheap up in_ports most_routes most_services room network suffice (suc before) y w port (place j) source routes on
+          told_own given (suc before) y w port (place j) source routes on
       has (inr off) =
-          let second = wants net laws is differ cheap up in_ports most_routes most_services room network suffice x source.way off source.there in
-          let (h, from, some, right) = good_right net laws is differ cheap up in_ports most_routes most_services room network suffice (suc before) x (suc before) now enough endures_now
+          let second = wants given x source.way off source.there in
+          let (h, from, some, right) = good_right given (suc before) x (suc before) now enough endures_now
           (good_here good) second in
-          told_learned net laws is differ cheap up in_ports most_routes most_services room network suffice (suc before) y w port (place j) source second now h from near some right
+          told_learned given (suc before) y w port (place j) source second now h from near some right
 
       tells_all : clock x ≡ 0 → left x ≡ 1 → AnyIs (Pends y (place j)) new
       tells_all at_zero due =
@@ -351,7 +352,7 @@ module _ (net : Internet) (laws : Layouts) (is : IsInternet net) (differ : Nodes
     then_so : (mine k : ℕ) (w : Wanting k) (facts : List (Fact RouteOffer)) → State_of mine left histories queue k w facts
         → State_of mine rest after_it (queue ++ new) k w facts
     then_so =
-        state_then net laws is differ cheap up in_ports most_routes most_services room network suffice before clock few_seconds at_start
+        state_then given before clock few_seconds at_start
         left rest histories after_it queue new x others same_history steady_before steady_now fine turned told_all
 
     state_now : (k : ℕ) (w : Wanting k) → State_of (rest k) rest after_it (queue ++ new) k w (route_facts (ports_of net k) (history_of after_it k))
@@ -408,7 +409,7 @@ module _ (net : Internet) (laws : Layouts) (is : IsInternet net) (differ : Nodes
       going = second_goes net laws is most_routes most_services up (suc before) histories queue x left rest inside own others righted.going;
       states = state_now;
       calm =
-          calm_then net laws is differ cheap up in_ports most_routes most_services room network suffice before clock few_seconds at_start
+          calm_then given before clock few_seconds at_start
           left rest histories after_it queue new x others same_history steady_before steady_now fine turned told_all righted.calm;
       clocks = clock_now;
     }

@@ -23,6 +23,7 @@ use Rattle.ipx_internet.proofs.lists.FoundInAList.{nothing}
 use Rattle.ipx_internet.proofs.packets.SentOnOrReply.{Layouts}
 use Rattle.ipx_internet.proofs.places.OneReceiverOfANode.{same_number}
 use Rattle.ipx_internet.proofs.records.RecordsGrowOld.{at_last}
+use Rattle.ipx_internet.proofs.tables.Given.{Given}
 use Rattle.ipx_internet.proofs.tables.GoodRoutesStay.{right_way, right_node}
 use Rattle.ipx_internet.proofs.tables.LeastWays.{within, on_or_off, OnOrOff, came, same_some}
 use Rattle.ipx_internet.proofs.tables.NoRouteIsBetter.{there_where_up, real_way, none_beats}
@@ -56,14 +57,14 @@ all_ticks way ticks sure some =
     let more : most_ticks_gone + period ≤ ticks = rw off at sure in
     omega (arith, more)
 
-module _ (net : Internet) (laws : Layouts) (is : IsInternet net) (differ : NodesDiffer net) (cheap : AreCheap net) (up : ℕ → List ℕ)
-    (in_ports : (router : ℕ) → AllByRecursion (λ j. j < length (ports_of net router)) (up router)) (most_routes most_services : ℕ) (room : HasRoom net most_routes)
-    (network : Network) (suffice : FifteenSuffice net up network) where
+module _ (given : Given) where
+  open given use {net, is, differ, cheap, up, in_ports, most_routes, most_services, room, network, suffice}
+
   abbrev Rest : ℕ → Run → Type 0
-  Rest = AtRest net laws is differ cheap up in_ports most_routes most_services room network suffice
+  Rest = AtRest given
 
   abbrev RouteOf : Run → ℕ → Option RouteOffer
-  RouteOf = route_of net laws is differ cheap up in_ports most_routes most_services room network suffice
+  RouteOf = route_of given
 
   a_hop : (router : ℕ) (v : Way) → is_on (ports_of net router) network ≡ false → within net up in_ports network 15 router ≡ Some v → 1 ≤ v.hops
   a_hop router v off e =
@@ -123,12 +124,12 @@ module _ (net : Internet) (laws : Layouts) (is : IsInternet net) (differ : Nodes
       pub held : RouteOf run router ≡ Some route
       pub way : way_of route ≡ v
       pub from : Place
-      pub source : SourceOf net laws is differ cheap up in_ports most_routes most_services room network suffice router v route.port from
+      pub source : SourceOf given router v route.port from
       pub node : route.node ≡ (port_of net from).node
 
     pub route_is : (v : Way) → is_on (ports_of net router) network ≡ false → within net up in_ports network 15 router ≡ Some v → most_ticks_right ≤ ticks → HasRoute v
     route_is v off is_v sure =
-        let w = wants net laws is differ cheap up in_ports most_routes most_services room network suffice router v off is_v in
+        let w = wants given router v off is_v in
         let same = same_some net up in_ports network (within net up in_ports network 15 router) w.v v w.least is_v in
         elim (rest.holds router w) [
           | inl held ↦
@@ -137,12 +138,12 @@ module _ (net : Internet) (laws : Layouts) (is : IsInternet net) (differ : Nodes
               record {
                 route = h.offer;
                 held =
-                    found_there net laws is differ cheap up in_ports most_routes most_services room network suffice
+                    found_there given
                     router w history h some (ap (λ (r : RouteOffer). r.network) right.same) way;
                 way = way ∙ same;
                 from = f;
                 source =
-                    subst (λ (y : Way). SourceOf net laws is differ cheap up in_ports most_routes most_services room network suffice
+                    subst (λ (y : Way). SourceOf given
                     router y h.offer.port f) same right.source;
                 node = right_node net is differ cheap up in_ports most_routes room network suffice router w.v w.off w.least f h.offer right;
               }
@@ -150,7 +151,7 @@ module _ (net : Internet) (laws : Layouts) (is : IsInternet net) (differ : Nodes
               let clock = mod_below (seconds_run (history_of run.histories f.router)) period (omega arith) in
               absurd (omega (arith, early, clock, sure))
           | inr (port, f, source, inr bad) ↦
-              absurd (bad (good_then net laws is differ cheap up in_ports most_routes most_services room network suffice ticks run rest sure f.router))
+              absurd (bad (good_then given ticks run rest sure f.router))
         ]
 
     -- by its number
@@ -175,15 +176,15 @@ module _ (net : Internet) (laws : Layouts) (is : IsInternet net) (differ : Nodes
   -- ---- it stays
 
   stays_by : (ticks : ℕ) (run : Run) (further : List (List Step)) → Rest ticks run → CalmTicks net most_routes most_services run further
-      → (router : ℕ) (w : Wants net laws is differ cheap up in_ports most_routes most_services room network suffice router) → most_ticks_right ≤ ticks
+      → (router : ℕ) (w : Wants given router) → most_ticks_right ≤ ticks
       → RouteOf (ticked net most_routes most_services run further) router ≡ RouteOf run router
   stays_by ticks run [] rest are router w sure = refl
   stays_by ticks run (steps ∷ further) rest are router w sure =
       let next = run_of net most_routes most_services run steps in
       let long : most_ticks_gone ≤ ticks = omega (arith, sure) in
-      stays_by (suc ticks) next further (tick_rests net laws is differ cheap up in_ports most_routes most_services room network suffice ticks long run steps rest are.0) are.1 router w
+      stays_by (suc ticks) next further (tick_rests given ticks long run steps rest are.0) are.1 router w
       (omega (arith, sure))
-      ∙ route_stays net laws is differ cheap up in_ports most_routes most_services room network suffice ticks long run steps rest are.0 router w sure
+      ∙ route_stays given ticks long run steps rest are.0 router w sure
 
   pub stays : (ticks : ℕ) (run : Run) (further : List (List Step)) → Rest ticks run → CalmTicks net most_routes most_services run further
       → (router : ℕ) → router < length net → ticks_right (least_route net up router network) ≤ ticks
@@ -191,7 +192,7 @@ module _ (net : Internet) (laws : Layouts) (is : IsInternet net) (differ : Nodes
       ≡ route_to (offers (routes_held (ports_of net router) most_routes (history_of run.histories router))) network.0
   stays ticks run further rest are router inside sure =
       let long = some_ticks (least_route net up router network) ticks sure in
-      let later = ticks_rest_right net laws is differ cheap up in_ports most_routes most_services room network suffice ticks long run further rest are in
+      let later = ticks_rest_right given ticks long run further rest are in
       let longer : most_ticks_gone ≤ length further + ticks = omega (arith, long) in
       by_number (length further + ticks) (ticked net most_routes most_services run further) later longer router inside
       ∙ by later longer long (on_or_off net up in_ports network router) (within net up in_ports network 15 router) refl
@@ -208,7 +209,7 @@ module _ (net : Internet) (laws : Layouts) (is : IsInternet net) (differ : Nodes
           ∙ sym (none_without router ticks long (history_of run.histories router) (rest.rests.routers router inside) e)
       by later longer long (inr off) (Some v) e =
           let should : least_route net up router network ≡ Some v = rw off e in
-          let w = wants net laws is differ cheap up in_ports most_routes most_services room network suffice router v off e in
+          let w = wants given router v off e in
           stays_by ticks run further rest are router w (all_ticks v ticks (subst (λ (o : Option Way). ticks_right o ≤ ticks) should sure) (a_hop router v off e))
 
 -- ---- ticks in two parts

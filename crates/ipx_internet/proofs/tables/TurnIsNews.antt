@@ -20,6 +20,7 @@ use Rattle.ipx_internet.proofs.lists.SomeElement.{AnyIs}
 use Rattle.ipx_internet.proofs.packets.SentOnOrReply.{Layouts}
 use Rattle.ipx_internet.proofs.records.RecordsGrowOld.{at_last}
 use Rattle.ipx_internet.proofs.tables.ChangeIsSaid.{change_said}
+use Rattle.ipx_internet.proofs.tables.Given.{Given}
 use Rattle.ipx_internet.proofs.tables.GoodRoutesStay.{right_where_least}
 use Rattle.ipx_internet.proofs.tables.LastWords.{WantsOf, Sources, known_by, GoodBy}
 use Rattle.ipx_internet.proofs.tables.LeastRouteSurvives.{known_is}
@@ -29,9 +30,9 @@ use Rattle.ipx_internet.proofs.tables.RoomForEachNetwork.{real_wanted}
 use Rattle.ipx_internet.proofs.tables.SaysWhatItKnows.{wants, RightFor, found_so, found_there, Knows, AllKnow, knows_on, knows_off, learned_elsewhere}
 use Rattle.ipx_internet.proofs.ticks.RealOrSoonEnded.{Endures}
 
-module _ (net : Internet) (laws : Layouts) (is : IsInternet net) (differ : NodesDiffer net) (cheap : AreCheap net) (up : ℕ → List ℕ)
-    (in_ports : (router : ℕ) → AllByRecursion (λ j. j < length (ports_of net router)) (up router)) (most_routes most_services : ℕ) (room : HasRoom net most_routes)
-    (network : Network) (suffice : FifteenSuffice net up network) where
+module _ (given : Given) where
+  open given use {net, is, differ, cheap, up, in_ports, most_routes, room, network, suffice}
+
   module _ (begun router had : ℕ) (history : History) (enough : most_ticks_gone ≤ had) (endures : Endures net up most_routes router had history) where
     abbrev routes : List RouteOffer
     routes = offers (routes_held (ports_of net router) most_routes history)
@@ -44,12 +45,12 @@ module _ (net : Internet) (laws : Layouts) (is : IsInternet net) (differ : Nodes
         (at_last route_reading network_order network_total most_routes (map (λ p. p.route_share) (ports_of net router)) (λ r. r.hops) (λ r. refl)
         (IsReal net up router) had (route_facts (ports_of net router) history) enough endures.routes)
 
-    module _ (good : GoodBy net laws is differ cheap up in_ports most_routes most_services room network suffice router (route_facts (ports_of net router) history)) where
+    module _ (good : GoodBy given router (route_facts (ports_of net router) history)) where
       -- the route that it holds, and from where
-      pub good_right : (w : WantsOf net laws is differ cheap up in_ports most_routes most_services room network suffice router)
+      pub good_right : (w : WantsOf given router)
           → (h : Held RouteOffer) × (from : Place)
-          × (known_by net laws is differ cheap up in_ports most_routes most_services room network suffice router w (route_facts (ports_of net router) history) ≡ Some h)
-          × RightFor net laws is differ cheap up in_ports most_routes most_services room network suffice router w from h.offer
+          × (known_by given router w (route_facts (ports_of net router) history) ≡ Some h)
+          × RightFor given router w from h.offer
       good_right w =
           let (h, some, way) = good w in
           let known = known_is net is differ cheap up in_ports most_routes room network suffice router w.v w.off w.least w.wanted had enough
@@ -57,25 +58,25 @@ module _ (net : Internet) (laws : Layouts) (is : IsInternet net) (differ : Nodes
           let (from, right) = right_where_least net is differ cheap up in_ports most_routes room network suffice router w.v w.off w.least h.offer known.0 known.1 (sym way) in
           (h, from, some, right)
 
-      pub knows : AllKnow net laws is differ cheap up in_ports most_routes most_services room network suffice begun router routes
+      pub knows : AllKnow given begun router routes
       knows u is_u near = by (on_or_off net up in_ports network router)
         where
-          by : OnOrOff net up in_ports network router → Knows net laws is differ cheap up in_ports most_routes most_services room network suffice begun router u routes
-          by (inl on) = knows_on net laws is differ cheap up in_ports most_routes most_services room network suffice begun router u routes on all_off
+          by : OnOrOff net up in_ports network router → Knows given begun router u routes
+          by (inl on) = knows_on given begun router u routes on all_off
           by (inr off) =
-              let w = wants net laws is differ cheap up in_ports most_routes most_services room network suffice router u off is_u in
+              let w = wants given router u off is_u in
               let same = same_some net up in_ports network (within net up in_ports network 15 router) w.v u w.least is_u in
               let (h, some, way) = good w in
               let known = known_is net is differ cheap up in_ports most_routes room network suffice router w.v w.off w.least w.wanted had enough
               (route_facts (ports_of net router) history) endures.routes h some in
-              subst (λ (x : Way). Knows net laws is differ cheap up in_ports most_routes most_services room network suffice begun router x routes) same
-              (knows_off net laws is differ cheap up in_ports most_routes most_services room network suffice begun router w history h some known.1 way)
+              subst (λ (x : Way). Knows given begun router x routes) same
+              (knows_off given begun router w history h some known.1 way)
 
   -- a router that turns right says so to a neighbour whose way leads by it
-  module _ (begun had : ℕ) (past now : History) (enough : most_ticks_gone ≤ had) (x port : ℕ) (w : WantsOf net laws is differ cheap up in_ports most_routes most_services room network suffice x)
-      (f : Place) (source : Sources net laws is differ cheap up in_ports most_routes most_services room network suffice x w.v port f) (endures : Endures net up most_routes f.router had now)
-      (good : GoodBy net laws is differ cheap up in_ports most_routes most_services room network suffice f.router (route_facts (ports_of net f.router) now))
-      (bad : GoodBy net laws is differ cheap up in_ports most_routes most_services room network suffice f.router (route_facts (ports_of net f.router) past) → ⊥) where
+  module _ (begun had : ℕ) (past now : History) (enough : most_ticks_gone ≤ had) (x port : ℕ) (w : WantsOf given x)
+      (f : Place) (source : Sources given x w.v port f) (endures : Endures net up most_routes f.router had now)
+      (good : GoodBy given f.router (route_facts (ports_of net f.router) now))
+      (bad : GoodBy given f.router (route_facts (ports_of net f.router) past) → ⊥) where
     abbrev before : List RouteOffer
     before = offers (routes_held (ports_of net f.router) most_routes past)
 
@@ -85,15 +86,15 @@ module _ (net : Internet) (laws : Layouts) (is : IsInternet net) (differ : Nodes
     pub turn_is_news : AnyIs (λ e. e.network ≡ network) (news (ports_of net f.router) before after f.port)
     turn_is_news = by (on_or_off net up in_ports network f.router)
       where
-        other : (second : WantsOf net laws is differ cheap up in_ports most_routes most_services room network suffice f.router) (v : Way) → v ≡ second.v → (s : RouteOffer)
+        other : (second : WantsOf given f.router) (v : Way) → v ≡ second.v → (s : RouteOffer)
             → find (λ o. is_eq (network_order o.network network)) before ≡ Some s → way_of s ≡ v → ⊥
         other second v is_v s e same =
-            held (known_by net laws is differ cheap up in_ports most_routes most_services room network suffice f.router second (route_facts (ports_of net f.router) past)) refl
-            (sym (found_so net laws is differ cheap up in_ports most_routes most_services room network suffice f.router second past) ∙ e)
+            held (known_by given f.router second (route_facts (ports_of net f.router) past)) refl
+            (sym (found_so given f.router second past) ∙ e)
           where
             held : (o : Option (Held RouteOffer))
-                → known_by net laws is differ cheap up in_ports most_routes most_services room network suffice f.router second (route_facts (ports_of net f.router) past) ≡ o
-                → option_map (λ y. y.offer) (known_by net laws is differ cheap up in_ports most_routes most_services room network suffice f.router second
+                → known_by given f.router second (route_facts (ports_of net f.router) past) ≡ o
+                → option_map (λ y. y.offer) (known_by given f.router second
                 (route_facts (ports_of net f.router) past)) ≡ Some s → ⊥
             held None none is = nothing (sym (ap (option_map (λ y. y.offer)) none) ∙ is)
             held (Some g) some is =
@@ -109,13 +110,13 @@ module _ (net : Internet) (laws : Layouts) (is : IsInternet net) (differ : Nodes
         by : OnOrOff net up in_ports network f.router → AnyIs (λ e. e.network ≡ network) (news (ports_of net f.router) before after f.port)
         by (inl on) = absurd (bad (λ second. absurd (both_ways (is_on (ports_of net f.router) network) second.off on)))
         by (inr off) =
-            let second = wants net laws is differ cheap up in_ports most_routes most_services room network suffice f.router source.way off source.there in
+            let second = wants given f.router source.way off source.there in
             let (h, from, some, right) = good_right begun f.router had now enough endures good second in
             let (g, is_g, way) = good second in
             let way_h : way_of h.offer ≡ second.v =
             it_is (λ (y : Held RouteOffer). way_of y.offer ≡ second.v) h g (sym is_g ∙ some) way in
             let named = ap (λ (r : RouteOffer). r.network) right.same in
             change_said (ports_of net f.router) network f.port before after h.offer
-            (found_there net laws is differ cheap up in_ports most_routes most_services room network suffice f.router second now h some named way_h)
-            (learned_elsewhere net laws is differ cheap up in_ports most_routes most_services room network suffice begun x w port f source second h.offer from right)
+            (found_there given f.router second now h some named way_h)
+            (learned_elsewhere given begun x w port f source second h.offer from right)
             (λ s e same. other second (way_of h.offer) way_h s e same)

@@ -14,40 +14,41 @@ use Rattle.ipx_internet.specs.Queue.{Delivery, Queued, history_of}
 use Rattle.ipx_internet.proofs.lists.EachElement.{all-append}
 use Rattle.ipx_internet.proofs.lists.SomeElement.{AnyIs}
 use Rattle.ipx_internet.proofs.packets.SentOnOrReply.{Layouts}
+use Rattle.ipx_internet.proofs.tables.Given.{Given}
 use Rattle.ipx_internet.proofs.tables.LastWords.{WantsOf, Sources, GoodBy, IsGood, facts_of, good_or_not, PendingFor, Fine, Ends, ends_more, ends_behind, any_ends, Calm, Waits, StateWith, Righted}
 
-module _ (net : Internet) (laws : Layouts) (is : IsInternet net) (differ : NodesDiffer net) (cheap : AreCheap net) (up : ℕ → List ℕ)
-    (in_ports : (router : ℕ) → AllByRecursion (λ j. j < length (ports_of net router)) (up router)) (most_routes most_services : ℕ) (room : HasRoom net most_routes)
-    (network : Network) (suffice : FifteenSuffice net up network) (before : ℕ) (clock : ℕ → ℕ) (few_seconds : (router : ℕ) → clock router < period) (at_start : ℕ → Option RouteOffer) where
+module _ (given : Given) (before : ℕ) (clock : ℕ → ℕ) (few_seconds : (router : ℕ) → clock router < period) (at_start : ℕ → Option RouteOffer) where
+  open given use {net}
+
   abbrev Waits_by : (ℕ → ℕ) → List History → List Delivery → ℕ → Place → Type 0 → Type 0
-  Waits_by = Waits net laws is differ cheap up in_ports most_routes most_services room network suffice before clock few_seconds at_start
+  Waits_by = Waits given before clock few_seconds at_start
 
   abbrev Good_of : List History → ℕ → Type 0
-  Good_of = IsGood net laws is differ cheap up in_ports most_routes most_services room network suffice
+  Good_of = IsGood given
 
   abbrev Wanting : ℕ → Type 0
-  Wanting = WantsOf net laws is differ cheap up in_ports most_routes most_services room network suffice
+  Wanting = WantsOf given
 
   abbrev Source_of : ℕ → Way → ℕ → Place → Type 0
-  Source_of = Sources net laws is differ cheap up in_ports most_routes most_services room network suffice
+  Source_of = Sources given
 
   abbrev Is_fine : Place → Delivery → Type 0
-  Is_fine = Fine net laws is differ cheap up in_ports most_routes most_services room network suffice before
+  Is_fine = Fine given before
 
   abbrev Pends : ℕ → Place → Delivery → Type 0
-  Pends = PendingFor net laws is differ cheap up in_ports most_routes most_services room network suffice before
+  Pends = PendingFor given before
 
   abbrev Ending : ℕ → Place → List Delivery → Type 0
-  Ending = Ends net laws is differ cheap up in_ports most_routes most_services room network suffice before
+  Ending = Ends given before
 
   abbrev Is_calm : ℕ → Place → List Delivery → Type 0
-  Is_calm = Calm net laws is differ cheap up in_ports most_routes most_services room network suffice before
+  Is_calm = Calm given before
 
   abbrev State_of : ℕ → (ℕ → ℕ) → List History → List Delivery → (x : ℕ) → Wanting x → List (Fact RouteOffer) → Type 0
-  State_of = StateWith net laws is differ cheap up in_ports most_routes most_services room network suffice before clock few_seconds at_start
+  State_of = StateWith given before clock few_seconds at_start
 
   abbrev Righted_at : (ℕ → ℕ) → Queued → Type 0
-  Righted_at = Righted net laws is differ cheap up in_ports most_routes most_services room network suffice before clock few_seconds at_start
+  Righted_at = Righted given before clock few_seconds at_start
 
   -- one event of router y
   module _ (left rest : ℕ → ℕ) (old now : List History) (queue new : List Delivery) (y : ℕ)
@@ -59,11 +60,11 @@ module _ (net : Internet) (laws : Layouts) (is : IsInternet net) (differ : Nodes
       → (rest y ≡ 1) ⊎ (Good_of now y → AnyIs (Pends x f) new)) where
     good_same : (k : ℕ) → k ≢ y → Good_of now k → Good_of old k
     good_same k off good =
-        subst (λ (h : History). GoodBy net laws is differ cheap up in_ports most_routes most_services room network suffice k (route_facts (ports_of net k) h)) (same k off) good
+        subst (λ (h : History). GoodBy given k (route_facts (ports_of net k) h)) (same k off) good
 
     same_good : (k : ℕ) → k ≢ y → Good_of old k → Good_of now k
     same_good k off good =
-        subst (λ (h : History). GoodBy net laws is differ cheap up in_ports most_routes most_services room network suffice k (route_facts (ports_of net k) h)) (sym (same k off)) good
+        subst (λ (h : History). GoodBy given k (route_facts (ports_of net k) h)) (sym (same k off)) good
 
     -- once all are right for good, they are now
     steady : most_ticks_right ≤ before → (k : ℕ) → Good_of now k
@@ -89,16 +90,16 @@ module _ (net : Internet) (laws : Layouts) (is : IsInternet net) (differ : Nodes
 
     waits_then : (S : Type 0) → (before < most_ticks_right → S) → (x port : ℕ) (f : Place) (w : Wanting x) → Source_of x w.v port f
         → Waits_by left old queue x f S → Waits_by rest now (queue ++ new) x f S
-    waits_then S unsteady_does x port f w source waits = elim (good_or_not net laws is differ cheap up in_ports most_routes most_services room network suffice f.router
-        (facts_of net laws is differ cheap up in_ports most_routes most_services room network suffice now f.router)) [
+    waits_then S unsteady_does x port f w source waits = elim (good_or_not given f.router
+        (facts_of given now f.router)) [
           | inr bad ↦ inr (inr (inl (unsteady_if f.router bad, bad)))
           | inl good ↦ by (fine f good) good waits (cases_eq f.router y)
         ]
       where
         last : AllByRecursion (Is_fine f) new → AnyIs (Pends x f) new → Ending x f (queue ++ new)
         last all any =
-            ends_behind net laws is differ cheap up in_ports most_routes most_services room network suffice before x f queue new
-            (any_ends net laws is differ cheap up in_ports most_routes most_services room network suffice before x f new any all)
+            ends_behind given before x f queue new
+            (any_ends given before x f new any all)
 
         by : AllByRecursion (Is_fine f) new → Good_of now f.router → Waits_by left old queue x f S → (f.router ≡ y) ⊎ (f.router ≢ y)
             → Waits_by rest now (queue ++ new) x f S
@@ -115,19 +116,19 @@ module _ (net : Internet) (laws : Layouts) (is : IsInternet net) (differ : Nodes
               last all (turned x port f w source is_y (at_y f is_y good) (λ was. bad (subst (λ (k : ℕ). Good_of old k) (sym is_y) was))),
             )))
         by all good (inr (inr (inr (s, ends)))) c =
-            inr (inr (inr (s, ends_more net laws is differ cheap up in_ports most_routes most_services room network suffice before x f queue new ends all)))
+            inr (inr (inr (s, ends_more given before x f queue new ends all)))
 
     pub calm_then : ((x port : ℕ) (f : Place) (w : Wanting x) → Source_of x w.v port f → Good_of old f.router → Is_calm x f queue)
         → (x port : ℕ) (f : Place) (w : Wanting x) → Source_of x w.v port f → Good_of now f.router → Is_calm x f (queue ++ new)
-    calm_then calm x port f w source good = elim (good_or_not net laws is differ cheap up in_ports most_routes most_services room network suffice f.router
-        (facts_of net laws is differ cheap up in_ports most_routes most_services room network suffice old f.router)) [
+    calm_then calm x port f w source good = elim (good_or_not given f.router
+        (facts_of given old f.router)) [
           | inl was ↦ still (calm x port f w source was)
           | inr bad ↦ elim (cases_eq f.router y) [
             | inr off ↦ absurd (bad (good_same f.router off good))
             | inl is_y ↦ inr (
               unsteady_before f.router bad,
-              ends_behind net laws is differ cheap up in_ports most_routes most_services room network suffice before x f queue new
-                  (any_ends net laws is differ cheap up in_ports most_routes most_services room network suffice before x f new
+              ends_behind given before x f queue new
+                  (any_ends given before x f new
                   (turned x port f w source is_y (at_y f is_y good) (λ was. bad (subst (λ (k : ℕ). Good_of old k) (sym is_y) was))) (fine f good)),
             )
           ]
@@ -136,7 +137,7 @@ module _ (net : Internet) (laws : Layouts) (is : IsInternet net) (differ : Nodes
         still : Is_calm x f queue → Is_calm x f (queue ++ new)
         still (inl all) = inl (all-append (Is_fine f) queue new all (fine f good))
         still (inr (unsteady, ends)) =
-            inr (unsteady, ends_more net laws is differ cheap up in_ports most_routes most_services room network suffice before x f queue new ends (fine f good))
+            inr (unsteady, ends_more given before x f queue new ends (fine f good))
 
     pub state_then : (mine x : ℕ) (w : Wanting x) (facts : List (Fact RouteOffer)) → State_of mine left old queue x w facts → State_of mine rest now (queue ++ new) x w facts
     state_then mine x w facts state = record {

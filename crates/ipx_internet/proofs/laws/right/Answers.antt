@@ -9,6 +9,7 @@ use Rattle.ipx_internet.specs.Ticks.{ticked, ups, most_ticks_gone}
 use Rattle.ipx_internet.proofs.laws.right.Goals as goal
 use Rattle.ipx_internet.proofs.packets.SentOnOrReply.{Layouts}
 use Rattle.ipx_internet.proofs.tables.AnyTablesBecomeRight.{from_any, from_real, from_run}
+use Rattle.ipx_internet.proofs.tables.Given.{given_of}
 use Rattle.ipx_internet.proofs.tables.LeastWays.{ups_within}
 use Rattle.ipx_internet.proofs.tables.TablesAreRight.{some_ticks, soon_enough, table_is, stays, parts_of, ticked_on}
 use Rattle.ipx_internet.proofs.ticks.TickAfterTick.{IsCalmTick, quiet_tick, quiet_ticks}
@@ -40,7 +41,7 @@ pub returns-clause-tables : goal.returns-clause-tables
 returns-clause-tables c net most_routes most_services histories ticks router network is differ suffice cheap room are passes inside sure =
     let calm = quiet_ticks net most_routes most_services (layouts c) is (begun histories) ticks passes in
     let long = some_ticks (least_route net (ups net histories) router network) (length ticks) sure in
-    table_is net (layouts c) is differ cheap (ups net histories) (ups_within net histories) most_routes most_services room network suffice (length ticks)
+    table_is (given_of net (layouts c) is differ cheap (ups net histories) (ups_within net histories) most_routes most_services room network suffice) (length ticks)
     (ticked net most_routes most_services (begun histories) ticks) (from_any net (layouts c) is differ cheap most_routes most_services room network histories are suffice ticks calm long) long router inside sure
 
 pub returns-clause-stay : goal.returns-clause-stay
@@ -53,7 +54,7 @@ returns-clause-stay c net most_routes most_services histories ticks further rout
     ≡ route_to (offers (routes_held (ports_of net router) most_routes
     (history_of (ticked net most_routes most_services (begun histories) ticks).histories router))) network.0)
     (sym (ticked_on net most_routes most_services (begun histories) ticks further))
-    (stays net (layouts c) is differ cheap (ups net histories) (ups_within net histories) most_routes most_services room network suffice (length ticks) (ticked net most_routes most_services (begun histories) ticks) further
+    (stays (given_of net (layouts c) is differ cheap (ups net histories) (ups_within net histories) most_routes most_services room network suffice) (length ticks) (ticked net most_routes most_services (begun histories) ticks) further
     (from_any net (layouts c) is differ cheap most_routes most_services room network histories are suffice ticks parts.0 long) parts.1 router inside sure)
 
 pub returns-clause-soon : goal.returns-clause-soon
@@ -67,7 +68,7 @@ returns-clause-whatever_waits c net most_routes most_services run (first ∷ tic
     let once = quiet_tick net most_routes most_services (layouts c) is run first passes.0 in
     let enough : ticks_right (least_route net (ups net run.histories) router network) ≤ length ticks = omega (arith, sure) in
     let long = some_ticks (least_route net (ups net run.histories) router network) (length ticks) enough in
-    table_is net (layouts c) is differ cheap (ups net run.histories) (ups_within net run.histories) most_routes most_services room network suffice (length ticks)
+    table_is (given_of net (layouts c) is differ cheap (ups net run.histories) (ups_within net run.histories) most_routes most_services room network suffice) (length ticks)
     (ticked net most_routes most_services next ticks)
     (from_run net (layouts c) is differ cheap most_routes most_services room network run are waits suffice first ticks once.busy once.leaves calm long) long router inside enough
 
@@ -86,7 +87,7 @@ returns-clause-whatever_waits_stay c net most_routes most_services run (first �
     ≡ route_to (offers (routes_held (ports_of net router) most_routes
     (history_of (ticked net most_routes most_services next ticks).histories router))) network.0)
     (sym (ticked_on net most_routes most_services next ticks further))
-    (stays net (layouts c) is differ cheap (ups net run.histories) (ups_within net run.histories) most_routes most_services room network suffice (length ticks) (ticked net most_routes most_services next ticks) further
+    (stays (given_of net (layouts c) is differ cheap (ups net run.histories) (ups_within net run.histories) most_routes most_services room network suffice) (length ticks) (ticked net most_routes most_services next ticks) further
     (from_run net (layouts c) is differ cheap most_routes most_services room network run are waits suffice first ticks once.busy once.leaves parts.0 long) parts.1 router inside enough)
 
 -- as if that many ticks had passed
@@ -94,7 +95,7 @@ pub returns-clause-sooner : goal.returns-clause-sooner
 returns-clause-sooner c net most_routes most_services histories ticks router network is differ suffice cheap room are real passes inside sure =
     let calm = quiet_ticks net most_routes most_services (layouts c) is (begun histories) ticks passes in
     let enough : ticks_right (least_route net (ups net histories) router network) ≤ length ticks + most_ticks_gone = omega (arith, sure) in
-    table_is net (layouts c) is differ cheap (ups net histories) (ups_within net histories) most_routes most_services room network suffice (length ticks + most_ticks_gone)
+    table_is (given_of net (layouts c) is differ cheap (ups net histories) (ups_within net histories) most_routes most_services room network suffice) (length ticks + most_ticks_gone)
     (ticked net most_routes most_services (begun histories) ticks)
     (from_real net (layouts c) is differ cheap most_routes most_services room network histories are suffice ticks calm real) (omega arith) router inside enough
 
@@ -108,5 +109,5 @@ returns-clause-sooner_stay c net most_routes most_services histories ticks furth
     ≡ route_to (offers (routes_held (ports_of net router) most_routes
     (history_of (ticked net most_routes most_services (begun histories) ticks).histories router))) network.0)
     (sym (ticked_on net most_routes most_services (begun histories) ticks further))
-    (stays net (layouts c) is differ cheap (ups net histories) (ups_within net histories) most_routes most_services room network suffice (length ticks + most_ticks_gone) (ticked net most_routes most_services (begun histories) ticks) further
+    (stays (given_of net (layouts c) is differ cheap (ups net histories) (ups_within net histories) most_routes most_services room network suffice) (length ticks + most_ticks_gone) (ticked net most_routes most_services (begun histories) ticks) further
     (from_real net (layouts c) is differ cheap most_routes most_services room network histories are suffice ticks parts.0 real) parts.1 router inside enough)

@@ -9,6 +9,7 @@ use Rattle.ipx_internet.specs.Ticks.{ticked, ups, most_ticks_gone}
 use Rattle.ipx_internet.proofs.laws.hosts.right_meanwhile.Goals as goal
 use Rattle.ipx_internet.proofs.packets.SentOnOrReply.{Layouts}
 use Rattle.ipx_internet.proofs.tables.AnyTablesBecomeRight.{from_any, from_real, from_run}
+use Rattle.ipx_internet.proofs.tables.Given.{given_of}
 use Rattle.ipx_internet.proofs.tables.LeastWays.{ups_within}
 use Rattle.ipx_internet.proofs.tables.PacketsArrive.{goes}
 use Rattle.ipx_internet.proofs.tables.TablesAreRight.{soon_enough, table_is, stays, parts_of, ticked_on}
@@ -42,7 +43,7 @@ returns-clause-tables c net most_routes most_services histories ticks router net
     let calm = calm_ticks net most_routes most_services (begun histories) ticks busy leave says in
     let soon = soon_enough (least_route net (ups net histories) router network) in
     let long : most_ticks_gone ≤ length ticks = omega (arith, sure) in
-    table_is net (layouts c) is differ cheap (ups net histories) (ups_within net histories) most_routes most_services room network suffice (length ticks)
+    table_is (given_of net (layouts c) is differ cheap (ups net histories) (ups_within net histories) most_routes most_services room network suffice) (length ticks)
     (ticked net most_routes most_services (begun histories) ticks) (from_any net (layouts c) is differ cheap most_routes most_services room network histories are suffice ticks calm long) long router inside
     (omega (arith, soon, sure))
 
@@ -58,7 +59,7 @@ returns-clause-stay c net most_routes most_services histories ticks further rout
     ≡ route_to (offers (routes_held (ports_of net router) most_routes
     (history_of (ticked net most_routes most_services (begun histories) ticks).histories router))) network.0)
     (sym (ticked_on net most_routes most_services (begun histories) ticks further))
-    (stays net (layouts c) is differ cheap (ups net histories) (ups_within net histories) most_routes most_services room network suffice (length ticks) (ticked net most_routes most_services (begun histories) ticks) further
+    (stays (given_of net (layouts c) is differ cheap (ups net histories) (ups_within net histories) most_routes most_services room network suffice) (length ticks) (ticked net most_routes most_services (begun histories) ticks) further
     (from_any net (layouts c) is differ cheap most_routes most_services room network histories are suffice ticks parts.0 long) parts.1 router inside enough)
 
 pub returns-clause-sooner : goal.returns-clause-sooner
@@ -66,7 +67,7 @@ returns-clause-sooner c net most_routes most_services histories ticks router net
     let calm = calm_ticks net most_routes most_services (begun histories) ticks busy leave says in
     let soon = soon_enough (least_route net (ups net histories) router network) in
     let enough : ticks_right (least_route net (ups net histories) router network) ≤ length ticks + most_ticks_gone = omega (arith, soon, sure) in
-    table_is net (layouts c) is differ cheap (ups net histories) (ups_within net histories) most_routes most_services room network suffice (length ticks + most_ticks_gone)
+    table_is (given_of net (layouts c) is differ cheap (ups net histories) (ups_within net histories) most_routes most_services room network suffice) (length ticks + most_ticks_gone)
     (ticked net most_routes most_services (begun histories) ticks)
     (from_real net (layouts c) is differ cheap most_routes most_services room network histories are suffice ticks calm real) (omega arith) router inside enough
 
@@ -76,7 +77,7 @@ returns-clause-whatever_waits c net most_routes most_services run first ticks ro
     let calm = calm_ticks net most_routes most_services next ticks busy.1 leave.1 says in
     let soon = soon_enough (least_route net (ups net run.histories) router network) in
     let long : most_ticks_gone ≤ length ticks = omega (arith, sure) in
-    table_is net (layouts c) is differ cheap (ups net run.histories) (ups_within net run.histories) most_routes most_services room network suffice (length ticks)
+    table_is (given_of net (layouts c) is differ cheap (ups net run.histories) (ups_within net run.histories) most_routes most_services room network suffice) (length ticks)
     (ticked net most_routes most_services next ticks)
     (from_run net (layouts c) is differ cheap most_routes most_services room network run are waits suffice first ticks busy.0 leave.0 calm long) long router inside (omega (arith, soon, sure))
 
