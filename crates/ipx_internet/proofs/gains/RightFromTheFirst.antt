@@ -65,9 +65,9 @@ module _ (given : Given) (histories : List History)
   right_held : (x : ℕ) (w : Wanting x) → at_first x ≡ Some w.v → HasRight given histories x w
   right_held x w e =
       let (h, some, way) = held_with w.v (known x w) (held_first x w ∙ e) in
-      let found = known_is net is differ cheap up in_ports most_routes room network suffice x w.v w.off w.least w.wanted most_ticks_gone (omega arith)
+      let found = known_is given x w.v w.off w.least w.wanted most_ticks_gone (omega arith)
       (route_facts (ports_of net x) (history_of histories x)) all_real h some in
-      let (from, is_right) = right_where_least net is differ cheap up in_ports most_routes room network suffice x w.v w.off w.least h.offer found.0 found.1 (sym way) in
+      let (from, is_right) = right_where_least given x w.v w.off w.least h.offer found.0 found.1 (sym way) in
       (h, from, some, is_right)
     where
       all_real : RealAt net laws is most_routes most_services up x (route_facts (ports_of net x) (history_of histories x))

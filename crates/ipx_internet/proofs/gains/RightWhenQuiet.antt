@@ -81,7 +81,7 @@ module _ (given : Given) (histories : List History) where
         good_of y second (h, f, some, right) = (
           h,
           some,
-          right_way net is differ cheap up in_ports most_routes room network suffice y second.v second.off second.least f h.offer right,
+          right_way given y second.v second.off second.least f h.offer right,
         )
 
     -- ---- so the table is right
@@ -100,7 +100,7 @@ module _ (given : Given) (histories : List History) where
       has_way v off is_v =
           let w = wants given router v off is_v in
           let (h, f, some, right) = all_good w.v.hops router w (omega arith) in
-          let way = right_way net is differ cheap up in_ports most_routes room network suffice router w.v w.off w.least f h.offer right in
+          let way = right_way given router w.v w.off w.least f h.offer right in
           let same = same_some net up in_ports network (within net up in_ports network 15 router) w.v v w.least is_v in
           ap (option_map way_of)
           (found_there given router w (history_of histories router) h some

@@ -205,7 +205,7 @@ module _ (given : Given) (before : ℕ) (long : most_ticks_gone ≤ before) (clo
       module _ (f : Place) (reaches : Reaches net up f d.to) (on : is_up (up x) d.to.port ≡ true) where
         abbrev IsRight : RipEntry → Type 0
         IsRight =
-            EntryIs net is differ cheap up in_ports most_routes room network suffice x w.v w.off w.least w.wanted count enough d.to.port f (neighbour_of f reaches on)
+            EntryIs given x w.v w.off w.least w.wanted count enough d.to.port f (neighbour_of f reaches on)
 
         is_real : (e : RipEntry) → RouteSaid net up (suc before) f e → takes_no_route ports e.network ≡ false → e.hops < unreachable
             → IsReal net up x (route_offer d.to.port (port_of net f).node e)
@@ -226,7 +226,7 @@ module _ (given : Given) (before : ℕ) (long : most_ticks_gone ≤ before) (clo
               let word_hops = ap (λ (y : RipEntry). y.hops) word in
               let word_ticks = ap (λ (y : RipEntry). y.ticks) word in
               same_offer (route_offer d.to.port (port_of net f).node e)
-              (right_offer net is differ cheap up in_ports most_routes room network suffice x w.v w.off w.least d.to.port f) named
+              (right_offer given x w.v w.off w.least d.to.port f) named
               (omega (arith, word_hops, hops)) (omega (arith, word_ticks, ticks)) refl refl;
           real = is_real e said;
         }
@@ -258,7 +258,7 @@ module _ (given : Given) (before : ℕ) (long : most_ticks_gone ≤ before) (clo
         comes =
             subst (λ (fs : List (Fact RouteOffer)). Come fs)
             (sym (facts_now ∙ ap (λ o. route_facts ports past ++ routes_heard ports d.to.port o) heard_so))
-            (entries_come net is differ cheap up in_ports most_routes room network suffice x w.v w.off w.least w.wanted count enough d.to.port f (neighbour_of f pending.reaches on_now)
+            (entries_come given x w.v w.off w.least w.wanted count enough d.to.port f (neighbour_of f pending.reaches on_now)
             Fresh_by fresh_now Same_by Late_by Later_by free_by
             (record { neighbour = neighbour_of f pending.reaches on_now; way = source.way; there = source.there; by = source.by })
             pending.page.page (route_facts ports past)
@@ -307,7 +307,7 @@ module _ (given : Given) (before : ℕ) (long : most_ticks_gone ≤ before) (clo
           kept_if : AllByRecursion (λ e. Source_of x w.v d.to.port g → Words g e) entries → Then (route_facts ports now)
           kept_if words =
               without (subst (λ (fs : List (Fact RouteOffer)). Before fs) (sym facts_so)
-              (entries_keep net is differ cheap up in_ports most_routes room network suffice x w.v w.off w.least w.wanted count enough d.to.port g (neighbour_of g reaches on)
+              (entries_keep given x w.v w.off w.least w.wanted count enough d.to.port g (neighbour_of g reaches on)
               Fresh_by fresh_now Same_by Late_by Later_by entries (route_facts ports past)
               (all_then (λ e. RouteSaid net up (suc before) g e × (Source_of x w.v d.to.port g → Words g e)) (IsRight g reaches on)
               (λ e both. is_right g reaches on e both.0 both.1) entries
@@ -318,7 +318,7 @@ module _ (given : Given) (before : ℕ) (long : most_ticks_gone ≤ before) (clo
           loose =
               subst (λ (fs : List (Fact RouteOffer)). StateFor given x w Fresh_by Late_by (Unit {0}) (λ r. Unit {0})
               (known_by given x w fs)) (sym facts_so)
-              (entries_any net is differ cheap up in_ports most_routes room network suffice x w.v w.off w.least w.wanted count enough d.to.port g (neighbour_of g reaches on)
+              (entries_any given x w.v w.off w.least w.wanted count enough d.to.port g (neighbour_of g reaches on)
               Fresh_by fresh_now (λ r. Unit {0}) Late_by (Unit {0}) tt entries (route_facts ports past) (record { aged = state_before.aged; holds = inr tt }))
 
           -- whatever it says, as the neighbour is waited for
@@ -329,7 +329,7 @@ module _ (given : Given) (before : ℕ) (long : most_ticks_gone ≤ before) (clo
           }
 
           heard_page_of : Then (route_facts ports now)
-          heard_page_of = elim (decide net is differ cheap up in_ports most_routes room network suffice x w.v w.off w.least d.to.port g (neighbour_of g reaches on)) [
+          heard_page_of = elim (decide given x w.v w.off w.least d.to.port g (neighbour_of g reaches on)) [
             | inr no_source ↦ kept_if (all_of (λ e. Source_of x w.v d.to.port g → Words g e) (λ e source. absurd (no_source source)) entries)
             | inl source ↦ elim (good_or_not given g.router
                 (facts_of given histories g.router)) [

@@ -20,6 +20,7 @@ use Rattle.ipx_internet.proofs.lists.FoundInAList.{nothing}
 use Rattle.ipx_internet.proofs.places.OneReceiverOfANode.{one_port, apart_at, same_place, same_number}
 use Rattle.ipx_internet.proofs.records.BestIsKept.{AreBest, IsSteady, HasPlace}
 use Rattle.ipx_internet.proofs.records.SameSource.{source_parts}
+use Rattle.ipx_internet.proofs.tables.Given.{Given}
 use Rattle.ipx_internet.proofs.tables.LeastWays.{NoWorse, few, both_no_worse, same_way, IsNeighbour, within, same_some}
 use Rattle.ipx_internet.proofs.tables.NoRouteIsBetter.{there_where_up, real_way, none_beats, came_from, Source}
 use Rattle.ipx_internet.proofs.tables.RoomForEachNetwork.{same_where_equal, not_worse, worse, has_room, may}
@@ -33,9 +34,10 @@ same_offer a b network hops ticks port node =
     ∙ ap (λ t. make b.network b.hops t a.port a.node) ticks ∙ ap (λ p. make b.network b.hops b.ticks p a.node) port
     ∙ ap (λ m. make b.network b.hops b.ticks b.port m) node
 
-module _ (net : Internet) (is : IsInternet net) (differ : NodesDiffer net) (cheap : AreCheap net) (up : ℕ → List ℕ)
-    (in_ports : (router : ℕ) → AllByRecursion (λ j. j < length (ports_of net router)) (up router)) (most_routes : ℕ) (room : HasRoom net most_routes) (network : Network) (suffice : FifteenSuffice net up network)
-    (router : ℕ) (v : Way) (off : is_on (ports_of net router) network ≡ false) (least : within net up in_ports network 15 router ≡ Some v) where
+module _ (given : Given) (router : ℕ) (v : Way) (off : is_on (ports_of given.net router) given.network ≡ false)
+    (least : within given.net given.up given.in_ports given.network 15 router ≡ Some v) where
+  open given use {net, is, differ, cheap, up, in_ports, most_routes, room, network, suffice}
+
   abbrev IsSource : ℕ → Place → Type 0
   IsSource port from = Source net is cheap up in_ports network router v port from
 

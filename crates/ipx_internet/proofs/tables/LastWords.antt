@@ -271,7 +271,7 @@ module _ (given : Given) where
         | inl held ↦ (
           held.0,
           held.2,
-          right_way net is differ cheap up in_ports most_routes room network suffice x w.v w.off w.least held.1 held.0.offer held.3,
+          right_way given x w.v w.off w.least held.1 held.0.offer held.3,
         )
         | inr later ↦
             let unsteady = waits_unsteady left histories queue x later.1 later.3 in

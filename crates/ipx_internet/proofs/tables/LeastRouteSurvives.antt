@@ -23,29 +23,30 @@ use Rattle.ipx_internet.proofs.lists.SomeElement.{AnyIs, found_with}
 use Rattle.ipx_internet.proofs.records.BestIsKept.{AreBest, HasPlace, State, Comes, records as records_of, known as known_of, offers_keep, offers_come, offers_any}
 use Rattle.ipx_internet.proofs.records.KeptOrOffered.{OffersOf}
 use Rattle.ipx_internet.proofs.records.RecordsGrowOld.{Aged, fine_at_last, after_offers}
+use Rattle.ipx_internet.proofs.tables.Given.{Given}
 use Rattle.ipx_internet.proofs.tables.GoodRoutesStay.{Right, right_offer, shares, one, best, steady, place}
 use Rattle.ipx_internet.proofs.tables.LeastWays.{IsNeighbour, within}
 use Rattle.ipx_internet.proofs.tables.NoRouteIsBetter.{Source}
 
-module _ (net : Internet) (is : IsInternet net) (differ : NodesDiffer net) (cheap : AreCheap net) (up : ℕ → List ℕ)
-    (in_ports : (router : ℕ) → AllByRecursion (λ j. j < length (ports_of net router)) (up router)) (most_routes : ℕ) (room : HasRoom net most_routes)
-    (network : Network) (suffice : FifteenSuffice net up network)
-    (router : ℕ) (v : Way) (off : is_on (ports_of net router) network ≡ false) (least : within net up in_ports network 15 router ≡ Some v)
-    (wanted : takes_no_route (ports_of net router) network ≡ false) where
+module _ (given : Given) (router : ℕ) (v : Way) (off : is_on (ports_of given.net router) given.network ≡ false)
+    (least : within given.net given.up given.in_ports given.network 15 router ≡ Some v)
+    (wanted : takes_no_route (ports_of given.net router) given.network ≡ false) where
+  open given use {net, is, cheap, up, in_ports, most_routes, network}
+
   abbrev ports : List Port
   ports = ports_of net router
 
   abbrev ss : List ℕ
-  ss = shares net is differ cheap up in_ports most_routes room network suffice router v off least
+  ss = shares given router v off least
 
   abbrev to_it : (k : Network) → is_eq (network_order k network) ≡ true → k ≡ network
-  to_it k e = one net is differ cheap up in_ports most_routes room network suffice router v off least k e
+  to_it k e = one given router v off least k e
 
   abbrev RealOf : RouteOffer → Type 0
   RealOf = IsReal net up router
 
   abbrev RightOf : Place → RouteOffer → Type 0
-  RightOf = Right net is differ cheap up in_ports most_routes room network suffice router v off least
+  RightOf = Right given router v off least
 
   abbrev pub records : List (Fact RouteOffer) → List (Held RouteOffer)
   records = records_of route_reading network_order network_total most_routes ss network to_it RealOf RightOf
@@ -80,7 +81,7 @@ module _ (net : Internet) (is : IsInternet net) (differ : NodesDiffer net) (chea
     -- an entry for the network is as it should be, where the neighbour is one from which the least way comes; and what is offered is real
     pub record EntryIs (e : RipEntry) : Type 0 where
       pub right : e.network ≡ network → Source net is cheap up in_ports network router v j from
-          → offer_of e ≡ right_offer net is differ cheap up in_ports most_routes room network suffice router v off least j from
+          → offer_of e ≡ right_offer given router v off least j from
       pub real : takes_no_route ports e.network ≡ false → e.hops < unreachable → RealOf (offer_of e)
 
     -- such offers are all of them
@@ -107,7 +108,7 @@ module _ (net : Internet) (is : IsInternet net) (differ : NodesDiffer net) (chea
       Fit o = o.hops < unreachable → RealOf o
 
       abbrev Best : AreBest route_reading network_order network_total most_routes ss network to_it RealOf RightOf
-      Best = best net is differ cheap up in_ports most_routes room network suffice router v off least
+      Best = best given router v off least
 
       real_known : (facts : List (Fact RouteOffer)) → Such facts → (h : Held RouteOffer) → known facts ≡ Some h → RealOf h.offer
       real_known facts aged h some = (known_is had long facts aged h some).0
@@ -123,7 +124,7 @@ module _ (net : Internet) (is : IsInternet net) (differ : NodesDiffer net) (chea
       all_fit = all_offered EntryIs Fits (λ e taken is_e. (
         is_e.real taken,
         λ named.
-            steady net is differ cheap up in_ports most_routes room network suffice router v off least from (offer_of e) neighbour refl
+            steady given router v off least from (offer_of e) neighbour refl
             (λ near. is_e.real taken (leb-false unreachable e.hops near)) (is_e.right named),
       ))
 
@@ -145,7 +146,7 @@ module _ (net : Internet) (is : IsInternet net) (differ : NodesDiffer net) (chea
           has_place : (facts : List (Fact RouteOffer)) (f : Place) (o : RouteOffer) → Such facts → RightOf f o → RealOf o
               → HasPlace route_reading network_order network_total most_routes ss network to_it RealOf RightOf (records facts) o
           has_place facts f o aged =
-              place net is differ cheap up in_ports most_routes room network suffice router v off least (records facts)
+              place given router v off least (records facts)
               (kept (route_rules ports most_routes) (rules_total route_reading network_order network_total most_routes ss) facts).distinct
               (all_real had long facts aged) f o
 

@@ -128,7 +128,7 @@ module _ (given : Given) where
       | inl held ↦ (
         held.0,
         held.2,
-        right_way net is differ cheap up in_ports most_routes room network suffice x w.v w.off w.least held.1 held.0.offer held.3,
+        right_way given x w.v w.off w.least held.1 held.0.offer held.3,
       )
       | inr (port, f, source, inl early) ↦
           let c = mod_below (seconds_run (history_of run.histories f.router)) period (omega arith) in
@@ -273,7 +273,7 @@ module _ (given : Given) where
             λ steady.
                 found_there given x w (history_of run.histories x) held.0 held.2
                 (ap (λ (r : RouteOffer). r.network) held.3.same)
-                (right_way net is differ cheap up in_ports most_routes room network suffice x w.v w.off w.least held.1 held.0.offer held.3),
+                (right_way given x w.v w.off w.least held.1 held.0.offer held.3),
           )
           | inr (port, f, source, still) ↦ inr (port, f, source, waits_then x f port w source still)
         ];
@@ -351,7 +351,7 @@ module _ (given : Given) where
       | inl held ↦
           found_there given x w (history_of now.histories x) held.0 held.2
           (ap (λ (r : RouteOffer). r.network) held.3.same)
-          (right_way net is differ cheap up in_ports most_routes room network suffice x w.v w.off w.least held.1 held.0.offer held.3)
+          (right_way given x w.v w.off w.least held.1 held.0.offer held.3)
           ∙ sym (held.4 steady)
       | inr (port, f, source, late) ↦
           let unsteady = waits_unsteady given before clock few_seconds at_start

@@ -104,13 +104,13 @@ module _ (given : Given) where
   -- the tables of a router
   abbrev pub StateFor : (router : ℕ) → Wants router → (Place → ℕ → Type 0) → (Place → ℕ → Type 0) → Type 0 → (RouteOffer → Type 0) → Option (Held RouteOffer)
       → Type 0
-  StateFor router w = StateOf net is differ cheap up in_ports most_routes room network suffice router w.v w.off w.least w.wanted
+  StateFor router w = StateOf given router w.v w.off w.least w.wanted
 
   abbrev pub known_of : (router : ℕ) → Wants router → List (Fact RouteOffer) → Option (Held RouteOffer)
-  known_of router w = known net is differ cheap up in_ports most_routes room network suffice router w.v w.off w.least w.wanted
+  known_of router w = known given router w.v w.off w.least w.wanted
 
   abbrev pub RightFor : (router : ℕ) → Wants router → Place → RouteOffer → Type 0
-  RightFor router w = Right net is differ cheap up in_ports most_routes room network suffice router w.v w.off w.least
+  RightFor router w = Right given router w.v w.off w.least
 
   abbrev pub SourceOf : (router : ℕ) → Way → ℕ → Place → Type 0
   SourceOf = Source net is cheap up in_ports network
@@ -124,7 +124,7 @@ module _ (given : Given) where
       found (λ o. is_eq (network_order o.network network)) (routes_held (ports_of net router) most_routes history)
       ∙ ap (option_map (λ x. x.offer))
       (record-in_order route_reading network_order network_total most_routes (map (λ p. p.route_share) (ports_of net router)) network
-      (records net is differ cheap up in_ports most_routes room network suffice
+      (records given
       router w.v w.off w.least w.wanted (route_facts (ports_of net router) history)))
 
   module _ (router : ℕ) (w : Wants router) (history : History) (h : Held RouteOffer) (some : known_of router w (route_facts (ports_of net router) history) ≡ Some h)
@@ -235,11 +235,11 @@ module _ (given : Given) where
         there = found_there router w history h some named way
 
         distinct : length (filter (λ x. is_eq (network_order x.offer.network network))
-            (records net is differ cheap up in_ports most_routes room network suffice
+            (records given
             router w.v w.off w.least w.wanted (route_facts (ports_of net router) history))) ≤ 1
         distinct =
             subst (λ (n : Network). length (filter (λ x. is_eq (network_order x.offer.network n))
-            (records net is differ cheap up in_ports most_routes room network suffice
+            (records given
             router w.v w.off w.least w.wanted (route_facts (ports_of net router) history))) ≤ 1) named
             ((kept (route_rules (ports_of net router) most_routes)
             (rules_total route_reading network_order network_total most_routes (map (λ p. p.route_share) (ports_of net router)))
@@ -249,15 +249,15 @@ module _ (given : Given) where
         has =
             all_offers (HasWay (ports_of net router) network w.v) (routes_held (ports_of net router) most_routes history)
             (all_in_order (HasWay (ports_of net router) network w.v) (route_rules (ports_of net router) most_routes).by_key
-            (records net is differ cheap up in_ports most_routes room network suffice
+            (records given
             router w.v w.off w.least w.wanted (route_facts (ports_of net router) history))
             (all_then (λ x. is_eq (network_order x.offer.network network) ≡ true → x ≡ h) (λ x. HasWay (ports_of net router) network w.v x.offer)
             (λ x one is_named.
             let equal = one (equal_where_same x.offer.network.0 network.0 (ap (λ (n : Network). n.0) is_named)) in
             ap (λ (y : Held RouteOffer). way_of y.offer) equal ∙ way)
-            (records net is differ cheap up in_ports most_routes room network suffice
+            (records given
             router w.v w.off w.least w.wanted (route_facts (ports_of net router) history))
-            (only_found (λ x. is_eq (network_order x.offer.network network)) (records net is differ cheap up in_ports most_routes room network suffice
+            (only_found (λ x. is_eq (network_order x.offer.network network)) (records given
             router w.v w.off w.least w.wanted (route_facts (ports_of net router) history))
             h distinct some)))
 
@@ -300,7 +300,7 @@ module _ (given : Given) where
           let ports = ports_of net from.router in
           let same = same_some net up in_ports network (within net up in_ports network 15 from.router) second.v source.way second.least source.there in
           let named = ap (λ (r : RouteOffer). r.network) right.same in
-          let way = right_way net is differ cheap up in_ports most_routes room network suffice
+          let way = right_way given
           from.router second.v second.off second.least place h.offer right in
           let hops = ap (λ (x : Way). x.hops) (way ∙ same) in
           let apart = learned_elsewhere second h.offer place right in

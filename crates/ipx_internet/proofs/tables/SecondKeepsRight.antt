@@ -116,8 +116,8 @@ module _ (given : Given) (before : ℕ) (long : most_ticks_gone ≤ before) (clo
     own_state w =
         subst (λ (fs : List (Fact RouteOffer)). State_of (rest x) left histories queue x w fs) (sym facts_now)
         (second_keeps route_reading network_order network_total most_routes
-        (shares net is differ cheap up in_ports most_routes room network suffice x w.v w.off w.least) network
-        (one net is differ cheap up in_ports most_routes room network suffice x w.v w.off w.least) (IsReal net up x)
+        (shares given x w.v w.off w.least) network
+        (one given x w.v w.off w.least) (IsReal net up x)
         (RightFor given x w)
         (Fresh given before clock few_seconds at_start (left x))
         (Fresh given before clock few_seconds at_start (rest x))

@@ -134,7 +134,7 @@ module _ (given : Given) where
         elim (rest.holds router w) [
           | inl held ↦
               let (h, f, some, right) = held in
-              let way = right_way net is differ cheap up in_ports most_routes room network suffice router w.v w.off w.least f h.offer right in
+              let way = right_way given router w.v w.off w.least f h.offer right in
               record {
                 route = h.offer;
                 held =
@@ -145,7 +145,7 @@ module _ (given : Given) where
                 source =
                     subst (λ (y : Way). SourceOf given
                     router y h.offer.port f) same right.source;
-                node = right_node net is differ cheap up in_ports most_routes room network suffice router w.v w.off w.least f h.offer right;
+                node = right_node given router w.v w.off w.least f h.offer right;
               }
           | inr (port, f, source, inl early) ↦
               let clock = mod_below (seconds_run (history_of run.histories f.router)) period (omega arith) in

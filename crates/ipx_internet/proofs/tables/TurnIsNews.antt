@@ -53,9 +53,9 @@ module _ (given : Given) where
           × RightFor given router w from h.offer
       good_right w =
           let (h, some, way) = good w in
-          let known = known_is net is differ cheap up in_ports most_routes room network suffice router w.v w.off w.least w.wanted had enough
+          let known = known_is given router w.v w.off w.least w.wanted had enough
           (route_facts (ports_of net router) history) endures.routes h some in
-          let (from, right) = right_where_least net is differ cheap up in_ports most_routes room network suffice router w.v w.off w.least h.offer known.0 known.1 (sym way) in
+          let (from, right) = right_where_least given router w.v w.off w.least h.offer known.0 known.1 (sym way) in
           (h, from, some, right)
 
       pub knows : AllKnow given begun router routes
@@ -67,7 +67,7 @@ module _ (given : Given) where
               let w = wants given router u off is_u in
               let same = same_some net up in_ports network (within net up in_ports network 15 router) w.v u w.least is_u in
               let (h, some, way) = good w in
-              let known = known_is net is differ cheap up in_ports most_routes room network suffice router w.v w.off w.least w.wanted had enough
+              let known = known_is given router w.v w.off w.least w.wanted had enough
               (route_facts (ports_of net router) history) endures.routes h some in
               subst (λ (x : Way). Knows given begun router x routes) same
               (knows_off given begun router w history h some known.1 way)
