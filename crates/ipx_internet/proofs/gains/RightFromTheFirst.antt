@@ -1,17 +1,15 @@
 -- Where all tables are right and real, and more ports are up in the end: each router has the route of its least way in the end, or, by a neighbour from
 -- which such a way comes, one of their two ports isn't up yet, or the neighbour isn't right for now.
 use Rattle.std.proofs.Common.{◌≡◌, refl, sym, ap, ◌∙◌, subst, ◌⊎◌, ℕ, ◌<◌, ◌==◌, true, false, List, length, Option, None, Some, option_map, inl, inr, arith, is_eq, true≢false}
-use Rattle.std.specs.List.{AllByRecursion}
 use Rattle.std.proofs.lemmas.Bool.{cases_Bool}
 use Rattle.ipx_table.specs.declared.held.Held.{Held}
-use Rattle.ipx_wire.specs.declared.network.Network.{Network}
 use Rattle.ipx_router.specs.Facts.{route_facts, routes_held, offers}
 use Rattle.ipx_router.specs.History.{History}
 use Rattle.ipx_router.specs.Port.{is_up}
 use Rattle.ipx_router.specs.Routes.{network_order}
 use Rattle.ipx_router.specs.declared.route_offer.RouteOffer.{RouteOffer}
-use Rattle.ipx_internet.specs.Internet.{Internet, Place, IsInternet, NodesDiffer, ports_of}
-use Rattle.ipx_internet.specs.Least.{Way, is_on, is_up_on, least_route, way_of, AreCheap, HasRoom, FifteenSuffice}
+use Rattle.ipx_internet.specs.Internet.{Place, ports_of}
+use Rattle.ipx_internet.specs.Least.{Way, is_on, is_up_on, least_route, way_of}
 use Rattle.ipx_internet.specs.Queue.{history_of}
 use Rattle.ipx_internet.specs.Real.{IsReal}
 use Rattle.ipx_internet.specs.Tables.{AreReal, AreRight}
@@ -21,7 +19,6 @@ use Rattle.ipx_internet.proofs.gains.RealWhileGaining.{RealAt, real_more, real_h
 use Rattle.ipx_internet.proofs.gains.RightWhenQuiet.{HasRight, GoodNow}
 use Rattle.ipx_internet.proofs.lists.EachElement.{all_then}
 use Rattle.ipx_internet.proofs.lists.FoundInAList.{nothing, it_is}
-use Rattle.ipx_internet.proofs.packets.SentOnOrReply.{Layouts}
 use Rattle.ipx_internet.proofs.tables.Given.{Given}
 use Rattle.ipx_internet.proofs.tables.GoodRoutesStay.{right_where_least}
 use Rattle.ipx_internet.proofs.tables.LastWords.{WantsOf, Sources, known_by, good_or_not}
@@ -39,7 +36,7 @@ held_with v (Some h) e = (h, refl, it_is (λ (z : Way). way_of h.offer ≡ z) v 
 module _ (given : Given) (histories : List History)
     (more_up : (router j : ℕ) → is_up (ups given.net histories router) j ≡ true → is_up (given.up router) j ≡ true)
     (real : AreReal given.net given.most_routes histories (ups given.net histories)) (right : AreRight given.net given.most_routes histories (ups given.net histories)) where
-  open given use {net, laws, is, differ, cheap, up, in_ports, most_routes, most_services, room, network, suffice}
+  open given use {net, laws, is, cheap, up, in_ports, most_routes, most_services, network, suffice}
 
   abbrev Wanting : ℕ → Type 0
   Wanting = WantsOf given

@@ -1,19 +1,16 @@
 -- Where every route is real, and each router has the route of its least way or, by a neighbour from which such a way comes, one that isn't right itself,
 -- all tables are right.
-use Rattle.std.proofs.Common.{◌≡◌, refl, sym, ap, ◌∙◌, subst, ℕ, zero, suc, ◌<◌, ◌≤◌, ◌⊎◌, ◌==◌, true, false, List, length, find, Option, None, Some, option_map, inl, inr, arith, is_eq}
-use Rattle.std.specs.List.{AllByRecursion}
+use Rattle.std.proofs.Common.{◌≡◌, refl, sym, ap, ◌∙◌, subst, ℕ, zero, suc, ◌≤◌, ◌⊎◌, ◌==◌, true, false, List, find, Option, None, Some, option_map, inl, inr, arith, is_eq}
 use Rattle.ipx_table.specs.declared.held.Held.{Held}
-use Rattle.ipx_wire.specs.declared.network.Network.{Network}
 use Rattle.ipx_router.specs.Facts.{route_facts, routes_held, offers}
 use Rattle.ipx_router.specs.History.{History}
 use Rattle.ipx_router.specs.Outgoing.{route_to}
 use Rattle.ipx_router.specs.Routes.{network_order}
 use Rattle.ipx_router.specs.declared.route_offer.RouteOffer.{RouteOffer}
-use Rattle.ipx_internet.specs.Internet.{Internet, Place, IsInternet, NodesDiffer, ports_of}
-use Rattle.ipx_internet.specs.Least.{Way, is_on, is_up_on, least_route, way_of, AreCheap, HasRoom, FifteenSuffice}
+use Rattle.ipx_internet.specs.Internet.{Place, ports_of}
+use Rattle.ipx_internet.specs.Least.{Way, is_on, is_up_on, least_route, way_of}
 use Rattle.ipx_internet.specs.Queue.{history_of}
 use Rattle.ipx_internet.specs.Ticks.{most_ticks_gone, ups}
-use Rattle.ipx_internet.proofs.packets.SentOnOrReply.{Layouts}
 use Rattle.ipx_internet.proofs.tables.Given.{Given}
 use Rattle.ipx_internet.proofs.tables.GoodRoutesStay.{right_way}
 use Rattle.ipx_internet.proofs.tables.LastWords.{WantsOf, Sources, known_by, IsGood}
@@ -24,7 +21,7 @@ use Rattle.ipx_internet.proofs.tables.TablesAreRight.{none_on, none_without}
 use Rattle.ipx_internet.proofs.ticks.RealOrSoonEnded.{Endures}
 
 module _ (given : Given) (histories : List History) where
-  open given use {net, is, differ, cheap, up, in_ports, most_routes, room, network, suffice}
+  open given use {net, up, in_ports, most_routes, network}
 
   abbrev Wanting : ℕ → Type 0
   Wanting = WantsOf given

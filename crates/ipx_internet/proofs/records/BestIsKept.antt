@@ -1,6 +1,6 @@
 -- What a table keeps of the offers of one key, of whatever kind: one of the best stays while whoever offered it goes on, and one comes where one
 -- is offered. The state of the record is carried from offer to offer and from second to second.
-use Rattle.std.proofs.Common.{◌≡◌, ◌≢◌, refl, sym, ap, ◌∙◌, subst, ◌⊎◌, ℕ, ◌+◌, ◌≤◌, nat_lt, ◌&&◌, Bool, true, false, List, [], ◌∷◌, ◌++◌, filter, find, length, Option, None, Some, inl, inr, arith, append_assoc, append-nil, Ordering, is_eq}
+use Rattle.std.proofs.Common.{◌≡◌, ◌≢◌, refl, sym, ap, ◌∙◌, subst, ◌⊎◌, ℕ, ◌+◌, ◌≤◌, nat_lt, ◌&&◌, Bool, true, false, List, [], ◌∷◌, ◌++◌, filter, find, length, Option, None, Some, inl, inr, append_assoc, append-nil, Ordering, is_eq}
 use Rattle.std.specs.List.{AllByRecursion}
 use Rattle.std.specs.Cmp.{IsTotalOrder}
 use Rattle.std.specs.Ordering.{is_gt}

@@ -6,7 +6,6 @@ use Rattle.ipx_table.specs.Facts.{Fact}
 use Rattle.ipx_table.specs.declared.held.Held.{Held}
 use Rattle.ipx_wire.specs.Piece.{IsBytes}
 use Rattle.ipx_wire.specs.Rip.{IsEntry}
-use Rattle.ipx_wire.specs.declared.network.Network.{Network}
 use Rattle.ipx_wire.specs.declared.rip.Operation.TheVariants.{Response}
 use Rattle.ipx_wire.specs.declared.rip.RipEntry.{RipEntry}
 use Rattle.ipx_router.specs.Facts.{route_offer, routes_offered, routes_heard, heard_after, route_facts, route_facts_of, routes_held, offers}
@@ -27,9 +26,9 @@ use Rattle.ipx_router.proofs.tables.OffersOfAMessage.{facts_from-more}
 use Rattle.ipx_router.proofs.port_values.PortOfEachNumber.{port-all}
 use Rattle.ipx_router.proofs.sending.OwnPacketsAreValid.{Writable}
 use Rattle.ipx_router.proofs.tables.HeldWasOffered.{came_in, heard_up}
-use Rattle.ipx_internet.specs.Internet.{Internet, Place, IsInternet, NodesDiffer, IsPlace, ports_of, port_of}
+use Rattle.ipx_internet.specs.Internet.{Place, IsPlace, ports_of, port_of}
 use Rattle.ipx_internet.specs.Meanwhile.{TellsNoRoute}
-use Rattle.ipx_internet.specs.Least.{Way, AreCheap, HasRoom, FifteenSuffice, most_ticks_right}
+use Rattle.ipx_internet.specs.Least.{Way, most_ticks_right}
 use Rattle.ipx_internet.specs.Queue.{Delivery, Queued, deliveries_of, history_of, with_event, sends_at, queued}
 use Rattle.ipx_internet.specs.Real.{IsReal}
 use Rattle.ipx_internet.specs.Rounds.{IsDelivery}
@@ -37,7 +36,7 @@ use Rattle.ipx_internet.specs.Ticks.{most_ticks_gone}
 use Rattle.ipx_internet.proofs.lists.EachElement.{all_of, all_then, all-append}
 use Rattle.ipx_internet.proofs.lists.SomeElement.{number_any, AnyIs}
 use Rattle.ipx_internet.proofs.packets.RoutesOrSilence.{own_heard, near_in, silent_offers}
-use Rattle.ipx_internet.proofs.packets.SentOnOrReply.{Layouts, said_so}
+use Rattle.ipx_internet.proofs.packets.SentOnOrReply.{said_so}
 use Rattle.ipx_internet.proofs.packets.SentOnSaysTheSame.{heard_message}
 use Rattle.ipx_internet.proofs.packets.PagesAreHeard.{heard_page}
 use Rattle.ipx_internet.proofs.places.OneReceiverOfANode.{ports_at, port_is, one_port, apart_at}
@@ -56,7 +55,7 @@ use Rattle.ipx_internet.proofs.ticks.TickAfterTick.{all_come, packet_spoken, ins
 
 module _ (given : Given) (before : ℕ) (long : most_ticks_gone ≤ before) (clock : ℕ → ℕ) (few_seconds : (router : ℕ) → clock router < period)
     (at_start : ℕ → Option RouteOffer) where
-  open given use {net, laws, is, differ, cheap, up, in_ports, most_routes, most_services, room, network, suffice}
+  open given use {net, laws, is, differ, cheap, up, in_ports, most_routes, most_services, network}
 
   abbrev Good_of : List History → ℕ → Type 0
   Good_of = IsGood given

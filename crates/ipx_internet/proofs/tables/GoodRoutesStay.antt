@@ -1,6 +1,6 @@
 -- What a table keeps of the routes that neighbours offer for a network: a route as good as the least way stays, but for another one as good,
 -- and comes where a neighbour offers it whose least way, gone on, it is.
-use Rattle.std.proofs.Common.{◌≡◌, refl, sym, ap, ◌∙◌, subst, ◌⊎◌, ℕ, ◌<◌, nat_le, true, false, List, length, map, find, Option, None, Some, inl, inr, arith, is_eq}
+use Rattle.std.proofs.Common.{◌≡◌, refl, sym, ap, ◌∙◌, subst, ◌⊎◌, ℕ, nat_le, true, false, List, map, find, Option, None, Some, inl, inr, arith, is_eq}
 use Rattle.std.specs.List.{AllByRecursion}
 use Rattle.std.specs.Ordering.{is_gt}
 use Rattle.std.proofs.lemmas.Bool.{cases_Bool, cases_eq, leb-true}
@@ -13,8 +13,8 @@ use Rattle.ipx_router.specs.Numbers.{unreachable}
 use Rattle.ipx_router.specs.Routes.{route_rules, route_reading, network_order}
 use Rattle.ipx_router.specs.declared.route_offer.RouteOffer.{RouteOffer}
 use Rattle.ipx_router.proofs.bounds.PacketsOfEachEvent.{network_total}
-use Rattle.ipx_internet.specs.Internet.{Internet, Place, IsInternet, NodesDiffer, ports_of, port_of, network_of}
-use Rattle.ipx_internet.specs.Least.{Way, is_on, by_port, way_of, AreCheap, HasRoom, FifteenSuffice}
+use Rattle.ipx_internet.specs.Internet.{Place, ports_of, port_of, network_of}
+use Rattle.ipx_internet.specs.Least.{Way, is_on, by_port, way_of}
 use Rattle.ipx_internet.specs.Real.{IsReal}
 use Rattle.ipx_internet.proofs.lists.FoundInAList.{nothing}
 use Rattle.ipx_internet.proofs.places.OneReceiverOfANode.{one_port, apart_at, same_place, same_number}

@@ -1,7 +1,7 @@
 -- How tables become right: what is so of each router, and of what waits, while a tick goes on. A router is right, or by one of the neighbours
 -- from which its least way comes it is this: the neighbour hasn't broadcast all since the first tick, or isn't right itself now, or the last
 -- that it said for the router waits, and is right.
-use Rattle.std.proofs.Common.{◌≡◌, ◌≢◌, refl, sym, ap, ◌∙◌, subst, ◌⊎◌, ℕ, suc, ◌+◌, ◌%◌, ◌<◌, ◌≤◌, true, false, List, [], ◌∷◌, ◌++◌, length, Option, None, Some, inl, inr, arith, true≢false}
+use Rattle.std.proofs.Common.{◌≡◌, ◌≢◌, refl, sym, ap, ◌∙◌, subst, ◌⊎◌, ℕ, suc, ◌+◌, ◌%◌, ◌<◌, ◌≤◌, true, false, List, [], ◌∷◌, ◌++◌, Option, None, Some, inl, inr, arith, true≢false}
 use Rattle.std.specs.List.{AllByRecursion}
 use Rattle.std.proofs.lemmas.Bool.{cases_eq, both_ways}
 use Rattle.ipx_table.specs.Facts.{Fact}
@@ -9,7 +9,6 @@ use Rattle.ipx_table.specs.declared.held.Held.{Held}
 use Rattle.ipx_wire.specs.Rip.{RipParts}
 use Rattle.ipx_wire.specs.Write.{rip_packet_parts}
 use Rattle.ipx_wire.specs.declared.address.Address.{Address}
-use Rattle.ipx_wire.specs.declared.network.Network.{Network}
 use Rattle.ipx_wire.specs.declared.rip.Operation.{Operation}
 use Rattle.ipx_wire.specs.declared.rip.Operation.TheVariants.{Request, Response}
 use Rattle.ipx_wire.specs.declared.rip.RipEntry.{RipEntry}
@@ -19,8 +18,8 @@ use Rattle.ipx_router.specs.Heard.{Heard, HeardRip, HeardSap}
 use Rattle.ipx_router.specs.History.{History, seconds_run}
 use Rattle.ipx_router.specs.Port.{is_up, own_address}
 use Rattle.ipx_router.specs.declared.route_offer.RouteOffer.{RouteOffer}
-use Rattle.ipx_internet.specs.Internet.{Internet, Place, IsInternet, NodesDiffer, ports_of, port_of, network_of}
-use Rattle.ipx_internet.specs.Least.{Way, is_on, way_of, AreCheap, HasRoom, FifteenSuffice, most_ticks_right}
+use Rattle.ipx_internet.specs.Internet.{Place, ports_of, port_of, network_of}
+use Rattle.ipx_internet.specs.Least.{Way, is_on, way_of, most_ticks_right}
 use Rattle.ipx_internet.specs.Meanwhile.{message_of}
 use Rattle.ipx_internet.specs.Queue.{Delivery, Queued, history_of}
 use Rattle.ipx_internet.specs.Ticks.{most_ticks_gone}
@@ -28,7 +27,6 @@ use Rattle.ipx_internet.proofs.lists.EachElement.{all_then, all-append}
 use Rattle.ipx_internet.proofs.lists.FoundInAList.{nothing, it_is}
 use Rattle.ipx_internet.proofs.lists.SomeElement.{AnyIs}
 use Rattle.ipx_internet.proofs.packets.RoutesOrSilence.{Silent, own_heard}
-use Rattle.ipx_internet.proofs.packets.SentOnOrReply.{Layouts}
 use Rattle.ipx_internet.proofs.packets.SentOnSaysTheSame.{of_packet, message_heard}
 use Rattle.ipx_internet.proofs.places.OneReceiverOfANode.{same_place}
 use Rattle.ipx_internet.proofs.tables.Given.{Given}
@@ -40,7 +38,7 @@ use Rattle.ipx_internet.proofs.ticks.RealOrSoonEnded.{Reaches, Comes}
 use Rattle.ipx_internet.proofs.ticks.TickAfterTick.{Going}
 
 module _ (given : Given) where
-  open given use {net, laws, is, differ, cheap, up, in_ports, most_routes, most_services, room, network, suffice}
+  open given use {net, laws, is, differ, cheap, up, in_ports, most_routes, most_services, network}
 
   abbrev pub WantsOf : ℕ → Type 0
   WantsOf = Wants given

@@ -1,5 +1,5 @@
 -- What a table keeps of the network after the entries of one packet: an instance of what any table keeps of the best offers of a key.
-use Rattle.std.proofs.Common.{◌≡◌, ◌≢◌, refl, sym, subst, ℕ, ◌<◌, ◌≤◌, true, false, List, [], ◌∷◌, ◌++◌, length, Option, Some, inl, inr, is_eq}
+use Rattle.std.proofs.Common.{◌≡◌, ◌≢◌, refl, sym, subst, ℕ, ◌<◌, ◌≤◌, true, false, List, [], ◌∷◌, ◌++◌, Option, Some, inl, inr, is_eq}
 use Rattle.std.specs.List.{AllByRecursion}
 use Rattle.std.proofs.lemmas.Bool.{cases_Bool, leb-false}
 use Rattle.ipx_table.specs.Facts.{Fact, Offered}
@@ -14,8 +14,8 @@ use Rattle.ipx_router.specs.Port.{Port, takes_no_route}
 use Rattle.ipx_router.specs.Routes.{route_rules, route_reading, network_order}
 use Rattle.ipx_router.specs.declared.route_offer.RouteOffer.{RouteOffer}
 use Rattle.ipx_router.proofs.bounds.PacketsOfEachEvent.{network_total}
-use Rattle.ipx_internet.specs.Internet.{Internet, Place, IsInternet, NodesDiffer, ports_of, port_of}
-use Rattle.ipx_internet.specs.Least.{Way, is_on, AreCheap, HasRoom, FifteenSuffice}
+use Rattle.ipx_internet.specs.Internet.{Place, ports_of, port_of}
+use Rattle.ipx_internet.specs.Least.{Way, is_on}
 use Rattle.ipx_internet.specs.Real.{IsReal}
 use Rattle.ipx_internet.specs.Ticks.{most_ticks_gone}
 use Rattle.ipx_internet.proofs.lists.EachElement.{all_of}

@@ -4,21 +4,19 @@ use Rattle.std.specs.List.{AllByRecursion}
 use Rattle.std.proofs.lemmas.Bool.{cases_Bool, cases_eq, cases_lt, eq-eqb, ne_eqb, both_ways}
 use Rattle.std.proofs.lemmas.Nat.{mod_below}
 use Rattle.ipx_table.specs.declared.held.Held.{Held}
-use Rattle.ipx_wire.specs.declared.network.Network.{Network}
 use Rattle.ipx_router.specs.Numbers.{period}
 use Rattle.ipx_router.specs.Facts.{route_facts, routes_held, offers}
 use Rattle.ipx_router.specs.History.{History, seconds_run}
 use Rattle.ipx_router.specs.Port.{is_up}
 use Rattle.ipx_router.specs.Routes.{network_order}
 use Rattle.ipx_router.specs.declared.route_offer.RouteOffer.{RouteOffer}
-use Rattle.ipx_internet.specs.Internet.{Internet, Place, IsInternet, NodesDiffer, ports_of}
-use Rattle.ipx_internet.specs.Least.{Way, way_of, AreCheap, HasRoom, FifteenSuffice, most_ticks_right}
+use Rattle.ipx_internet.specs.Internet.{Place, ports_of}
+use Rattle.ipx_internet.specs.Least.{Way, way_of, most_ticks_right}
 use Rattle.ipx_internet.specs.Queue.{Delivery, Queued, history_of}
 use Rattle.ipx_internet.specs.Rounds.{IsDelivery}
 use Rattle.ipx_internet.specs.Run.{Step, Run, Waiting, forgotten, run_of}
 use Rattle.ipx_internet.specs.Ticks.{ticked, most_ticks_gone}
 use Rattle.ipx_internet.proofs.packets.RoutesOrSilence.{Silent}
-use Rattle.ipx_internet.proofs.packets.SentOnOrReply.{Layouts}
 use Rattle.ipx_internet.proofs.tables.DeliveryKeepsRight.{delivery_rights}
 use Rattle.ipx_internet.proofs.tables.Given.{Given}
 use Rattle.ipx_internet.proofs.tables.GoodRoutesStay.{right_way}
@@ -67,7 +65,7 @@ tied a b = elim (cases_eq a b) [
     ]
 
 module _ (given : Given) where
-  open given use {net, laws, is, differ, cheap, up, in_ports, most_routes, most_services, room, network, suffice}
+  open given use {net, laws, is, cheap, up, in_ports, most_routes, most_services, network, suffice}
 
   abbrev Good_of : Run → ℕ → Type 0
   Good_of run = IsGood given run.histories

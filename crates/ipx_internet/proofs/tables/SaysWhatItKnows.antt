@@ -22,15 +22,14 @@ use Rattle.ipx_router.proofs.bounds.PacketsOfEachEvent.{network_total}
 use Rattle.ipx_router.proofs.changes.DiffersByOneFact.{found}
 use Rattle.ipx_router.proofs.tables.HeldWasOffered.{all_in_order, all_offers}
 use Rattle.ipx_internet.specs.Delivery.{receives, delivered}
-use Rattle.ipx_internet.specs.Internet.{Internet, Place, IsInternet, NodesDiffer, IsPlace, ports_of, port_of, network_of, places}
-use Rattle.ipx_internet.specs.Least.{Way, is_on, way_of, AreCheap, HasRoom, FifteenSuffice, most_cost}
+use Rattle.ipx_internet.specs.Internet.{Place, IsPlace, ports_of, port_of, network_of, places}
+use Rattle.ipx_internet.specs.Least.{Way, is_on, way_of, most_cost}
 use Rattle.ipx_internet.specs.Queue.{Delivery, deliveries_of}
 use Rattle.ipx_internet.specs.Rounds.{IsDelivery}
 use Rattle.ipx_internet.proofs.lists.EachElement.{all_or, all_then, all_of}
 use Rattle.ipx_internet.proofs.lists.FoundInAList.{nothing}
 use Rattle.ipx_internet.proofs.lists.SomeElement.{any_passes, only_found, find_any, AnyIs, any_then, any_and_all, any-map, any-filter, any-flat_map}
 use Rattle.ipx_internet.proofs.packets.PagesReadAgain.{IsRipPage}
-use Rattle.ipx_internet.proofs.packets.SentOnOrReply.{Layouts}
 use Rattle.ipx_internet.proofs.places.OneReceiverOfANode.{one_port, apart_at, port_is}
 use Rattle.ipx_internet.proofs.tables.Given.{Given}
 use Rattle.ipx_internet.proofs.tables.GoodRoutesStay.{Right, right_way}
@@ -42,7 +41,7 @@ use Rattle.ipx_internet.proofs.tables.SaysItsLeastWay.{IsWord, HasWay, told_word
 use Rattle.ipx_internet.proofs.ticks.RealOrSoonEnded.{Reaches, RouteSaid}
 
 module _ (given : Given) where
-  open given use {net, is, differ, cheap, up, in_ports, most_routes, room, network, suffice}
+  open given use {net, is, cheap, up, in_ports, most_routes, network}
 
   -- ---- a router that should have a route
 

@@ -6,7 +6,6 @@ use Rattle.std.proofs.lemmas.List.Elements.{filter-append}
 use Rattle.ipx_table.specs.Facts.{Fact, Second as PassedSecond}
 use Rattle.ipx_wire.specs.Piece.{IsBytes}
 use Rattle.ipx_wire.specs.Rip.{IsEntry}
-use Rattle.ipx_wire.specs.declared.network.Network.{Network}
 use Rattle.ipx_wire.specs.declared.rip.RipEntry.{RipEntry}
 use Rattle.ipx_router.specs.Numbers.{period}
 use Rattle.ipx_router.specs.Facts.{route_facts, route_facts_of, routes_held, offers}
@@ -27,15 +26,14 @@ use Rattle.ipx_router.proofs.tables.OffersOfAMessage.{facts_from-more}
 use Rattle.ipx_router.proofs.port_values.PortOfEachNumber.{port-all, ports_up-within}
 use Rattle.ipx_router.proofs.sending.OwnPacketsAreValid.{Writable}
 use Rattle.ipx_router.proofs.telling.ToldFitsFields.{told_fits}
-use Rattle.ipx_internet.specs.Internet.{Internet, Place, IsInternet, NodesDiffer, ports_of}
-use Rattle.ipx_internet.specs.Least.{Way, AreCheap, HasRoom, FifteenSuffice, most_ticks_right}
+use Rattle.ipx_internet.specs.Internet.{Place, ports_of}
+use Rattle.ipx_internet.specs.Least.{Way, most_ticks_right}
 use Rattle.ipx_internet.specs.Queue.{Delivery, Queued, deliveries_of, history_of, with_event, sends_at, queued}
 use Rattle.ipx_internet.specs.Real.{IsReal}
 use Rattle.ipx_internet.specs.Rounds.{IsDelivery}
 use Rattle.ipx_internet.specs.Ticks.{most_ticks_gone}
 use Rattle.ipx_internet.proofs.lists.EachElement.{all_of, all_then, all-append}
 use Rattle.ipx_internet.proofs.lists.SomeElement.{number_any, AnyIs}
-use Rattle.ipx_internet.proofs.packets.SentOnOrReply.{Layouts}
 use Rattle.ipx_internet.proofs.places.OneReceiverOfANode.{ports_at}
 use Rattle.ipx_internet.proofs.records.BestIsKept.{second_keeps}
 use Rattle.ipx_internet.proofs.tables.Given.{Given}
@@ -51,7 +49,7 @@ use Rattle.ipx_internet.proofs.ticks.TickAfterTick.{all_come, second_spoken, sec
 
 module _ (given : Given) (before : ℕ) (long : most_ticks_gone ≤ before) (clock : ℕ → ℕ) (few_seconds : (router : ℕ) → clock router < period)
     (at_start : ℕ → Option RouteOffer) where
-  open given use {net, laws, is, differ, cheap, up, in_ports, most_routes, most_services, room, network, suffice}
+  open given use {net, laws, is, up, in_ports, most_routes, most_services, network}
 
   abbrev Good_of : List History → ℕ → Type 0
   Good_of = IsGood given

@@ -11,8 +11,8 @@ use Rattle.ipx_router.specs.Outgoing.{route_to}
 use Rattle.ipx_router.specs.Routes.{route_reading, network_order}
 use Rattle.ipx_router.specs.declared.route_offer.RouteOffer.{RouteOffer}
 use Rattle.ipx_router.proofs.bounds.PacketsOfEachEvent.{network_total}
-use Rattle.ipx_internet.specs.Internet.{Internet, Place, IsInternet, NodesDiffer, ports_of, port_of}
-use Rattle.ipx_internet.specs.Least.{Way, is_on, least_route, way_of, AreCheap, HasRoom, FifteenSuffice, ticks_right, most_ticks_right}
+use Rattle.ipx_internet.specs.Internet.{Internet, Place, ports_of, port_of}
+use Rattle.ipx_internet.specs.Least.{Way, is_on, least_route, way_of, ticks_right, most_ticks_right}
 use Rattle.ipx_internet.specs.Meanwhile.{EachTick}
 use Rattle.ipx_internet.specs.Queue.{history_of}
 use Rattle.ipx_internet.specs.Real.{IsReal}
@@ -20,7 +20,6 @@ use Rattle.ipx_internet.specs.Run.{Step, Run, run_of}
 use Rattle.ipx_internet.specs.Ticks.{ticked, most_ticks_gone}
 use Rattle.ipx_internet.proofs.lists.EachElement.{all_then}
 use Rattle.ipx_internet.proofs.lists.FoundInAList.{nothing}
-use Rattle.ipx_internet.proofs.packets.SentOnOrReply.{Layouts}
 use Rattle.ipx_internet.proofs.places.OneReceiverOfANode.{same_number}
 use Rattle.ipx_internet.proofs.records.RecordsGrowOld.{at_last}
 use Rattle.ipx_internet.proofs.tables.Given.{Given}
@@ -58,7 +57,7 @@ all_ticks way ticks sure some =
     omega (arith, more)
 
 module _ (given : Given) where
-  open given use {net, is, differ, cheap, up, in_ports, most_routes, most_services, room, network, suffice}
+  open given use {net, is, cheap, up, in_ports, most_routes, most_services, network}
 
   abbrev Rest : ℕ → Run → Type 0
   Rest = AtRest given

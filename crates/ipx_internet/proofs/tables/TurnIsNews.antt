@@ -1,23 +1,21 @@
 -- A router that is right knows what it has to say of the network; and one that turns right has news of it for each neighbour.
-use Rattle.std.proofs.Common.{◌≡◌, refl, sym, ap, ◌∙◌, subst, ℕ, ◌<◌, ◌≤◌, false, List, length, map, find, Option, None, Some, option_map, inl, inr, is_eq}
+use Rattle.std.proofs.Common.{◌≡◌, refl, sym, ap, ◌∙◌, subst, ℕ, ◌≤◌, false, List, map, find, Option, None, Some, option_map, inl, inr, is_eq}
 use Rattle.std.specs.List.{AllByRecursion}
 use Rattle.std.proofs.lemmas.Bool.{both_ways}
 use Rattle.ipx_table.specs.declared.held.Held.{Held}
-use Rattle.ipx_wire.specs.declared.network.Network.{Network}
 use Rattle.ipx_router.specs.Facts.{route_facts, routes_held, offers}
 use Rattle.ipx_router.specs.History.{History}
 use Rattle.ipx_router.specs.News.{news}
 use Rattle.ipx_router.specs.Routes.{route_reading, network_order}
 use Rattle.ipx_router.specs.declared.route_offer.RouteOffer.{RouteOffer}
 use Rattle.ipx_router.proofs.bounds.PacketsOfEachEvent.{network_total}
-use Rattle.ipx_internet.specs.Internet.{Internet, Place, IsInternet, NodesDiffer, ports_of}
-use Rattle.ipx_internet.specs.Least.{Way, is_on, way_of, AreCheap, HasRoom, FifteenSuffice}
+use Rattle.ipx_internet.specs.Internet.{Place, ports_of}
+use Rattle.ipx_internet.specs.Least.{Way, is_on, way_of}
 use Rattle.ipx_internet.specs.Real.{IsReal}
 use Rattle.ipx_internet.specs.Ticks.{most_ticks_gone}
 use Rattle.ipx_internet.proofs.lists.EachElement.{all_then}
 use Rattle.ipx_internet.proofs.lists.FoundInAList.{nothing, it_is}
 use Rattle.ipx_internet.proofs.lists.SomeElement.{AnyIs}
-use Rattle.ipx_internet.proofs.packets.SentOnOrReply.{Layouts}
 use Rattle.ipx_internet.proofs.records.RecordsGrowOld.{at_last}
 use Rattle.ipx_internet.proofs.tables.ChangeIsSaid.{change_said}
 use Rattle.ipx_internet.proofs.tables.Given.{Given}
@@ -31,7 +29,7 @@ use Rattle.ipx_internet.proofs.tables.SaysWhatItKnows.{wants, RightFor, found_so
 use Rattle.ipx_internet.proofs.ticks.RealOrSoonEnded.{Endures}
 
 module _ (given : Given) where
-  open given use {net, is, differ, cheap, up, in_ports, most_routes, room, network, suffice}
+  open given use {net, is, cheap, up, in_ports, most_routes, network}
 
   module _ (begun router had : ℕ) (history : History) (enough : most_ticks_gone ≤ had) (endures : Endures net up most_routes router had history) where
     abbrev routes : List RouteOffer
