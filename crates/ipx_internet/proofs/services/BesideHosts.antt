@@ -22,7 +22,7 @@ use Rattle.ipx_internet.proofs.services.HeardAtAStep.{HeardWithinTicks, outside_
 use Rattle.ipx_internet.proofs.services.HeardInAMinute.{G, known_right}
 use Rattle.ipx_internet.proofs.services.HostTickAfterTick.{Rests, ticks_rest}
 use Rattle.ipx_internet.proofs.services.HostsApart.{HostsApart}
-use Rattle.ipx_internet.proofs.services.NearestHost.{SaidBy}
+use Rattle.ipx_internet.proofs.services.NearestHost.{sought_of, SaidBy}
 use Rattle.ipx_internet.proofs.tables.TablesAreRight.{parts_of, ticked_on}
 
 -- what holds of each of two lists
@@ -103,7 +103,7 @@ module _ (net : Internet) (laws : Layouts) (is : IsInternet net) (most_routes mo
             (ticked net most_routes most_services start before) window
         heard g good = by good.who
           where
-            by : SaidBy net up server names most_services place.router apart in_ports host.hops reached unlike fewest (g.port, g.node)
+            by : SaidBy (sought_of net up server names most_services place.router apart in_ports host.hops reached unlike fewest) (g.port, g.node)
                 → HeardWithinTicks net most_routes most_services server (record { router = place.router; port = g.port })
                 (record { network = network_of net (record { router = place.router; port = g.port }); node = g.node; hops = host.hops })
                 (ticked net most_routes most_services start before) window

@@ -41,7 +41,7 @@ use Rattle.ipx_internet.proofs.services.ExactWords.{one_name, Words, NearerRight
 use Rattle.ipx_internet.proofs.services.HeardAtAStep.{Hears, FirstHears, IsHeardAt, HeardWithin, HeardWithinTicks, AtEach, at_first}
 use Rattle.ipx_internet.proofs.services.HostTickAfterTick.{Going, Rests, begins, step_goes, tick_rests, ticks_rest, outside_waits}
 use Rattle.ipx_internet.proofs.services.HostsApart.{HostsApart}
-use Rattle.ipx_internet.proofs.services.NearestHost.{here, Listed, key, shares, Real, host_of, SaidBy, Good, GoodOf, best, steady, Such, real_known, goes_on, place}
+use Rattle.ipx_internet.proofs.services.NearestHost.{Sought, sought_of, here, Listed, key, shares, Real, host_of, SaidBy, Good, GoodOf, best, steady, Such, real_known, goes_on, place}
 use Rattle.ipx_internet.proofs.services.ServedOrSoonEnded.{Endures, ServiceOld, AreExact}
 use Rattle.ipx_internet.proofs.services.SpokenOfAServer.{EntrySaid, Told, Waits}
 use Rattle.ipx_internet.proofs.ticks.BusyTickAfterTick.{own_seconds}
@@ -52,7 +52,10 @@ module _ (net : Internet) (laws : Layouts) (is : IsInternet net) (most_routes mo
     (in_ports : (router : ℕ) → AllByRecursion (λ j. j < length (ports_of net router)) (up router)) (hops : ℕ) (reached : hops < unreachable)
     (unlike : (router less : ℕ) → hops ≡ suc less → IsFewest net up server router less → NodesDiffer net) (fewest : IsFewest net up server r hops)
     (room : HasRoomFor net most_services names) (inside : r < length net)
-    (listed : Listed net up server names most_services r apart in_ports hops reached unlike fewest (server.kind, server.name)) where
+    (listed : Listed (sought_of net up server names most_services r apart in_ports hops reached unlike fewest) (server.kind, server.name)) where
+  abbrev sought : Sought
+  sought = sought_of net up server names most_services r apart in_ports hops reached unlike fewest
+
   abbrev ports : List Port
   ports = ports_of net r
 
@@ -60,25 +63,25 @@ module _ (net : Internet) (laws : Layouts) (is : IsInternet net) (most_routes mo
   Source = ℕ × Node
 
   abbrev K : ℕ × List ℕ
-  K = key net up server names most_services r apart in_ports hops reached unlike fewest
+  K = key sought
 
   abbrev one : (k : ℕ × List ℕ) → is_eq (service_order k K) ≡ true → k ≡ K
   one k = one_name k K
 
   abbrev ss : List ℕ
-  ss = shares net up server names most_services r apart in_ports hops reached unlike fewest
+  ss = shares sought
 
   abbrev R : ServiceOffer → Type 0
-  R = Real net up server names most_services r apart in_ports hops reached unlike fewest
+  R = Real sought
 
   abbrev pub G : ServiceOffer → Type 0
-  G = Good net up server names most_services r apart in_ports hops reached unlike fewest
+  G = Good sought
 
   abbrev Of : Source → ServiceOffer → Type 0
-  Of = GoodOf net up server names most_services r apart in_ports hops reached unlike fewest
+  Of = GoodOf sought
 
   abbrev L : ℕ × List ℕ → Type 0
-  L = Listed net up server names most_services r apart in_ports hops reached unlike fewest
+  L = Listed sought
 
   -- what routers say that are nearer, as long as they are right
   abbrev W : ℕ → Service → Type 0
@@ -94,13 +97,13 @@ module _ (net : Internet) (laws : Layouts) (is : IsInternet net) (most_routes mo
   Surely run steps = AtEach net most_routes most_services server (λ now. N now.histories) run steps
 
   abbrev By : Source → Type 0
-  By = SaidBy net up server names most_services r apart in_ports hops reached unlike fewest
+  By = SaidBy sought
 
   abbrev at : ℕ → Place
-  at port = here net up server names most_services r apart in_ports hops reached unlike fewest port
+  at port = here sought port
 
   abbrev pub host : Source → Announcer
-  host = host_of net up server names most_services r apart in_ports hops reached unlike fewest
+  host = host_of sought
 
   abbrev pub known_now : List (Fact ServiceOffer) → Option (Held ServiceOffer)
   known_now = known service_reading service_order service_total most_services ss K one R Of
@@ -209,10 +212,10 @@ module _ (net : Internet) (laws : Layouts) (is : IsInternet net) (most_routes mo
 
       abbrev Arrives : ServiceOffer → Type 0
       Arrives = Comes service_reading service_order service_total most_services ss K one R Of (λ s age. Young top left age)
-          (λ s. omega (arith, one_left, some)) (λ o. Unit {0}) (best net up server names most_services r apart in_ports hops reached unlike fewest)
-          (Such net up server names most_services r apart in_ports hops reached unlike fewest had long) Fit
-          (real_known net up server names most_services r apart in_ports hops reached unlike fewest had long)
-          (goes_on net up server names most_services r apart in_ports hops reached unlike fewest had long)
+          (λ s. omega (arith, one_left, some)) (λ o. Unit {0}) (best sought)
+          (Such sought had long) Fit
+          (real_known sought had long)
+          (goes_on sought had long)
 
       sure : most_ticks_gone ≤ ticks
       sure = omega (arith, late, long)
@@ -222,7 +225,7 @@ module _ (net : Internet) (laws : Layouts) (is : IsInternet net) (most_routes mo
       arrive on node [] all = tt
       arrive on node (e ∷ entries) all =
           all-append (OffersOf Arrives) _ (services_offered number node entries) (by e.name (λ name named.
-          (fit name named, steady net up server names most_services r apart in_ports hops reached unlike fewest ticks sure number on node e all.0 name named))) (arrive on node entries all.1)
+          (fit name named, steady sought ticks sure number on node e all.0 name named))) (arrive on node entries all.1)
         where
           fit : (name : List ℕ) → e.name ≡ Some name → Fit (service_offer number node e name)
           fit name named near = sooner (all.0.fine on near name named)
@@ -318,19 +321,19 @@ module _ (net : Internet) (laws : Layouts) (is : IsInternet net) (most_routes mo
                 moves (Young top left) Before After Now (facts ++ new) split
                 (offers_keep service_reading service_order service_total most_services ss K one R Of
                 (λ s age. Young top left age) (λ s. omega (arith, one_left, some)) (λ o. Unit {0})
-                (best net up server names most_services r apart in_ports hops reached unlike fewest)
-                (Such net up server names most_services r apart in_ports hops reached unlike fewest had long) Fit
-                (real_known net up server names most_services r apart in_ports hops reached unlike fewest had long)
-                (goes_on net up server names most_services r apart in_ports hops reached unlike fewest had long) (λ s age. Before s) (Missing Before) new facts all state)
+                (best sought)
+                (Such sought had long) Fit
+                (real_known sought had long)
+                (goes_on sought had long) (λ s age. Before s) (Missing Before) new facts all state)
                 (λ g good now.
                 let said = same_message (HeardSap source (SapResponse nearest entries)) e (g.port, g.node) now in
                 offers_come service_reading service_order service_total most_services ss K one R Of
                 (λ s age. Young top left age) (λ s. omega (arith, one_left, some)) (λ o. Unit {0})
-                (best net up server names most_services r apart in_ports hops reached unlike fewest)
-                (Such net up server names most_services r apart in_ports hops reached unlike fewest had long) Fit
-                (real_known net up server names most_services r apart in_ports hops reached unlike fewest had long)
-                (goes_on net up server names most_services r apart in_ports hops reached unlike fewest had long)
-                (place net up server names most_services r apart in_ports hops reached unlike fewest had long room inside listed) (g.port, g.node)
+                (best sought)
+                (Such sought had long) Fit
+                (real_known sought had long)
+                (goes_on sought had long)
+                (place sought had long room inside listed) (g.port, g.node)
                 (λ s age. Before s) (Missing Before) (λ missing o. tt) new facts all
                 (among g good (sym (now_is (g.port, g.node) now).0) source.node said.0 entries said.1 said.2) such state)
 

@@ -26,7 +26,7 @@ use Rattle.ipx_internet.proofs.services.HeardInAMinute.{G, known_right, known_ea
 use Rattle.ipx_internet.proofs.services.HostTickAfterTick.{Rests, ticks_rest}
 use Rattle.ipx_internet.proofs.services.HostsApart.{HostsApart}
 use Rattle.ipx_internet.proofs.services.NearerIsHeard.{neighbour_heard}
-use Rattle.ipx_internet.proofs.services.NearestHost.{SaidBy}
+use Rattle.ipx_internet.proofs.services.NearestHost.{sought_of, SaidBy}
 use Rattle.ipx_internet.proofs.tables.TablesAreRight.{parts_of, ticked_on}
 
 -- ---- who says it with the fewest hops
@@ -157,7 +157,7 @@ module _ (net : Internet) (laws : Layouts) (is : IsInternet net) (most_routes mo
               ≡ Some (record { network = network_of net (record { router = router; port = said.port }); node = said.node; hops = far })))
               ⊎ ((from : Place) × (less : ℕ) × (far ≡ suc less) × Link net up server router said.port from × (said.node ≡ (port_of net from).node)
               × IsAway net up server from.router less)
-              → SaidBy net up server names most_services router apart in_ports far reached unlike fewest (said.port, said.node)
+              → SaidBy (sought_of net up server names most_services router apart in_ports far reached unlike fewest) (said.port, said.node)
           by (inl (which, is_listed)) = inl (record { which = which; listed = is_listed })
           by (inr (from, less, more, link, node, way)) =
               inr (record {
@@ -218,7 +218,7 @@ module _ (net : Internet) (laws : Layouts) (is : IsInternet net) (most_routes mo
         heard : (g : ServiceOffer) → Good g → HeardFrom (g.port, g.node)
         heard g good = by good.who
           where
-            by : SaidBy net up server names most_services router apart in_ports far reached unlike fewest (g.port, g.node) → HeardFrom (g.port, g.node)
+            by : SaidBy (sought_of net up server names most_services router apart in_ports far reached unlike fewest) (g.port, g.node) → HeardFrom (g.port, g.node)
             by (inl host) =
                 outside_ticks net most_routes most_services server (record { router = router; port = g.port })
                 (record { network = network_of net (record { router = router; port = g.port }); node = g.node; hops = far }) middle window

@@ -51,9 +51,42 @@ no_worse a b less = elim (cases_Bool (is_gt (rank_order (a, 0) (b, 0)))) [
   | inl e ↦ absurd (worse (as_way a) (as_way b) e (record { ticks = less; hops = λ same. omega arith }))
 ]
 
-module _ (net : Internet) (up : ℕ → List ℕ) (server : Server) (names : List (ℕ × List ℕ)) (most_services r : ℕ) (apart : HostsApart net up server)
-    (in_ports : (router : ℕ) → AllByRecursion (λ j. j < length (ports_of net router)) (up router)) (hops : ℕ) (reached : hops < unreachable)
-    (unlike : (router less : ℕ) → hops ≡ suc less → IsFewest net up server router less → NodesDiffer net) (fewest : IsFewest net up server r hops) where
+-- what is given of a router: a service with its hosts, and the fewest hops by which it has it
+pub record Sought : Type 0 where
+  pub net : Internet
+  pub up : ℕ → List ℕ
+  pub server : Server
+  pub names : List (ℕ × List ℕ)
+  pub most_services : ℕ
+  pub r : ℕ
+  pub apart : HostsApart net up server
+  pub in_ports : (router : ℕ) → AllByRecursion (λ j. j < length (ports_of net router)) (up router)
+  pub hops : ℕ
+  pub reached : hops < unreachable
+  pub unlike : (router less : ℕ) → hops ≡ suc less → IsFewest net up server router less → NodesDiffer net
+  pub fewest : IsFewest net up server r hops
+
+abbrev pub sought_of : (net : Internet) (up : ℕ → List ℕ) (server : Server) → List (ℕ × List ℕ) → ℕ → (r : ℕ) → HostsApart net up server
+    → ((router : ℕ) → AllByRecursion (λ j. j < length (ports_of net router)) (up router)) → (hops : ℕ) → hops < unreachable
+    → ((router less : ℕ) → hops ≡ suc less → IsFewest net up server router less → NodesDiffer net) → IsFewest net up server r hops → Sought
+sought_of net up server names most_services r apart in_ports hops reached unlike fewest = record {
+  net = net;
+  up = up;
+  server = server;
+  names = names;
+  most_services = most_services;
+  r = r;
+  apart = apart;
+  in_ports = in_ports;
+  hops = hops;
+  reached = reached;
+  unlike = unlike;
+  fewest = fewest;
+}
+
+module _ (sought : Sought) where
+  open sought use {net, up, server, names, most_services, r, apart, in_ports, hops, reached, unlike, fewest}
+
   abbrev pub here : ℕ → Place
   here port = record { router = r; port = port }
 
