@@ -1,11 +1,11 @@
 -- The least way of a router to a network: of all ways that lead from router to router, by ports that are up, the one of the fewest
 -- ticks and then of the fewest hops.
-use Rattle.std.specs.Prelude.{ℕ, zero, suc, ◌+◌, ◌==◌, ◌&&◌, ◌||◌, nat_lt, Bool, not, if◌then◌else◌, List, [], ◌∷◌, length, map, Option, None, Some, slice_index_or, ◌≡◌, ◌≢◌, ◌≤◌, ◌<◌, true, false}
+use Rattle.std.specs.Prelude.{ℕ, zero, suc, ◌+◌, ◌-◌, ◌/◌, ◌==◌, ◌&&◌, ◌||◌, nat_lt, Bool, not, if◌then◌else◌, List, [], ◌∷◌, length, map, Option, None, Some, slice_index_or, ◌≡◌, ◌≢◌, ◌≤◌, ◌<◌, true, false}
 use Rattle.std.specs.List.{AllByRecursion, filter, flat_map, list_any}
 use Rattle.std.specs.Option.{option_map}
 use Rattle.ipx_wire.specs.Crossed.{is_among}
 use Rattle.ipx_wire.specs.declared.network.Network.{Network}
-use Rattle.ipx_router.specs.Numbers.{period}
+use Rattle.ipx_router.specs.Numbers.{most_ticks, period, unreachable}
 use Rattle.ipx_router.specs.Outgoing.{port_to}
 use Rattle.ipx_router.specs.Port.{Port, port_at, numbers, is_up}
 use Rattle.ipx_router.specs.declared.route_offer.RouteOffer.{RouteOffer}
@@ -73,7 +73,7 @@ module _ (net : Internet) (up : ℕ → List ℕ) where
 
 -- a route of more hops isn't taken
 abbrev pub most_hops : ℕ
-most_hops = 15
+most_hops = unreachable - 1
 
 module _ (net : Internet) (up : ℕ → List ℕ) where
   -- the least way of a router to a network
@@ -115,9 +115,9 @@ pub record FifteenSuffice (net : Internet) (up : ℕ → List ℕ) (network : Ne
 abbrev pub CostTheSame : Internet → ℕ → Type 0
 CostTheSame net cost = AllByRecursion (AllByRecursion (λ p. p.cost ≡ cost)) net
 
--- the most that a port may cost, so that the ticks of no way of fifteen hops are too many for an entry
+-- the most that a port may cost, so that the ticks of no way of fifteen hops, which has sixteen ports, are too many for an entry
 abbrev pub most_cost : ℕ
-most_cost = 4095
+most_cost = most_ticks / unreachable
 
 -- no port costs more
 abbrev pub AreCheap : Internet → Type 0
