@@ -3,7 +3,7 @@
 //! Goes out: packets of at most fifty entries or seven services in the order of their keys; requests and queries.
 //! Touches: the outbox. The tables are read item by item and not copied.
 //! `told_routes` and `told_services` have what is advertised, and `selection` chooses of it; `told` and `pages` put it into packets.
-mod broadcasts;
+pub(crate) mod broadcasts;
 pub(crate) mod envelope;
 pub(crate) mod hops;
 pub(crate) mod introducing;

@@ -1,11 +1,12 @@
 -- What ended rises as it is told, and where each of it stands among what else is told.
-use Rattle.std.proofs.Common.{◌≡◌, refl, sym, ap, ◌∙◌, ℕ, ◌==◌, Bool, true, false, if◌then◌else◌, List, [], ◌∷◌, ◌++◌, map, filter, Option, None, Some, inl, inr, true≢false, Ordering, is_lt}
+use Rattle.std.proofs.Common.{◌≡◌, refl, sym, ap, ◌∙◌, ℕ, ◌==◌, Bool, true, false, if◌then◌else◌, List, [], ◌∷◌, ◌++◌, length, map, filter, Option, None, Some, inl, inr, true≢false, Ordering, is_lt}
 use Rattle.std.specs.List.{AllByRecursion, flat_map}
 use Rattle.std.proofs.lemmas.Bool.{cases_Bool}
+use Rattle.std.proofs.Math.Dec.{eqb-suc-zero}
 use Rattle.ipx_table.specs.Stands.{Ascends}
 use Rattle.ipx_wire.specs.declared.rip.RipEntry.{RipEntry}
 use Rattle.ipx_wire.specs.declared.service.Service.{Service}
-use Rattle.ipx_router.specs.inside.Ended.{AreInOrder, by_route, by_service, dead_offer, dead_route, ended_as, ends_before}
+use Rattle.ipx_router.specs.inside.Ended.{AreInOrder, by_route, by_service, dead_offer, dead_route, ended_as, ended_on, ends_before, service_ended_on}
 use Rattle.ipx_router.specs.Port.{Port, port_at}
 use Rattle.ipx_router.specs.Sorted.{put_all, sorted}
 use Rattle.ipx_router.specs.inside.Sources.{first_then}
@@ -110,6 +111,12 @@ told_with ports up routes number ended =
     sorted-more network_before (told ports up routes number) ended
     (rises-sorted network_before network_orders (map (told_at (port_at ports number).cost) (direct ports up number ++ learned routes number)))
 
+-- and alone, where nothing ended
+pub told_with_none : (ports : List Port) (up : List ℕ) (routes : List RouteOffer) (number : ℕ) (ended : List RouteOffer) → true ≡ (length ended == 0)
+    → by_network (told ports up routes number ++ flat_map (ended_on number) ended) ≡ told ports up routes number
+told_with_none ports up routes number [] none = told_with ports up routes number []
+told_with_none ports up routes number (r ∷ ended) none = absurd (true≢false (none ∙ eqb-suc-zero (length ended)))
+
 -- ---- services
 
 pub services_in_order : AreInOrder by_service name_before dead_offer
@@ -124,3 +131,8 @@ pub services_with : (services : List ServiceOffer) (number : ℕ) (ended_service
 services_with services number ended_services =
     sorted-more name_before (told_services services number) ended_services
     (rises-sorted name_before name_orders (map (λ s. farther s.service) (filter (is_service_told number) services)))
+
+pub services_with_none : (services : List ServiceOffer) (number : ℕ) (ended_services : List ServiceOffer) → true ≡ (length ended_services == 0)
+    → by_name (told_services services number ++ flat_map (service_ended_on number) ended_services) ≡ told_services services number
+services_with_none services number [] none = services_with services number []
+services_with_none services number (s ∷ ended_services) none = absurd (true≢false (none ∙ eqb-suc-zero (length ended_services)))

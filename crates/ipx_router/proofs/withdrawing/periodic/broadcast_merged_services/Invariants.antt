@@ -8,7 +8,7 @@ use Rattle.ipx_router.specs.inside.Owed.{Pays, owed}
 use Rattle.ipx_router.specs.Sends.{sap_broadcast}
 use Rattle.ipx_router.specs.Sorted.{put_all}
 use Rattle.ipx_router.specs.Told.{by_name, name_before, told_services}
-use Rattle.ipx_router.proofs.withdrawing.periodic.broadcast_services_with_ended.Given as goal
+use Rattle.ipx_router.proofs.withdrawing.periodic.broadcast_merged_services.Given as goal
 
 abbrev pub invariant-loop-service : goal.invariant-loop-service
 invariant-loop-service g l = record {

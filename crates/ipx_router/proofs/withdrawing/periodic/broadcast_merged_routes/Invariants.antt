@@ -8,7 +8,7 @@ use Rattle.ipx_router.specs.inside.Owed.{Pays, owed}
 use Rattle.ipx_router.specs.Sends.{rip_broadcast}
 use Rattle.ipx_router.specs.Sorted.{put_all}
 use Rattle.ipx_router.specs.Told.{by_network, network_before, told}
-use Rattle.ipx_router.proofs.withdrawing.periodic.broadcast_routes_with_ended.Given as goal
+use Rattle.ipx_router.proofs.withdrawing.periodic.broadcast_merged_routes.Given as goal
 
 abbrev pub invariant-loop-entry : goal.invariant-loop-entry
 invariant-loop-entry g l = record {
