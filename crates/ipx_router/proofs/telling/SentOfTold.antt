@@ -12,9 +12,10 @@ use Rattle.ipx_router.specs.Port.{Port, port_at, reply_to}
 use Rattle.ipx_router.specs.Sends.{asked, nearest_of, of_kind, sap_sends}
 use Rattle.ipx_router.specs.inside.Envelope.{services_in, services_reply}
 use Rattle.ipx_router.specs.inside.Owed.{owed}
-use Rattle.ipx_router.specs.inside.Selection.{asks_for, is_asked, selected_by, is_of_kind, service_selected_by}
-use Rattle.ipx_router.specs.Told.{dead, dead_service}
+use Rattle.ipx_router.specs.inside.Selection.{asks_for, is_asked, selected_by, is_of_kind, is_service_selected, service_selected_by, service_sent}
+use Rattle.ipx_router.specs.Told.{dead, dead_service, farther}
 use Rattle.ipx_router.specs.declared.advertising.envelope.Envelope.{Envelope}
+use Rattle.ipx_router.specs.declared.advertising.selection.ServiceSelection.{ServiceSelection}
 use Rattle.ipx_router.specs.declared.advertising.selection.Selection.TheVariants.{All, Dead, Asked}
 use Rattle.ipx_router.specs.declared.advertising.selection.ServiceSelection.TheVariants.{All as AllServices, Dead as DeadServices, OfKind}
 use Rattle.ipx_router.proofs.sending.PortByPort.{in_envelope}
@@ -76,6 +77,20 @@ services_selected_of_kind kind (s ∷ ss) = elim (cases_Bool (is_of_kind kind s)
   | inl wanted ↦ rw wanted (ap (λ (l : List Service). s ∷ l) (services_selected_of_kind kind ss))
   | inr other ↦ rw other (services_selected_of_kind kind ss)
 ]
+
+-- a service of the table, as it is sent
+pub sent_of_offer : (selection : ServiceSelection) (s : Service) → true ≡ is_service_selected selection s
+    → service_sent selection s ∷ [] ≡ service_selected_by selection (farther s)
+sent_of_offer AllServices s is = refl
+sent_of_offer DeadServices s is = refl
+sent_of_offer (OfKind kind) s is = rw (sym is) refl
+
+-- one that isn't
+pub not_sent_of_offer : (selection : ServiceSelection) (s : Service) → false ≡ is_service_selected selection s
+    → [] ≡ service_selected_by selection (farther s)
+not_sent_of_offer AllServices s is = absurd (true≢false (sym is))
+not_sent_of_offer DeadServices s is = absurd (true≢false (sym is))
+not_sent_of_offer (OfKind kind) s is = rw (sym is) refl
 
 -- ---- answers
 

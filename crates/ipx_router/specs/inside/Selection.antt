@@ -1,10 +1,10 @@
 -- Which routes and services of all that are advertised are sent, and how.
-use Rattle.std.specs.Prelude.{ℕ, ◌==◌, ◌||◌, Bool, if◌then◌else◌, List, [], ◌∷◌}
+use Rattle.std.specs.Prelude.{ℕ, ◌==◌, ◌||◌, Bool, true, if◌then◌else◌, List, [], ◌∷◌}
 use Rattle.std.specs.List.{list_any}
 use Rattle.ipx_wire.specs.declared.rip.RipEntry.{RipEntry}
 use Rattle.ipx_wire.specs.declared.service.Service.{Service}
 use Rattle.ipx_router.specs.Numbers.{all_routes, every_service}
-use Rattle.ipx_router.specs.Told.{dead, dead_service}
+use Rattle.ipx_router.specs.Told.{dead, dead_service, farther}
 use Rattle.ipx_router.specs.declared.advertising.selection.Selection.{Selection}
 use Rattle.ipx_router.specs.declared.advertising.selection.Selection.TheVariants.{All, Dead, Asked}
 use Rattle.ipx_router.specs.declared.advertising.selection.ServiceSelection.{ServiceSelection}
@@ -33,3 +33,14 @@ abbrev pub service_selected_by : ServiceSelection → Service → List Service
 service_selected_by AllServices s = s ∷ []
 service_selected_by DeadServices s = dead_service s ∷ []
 service_selected_by (OfKind kind) s = if is_of_kind kind s then s ∷ [] else []
+
+-- of the service as it stands in the table: whether it is sent, and as what
+abbrev pub is_service_selected : ServiceSelection → Service → Bool
+is_service_selected AllServices s = true
+is_service_selected DeadServices s = true
+is_service_selected (OfKind kind) s = is_of_kind kind s
+
+abbrev pub service_sent : ServiceSelection → Service → Service
+service_sent AllServices s = farther s
+service_sent DeadServices s = dead_service s
+service_sent (OfKind kind) s = farther s

@@ -1,9 +1,10 @@
 //! Which of the routes and services that a port advertises are sent, and how.
-ghost use Rattle.std.specs.Prelude.{◌≡◌};
+ghost use Rattle.std.specs.Prelude.{◌≡◌, ◌<◌};
 ghost use Rattle.std.specs.Option.{option_to_list};
-ghost use Rattle.ipx_router.specs.inside.Selection.{asks_for, is_asked, is_of_kind, service_selected_by, selected_by};
+ghost use Rattle.ipx_router.specs.Numbers.{unreachable};
+ghost use Rattle.ipx_router.specs.inside.Selection.{asks_for, is_asked, is_of_kind, is_service_selected, selected_by, service_sent};
 
-use crate::advertising::hops::{dead, dead_service};
+use crate::advertising::hops::{dead, dead_service, farther};
 use ipx_wire::{Network, Rip, RipEntry, Sap, Service};
 
 /// Which routes are sent.
@@ -45,20 +46,24 @@ pub(crate) fn select(selection: Selection<'_>, entry: RipEntry) -> Option<RipEnt
     }
 }
 
-/// The service as it is sent; `None` where it isn't.
-pub(crate) fn select_service(selection: ServiceSelection, service: Service) -> Option<Service>
-    ensures { option_to_list result ≡ service_selected_by selection service }
+/// Whether a service is sent; for that it doesn't matter how far away it is.
+pub(crate) fn is_service_selected(selection: ServiceSelection, service: &Service) -> bool
+    ensures { result ≡ is_service_selected selection service.now }
 {
     match selection {
-        ServiceSelection::All => Some(service),
-        ServiceSelection::Dead => Some(dead_service(service)),
-        ServiceSelection::OfKind(kind) => {
-            if is_of_kind(kind, &service) {
-                Some(service)
-            } else {
-                None
-            }
-        }
+        ServiceSelection::All | ServiceSelection::Dead => true,
+        ServiceSelection::OfKind(kind) => is_of_kind(kind, service),
+    }
+}
+
+/// A service of the table as it is sent: one hop farther away, or unreachable.
+pub(crate) fn service_sent(selection: ServiceSelection, service: &Service) -> Service
+    requires { service.now.hops < unreachable }
+    ensures { result ≡ service_sent selection service.now }
+{
+    match selection {
+        ServiceSelection::Dead => dead_service(*service),
+        _ => farther(*service),
     }
 }
 

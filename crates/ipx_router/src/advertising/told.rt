@@ -1,20 +1,20 @@
 //! What a port advertises goes from tables and ports straight into pages of the outbox: no list of all of it is made.
-ghost use Rattle.std.specs.Prelude.{◌≡◌, ◌<◌, ◌≤◌, List, [], ◌∷◌, ◌++◌, length, take, false, Some};
+ghost use Rattle.std.specs.Prelude.{◌≡◌, ◌<◌, ◌≤◌, [], ◌++◌, length, take, false};
 ghost use Rattle.std.specs.List.{AllByRecursion, flat_map};
-ghost use Rattle.std.specs.Option.{option_to_list};
-ghost use Rattle.ipx_wire.specs.declared.service.Service.{Service};
 ghost use Rattle.ipx_router.specs.Facts.{offers};
 ghost use Rattle.ipx_router.specs.Numbers.{entries_a_page, services_a_page, most_ports};
 ghost use Rattle.ipx_router.specs.Outbox.{Fits, Appends};
 ghost use Rattle.ipx_router.specs.inside.Envelope.{entries_in, services_in};
-ghost use Rattle.ipx_router.specs.inside.Owed.{Pays, owed};
+ghost use Rattle.ipx_router.specs.inside.Owed.{owed};
 ghost use Rattle.ipx_router.specs.inside.Selection.{service_selected_by, selected_by};
 ghost use Rattle.ipx_router.specs.Told.{told, told_services};
 
 use crate::advertising::envelope::Envelope;
 use crate::advertising::item::Item;
-use crate::advertising::pages::{ENTRIES_A_PAGE, SERVICES_A_PAGE, add_item, send_rest};
-use crate::advertising::selection::{Selection, ServiceSelection, select, select_service};
+use crate::advertising::pages::{ENTRIES_A_PAGE, SERVICES_A_PAGE};
+use crate::advertising::selection::{
+    Selection, ServiceSelection, is_service_selected, select, service_sent,
+};
 use crate::advertising::told_routes::{ToldRoutes, list_direct};
 use crate::advertising::told_services::ToldServices;
 use crate::outbox::Outbox;
@@ -79,14 +79,15 @@ fn fill(
     count
 }
 
-/// Sends the entries of a page, where there are any.
-fn send_filled(outbox: &mut Outbox, envelope: Envelope, page: &[RipEntry])
-    requires few { length page.now ≤ entries_a_page }
-    requires room { Fits outbox.old (owed entries_a_page (entries_in envelope) [] page.now) }
-    ensures { Appends outbox.old outbox.new (owed entries_a_page (entries_in envelope) [] page.now) }
+/// Sends the items of a page, where there are any.
+fn send_filled<X: Item>(outbox: &mut Outbox, envelope: Envelope, page: &[X])
+    requires some { 1 ≤ X.most }
+    requires few { length page.now ≤ X.most }
+    requires room { Fits outbox.old (owed X.most (X.packet envelope) [] page.now) }
+    ensures { Appends outbox.old outbox.new (owed X.most (X.packet envelope) [] page.now) }
 {
     if !page.is_empty() {
-        RipEntry::send_page(outbox, envelope, page);
+        X::send_page(outbox, envelope, page);
     }
 }
 
@@ -100,31 +101,36 @@ pub(crate) fn send_services<const S: usize>(
     requires room { Fits outbox.old (owed services_a_page (services_in false envelope) [] (flat_map (service_selected_by selection) (told_services (offers table.now.records) envelope.port))) }
     ensures { Appends outbox.old outbox.new (owed services_a_page (services_in false envelope) [] (flat_map (service_selected_by selection) (told_services (offers table.now.records) envelope.port))) }
 {
-    let mut page = ArrayVec::new();
-    for service in ToldServices::new(table, envelope.port) {
-        add_selected_service(
-            outbox,
-            envelope,
-            &mut page,
-            select_service(selection, service),
-        );
+    let mut services = ToldServices::new(table, envelope.port);
+    let mut page = [Service::default(); SERVICES_A_PAGE];
+    let mut count = SERVICES_A_PAGE;
+    while count == SERVICES_A_PAGE {
+        count = fill_services(&mut services, selection, &mut page);
+        let (filled, _) = page.split_at(count);
+        send_filled(outbox, envelope, filled);
     }
-    send_rest(outbox, envelope, &page);
 }
 
-/// Adds a service to a page, if there is one.
-fn add_selected_service(
-    outbox: &mut Outbox,
-    envelope: Envelope,
-    page: &mut ArrayVec<Service, SERVICES_A_PAGE>,
-    service: Option<Service>,
-)
-    requires room { (s : Service) → service ≡ Some s → services_a_page ≤ length page.old.items → Fits outbox.old (services_in false envelope page.old.items ∷ []) }
-    ensures { (rest : List Service) → Pays outbox.old outbox.new
-        (owed services_a_page (services_in false envelope) page.old.items (option_to_list service ++ rest))
-        (owed services_a_page (services_in false envelope) page.new.items rest) }
+/// Fills a page with the next services to send, and returns their number: fewer than a page holds only where none is left.
+/// Each of them is copied once, from the table to its place.
+fn fill_services(
+    services: &mut ToldServices<'_>,
+    selection: ServiceSelection,
+    page: &mut [Service; SERVICES_A_PAGE],
+) -> usize
+    ensures few { result ≤ services_a_page }
+    ensures services { flat_map (service_selected_by selection) services.old ≡ take result page.new ++ flat_map (service_selected_by selection) services.new }
+    ensures last { result < services_a_page → flat_map (service_selected_by selection) services.new ≡ [] }
 {
-    if let Some(service) = service {
-        add_item(outbox, envelope, page, service);
+    let mut count = 0;
+    while count < SERVICES_A_PAGE {
+        let Some(offer) = services.next_offer() else {
+            return count;
+        };
+        if is_service_selected(selection, &offer.service) {
+            page[count] = service_sent(selection, &offer.service);
+            count += 1;
+        }
     }
+    count
 }

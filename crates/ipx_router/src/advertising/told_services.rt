@@ -1,8 +1,9 @@
 //! The services that a port advertises, one after the other by type and name: those of the table, without a copy.
-ghost use Rattle.std.specs.Prelude.{◌≡◌, not, drop};
+ghost use Rattle.std.specs.Prelude.{◌≡◌, ◌<◌, not, [], ◌∷◌, drop, IfNone, IfSome};
 ghost use Rattle.std.specs.List.{prefix_len};
 ghost use Rattle.ipx_router.specs.Facts.{offers};
-ghost use Rattle.ipx_router.specs.Told.{is_service_told, told_services};
+ghost use Rattle.ipx_router.specs.Numbers.{unreachable};
+ghost use Rattle.ipx_router.specs.Told.{farther, is_service_told, told_services};
 
 use crate::advertising::hops::{farther, is_service_told};
 use crate::service_offer::ServiceOffer;
@@ -44,6 +45,17 @@ impl<'a> ToldServices<'a> {
             number,
         }
     }
+
+    /// The next of them as it stands in the table: it is advertised one hop farther away.
+    pub(crate) fn next_offer(&mut self) -> Option<&'a ServiceOffer>
+        ensures some { IfSome result (λ offer. self.old ≡ farther offer.now.service ∷ self.new) }
+        ensures near { IfSome result (λ offer. offer.now.service.hops < unreachable) }
+        ensures none { IfNone result ((self.old ≡ []) × (self.new ≡ [])) }
+    {
+        let (offer, others) = seek(self.services, self.number).split_first()?;
+        self.services = others;
+        Some(offer)
+    }
 }
 
 impl<'a> Iterator for ToldServices<'a> {
@@ -56,8 +68,7 @@ impl<'a> Iterator for ToldServices<'a> {
     ghost remaining = { item_count (λ rest. rest) };
 
     fn next(&mut self) -> Option<Service> {
-        let (offer, others) = seek(self.services, self.number).split_first()?;
-        self.services = others;
+        let offer = self.next_offer()?;
         Some(farther(offer.service))
     }
 }
