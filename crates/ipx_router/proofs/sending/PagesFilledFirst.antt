@@ -61,7 +61,18 @@ module _ {X : Type 0} (n : ℕ) (packet : List X → Sent) (some : 1 ≤ n) wher
     filled_pays {c} appends =
         pays_then before (subst (λ (ps : List Sent). Pays b c ps (packets_of rest)) (sym parts) (pays_first (packets_of rest) appends))
 
--- ---- a page is filled from a source, with what is sent of the items that it yields
+-- ---- a page is filled from a source
+
+module _ {X : Type 0} (page : List X) (count : ℕ) (all left later : List X) (x : X) where
+  -- with the item that it yields
+  pub one_placed : all ≡ take count page ++ left → left ≡ x ∷ later → count < length page → all ≡ take (count + 1) (slice_set page count x) ++ later
+  one_placed before yielded room =
+      before
+      ∙ ap (λ (xs : List X). take count page ++ xs) yielded
+      ∙ sym (append_assoc (take count page) (x ∷ []) later)
+      ∙ sym (ap (λ (xs : List X). xs ++ later) (take_more_set page count x room))
+
+-- ---- or with what is sent of that
 
 module _ {X Y : Type 0} (selection : X → List Y) (page : List Y) (count : ℕ) (all left later : List X) (x : X) (yielded : left ≡ x ∷ later)
     (before : flat_map selection all ≡ take count page ++ flat_map selection left) where

@@ -12,21 +12,24 @@ module _ {O : Type 0} (chosen : O → Bool) where
   abbrev pub from_chosen : List O → List O
   from_chosen xs = drop (prefix_len (λ x. not (chosen x)) xs) xs
 
-  starts : (x : O) (xs : List O) → chosen x ≡ true → from_chosen (x ∷ xs) ≡ x ∷ xs
+  pub starts : (x : O) (xs : List O) → chosen x ≡ true → from_chosen (x ∷ xs) ≡ x ∷ xs
   starts x xs e = left_stays (λ x. not (chosen x)) x xs (x ∷ xs) refl (ap not e)
 
   goes_on : (x : O) (xs : List O) → chosen x ≡ false → from_chosen (x ∷ xs) ≡ from_chosen xs
   goes_on x xs e = left_shrinks (λ x. not (chosen x)) x xs (x ∷ xs) refl (ap not e)
 
+  pub takes_first : (x : O) (xs : List O) → chosen x ≡ true → filter chosen (x ∷ xs) ≡ x ∷ filter chosen xs
+  takes_first x xs e = rw e refl
+
+  pub skips_first : (x : O) (xs : List O) → chosen x ≡ false → filter chosen (x ∷ xs) ≡ filter chosen xs
+  skips_first x xs e = rw e refl
+
   pub same_chosen : (xs : List O) → filter chosen (from_chosen xs) ≡ filter chosen xs
   same_chosen [] = refl
   same_chosen (x ∷ xs) = elim (cases_Bool (chosen x)) [
     | inl e ↦ ap (filter chosen) (starts x xs e)
-    | inr e ↦ ap (filter chosen) (goes_on x xs e) ∙ same_chosen xs ∙ sym (passes e)
+    | inr e ↦ ap (filter chosen) (goes_on x xs e) ∙ same_chosen xs ∙ sym (skips_first x xs e)
   ]
-    where
-      passes : chosen x ≡ false → filter chosen (x ∷ xs) ≡ filter chosen xs
-      passes e = rw e refl
 
   -- the first of them is chosen
   pub first_chosen : (xs : List O) (x : O) (others : List O) → from_chosen xs ≡ x ∷ others → chosen x ≡ true
@@ -35,9 +38,6 @@ module _ {O : Type 0} (chosen : O → Bool) where
     | inl e ↦ ap (λ (l : List O). chosen (get_or l 0 y)) (sym (sym (starts y ys e) ∙ is)) ∙ e
     | inr e ↦ first_chosen ys x others (sym (goes_on y ys e) ∙ is)
   ]
-
-  pub takes_first : (x : O) (xs : List O) → chosen x ≡ true → filter chosen (x ∷ xs) ≡ x ∷ filter chosen xs
-  takes_first x xs e = rw e refl
 
 -- nothing is left
 pub no_more : {X : Type 0} (xs : List X) → length xs ≡ 0 → xs ≡ []

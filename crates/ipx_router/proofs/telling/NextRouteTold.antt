@@ -1,5 +1,5 @@
 -- The next route that is told: the network of a port, or a route of the table.
-use Rattle.std.proofs.Common.{◌≡◌, sym, ap, ◌∙◌, subst, ℕ, true, false, true≢false, not, List, [], ◌∷◌, length, map, filter, Some}
+use Rattle.std.proofs.Common.{◌≡◌, refl, sym, ap, ◌∙◌, subst, ℕ, true, false, true≢false, not, List, [], ◌∷◌, length, map, filter, Some}
 use Rattle.std.specs.List.{prefix_len}
 use Rattle.ipx_wire.specs.declared.rip.RipEntry.{RipEntry}
 use Rattle.ipx_router.specs.inside.Ended.{RoutesAscend}
@@ -11,7 +11,7 @@ use Rattle.ipx_router.specs.declared.route_offer.RouteOffer.{RouteOffer}
 use Rattle.ipx_router.specs.inside.Ended.{by_route}
 use Rattle.ipx_router.proofs.tables.ToldRises.{network_orders, ascends-drop, rises_told}
 use Rattle.ipx_router.proofs.lists.PutInOrder.{Rises}
-use Rattle.ipx_router.proofs.telling.FromTheFirstChosen.{from_chosen, same_chosen, first_chosen, takes_first, no_more}
+use Rattle.ipx_router.proofs.telling.FromTheFirstChosen.{from_chosen, starts, same_chosen, first_chosen, takes_first, skips_first, no_more}
 use Rattle.ipx_router.proofs.lists.NextOfTwoSources.{waiting_next, other_next}
 
 -- the routes that are left from the first one on that is told
@@ -79,3 +79,20 @@ module _ (number cost : ℕ) (waiting : List RipEntry) (routes left : List Route
     -- where a network waits, something does
     pub one_waits : waits_before network_before entry waiting ≡ true → length waiting ≡ 0 → NothingLeft
     one_waits waits none = absurd (true≢false (sym waits ∙ ap (waits_before network_before entry) (no_more waiting none)))
+
+-- ---- the first of the routes that are left
+
+module _ (number cost : ℕ) (waiting : List RipEntry) (route : RouteOffer) (others : List RouteOffer) where
+  -- it is next where it is told and comes before what waits
+  pub told_first : RoutesAscend (route ∷ others) → is_route_told number route ≡ true
+      → waits_before network_before (told_at cost (entry_of route)) waiting ≡ false
+      → routes_left number cost waiting (route ∷ others) ≡ told_at cost (entry_of route) ∷ routes_left number cost waiting others
+  told_first up told waits =
+      learned_next number cost waiting (route ∷ others) (route ∷ others) up (sym (starts (is_route_told number) route others told)) route others refl waits
+
+  -- where it isn't told, the others are left
+  pub untold_first : is_route_told number route ≡ false
+      → routes_left number cost waiting (route ∷ others) ≡ routes_left number cost waiting others
+  untold_first untold =
+      ap (λ (offers : List RouteOffer). put_all network_before waiting (map (told_at cost) (map entry_of offers)))
+      (skips_first (is_route_told number) route others untold)

@@ -56,8 +56,23 @@ pub(crate) fn send_routes<const R: usize>(
 }
 
 /// Fills a page with the next entries to send, and returns their number: fewer than a page holds only where none is left.
-/// The count is a variable of its own, so it stays in a register.
 fn fill(
+    routes: &mut ToldRoutes<'_>,
+    selection: Selection<'_>,
+    page: &mut [RipEntry; ENTRIES_A_PAGE],
+) -> usize
+    ensures few { result ≤ entries_a_page }
+    ensures entries { flat_map (selected_by selection.entry) routes.old ≡ take result page.new ++ flat_map (selected_by selection.entry) routes.new }
+    ensures last { result < entries_a_page → flat_map (selected_by selection.entry) routes.new ≡ [] }
+{
+    match selection {
+        Selection::All => routes.fill(page),
+        _ => fill_selected(routes, selection, page),
+    }
+}
+
+/// The same, entry by entry as they are selected.
+fn fill_selected(
     routes: &mut ToldRoutes<'_>,
     selection: Selection<'_>,
     page: &mut [RipEntry; ENTRIES_A_PAGE],

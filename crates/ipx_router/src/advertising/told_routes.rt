@@ -1,15 +1,18 @@
 //! The routes that a port advertises, one after the other by network: the networks of the other ports, merged with the
 //! routes of the table, which aren't copied.
-ghost use Rattle.std.specs.Prelude.{◌≡◌, ◌+◌, ◌<◌, ◌≤◌, not, List, ◌∷◌, ◌++◌, [], length, take, drop, map};
+ghost use Rattle.std.specs.Prelude.{◌≡◌, ◌+◌, ◌<◌, ◌≤◌, false, not, List, ◌∷◌, ◌++◌, [], length, take, drop, map};
 ghost use Rattle.std.specs.List.{AllByRecursion, prefix_len};
 ghost use Rattle.ipx_router.specs.Facts.{offers};
-ghost use Rattle.ipx_router.specs.Numbers.{most_ports};
+ghost use Rattle.ipx_wire.specs.declared.rip.RipEntry.{RipEntry};
+ghost use Rattle.ipx_router.specs.Numbers.{entries_a_page, most_ports};
 ghost use Rattle.ipx_router.specs.Sorted.{put, put_all};
+ghost use Rattle.ipx_router.specs.inside.Ended.{RoutesAscend};
 ghost use Rattle.ipx_router.specs.inside.Sources.{waits_before};
 ghost use Rattle.ipx_router.specs.Told.{by_network, direct, is_route_told, network_before, told_at};
 ghost use Rattle.ipx_router.specs.inside.ToldRoutes.{routes_left};
 
 use crate::advertising::hops::{direct_entry, entry_of, is_route_told, told_at};
+use crate::advertising::pages::ENTRIES_A_PAGE;
 use crate::port::Port;
 use crate::ports::making::MOST_PORTS;
 use crate::route_offer::RouteOffer;
@@ -59,6 +62,37 @@ impl<'a> ToldRoutes<'a> {
             cost,
         }
     }
+
+    /// Fills a page with the next of them, and returns their number: fewer than a page holds only where none is left.
+    pub(crate) fn fill(&mut self, page: &mut [RipEntry; ENTRIES_A_PAGE]) -> usize
+        ensures few { result ≤ entries_a_page }
+        ensures entries { self.old ≡ take result page.new ++ self.new }
+        ensures last { result < entries_a_page → self.new ≡ [] }
+    {
+        let mut count = 0;
+        while count < ENTRIES_A_PAGE {
+            let Some(entry) = self.next() else {
+                return count;
+            };
+            page[count] = entry;
+            count = self.fill_run(page, count + 1);
+        }
+        count
+    }
+
+    /// Puts the routes of the table that come before the next network of a port into a page, behind the first `count` entries,
+    /// as far as there is room. Returns how many entries the page has then.
+    fn fill_run(&mut self, page: &mut [RipEntry; ENTRIES_A_PAGE], count: usize) -> usize
+        requires { count ≤ entries_a_page }
+        ensures more { count ≤ result }
+        ensures few { result ≤ entries_a_page }
+        ensures entries { take count page.old ++ self.old ≡ take result page.new ++ self.new }
+    {
+        let limit = limit_of(self.direct);
+        let (rest, count) = put_run(self.routes, self.number, self.cost, limit, page, count);
+        self.routes = rest;
+        count
+    }
 }
 
 impl<'a> Iterator for ToldRoutes<'a> {
@@ -97,6 +131,52 @@ fn seek(routes: &[RouteOffer], number: u8) -> &[RouteOffer]
         rest = others;
     }
     &[]
+}
+
+/// The network where a run of routes ends: that of the first entry; behind all networks, where there is none.
+fn limit_of(direct: &[RipEntry]) -> u64
+    ensures { (entry : RipEntry) → entry.network.0 < result → waits_before network_before entry direct.now ≡ false }
+{
+    match direct.first() {
+        None => u64::MAX,
+        Some(entry) => u64::from(entry.network.0),
+    }
+}
+
+/// Puts the told ones of a run of routes into a page, behind its first `count` entries, until it is full or the run ends.
+/// Returns the routes that are left and how many entries the page has then. All that the loop uses stays in registers.
+fn put_run<'a>(
+    routes: &'a [RouteOffer],
+    number: u8,
+    cost: u16,
+    limit: u64,
+    page: &mut [RipEntry; ENTRIES_A_PAGE],
+    count: usize,
+) -> (&'a [RouteOffer], usize)
+    requires count { count ≤ entries_a_page }
+    requires ascends { RoutesAscend routes.now }
+    ensures ascends { RoutesAscend result.0.now }
+    ensures more { count ≤ result.1 }
+    ensures few { result.1 ≤ entries_a_page }
+    ensures entries { (waiting : List RipEntry) → ((entry : RipEntry) → entry.network.0 < limit → waits_before network_before entry waiting ≡ false)
+        → take count page.old ++ routes_left number cost waiting routes.now ≡ take result.1 page.new ++ routes_left number cost waiting result.0.now }
+{
+    let mut rest = routes;
+    let mut next = count;
+    while next < ENTRIES_A_PAGE {
+        let Some((route, others)) = rest.split_first() else {
+            return (rest, next);
+        };
+        if u64::from(route.network.0) >= limit {
+            return (rest, next);
+        }
+        if is_route_told(number, route) {
+            page[next] = told_at(cost, entry_of(route));
+            next += 1;
+        }
+        rest = others;
+    }
+    (rest, next)
 }
 
 /// Whether the network of a port comes before that learned route.

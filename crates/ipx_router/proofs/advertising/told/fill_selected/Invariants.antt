@@ -2,7 +2,7 @@ use Rattle.std.proofs.Common.{◌≡◌, ◌≤◌, ◌++◌, take, length}
 use Rattle.std.specs.List.{flat_map}
 use Rattle.ipx_router.specs.Numbers.{entries_a_page}
 use Rattle.ipx_router.specs.inside.Selection.{selected_by}
-use Rattle.ipx_router.proofs.advertising.told.fill.Given as goal
+use Rattle.ipx_router.proofs.advertising.told.fill_selected.Given as goal
 
 abbrev pub invariant-loop-count : goal.invariant-loop-count
 invariant-loop-count l =
