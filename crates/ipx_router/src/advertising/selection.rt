@@ -4,7 +4,7 @@ ghost use Rattle.std.specs.Option.{option_to_list};
 ghost use Rattle.ipx_router.specs.Numbers.{unreachable};
 ghost use Rattle.ipx_router.specs.inside.Selection.{asks_for, is_asked, is_of_kind, is_service_selected, selected_by, service_sent};
 
-use crate::advertising::hops::{dead, dead_service, farther};
+use crate::advertising::hops::dead;
 use ipx_wire::{Network, Rip, RipEntry, Sap, Service};
 
 /// Which routes are sent.
@@ -56,15 +56,16 @@ pub(crate) fn is_service_selected(selection: ServiceSelection, service: &Service
     }
 }
 
-/// A service of the table as it is sent: one hop farther away, or unreachable.
+/// A service of the table as it is sent: one hop farther away, or unreachable. The hops are chosen first, so that one copy is enough.
 pub(crate) fn service_sent(selection: ServiceSelection, service: &Service) -> Service
     requires { service.now.hops < unreachable }
     ensures { result ≡ service_sent selection service.now }
 {
-    match selection {
-        ServiceSelection::Dead => dead_service(*service),
-        _ => farther(*service),
-    }
+    let hops = match selection {
+        ServiceSelection::Dead => RipEntry::UNREACHABLE,
+        _ => service.hops + 1,
+    };
+    Service { hops, ..*service }
 }
 
 /// Whether a request asks for the entry.
