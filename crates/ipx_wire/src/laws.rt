@@ -171,7 +171,7 @@ pub fn in_range(services: &[Service])
     }
 }
 
-fn is_in_range(service: Service)
+pub(crate) fn is_in_range(service: Service)
     ensures { IsService service }
 {
     service.name.bytes();

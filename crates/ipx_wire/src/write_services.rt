@@ -11,6 +11,7 @@ ghost use Rattle.ipx_wire.specs.WriteServices.{IsService, service_bytes, entry_o
 use crate::address::Address;
 use crate::fields::{put_address, put_u16};
 use crate::header::Header;
+use crate::laws::is_in_range;
 use crate::sap_entries::SapEntry;
 use crate::service::Service;
 use crate::service_name::ServiceName;
@@ -53,28 +54,29 @@ fn put_services(out: &mut [u8], place: usize, services: &[Service])
 {
     let mut next = place;
     for service in services {
-        put_service(out, next, *service);
+        put_service(out, next, service);
         next += SapEntry::SIZE;
     }
 }
 
 #[tactic(auto, unfolding(crate::specs::WriteServices::service_bytes))]
-fn put_service(out: &mut [u8], place: usize, service: Service)
+fn put_service(out: &mut [u8], place: usize, service: &Service)
     requires { place + 64 ≤ length out.old }
-    ensures bytes { PutsAt out.old place (service_bytes service) out.new }
-    ensures is { IsService service }
+    ensures bytes { PutsAt out.old place (service_bytes service.now) out.new }
+    ensures is { IsService service.now }
 {
+    is_in_range(*service);
     put_u16(out, place, service.kind);
-    put_name(out, place + 2, service.name);
+    put_name(out, place + 2, &service.name);
     put_address(out, place + 50, service.address);
     put_u16(out, place + 62, service.hops);
 }
 
-fn put_name(out: &mut [u8], place: usize, name: ServiceName)
+fn put_name(out: &mut [u8], place: usize, name: &ServiceName)
     requires { place + 48 ≤ length out.old }
-    ensures bytes { PutsAt out.old place (name_field name) out.new }
-    ensures size { length (name_field name) ≡ 48 }
-    ensures named { IsServiceName name }
+    ensures bytes { PutsAt out.old place (name_field name.now) out.new }
+    ensures size { length (name_field name.now) ≡ 48 }
+    ensures named { IsServiceName name.now }
 {
     let field = name.field();
     out[place..place + ServiceName::SIZE].copy_from_slice(&field);

@@ -10,4 +10,4 @@ unfolding service_bytes
 returns-clause-bytes c =
     then (then (then c.put_u16.ensures c.put_name.ensures.bytes refl) c.put_address.ensures.bytes (omega (arith, c.put_name.ensures.size)))
     c.put_u16-2.ensures
-    (omega (arith, length-append (name_field c.args.service.name) (address_bytes c.args.service.address), c.put_name.ensures.size, c.put_address.ensures.size))
+    (omega (arith, length-append (name_field c.args.service.now.name) (address_bytes c.args.service.now.address), c.put_name.ensures.size, c.put_address.ensures.size))
