@@ -13,7 +13,7 @@ use crate::window::Window;
 use ipx_wire::{Intake, Source};
 use std::alloc::Global;
 
-/// A capture file that is being read: its header has been, and its records are given one by one.
+/// A capture file whose header has been read, and whose records are read one by one.
 ///
 /// ```
 /// let mut intake = Intake::new(file);
@@ -46,9 +46,9 @@ pub struct Capture<'a, S: Source> {
 pub struct Captured<'c> {
     /// Its number in the file, from 1.
     pub number: u64,
-    /// How many bytes were on the wire.
+    /// How many bytes it had on the wire.
     pub wire: u32,
-    /// The bytes that were kept of them.
+    /// Those of its bytes that were kept.
     pub bytes: &'c [u8],
 }
 
@@ -106,8 +106,8 @@ impl<'a, S: Source> Capture<'a, S> {
 
     /// The next record; none at the end of the file.
     ///
-    /// An end or a fault that was told is told again by each later call. The source is asked only while the bytes that were read don't tell what
-    /// comes next: a record too long is reported as soon as its header is there.
+    /// After an end or a fault each later call returns the same. The source is asked only while the bytes that were
+    /// read don't decide what comes next: a record that is too long is reported as soon as its header is there.
     pub fn next(&mut self) -> Result<Option<Captured<'_>>, CaptureFault>
         ensures* after { sem 𝓛 (Rests (the_row (record { mir = named 1; lft = [] }) S.row S.Source) self.entry (λ new. Nexts (place self.old) (place new) (told result) × (keeps new ≡ keeps self.old) × ((place self.old).standing ≡ Open → TakesBy S.asked (place self.old) (place new) (told result)))) }
     {
@@ -121,7 +121,7 @@ impl<'a, S: Source> Capture<'a, S> {
         }))
     }
 
-    /// Whether the bytes that were read tell what comes next: a record, an end or a fault.
+    /// Whether the bytes that were read decide what comes next: a record, an end or a fault.
     pub fn is_ready(&self) -> bool
         ensures { result ≡ spec.is_ready (place self.now).order (place self.now).ahead }
     {

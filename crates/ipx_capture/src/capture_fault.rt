@@ -21,7 +21,7 @@ pub enum CaptureFault {
     /// The file ends inside its header.
     #[error("the file ends inside its header")]
     CutHeader,
-    /// The first four bytes are no magic of a capture file.
+    /// The first four bytes aren't the magic of a capture file.
     #[error("no capture file by its first four bytes")]
     Magic,
     /// The version isn't 2.4.

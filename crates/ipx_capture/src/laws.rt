@@ -20,8 +20,8 @@ pub fn one_by_one()
         → records file ≡ record { records = told; fault = fault } }
 {}
 
-/// The same of any source, one too that doesn't tell its bytes: the calls of a capture give the records of the bytes that its calls to
-/// the source gave, from the header's first byte on, one by one, and then their end.
+/// The same for any source, also for one that doesn't tell its bytes: the calls of a capture give the records of the
+/// bytes that its calls to the source gave, from the header's first byte on, one by one, and then their end.
 pub fn of_any_source<S: Source>()
     ensures { (before : Input) (first last ended : Place) (asks : List Ask) (told : List Record) (fault : Option CaptureFault)
         → Opened before first → (head : BegunBy S.asked before first.input first.order) → CallsBy S.asked asks first told last → (end : TakesBy S.asked last ended (ending fault))

@@ -19,8 +19,8 @@ const ZEROS: [u8; SHORTEST_FRAME] = [0; SHORTEST_FRAME];
 
 /// Writes the frame in which a packet is sent to the front of a buffer, padded to sixty bytes, and returns its length.
 ///
-/// Nothing is written, and `None` returned, where the packet is too long for the kind, the frame for the buffer, or where a raw
-/// frame would carry a packet with a checksum, which nobody would know as IPX.
+/// It returns `None`, and writes nothing, if the packet is too long for the kind, the frame is too long for the
+/// buffer, or a raw frame would carry a packet with a checksum, which nobody would recognize as IPX.
 pub fn write_frame(
     kind: FrameKind,
     to: Node,

@@ -47,12 +47,12 @@ pub struct Chosen {
     pub file: Option<String>,
 }
 
-/// Why the words lead to no run.
+/// Why the words don't choose a run.
 ///
 /// See the example of [`Chosen`].
 #[derive(Clone, Copy, Debug, PartialEq, Eq, Error)]
 pub enum ChooseFault {
-    /// They are no command of the program's. A request for help or a version is none either.
+    /// They aren't a command of the program, and neither is a request for help or a version.
     #[error("usage")]
     Usage,
     /// No memory was left.

@@ -30,8 +30,8 @@ const PIECE: usize = 8192;
 
 /// Plays a script on one router: reads it from the intake, and writes its text to the outlet.
 ///
-/// `BadInput` where a line is refused, which the last line of the text tells. After a fault what was
-/// written is a prefix of the text.
+/// `BadInput` if a line is refused, as the last line of the text says. After a fault what was written is a prefix of
+/// the text.
 pub fn replay<R: Read, W: Write>(
     alloc: Global,
     intake: &mut Intake<R>,
@@ -52,8 +52,8 @@ pub fn replay<R: Read, W: Write>(
 
 /// Plays a script on an internet of routers: reads it from the intake, and writes its text to the outlet.
 ///
-/// `BadInput` where a line is refused, which the last line of the text tells. After a fault what was
-/// written is a prefix of the text.
+/// `BadInput` if a line is refused, as the last line of the text says. After a fault what was written is a prefix of
+/// the text.
 pub fn internet<R: Read, W: Write>(
     alloc: Global,
     intake: &mut Intake<R>,

@@ -74,14 +74,14 @@ impl<'a> Trace<'a> {
         self.listing.len()
     }
 
-    /// Whether there is no reception; there is always the first one.
+    /// Whether there is no reception: never, since there is always the first one.
     pub fn is_empty(&self) -> bool
         ensures { result ≡ (length self.now == 0) }
     {
         self.len() == 0
     }
 
-    /// The reception with exactly `k` others before it.
+    /// Reception number `k`, counted from 0.
     pub fn get(&self, k: usize) -> Reception<'_>
         requires { k < length self.now }
         ensures { slice_get self.now k ≡ Some (traced result) }

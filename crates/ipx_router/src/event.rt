@@ -21,19 +21,19 @@ pub enum Event<'a> {
     Second,
     /// Bytes came in on a port.
     Packet {
-        /// The number of the port, from 0; there is such a port.
+        /// The number of an existing port, from 0.
         port: u8,
         /// What came in, any bytes at all.
         bytes: &'a [u8],
     },
     /// A port goes down: nothing leaves on it, what came by it is forgotten, and what comes on it is dropped.
     PortDown {
-        /// The number of the port, from 0; there is such a port.
+        /// The number of an existing port, from 0.
         port: u8,
     },
     /// A port that went down comes up again.
     PortUp {
-        /// The number of the port, from 0; there is such a port.
+        /// The number of an existing port, from 0.
         port: u8,
     },
 }

@@ -39,8 +39,8 @@ impl<const P: usize, const R: usize, const S: usize> Router<P, R, S> {
         )
     }
 
-    /// The room with which no event is refused, as long as no packet that comes is longer than that. An outbox that has it when it
-    /// is empty needs no more memory: its room is there again after each `clear`.
+    /// Room enough for any event, as long as no arriving packet is longer than `longest`. An outbox that has it when
+    /// it is empty needs no more memory: its room is free again after each `clear`.
     pub fn most_need(&self, longest: u16) -> Need
         ensures packets { result.packets ≡ packets_ever (length self.now.ports) R S }
         ensures bytes { result.bytes ≡ bytes_ever (length self.now.ports) R S longest }
@@ -54,8 +54,8 @@ impl<const P: usize, const R: usize, const S: usize> Router<P, R, S> {
         most_need_of(self.ports.len(), R, S, longest)
     }
 
-    /// Takes an event of a port that there is: changes the router, and appends what is sent to the outbox, which has the
-    /// room that it needs, and as much memory afterwards as before.
+    /// Takes an event on an existing port: changes the router, and appends the packets that it sends to the outbox.
+    /// The outbox has the room that the event needs, and as much memory afterwards as before.
     pub fn handle(&mut self, event: Event<'_>, outbox: &mut Outbox) -> Outcome
         requires port { IsOnPort self.old.ports (happened event) }
         requires room { HasRoomFor self.old (happened event) outbox.old }
@@ -109,8 +109,9 @@ impl<const P: usize, const R: usize, const S: usize> Router<P, R, S> {
         }
     }
 
-    /// Makes the room that the event needs, where it is missing, then handles it. What is sent takes only the room that it needs. Where room
-    /// can't be made, the router and what the outbox has stay as they were, and so does the room that was there.
+    /// Makes the room that the event needs, if it is missing, then handles the event. The packets that it sends take
+    /// only the room that they need. If room can't be made, the router and what the outbox has stay as they were, and
+    /// so does the room that was there.
     pub fn step(&mut self, event: Event<'_>, outbox: &mut Outbox) -> Result<Outcome, OutOfMemory>
         requires port { IsOnPort self.old.ports (happened event) }
         ensures ports { self.new.ports ≡ self.old.ports }

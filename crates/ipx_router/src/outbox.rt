@@ -99,9 +99,9 @@ impl Outbox {
         }
     }
 
-    /// Makes room for that many packets more, and that many bytes. The packets stay, whether it could or not, and so does
-    /// the room that was there; it is refused only where that room was missing, and takes memory only then. What it holds then
-    /// is at most twice what it held, or just what is needed.
+    /// Makes room for this many more packets and bytes. The packets and the room that was there stay, even if memory
+    /// is refused. It takes memory only if room was missing, and is refused only then. Afterwards it holds at most
+    /// twice what it held, or just what is needed.
     pub fn reserve(&mut self, need: Need) -> Result<(), OutOfMemory>
         ensures room { OnOk result (HasRoom self.new need.packets need.bytes) }
         ensures there { HasRoom self.old need.packets need.bytes → IsOk result }
@@ -115,7 +115,7 @@ impl Outbox {
         add_bytes(&mut self.bytes, self.used, need.bytes)
     }
 
-    /// Whether that many packets more, and that many bytes, fit into the room that is there.
+    /// Whether this many more packets and bytes fit into the room that is there.
     pub fn has_room(&self, need: Need) -> bool
         ensures { result ≡ true ↔ HasRoom self.now need.packets need.bytes }
     {
@@ -136,7 +136,7 @@ impl Outbox {
         self.slots.is_empty()
     }
 
-    /// The packet with exactly `k` others before it.
+    /// Packet number `k`, counted from 0.
     pub fn get(&self, k: usize) -> Sent<'_>
         requires { k < length self.now.sent }
         ensures { slice_get self.now.sent k ≡ Some (record { port = result.port; link = result.link; bytes = result.bytes.now }) }
@@ -157,7 +157,7 @@ impl Outbox {
         OutboxIter::of(self)
     }
 
-    /// Takes all packets out. Their room is there again, and all the room that was left.
+    /// Removes all packets. Their room is free again, beside all the room that was left.
     pub fn clear(&mut self)
         ensures sent { self.new.sent ≡ [] }
         ensures room { (packets bytes : ℕ) → HasRoom self.old packets bytes

@@ -18,13 +18,13 @@ pub enum Outcome {
     Stopped,
     /// A second passed.
     Ticked,
-    /// A response was learned from; what it offered may have changed nothing.
+    /// A response was heard; what it offered may have changed nothing.
     Learned,
-    /// A request or a query was answered; also where nothing was sent.
+    /// A request or a query was answered, even if nothing was sent.
     Answered,
     /// The packet was sent on towards its network.
     Forwarded,
-    /// The packet was sent on to the other networks; also where there was none left for it.
+    /// The packet was sent on to the other networks, even if none was left for it.
     Propagated,
     /// The port is down from now on.
     WentDown,
@@ -41,7 +41,7 @@ pub enum Outcome {
 }
 
 impl Outcome {
-    /// A few words, as `already running` or `drop NoRoute`, in two parts: the second follows the first.
+    /// A few words, such as `already running` or `drop NoRoute`, in two parts: the second follows the first.
     pub fn words(self) -> (&'static str, &'static str)
         ensures { result.0.now ++ result.1.now ≡ outcome_word self }
     {

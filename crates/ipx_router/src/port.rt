@@ -6,7 +6,7 @@ use ipx_wire::{Network, Node};
 use std::marker::Model;
 use thiserror::Error;
 
-/// Why values make no port, the first that holds.
+/// Why values don't make a port: the first that applies.
 ///
 /// See the example of [`Port`].
 #[derive(Clone, Copy, Debug, PartialEq, Eq, Hash, Error)]
@@ -76,7 +76,7 @@ impl Port {
     ghost use Rattle.ipx_router.specs.Numbers.{whole_share};
     ghost use Rattle.ipx_router.specs.Port.{IsNoPort, IsPort};
 
-    /// The least that the longest packet of a port may be, in bytes.
+    /// The smallest length, in bytes, that a port's longest packet may have.
     pub const LEAST_LONGEST: u16 = 576;
 
     /// A port of a network with a node number there, its cost in ticks, and the bytes of the

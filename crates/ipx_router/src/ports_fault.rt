@@ -1,7 +1,7 @@
 //! Why ports make no router.
 use thiserror::Error;
 
-/// Why ports make no router, the first that holds.
+/// Why ports don't make a router: the first that applies.
 ///
 /// ```
 /// match Router::<2, 50, 8>::check(ports) {
@@ -13,7 +13,7 @@ use thiserror::Error;
 /// ```
 #[derive(Clone, Copy, Debug, PartialEq, Eq, Hash, Error)]
 pub enum PortsFault {
-    /// There is none.
+    /// There are no ports.
     #[error("no port")]
     NoPort,
     /// There are more than the router can have.

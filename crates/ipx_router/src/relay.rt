@@ -19,8 +19,8 @@ impl<const P: usize, const R: usize, const S: usize> Router<P, R, S> {
         relay_need(&self.ports, packet)
     }
 
-    /// Sends a packet on that came on a port, or drops it, by the routes and the ports as they are now. One for the port's
-    /// own network stays: nothing is learned or answered.
+    /// Forwards or propagates a packet that came on a port, or drops it, by the routes and the ports as they are now.
+    /// A packet for the port's own network is `Local`: nothing is learned or answered.
     pub fn relay(&self, port: u8, packet: &Packet<'_>, outbox: &mut Outbox) -> Outcome
         requires port { port < length self.now.ports }
         requires room { HasRoom outbox.old (relay_places self.now.ports) (relay_places self.now.ports * packet.now.header.length) }

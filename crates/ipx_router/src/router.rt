@@ -76,7 +76,7 @@ impl<const P: usize, const R: usize, const S: usize> Router<P, R, S> {
         }
     }
 
-    /// Whether a router can have these ports, and why not.
+    /// Whether a router can have these ports, and if not, why.
     pub fn check(ports: &[Port]) -> Result<(), PortsFault>
         ensures some { OnOk result (1 ≤ length ports.now) }
         ensures within { OnOk result (length ports.now ≤ P) }
@@ -206,7 +206,7 @@ impl<const P: usize, const R: usize, const S: usize> Router<P, R, S> {
         self.routes.get(&network)
     }
 
-    /// The route with exactly `k` routes to smaller networks; `None` where `k` is `routes()` or more.
+    /// Route number `k` by network, counted from 0; `None` if `k` is `routes()` or more.
     pub fn route_at(&self, k: usize) -> Option<Held<RouteOffer>>
         ensures value { result ≡ slice_get self.now.routes k }
         ensures young { IfSome result (λ h. h.age < lifetime) }
@@ -230,7 +230,7 @@ impl<const P: usize, const R: usize, const S: usize> Router<P, R, S> {
         self.services.get(&(kind, *name))
     }
 
-    /// The service with exactly `k` services before it, by type and name; `None` where `k` is `services()` or more.
+    /// Service number `k` by type and name, counted from 0; `None` if `k` is `services()` or more.
     pub fn service_at(&self, k: usize) -> Option<Held<ServiceOffer>>
         ensures value { result ≡ slice_get self.now.services k }
         ensures young { IfSome result (λ h. h.age < lifetime) }

@@ -5,8 +5,8 @@ ghost use Rattle.ipx_router.specs.WhyWord.{why_word};
 use ipx_wire::{PacketFault, RipFault, SapFault};
 use std::fmt;
 
-/// Why a packet was dropped: the first that holds. *Propagated* is type 20 to the broadcast; *near* is
-/// any other packet for network 0 or the port's; *far* is the rest.
+/// Why a packet was dropped: the first reason that applies. *Propagated* is type 20 to the broadcast; *near* is any
+/// other packet for network 0 or the port's; *far* is the rest.
 ///
 /// ```
 /// match outcome {
@@ -20,7 +20,7 @@ use std::fmt;
 pub enum Why {
     /// The router is stopped.
     NotRunning,
-    /// The bytes are no packet.
+    /// The bytes are not a packet.
     Malformed(PacketFault),
     /// The source is the port itself.
     OwnEcho,
@@ -38,9 +38,9 @@ pub enum Why {
     OtherSocket,
     /// Near, and the source network is neither 0 nor the port's.
     NotNeighbour,
-    /// Near, and the data are no routing information.
+    /// Near, and the data is not routing information.
     BadRip(RipFault),
-    /// Near, and the data are no service advertising.
+    /// Near, and the data is not service advertising.
     BadSap(SapFault),
     /// Near, an answer to a query for the nearest service, which routers don't ask.
     NearestReply,
@@ -48,7 +48,7 @@ pub enum Why {
     TooManyRouters,
     /// Far, for the node of another port of this router, up or not.
     FarSide,
-    /// Far, for a network that is neither that of another port that is up nor known, and that no default route serves.
+    /// Far, for a network that neither another port that is up nor a route reaches, and that no default route serves.
     NoRoute,
     /// Far, and longer than the port on which it would leave allows.
     TooLong,

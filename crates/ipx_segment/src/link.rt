@@ -1,6 +1,6 @@
 //! Links.
 
-/// What a link of a segment is: not up, or up, with the most stations of it that are known at one time.
+/// A link of a segment: down, or up, with the most stations of it that are known at one time.
 ///
 /// See the example of [`Segment`](crate::Segment).
 #[derive(Clone, Copy, Debug, Default, PartialEq, Eq)]

@@ -103,8 +103,8 @@ fn count_at(link: u8, stations: &[Station]) -> usize
         .count()
 }
 
-/// The node of a segment's network to which a packet with that destination goes, where no frame says it: the destination's own if it is on
-/// this network, and else the router's.
+/// The node of a segment's network to which a packet with that destination goes, if no frame names one: the
+/// destination's own if it is on this network, otherwise the router's.
 pub fn next_node(setting: Setting, destination: Address) -> Node
     ensures { result ≡ next_node setting destination }
 {

@@ -2,7 +2,7 @@
 
 use ipx_wire::{Network, Node};
 
-/// What a segment is told when it is made.
+/// The values that a segment is made with.
 ///
 /// See the example of [`Segment`](crate::Segment).
 #[derive(Clone, Copy, Debug, PartialEq, Eq)]

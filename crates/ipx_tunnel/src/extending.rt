@@ -10,8 +10,9 @@ use ipx_wire::{Header, Network, Node, Packet, Socket};
 /// Where the destination's network stands in a packet.
 const NETWORK: usize = 6;
 
-/// Whether bytes that came on a network are copied to the other networks that name the same socket: they are a broadcast there, to a socket
-/// that this network names, and the source names the network. It is asked of what the router hears.
+/// Whether bytes that came on a network are copied to the other networks that name the same socket: they are a
+/// broadcast there, to a socket that this network names, and the source names the network. Ask it about what the
+/// router hears.
 pub fn is_extended(network: Network, sockets: &[Socket], bytes: &[u8]) -> bool
     ensures { result ≡ is_extended network sockets.now bytes.now }
 {

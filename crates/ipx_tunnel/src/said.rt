@@ -7,7 +7,7 @@ use ipx_wire::Header;
 /// See the example of [`Tunnel`](crate::Tunnel).
 #[derive(Clone, Copy, Debug, PartialEq, Eq)]
 pub enum Said {
-    /// Nothing that counts: it is no packet, or names another source.
+    /// Nothing that counts: it isn't a packet, or names another source.
     Nothing,
     /// That it wants to be a client.
     Registers,

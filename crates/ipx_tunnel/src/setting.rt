@@ -2,7 +2,7 @@
 
 use ipx_wire::{Network, Node};
 
-/// What a tunnel is told when it is made.
+/// The values that a tunnel is made with.
 ///
 /// See the example of [`Tunnel`](crate::Tunnel).
 #[derive(Clone, Copy, Debug, PartialEq, Eq)]

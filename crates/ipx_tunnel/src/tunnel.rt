@@ -156,7 +156,8 @@ impl<const C: usize> Tunnel<C> {
         self.clients.retain(|client| client.seconds_left > 0);
     }
 
-    /// Fills `places`, which is emptied first, with those to which a packet must be sent that the router sends to a node, or to all.
+    /// Fills `places`, which is emptied first, with the places that get a packet which the router sends to a node, or
+    /// to all.
     pub fn send(&self, to: Node, places: &mut ArrayVec<Node, C>)
         ensures stands { (bytes : List ℕ) (h : History) → Stands self.now h → Stands self.now (Send to bytes ∷ h) }
         ensures to { (bytes : List ℕ) (h : History) → Stands self.now h → places.new.items ≡ receivers self.now.setting (Send to bytes ∷ h) }

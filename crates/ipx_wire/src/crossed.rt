@@ -8,7 +8,7 @@ use crate::network::Network;
 use std::marker::Model;
 use thiserror::Error;
 
-/// Why data have no list of networks crossed. A reader returns the first fault of this list that holds.
+/// Why data has no list of networks crossed. A reader reports the first fault in this order.
 ///
 /// See the example of [`Crossed`].
 #[derive(Clone, Copy, Debug, PartialEq, Eq, Hash, Error)]
@@ -21,7 +21,7 @@ pub enum CrossedFault {
     Full,
 }
 
-/// The networks that a packet has crossed, at most seven; they are lent from the data that they were read from.
+/// The networks that a packet has crossed, at most seven, lent from the data that was read.
 ///
 /// ```
 /// match Crossed::read(packet.header().control, packet.payload()) {
@@ -60,7 +60,7 @@ impl<'a> Crossed<'a> {
     ghost use Rattle.ipx_wire.specs.Crossed.{IsCrossed, IsNotCrossed, crossed_of, is_among};
     ghost use Rattle.ipx_wire.specs.Numbers.{crossed_places};
 
-    /// How many places the list has, so the most networks that a packet of type 20 crosses.
+    /// The places of the list: the most networks that a packet of type 20 crosses.
     pub const PLACES: u8 = 8;
 
     /// How many bytes a place takes.
@@ -100,7 +100,7 @@ impl<'a> Crossed<'a> {
         self.count
     }
 
-    /// The network with exactly `k` others before it; `k` is below `len()`.
+    /// Network number `k`, counted from 0; `k` is below `len()`.
     pub fn get(&self, k: usize) -> Network
         requires { k < length self.now }
         ensures { slice_get self.now k ≡ Some result }

@@ -23,8 +23,8 @@ const NETWORK: usize = 6;
 /// Writes a packet with its transport control one higher to the beginning of `out`, and returns its number of bytes, which is
 /// the packet's length.
 ///
-/// Its transport control is under 255, and `out` has room for as many bytes as its length counts. All else is written as it
-/// came, the checksum too. Padding is left out, and the type isn't looked at.
+/// Its transport control is under 255, and `out` has room for as many bytes as its length counts. All else is written
+/// as it came, the checksum too. Padding is left out, and the type isn't checked.
 pub fn write_forwarded(packet: &Packet<'_>, out: &mut [u8]) -> usize
     requires control { packet.now.header.control < 255 }
     requires room { packet.now.header.length ≤ length out.old }
@@ -55,9 +55,9 @@ pub fn change_to_forwarded(packet: &Packet<'_>, bytes: &mut [u8])
 /// Writes a packet of type 20 as it leaves for the network `outgoing` to the beginning of `out`, and returns its number of bytes,
 /// which is the packet's length.
 ///
-/// Its transport control is under 8 and it has 32 bytes of data or more, just when [`Crossed::read`] of the two returns
-/// a list; and `out` has room for as many bytes as its length counts. Which networks stand in that list isn't looked at,
-/// nor is the type.
+/// Its transport control is under 8 and it has 32 bytes of data or more, exactly if [`Crossed::read`] of the two
+/// returns a list, and `out` has room for as many bytes as its length counts. Neither the networks of that list nor
+/// the type are checked.
 ///
 /// The network `arrived`, from which it came, is written behind the networks crossed, the transport control is one
 /// higher, the checksum is FFFFh, and the destination's network is `outgoing`. All else is written as it came. Padding is

@@ -20,7 +20,7 @@ use crate::fields::{address_from, put_address, put_u8, put_u16, u16_at};
 /// ```
 #[derive(Clone, Copy, Debug, PartialEq, Eq, Hash)]
 pub struct Header {
-    /// [`Header::NO_CHECKSUM`], FFFFh, where there is none. This crate neither computes nor checks it.
+    /// [`Header::NO_CHECKSUM`], FFFFh, if there is none. This crate neither computes nor checks it.
     pub checksum: u16,
     /// How many bytes header and data have together, 30 to 65,535 in a packet.
     pub length: u16,

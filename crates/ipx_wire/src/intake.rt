@@ -7,12 +7,12 @@ use crate::failed::Failed;
 use crate::source::Source;
 use std::marker::Model;
 
-/// How often a source is asked at most, failures included: 16,777,216 times.
+/// The most times that a source is asked, failures included: 16,777,216.
 pub const MOST_CALLS: u32 = 16_777_216;
 
-/// A source that is asked a bounded number of times: a reader, as a rule.
+/// A source that is asked a bounded number of times: usually a reader.
 ///
-/// A call that fails in any way, also one that was only interrupted, is a failure: nothing is asked twice.
+/// A call that fails in any way, even if it was only interrupted, is a failure: nothing is asked twice.
 ///
 /// ```
 /// let mut intake = Intake::new("second 60\n".as_bytes());
@@ -42,7 +42,7 @@ impl<S: Source> Model for Intake<S> {
 }
 
 impl<S: Source> Intake<S> {
-    /// An intake of this source, which was not asked yet.
+    /// An intake over this source, which hasn't been asked yet.
     pub fn new(source: S) -> Self
         ensures state { result.state ≡ S.state source }
         ensures left { result.left ≡ S.left source }
@@ -58,8 +58,9 @@ impl<S: Source> Intake<S> {
 
     /// Asks the source once for bytes into `buf`, and returns how many came.
     ///
-    /// 0 for a buffer that has room means that the source is at its end. `Failed` if the source fails, and, without asking it,
-    /// once it was asked [`MOST_CALLS`] times. A failure does not end the intake: the next call asks again.
+    /// 0 for a buffer that has room means that the source is at its end. `Failed` if the source fails, and, without
+    /// asking it, once it has been asked [`MOST_CALLS`] times. A failure does not end the intake: the next call asks
+    /// again.
     pub fn read(&mut self, buf: &mut [u8]) -> Result<usize, Failed>
         ensures once { self.old.calls < 16777216 → S.asked self.old.state buf.new result self.new.state }
         ensures spared { 16777216 ≤ self.old.calls → self.new.state ≡ self.old.state }

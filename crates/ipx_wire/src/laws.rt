@@ -53,9 +53,10 @@ pub fn readings()
 
 /// What was written is read again, whatever bytes follow; this follows from the layouts, with no reader in it.
 ///
-/// A header by itself is a packet where its length is 30 or more, and as many bytes are there. The data of routes bear
-/// fewer than eight further bytes, those of services fewer than 64, those of a query any. The networks that a propagated packet has crossed are the old ones
-/// and the one from which it arrived, as long as the transport control that was written is under 8.
+/// A header by itself is a packet if its length is 30 or more, and as many bytes are there. Behind routes fewer than
+/// eight further bytes may follow, behind services fewer than 64, behind a query any number. The networks that a
+/// propagated packet has crossed are the old ones and the one from which it arrived, as long as the transport control
+/// that was written is under 8.
 pub fn reread()
     ensures header { (h : Header) (further : List ℕ) → IsHeader h → 30 ≤ h.length → h.length ≤ length (header_bytes h ++ further)
         → IsPacket (header_bytes h ++ further) (record { header = h; payload = take (h.length - 30) further }) }
@@ -161,8 +162,7 @@ pub fn constants()
     ensures every_service { Sap.EVERY_TYPE ≡ every_service }
 {}
 
-/// What a slice of services holds are services in the ranges of their fields: their type says so, and a call of this says it
-/// to a proof.
+/// The services of a slice have fields in their ranges: their type says so, and a call of this tells a proof.
 pub fn in_range(services: &[Service])
     ensures { AllByRecursion IsService services.now }
 {

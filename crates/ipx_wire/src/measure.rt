@@ -11,8 +11,7 @@ use crate::sap::Sap;
 use crate::sap_entries::SapEntry;
 use std::fmt;
 
-/// What bytes say of themselves, and how many of them came. A reader's fault tells what is wrong with them; this tells the numbers that make
-/// it wrong.
+/// The numbers behind a reader's fault: what the bytes say about themselves, and how many of them came.
 ///
 /// ```
 /// if let Err(fault) = Packet::read(bytes) {
@@ -51,13 +50,14 @@ pub enum Measure {
     Crossed {
         /// The transport control.
         said: u8,
-        /// How many networks a packet has crossed at most that crosses one more.
+        /// The most networks that a packet may have crossed before it crosses one more.
         most: u8,
     },
 }
 
 impl Packet<'_> {
-    /// The numbers for which [`Packet::read`] refuses bytes, or takes them: under 30 bytes how many came, and else the length too.
+    /// The numbers by which [`Packet::read`] accepts or refuses bytes: how many came and, from 30 bytes on, the
+    /// length.
     pub fn measure(bytes: &[u8]) -> Measure
         ensures { result ≡ packet_measure bytes.now }
     {
@@ -76,8 +76,8 @@ impl Packet<'_> {
 }
 
 impl Rip<'_> {
-    /// The numbers for which [`Rip::read`] refuses data, or takes them: under 2 bytes how many came, and else the operation and the
-    /// entries too.
+    /// The numbers by which [`Rip::read`] accepts or refuses data: how many bytes came and, from 2 bytes on, the
+    /// operation and the entries.
     pub fn measure(payload: &[u8]) -> Measure
         ensures { result ≡ rip_measure payload.now }
     {
@@ -95,8 +95,8 @@ impl Rip<'_> {
 }
 
 impl Sap<'_> {
-    /// The numbers for which [`Sap::read`] refuses data, or takes them: under 2 bytes, and of a query under 4, how many came, and else
-    /// the operation and the entries too.
+    /// The numbers by which [`Sap::read`] accepts or refuses data: how many bytes came and, from 2 bytes on, or 4 of
+    /// a query, the operation and the entries.
     pub fn measure(payload: &[u8]) -> Measure
         ensures { result ≡ sap_measure payload.now }
     {
@@ -118,8 +118,8 @@ impl Sap<'_> {
 }
 
 impl Crossed<'_> {
-    /// The numbers for which [`Crossed::read`] refuses data, or takes them: under 32 bytes how many came, and else how many networks were
-    /// crossed.
+    /// The numbers by which [`Crossed::read`] accepts or refuses data: under 32 bytes how many came, otherwise how
+    /// many networks were crossed.
     pub fn measure(control: u8, payload: &[u8]) -> Measure
         ensures { result ≡ crossed_measure control payload.now }
     {

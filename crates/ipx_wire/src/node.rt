@@ -12,7 +12,7 @@ use hex::FromHex;
 use std::fmt;
 use std::str::FromStr;
 
-/// The six bytes that tell apart the nodes of one network, written as twelve hexadecimal digits.
+/// The six bytes that identify a node on its network, written as twelve hexadecimal digits.
 ///
 /// ```
 /// let node = Node([0, 0, 0, 0, 0, 0xAA]);

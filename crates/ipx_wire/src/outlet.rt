@@ -7,10 +7,10 @@ use crate::failed::Failed;
 use crate::sink::Sink;
 use std::marker::Model;
 
-/// A sink whose failure is remembered: a writer, as a rule.
+/// A sink whose failure is remembered: usually a writer.
 ///
-/// Its bytes are handed on at each call, none is kept back. A call that fails in any way, also one that was only interrupted, is a
-/// failure: nothing is given twice.
+/// Each call hands its bytes on; none is kept back. A call that fails in any way, even if it was only interrupted, is
+/// a failure: nothing is given twice.
 ///
 /// ```
 /// let mut outlet = Outlet::new(io::writer(rt));
@@ -34,7 +34,7 @@ impl<S: Sink> Model for Outlet<S> {
 }
 
 impl<S: Sink> Outlet<S> {
-    /// An outlet to this sink, which was given nothing yet.
+    /// An outlet to this sink, which hasn't been given anything yet.
     pub fn new(sink: S) -> Self
         ensures state { result.state ≡ S.state sink }
         ensures written { result.written ≡ S.written sink }

@@ -6,7 +6,7 @@ use crate::header::Header;
 use std::marker::Model;
 use thiserror::Error;
 
-/// Why bytes are no packet. A reader returns the first fault of this list that holds.
+/// Why bytes are not a packet. A reader reports the first fault in this order.
 ///
 /// See the example of [`Packet`].
 #[derive(Clone, Copy, Debug, PartialEq, Eq, Hash, Error)]

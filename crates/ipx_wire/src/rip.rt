@@ -53,7 +53,7 @@ impl fmt::Display for Operation {
     }
 }
 
-/// Why data are no routing information. A reader returns the first fault of this list that holds.
+/// Why data is not routing information. A reader reports the first fault in this order.
 ///
 /// See the example of [`Rip`].
 #[derive(Clone, Copy, Debug, PartialEq, Eq, Hash, Error)]
@@ -91,7 +91,7 @@ pub enum RipFault {
 pub struct RipEntry {
     /// The network; in a request, [`Network::ALL_ROUTES`] asks for every route.
     pub network: Network,
-    /// How many routers stand on the way; 16 or more mean unreachable.
+    /// How many routers are on the way; 16 or more mean unreachable.
     pub hops: u16,
     /// How long a packet takes, in ticks of about an eighteenth of a second.
     pub ticks: u16,
@@ -108,7 +108,7 @@ impl RipEntry {
     pub const UNREACHABLE: u16 = 16;
 }
 
-/// The data of a routing information packet; its entries are lent from the bytes that they were read from.
+/// The data of a routing information packet; its entries are lent from the bytes that were read.
 ///
 /// ```
 /// match Rip::read(data) {
@@ -196,7 +196,7 @@ impl<'a> Rip<'a> {
         self.count
     }
 
-    /// The entry with exactly `k` others before it; `k` is below `len()`.
+    /// Entry number `k`, counted from 0; `k` is below `len()`.
     pub fn entry(&self, k: usize) -> RipEntry
         requires { k < length self.now.entries }
         ensures { slice_get self.now.entries k ≡ Some result }
@@ -204,7 +204,7 @@ impl<'a> Rip<'a> {
         entry_from(self.body, RipEntry::SIZE * k)
     }
 
-    /// The entry with exactly `k` others before it, or `None` if there are no more than `k`.
+    /// Entry number `k`, counted from 0, or `None` if there are no more than `k`.
     pub fn get(&self, k: usize) -> Option<RipEntry>
         ensures { result ≡ slice_get self.now.entries k }
     {

@@ -7,8 +7,7 @@ use crate::fields::u16_at;
 use crate::sap_entries::{SapEntries, SapEntry};
 use thiserror::Error;
 
-/// Why data are no service advertising. A reader returns the first fault that holds: those of the operation before those of
-/// what stands behind it.
+/// Why data is not service advertising. A reader reports a fault of the operation before one of what follows it.
 ///
 /// See the example of [`Sap`].
 #[derive(Clone, Copy, Debug, PartialEq, Eq, Hash, Error)]
@@ -16,7 +15,7 @@ pub enum SapFault {
     /// There are fewer than the two bytes of the operation, or a query has fewer than four.
     #[error("no operation, or no type")]
     Short,
-    /// The operation is none of 1 to 4, but this number.
+    /// The operation isn't 1 to 4, but this number.
     #[error("operation {0} is neither query nor response")]
     Operation(u16),
     /// A response has fewer than 66 bytes, so no whole entry.
@@ -27,7 +26,7 @@ pub enum SapFault {
     TooMany,
 }
 
-/// The data of a service advertising packet; entries are lent from the bytes that they were read from.
+/// The data of a service advertising packet; entries are lent from the bytes that were read.
 ///
 /// ```
 /// match Sap::read(data) {
@@ -46,7 +45,7 @@ pub enum SapFault {
 pub enum Sap<'a> {
     /// Asks for services.
     Query {
-        /// Whether the nearest service alone is asked for.
+        /// Whether only the nearest service is asked for.
         nearest: bool,
         /// The type of the services; [`Sap::EVERY_TYPE`] stands for every type.
         kind: u16,
@@ -61,15 +60,14 @@ pub enum Sap<'a> {
 }
 
 impl<'a> Sap<'a> {
-    /// The type that a query has to ask for services of every type.
+    /// The type by which a query asks for services of every type.
     pub const EVERY_TYPE: u16 = 0xFFFF;
 
     /// Reads the data of a packet. Bytes behind the type of a query, and fewer than 64 behind the
     /// last entry of a response, are ignored.
     ///
-    /// The faults, in their order: `Short` under 2 bytes; `Operation` where the operation is none
-    /// of 1 to 4; then of a query `Short` under 4 bytes, and of a response `NoEntry` under 66 bytes
-    /// and `TooMany` from 514 bytes on.
+    /// The faults, in their order: `Short` under 2 bytes; `Operation` if the operation isn't 1 to 4; then `Short` for
+    /// a query under 4 bytes, and for a response `NoEntry` under 66 bytes and `TooMany` from 514 bytes on.
     pub fn read(payload: &'a [u8]) -> Result<Sap<'a>, SapFault>
         ensures found { IfOk result (IsSap payload.entry.now) }
         ensures only { (s : Data) → IsSap payload.entry.now s → IsOkAnd result (λ q. q ≡ s) }

@@ -22,7 +22,7 @@ pub struct SapEntry {
     pub name: Option<ServiceName>,
     /// The address where it is offered.
     pub address: Address,
-    /// How many routers stand on the way; 16 or more mean unreachable.
+    /// How many routers are on the way; 16 or more mean unreachable.
     pub hops: u16,
 }
 
@@ -34,7 +34,7 @@ impl SapEntry {
     pub const MOST: usize = 7;
 }
 
-/// The entries of a response, lent from the bytes that they were read from.
+/// The entries of a response, lent from the bytes that were read.
 ///
 /// See the example of [`Sap`](crate::Sap).
 #[derive(Debug, Drop)]
@@ -76,7 +76,7 @@ impl<'a> SapEntries<'a> {
         self.count
     }
 
-    /// The entry with exactly `k` others before it; `k` is below `len()`.
+    /// Entry number `k`, counted from 0; `k` is below `len()`.
     pub fn entry(&self, k: usize) -> SapEntry
         requires { k < length self.now }
         ensures { slice_get self.now k ≡ Some result }
@@ -85,7 +85,7 @@ impl<'a> SapEntries<'a> {
         entry_from(rest)
     }
 
-    /// The entry with exactly `k` others before it, or `None` if there are no more than `k`.
+    /// Entry number `k`, counted from 0, or `None` if there are no more than `k`.
     pub fn get(&self, k: usize) -> Option<SapEntry>
         ensures { result ≡ slice_get self.now k }
     {

@@ -26,6 +26,6 @@ pub struct Service {
     pub name: ServiceName,
     /// The address where it is offered.
     pub address: Address,
-    /// How many routers stand on the way; 16 or more mean unreachable.
+    /// How many routers are on the way; 16 or more mean unreachable.
     pub hops: u16,
 }

@@ -16,8 +16,8 @@ use std::fmt;
 use std::hash::{Hash, Hasher};
 use std::marker::Model;
 
-/// The name of a service, 1 to 47 bytes without a zero. Names are compared byte by byte, and a
-/// name that begins another is the smaller of the two.
+/// The name of a service, 1 to 47 bytes without a zero. Names are compared byte by byte, and a proper prefix of a
+/// name is smaller than that name.
 ///
 /// ```
 /// match ServiceName::read(field) {
@@ -52,11 +52,11 @@ impl ServiceName {
     /// How many bytes a packet keeps for a name.
     pub const SIZE: usize = 48;
 
-    /// How many bytes the word of a name has at most: three for each of 47.
+    /// The most bytes that the word of a name has: three for each of 47.
     pub const LONGEST_WORD: usize = 141;
 
-    /// The name in the field of a packet: the bytes before its first zero. Where the field begins
-    /// with a zero, or has none, there is no name.
+    /// The name in the field of a packet: the bytes before its first zero. If the field begins with a zero or has
+    /// none, there is no name.
     #[tactic(auto, unfolding(crate::specs::Name::name_of))]
     pub fn read(field: &[u8; 48]) -> Option<ServiceName>
         ensures found { IfSome result (IsName field.now) }
@@ -93,7 +93,7 @@ impl ServiceName {
         self.field
     }
 
-    /// Writes the name as one word into the front of `room`, as ASCII, and tells how many bytes it has.
+    /// Writes the name as one word into the front of `room`, as ASCII, and returns how many bytes it has.
     ///
     /// A byte that isn't visible ASCII, and the backslash, is written as a backslash and two upper-case hexadecimal digits.
     pub fn put_word(&self, room: &mut [u8; ServiceName::LONGEST_WORD]) -> usize

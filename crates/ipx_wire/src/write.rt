@@ -42,7 +42,8 @@ pub fn write_rip(
 /// Writes a query for services of a type, all or the nearest, to the beginning of `out`, and returns its number of bytes, which
 /// is 34. `out` has room for as many.
 ///
-/// In the header the type is 4, the checksum FFFFh and the transport control 0. The type `kind` of FFFFh stands for every type.
+/// In the header the type is 4, the checksum FFFFh and the transport control 0. A `kind` of FFFFh stands for every
+/// type.
 pub fn write_query(from: Address, to: Address, nearest: bool, kind: u16, out: &mut [u8]) -> usize
     requires { 34 ≤ length out.old }
     ensures count { result ≡ 34 }

@@ -19,8 +19,8 @@ use std::io::{Read, Write};
 
 /// Shows the records of a capture file: reads it from the intake, and writes its text to the outlet.
 ///
-/// `BadInput` where the file has a fault, which the last line of the text tells. After a fault of the run what was written is
-/// a prefix of the text.
+/// `BadInput` if the file has a fault, as the last line of the text says. After a fault of the run what was written
+/// is a prefix of the text.
 pub fn decode<R: Read, W: Write>(
     alloc: Global,
     intake: &mut Intake<R>,
