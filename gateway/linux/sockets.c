@@ -262,14 +262,14 @@ bool connection_has_more(int fd)
 typedef struct batch {
     struct mmsghdr list[MOST_TOGETHER];
     struct iovec pieces[MOST_TOGETHER];
-    struct sockaddr_in places[MOST_TOGETHER];
+    any_address places[MOST_TOGETHER]; /* (with room for that of a frame, too) */
 } batch;
 
-static void set_piece(batch *it, size_t k, uint8_t *bytes, size_t length)
+static void set_piece(batch *it, size_t k, uint8_t *bytes, size_t length, socklen_t size_of_place)
 {
     it->pieces[k] = (struct iovec){bytes, length};
     it->list[k].msg_hdr = (struct msghdr){
-        .msg_name = &it->places[k], .msg_namelen = sizeof it->places[k], .msg_iov = &it->pieces[k], .msg_iovlen = 1};
+        .msg_name = &it->places[k], .msg_namelen = size_of_place, .msg_iov = &it->pieces[k], .msg_iovlen = 1};
 }
 
 /* The rooms of what comes, as the system takes them. They are the same each time, and are set where they aren't. */
@@ -278,7 +278,7 @@ static batch *rooms_of(arrivals *in)
     static batch rooms;
     static const arrivals *whose;
     for (size_t k = 0; whose != in && k < MOST_TOGETHER; k++)
-        set_piece(&rooms, k, in->list[k].bytes, sizeof in->list[k].bytes);
+        set_piece(&rooms, k, in->list[k].bytes, sizeof in->list[k].bytes, sizeof rooms.places[k]);
     whose = in;
     return &rooms;
 }
@@ -308,7 +308,7 @@ bool datagrams_receive(int fd, arrivals *in)
     int count = recvmmsg(fd, all->list, MOST_TOGETHER, MSG_TRUNC, NULL);
     for (int k = 0; k < count; k++) {
         in->list[k].length = all->list[k].msg_len;
-        in->list[k].from = of_system(&all->places[k]); /* (it is asked for in the tunnel, which is of IPv4) */
+        in->list[k].from = of_system(&all->places[k].four); /* (it is asked for in the tunnel, which is of IPv4) */
         all->list[k].msg_hdr.msg_namelen = sizeof all->places[k];
     }
     in->count = count > 0 ? (size_t)count : 0;
@@ -357,8 +357,8 @@ size_t datagrams_send(int fd, const departure *list, size_t count)
     if (count == 1) /* (a call for one is the faster) */
         return is_sent(fd, list, MSG_CONFIRM);
     for (size_t k = 0; k < count; k++) {
-        all.places[k] = to_system(&list[k].to);
-        set_piece(&all, k, (uint8_t *)list[k].bytes, list[k].length);
+        all.places[k].four = to_system(&list[k].to);
+        set_piece(&all, k, (uint8_t *)list[k].bytes, list[k].length, sizeof all.places[k].four);
     }
     int sent = sendmmsg(fd, all.list, (unsigned)count, MSG_CONFIRM);
     return sent > 0 ? (size_t)sent : 0;

@@ -22,6 +22,8 @@ MOST_LOST = 0.02
 class Player:
     """One DOSBox: `every` is how many seconds pass between two words of its program; None says nothing."""
 
+    to = EVERYONE
+
     def __init__(self, host, gateway, every=None, size=100, port=0):
         self.udp = socket.socket(socket.AF_INET, socket.SOCK_DGRAM)
         self.udp.setsockopt(socket.SOL_SOCKET, socket.SO_RCVBUF, ROOM)
@@ -51,9 +53,9 @@ class Player:
         self.send(packet(address(0, NOBODY, TUNNEL), address(0, NOBODY, TUNNEL), kind=0))
 
     def say(self, what, number=0):
-        """Says something to all."""
+        """Says something to all, or to whom it speaks."""
         data = struct.pack(">6sI", what, number).ljust(self.size - 30, b".")
-        self.send(packet(address(0, EVERYONE, GAME), self.at(), data))
+        self.send(packet(address(0, self.to, GAME), self.at(), data))
 
     def speak(self, now):
         """Says the next of its numbers where it is time."""

@@ -1,12 +1,14 @@
 """Minutes of everything at once, on the gateway with the sanitizers: tools/gateway soak [MINUTES].
 
-Datagrams of all kinds, altered and made up, from many places and in the name of others; frames the same on a card, in datagrams and on
-connections that are cut; cards that go down, come up and are taken out. Meanwhile players play, who may lose 2 % at most, the gateway must
-end well, and its memory must stay what it was. The last line is 'N datagrams, M faults'.
+Datagrams of all kinds, altered and made up, from many places and in the name of others; frames the same on cards, in datagrams and on
+connections that are cut; cards that go down, come up and are taken out; a link that the configuration has and hasn't. Meanwhile players
+play, who may lose 2 % at most, the gateway must end well, and its memory must stay what it was. Two players of a network whose other links
+go and come lose nothing at all. The last line is 'N datagrams, M faults'.
 """
 import collections
 import os
 import random
+import signal
 import socket
 import subprocess
 import sys
@@ -15,18 +17,27 @@ import time
 from attacks import ADDRESSES, NOBODYS, PORTS, Playground, figures
 from frames import KINDS, Packets, frame
 from lab import EVERYONE, GAME, RIP, SAP, address, packet, rip_response, sap_response
-from spaces import GATEWAY, INSIDE, Field, Flood, build_flood, host, ip, way_inside
+from pair import OnWire, Pair
+from players import FAST, Player
+from spaces import GATEWAY, INSIDE, Field, Flood, build_flood, host, ip, own_addresses, way_inside
 from systems import SYSTEM
 
 MINUTES = 10
 RATE = 5000  # datagrams a second of each flood
 STAGE = 1.0  # seconds that a flood lasts
 FRAMES = 4  # of each wire, each time the players are heard
+MOST_OPEN = 4  # connections, up to which one more is begun
 BETWEEN_CARDS = 0.7  # seconds between two changes of a card
-CUT, REFUSED, CHANGED = "connections cut", "connections refused", "cards switched, taken out or put in"  # what is no datagram
+BETWEEN_LINES = 2.3  # seconds until the configuration has a link that it hadn't, or hasn't it any more
+# (what is no datagram)
+CUT, CHANGED = "connections cut or refused", "cards switched, taken out or put in"
+TURNED = "links that a configuration had, or hadn't any more"
 MOST_GROWN = 1.1  # memory at the end, as a part of that halfway, when each buffer has been used (they aren't touched before)
 SANITIZER = "quarantine_size_mb=1:malloc_context_size=1"  # (else what is freed is kept, and counted as memory)
 UDP_PORT, CARD_PORT, LISTEN_PORT, CONNECT_PORT = 5001, 5002, 5003, 5004
+JOINED = 0x60  # the network of several links
+CLIENT_PORT, WIRE_PORT, WIRED_PORT, LINK_PORT, TURN_PORT, FAR_PORT = GATEWAY[1] + 2, 5011, 5012, 5013, 5014, 5015
+FIRST_OF_PAIR = 240  # the number of the address of the first of two players there
 CONFIGURATION = f"""network 10 1 1424 dosbox 0.0.0.0:{GATEWAY[1]}
 network 20 1 1424 100 100 dosbox 0.0.0.0:{GATEWAY[1] + 1}
 extend 4005
@@ -36,7 +47,13 @@ extend 4005
 network 41 1 1497 qemu-tcp connect {host(0)}:{CONNECT_PORT} llc
 network 50 1 1500 200 100 interface g2 raw
 network 51 1 1492 200 100 interface g2 snap
+network {JOINED:X} 1 1424 100 100
+link dosbox 0.0.0.0:{CLIENT_PORT}
+link qemu-udp {GATEWAY[0]}:{WIRE_PORT} {host(FIRST_OF_PAIR + 1)}:{WIRED_PORT} raw
+link qemu-tcp listen {GATEWAY[0]}:{LINK_PORT} llc
+link interface g3 auto
 """
+MORE = f"link qemu-udp {GATEWAY[0]}:{TURN_PORT} {host(0)}:{FAR_PORT} auto\n"
 PLACES = {"sockets": [PORTS, ADDRESSES], "forged": [NOBODYS]}
 FLOODS = [("sockets", it) for it in ("register", "mutated", "junk", "guess")] + [
     ("forged", it) for it in ("register", "speak", "sap", "rip", "mutated", "junk")]
@@ -51,7 +68,7 @@ class Frames:
     def packet(self):
         number = self.random.randrange
         node = bytes([2, 0, 0, 0, 0, number(256)])
-        network = self.random.choice([0x10, 0x20, 0x30, 0x40, 0x41, 0x50, 0x51, number(1 << 32)])
+        network = self.random.choice([0x10, 0x20, 0x30, 0x40, 0x41, 0x50, 0x51, JOINED, number(1 << 32)])
         to = address(network, self.random.choice([EVERYONE, node]), self.random.choice([GAME, 0x4005, RIP, SAP]))
         return self.random.choice([
             lambda: packet(to, address(network, node, GAME), bytes(number(1400)), kind=self.random.choice([0, 4, 20])),
@@ -82,18 +99,19 @@ class Streams:
         self.place.listen()
         self.place.setblocking(False)
 
+    def add(self, it):
+        it.setblocking(False)
+        self.open.append(it)
+
     def begin(self):
+        """Takes whom the gateway has called, and calls it, which waits for nothing: it may refuse, or take nobody yet."""
         try:
-            self.open.append(self.place.accept()[0])
+            self.add(self.place.accept()[0])
         except BlockingIOError:
             pass
-        if len(self.open) < 3:
-            try:
-                self.open.append(socket.create_connection((GATEWAY[0], LISTEN_PORT)))
-            except ConnectionError:
-                self.counts[REFUSED] += 1  # (while another is there)
-        for it in self.open:
-            it.setblocking(False)
+        if len(self.open) < MOST_OPEN:
+            self.add(socket.socket())
+            self.open[-1].connect_ex((GATEWAY[0], self.frames.random.choice([LISTEN_PORT, LINK_PORT])))
 
     def act(self):
         self.begin()
@@ -121,17 +139,18 @@ class Streams:
 class Cards:
     """A card of the gateway's and its far end: they go down and up, and are taken out."""
 
-    def __init__(self, field):
-        self.field, self.counts, self.due = field, collections.Counter(), 0
+    def __init__(self, field, near, far):
+        self.field, self.near, self.far = field, near, far
+        self.counts, self.due = collections.Counter(), 0
         self.number = 0
         self.insert()
 
     def insert(self):
-        ip("link", "add", "t2", "type", "veth", "peer", "name", "g2")
-        ip("link", "set", "g2", "netns", str(self.field.gate.holder.pid))
-        self.field.gate.ip("link", "set", "g2", "up")
-        ip("link", "set", "t2", "up")
-        self.socket = Packets("t2", "raw").socket
+        ip("link", "add", self.far, "type", "veth", "peer", "name", self.near)
+        ip("link", "set", self.near, "netns", str(self.field.gate.holder.pid))
+        self.field.gate.ip("link", "set", self.near, "up")
+        ip("link", "set", self.far, "up")
+        self.socket = Packets(self.far, "raw").socket
 
     def act(self):
         if time.monotonic() < self.due:
@@ -141,13 +160,13 @@ class Cards:
         self.counts[CHANGED] += 1
         step = self.number % 6
         if step == 4:
-            ip("link", "del", "t2")
+            ip("link", "del", self.far)
             self.socket.close()
         elif step == 5:
             self.insert()
         else:
             space = self.field.gate if step < 2 else None
-            words = ("link", "set", "t2" if space is None else "g2", "down" if step % 2 == 0 else "up")
+            words = ("link", "set", self.far if space is None else self.near, "down" if step % 2 == 0 else "up")
             (space.ip if space else ip)(*words)
 
     def send(self, bytes_):
@@ -155,27 +174,56 @@ class Cards:
             self.socket.send(bytes_)
         except OSError:
             return  # (it is down, or taken out)
-        self.counts["frames on a card"] += 1
+        self.counts["frames on cards"] += 1
+
+
+def datagrams(port):
+    """The other end of a link of QEMU's datagrams."""
+    it = socket.socket(socket.AF_INET, socket.SOCK_DGRAM)
+    it.bind((host(0), port))
+    it.setblocking(False)
+    return it
+
+
+class Lines:
+    """A configuration that has a link, and hasn't it any more, while the gateway runs."""
+
+    def __init__(self, gate, counts):
+        self.gate, self.counts, self.has, self.due = gate, counts, False, 0
+
+    def act(self):
+        if time.monotonic() < self.due:
+            return
+        self.due = time.monotonic() + BETWEEN_LINES
+        self.has = not self.has
+        with open(self.gate.configuration, "w", encoding="ascii") as it:
+            it.write(CONFIGURATION + MORE * self.has)
+        self.gate.run.order(signal.SIGHUP)
+        self.counts[TURNED] += 1
 
 
 class Trouble:
-    """Everything that is done beside the floods."""
+    """Everything that is done beside the floods, on links that stay and on those that go and come; and two players beside the latter."""
 
-    def __init__(self, cards, counts, seed):
+    def __init__(self, gate, cards, counts, seed):
         self.counts, self.frames = counts, Frames(seed)
-        self.streams, self.cards = Streams(self.frames, counts), cards
-        cards.counts = counts
-        self.udp = socket.socket(socket.AF_INET, socket.SOCK_DGRAM)
-        self.udp.bind((host(0), CARD_PORT))
-        self.udp.setblocking(False)
+        self.streams, self.lines, self.cards = Streams(self.frames, counts), Lines(gate, counts), cards
+        for it in cards:
+            it.counts = counts
+        self.links = [(datagrams(CARD_PORT), UDP_PORT), (datagrams(FAR_PORT), TURN_PORT)]
+        first, second = own_addresses(FIRST_OF_PAIR, 2)
+        self.pair = Pair(Player(first, (GATEWAY[0], CLIENT_PORT), FAST), OnWire(second, WIRED_PORT, (GATEWAY[0], WIRE_PORT), JOINED, "raw"))
+        self.pair.enter()
 
     def act(self):
-        self.cards.act()
-        self.streams.act()
+        for it in (*self.cards, self.streams, self.lines, self.pair):
+            it.act()
         for _ in range(FRAMES):
-            self.cards.send(self.frames.next())
-            self.udp.sendto(self.frames.next(), (GATEWAY[0], UDP_PORT))
-            self.counts["frames in datagrams"] += 1
+            for it in self.cards:
+                it.send(self.frames.next())
+            for it, port in self.links:
+                it.sendto(self.frames.next(), (GATEWAY[0], port))
+            self.counts["frames in datagrams"] += len(self.links)
 
 
 class Soak:
@@ -185,8 +233,9 @@ class Soak:
         self.ground, self.end = ground, time.monotonic() + seconds
         self.counts, self.faults = collections.Counter(), []
         self.seed = random.randrange(1 << 30)
-        self.trouble = Trouble(cards, self.counts, self.seed)
+        self.trouble = Trouble(ground.gate, cards, self.counts, self.seed)
         self.lost = dict.fromkeys(ground.party.KINDS, 0.0)
+        self.said = 0  # packets of the two players beside links that go and come
         self.memory = []
         figures(f"seed {self.seed}")
 
@@ -216,8 +265,20 @@ class Soak:
         self.faults += [fault] if fault else []
         self.counts["packets of players"] += sum(it.said for it in party.speakers)
         party.begin_again(100)
+        self.judge_pair()
         self.ground.gate.report()
         self.memory.append(self.ground.gate.memory())
+
+    def judge_pair(self):
+        """Looks whether anything is missing that one of the two said to the other."""
+        pair = self.trouble.pair
+        missing, said = pair.settle()
+        self.said += said
+        if missing:
+            self.faults.append(f"of {said} packets of two players beside links that go and come {missing} are lost")
+        if any(it.twice for it in pair.all):
+            self.faults.append("a packet of two players beside links that go and come comes twice")
+        pair.begin()
 
     def run(self):
         try:
@@ -235,13 +296,14 @@ class Soak:
     def tell(self):
         for what, count in sorted(self.counts.items()):
             figures(f"{what}: {count}")
+        figures(f"packets of two players beside links that go and come, of which none may be lost: {self.said}")
         figures("lost in the worst round: " + ", ".join(f"{kind} {100 * lost:.1f} %" for kind, lost in self.lost.items()))
         if self.memory:
             halfway = self.memory[len(self.memory) // 2]
             figures(f"memory: {self.memory[0]} KB after the first round, {halfway} KB halfway, {self.memory[-1]} KB after the last")
         for fault in self.faults:
             print(f"FAULT   gateway: {fault}")
-        sent = sum(count for what, count in self.counts.items() if what not in (CUT, REFUSED, CHANGED))
+        sent = sum(count for what, count in self.counts.items() if what not in (CUT, CHANGED, TURNED))
         print(f"{sent} datagrams, {len(self.faults)} faults")
 
 
@@ -249,7 +311,7 @@ def inside(minutes):
     """In the network of its own."""
     build_flood()
     field = Field()
-    cards = Cards(field)
+    cards = [Cards(field, "g2", "t2"), Cards(field, "g3", "t3")]
     with Playground(CONFIGURATION, environment={"ASAN_OPTIONS": SANITIZER}, field=field) as ground:
         soak = Soak(ground, cards, 60 * minutes)
         soak.run()
