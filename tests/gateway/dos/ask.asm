@@ -3,6 +3,7 @@
 %include "ipx.inc"
 
 PATIENCE equ    18 * 120        ; ticks until what must come is taken for lost
+AGAIN   equ     18 * 5          ; ticks until routers are asked for routes again
 
 main:   cld
         mov     dx, wire(4004h)
@@ -40,8 +41,10 @@ main:   cld
         call    print
         jmp     quit
 
-; Asks for all routes, and prints each of the answer: network, hops, ticks.
-routes: mov     dx, wire(453h)
+; Asks for all routes until there is an answer, and prints each in it: network, hops, ticks. (what is said before the gateway has heard
+; the answer to its ping is lost)
+routes: mov     byte [left], PATIENCE / AGAIN
+.again: mov     dx, wire(453h)
         call    to_all
         mov     word [out_packet + HEADER], wire(1)
         mov     ax, 0FFFFh
@@ -51,10 +54,13 @@ routes: mov     dx, wire(453h)
         mov     cx, 10
         mov     al, 1
         call    send
-        mov     ax, PATIENCE
+        mov     ax, AGAIN
         call    hear
-        jc      .end
-        mov     ax, [in_packet + LENGTH]
+        jnc     .there
+        dec     byte [left]
+        jnz     .again
+        ret
+.there: mov     ax, [in_packet + LENGTH]
         xchg    ah, al
         sub     ax, HEADER + 2
         shr     ax, 3
@@ -72,7 +78,7 @@ routes: mov     dx, wire(453h)
         call    line
         pop     cx
         loop    .next
-.end:   jmp     listen
+        jmp     listen
 
 ; Asks for the nearest service of type 4 until there is an answer, and prints it. Carry is set where there is none in some minutes.
 service: mov    byte [left], 250
