@@ -33,17 +33,21 @@ static const char *open_interface(cable *it)
     return "can't hear all frames there";
 }
 
-/* Opens a link by datagrams, once it is known where they go. */
+/* Opens a link by datagrams, once it is known where they go: to somebody else. */
 static const char *open_datagrams(cable *it)
 {
     errno = 0;
     if (!it->remote.is_known)
         return REMOTE_UNKNOWN;
-    if (same_address(&it->local, &it->remote.at))
-        return "that name is the gateway's own";
     it->fd = datagram_open(&it->local, &it->remote.at);
     it->heard = clock_now();
-    return it->fd < 0 ? "can't take the addresses" : NULL;
+    if (it->fd < 0)
+        return "can't take the addresses";
+    if (!connection_is_own(it->fd))
+        return NULL;
+    close_any(&it->fd);
+    errno = 0;
+    return "the address there is the gateway's own";
 }
 
 /* Opens it. Returns NULL, or what went wrong. */

@@ -289,11 +289,20 @@ static bool is_single(reader *r, const network_setting *it)
     return true;
 }
 
-/* Whether datagrams go to somebody else: at its own address the gateway would hear itself. */
+/* Whether it is an address of whatever machine asks. */
+static bool is_surely_own(const address *at)
+{
+    static const address ONE = {.is_six = true, .six = {[15] = 1}};
+    return is_all(at) || (at->is_six ? memcmp(at->six, ONE.six, sizeof ONE.six) == 0 : at->host[0] == 127);
+}
+
+/* Whether datagrams go to somebody else: at its own address the gateway would hear itself. (which others this machine has isn't known
+ * before the link is opened, where it is looked at again) */
 static bool is_for_another(reader *r, const network_setting *it)
 {
     char words[ADDRESS_ROOM];
-    if (it->type != LINK_QEMU_UDP || it->host[0] != '\0' || !overlap(&it->local, &it->remote))
+    bool may_be_own = same_address(&it->local, &it->remote) || is_surely_own(&it->remote);
+    if (it->type != LINK_QEMU_UDP || it->host[0] != '\0' || !may_be_own || !overlap(&it->local, &it->remote))
         return true;
     return reader_fault(r, address_words(&it->remote, words), "expected QEMU's address, this is the gateway's own");
 }

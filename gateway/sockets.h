@@ -40,8 +40,8 @@ int connection_begin(const address *remote);
 /* Whether it has come about: 1, 0 not yet, -1 it failed; then errno has the reason. */
 int connection_state(int fd);
 
-/* Whether a connection is one of the socket with itself: the system makes it where nobody listens at a port, and gives the socket that very
- * port. */
+/* Whether a socket is connected with itself: a system does so where nobody listens at a port, and gives the socket that very port; and
+ * where datagrams are to go to an address of this machine, which the socket has. */
 bool connection_is_own(int fd);
 
 /* Whether the other end has not acknowledged for a minute what was sent to it, and the system would go on trying. */

@@ -10,7 +10,7 @@ from frames import KINDS, Packets, Station, Udp, frame, unframed
 from lab import (EVERYONE, GAME, LIMIT, Client, Clock, Counts, Gateway, address, comes_next, free_ports, fresh, is_routers, left_out,
                  packet, reaches, reaches_again, tunnels)
 from links import both_ways, connected, places_joined
-from segments import NUMBER, Cable, calls, can, hears, pair, tells
+from segments import NUMBER, Cable, calls, can, hears, hears_all_frames, pair, tells
 from spaces import INSIDE, ip, tried_inside
 from status import Watched
 from systems import SYSTEM, Windows
@@ -403,7 +403,8 @@ def inside():
     else:
         left_out("cards of any kind", "none can be made")
     if os.path.exists("/dev/net/tun") and counts.passed > 0:
-        counts.run(cards_and_taps)
+        if hears_all_frames():
+            counts.run(cards_and_taps)
         if can(lambda: ip("link", "add", "brk", "type", "bridge")):
             ip("link", "del", "brk")
             counts.run(a_bridge_behind_its_back)

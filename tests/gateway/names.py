@@ -17,6 +17,8 @@ from systems import SYSTEM, Windows
 from words import asked
 
 UNKNOWN = "no address of that name is known yet"
+IS_OWN = "the address there is the gateway's own"
+OWN = "10.77.0.1"
 SERVER = ("127.0.0.9", 53)  # that gives out names
 NAME = "house.test"
 A, AAAA = 1, 28  # the kinds of addresses of IPv4 and of IPv6 in a question
@@ -152,6 +154,17 @@ def of_six():
         assert told_with(gate, "[::1]:5002")
 
 
+def its_own():
+    """Where a name's address is the gateway's own, or one in numbers is, that is told, and nothing goes there."""
+    ip("addr", "add", f"{OWN}/32", "dev", "lo")
+    for local in "127.0.0.1", "0.0.0.0":
+        with routing(f"qemu-udp {local}:5001 {NAME}:5001") as (names, gate):
+            names.gives("127.0.0.1")
+            gate.told(IS_OWN)
+    with Gateway(link(f"qemu-udp 0.0.0.0:5001 {OWN}:5001")) as gate:
+        gate.told(IS_OWN)
+
+
 def asked_again():
     """A name is asked for again after a minute where it isn't known, or where nobody is connected; and its new address is used."""
     clock = Clock()
@@ -196,7 +209,7 @@ def inside():
     ip("link", "set", "lo", "up")
     mounts = subprocess.run(["unshare", "-m", "sh", "-c", "mount --bind /etc/hosts /etc/hosts"], stderr=subprocess.DEVNULL, check=False)
     if mounts.returncode == 0 and all(os.path.exists(f"/etc/{it}") for it in ("hosts", "resolv.conf", "nsswitch.conf")):
-        for test in (nobody_waits, an_end_doesnt_wait, the_next_address, asked_again, another_address):
+        for test in (nobody_waits, an_end_doesnt_wait, the_next_address, its_own, asked_again, another_address):
             counts.run(test)
         if has_six():
             counts.run(of_six)

@@ -235,6 +235,13 @@ def pair(near, far):
         ip("link", "set", name, "up")
 
 
+def hears_all_frames():
+    """Whether a card of several links can hear the frames for other nodes; that it can't is told."""
+    if SYSTEM.name == "aarch64":
+        left_out("cards as one of several links", "qemu-aarch64 doesn't hand on that a card is to hear all frames")
+    return SYSTEM.name != "aarch64"
+
+
 def cards_and_taps():
     """A DOSBox, a TAP and an Ethernet card are one cable: a card hears what is for a DOSBox, and frames of stations keep their nodes."""
     pair("s0", "s1")
@@ -286,7 +293,8 @@ def inside():
     ip("link", "set", "lo", "up")
     if os.path.exists("/dev/net/tun") and can(lambda: pair("s0", "s1")):
         ip("link", "del", "s0")
-        counts.run(cards_and_taps)
+        if hears_all_frames():
+            counts.run(cards_and_taps)
         if can(lambda: ip("link", "add", "brs", "type", "bridge")):
             ip("link", "del", "brs")
             counts.run(a_bridge_behind_its_back)
