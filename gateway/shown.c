@@ -103,7 +103,7 @@ static bool next_client(gateway *it, cursor *at, sheet *s)
         at->network++;
         at->index = 0;
     }
-    if (at->network == it->count)
+    if (at->network >= it->count)
         return false;
     at->index++;
     record_begin(s, CLIENT_COLUMNS);

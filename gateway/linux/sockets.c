@@ -232,7 +232,7 @@ void connection_drop(int *fd)
 
 bool connection_is_own(int fd)
 {
-    any_address at, with;
+    any_address at = {.six = {.sin6_family = AF_INET}}, with = at;
     socklen_t size = sizeof at, other_size = sizeof with;
     if (getsockname(fd, &at.one, &size) != 0 || getpeername(fd, &with.one, &other_size) != 0)
         return false;

@@ -1,5 +1,5 @@
-"""Two players of one network that has several links: one in DOSBox, one in a PC behind a link of QEMU's datagrams. Both links stay, whatever
-becomes of the network's others, so nothing may be lost that one of the two says to the other, or to all."""
+"""Two players of one network that has several links: one in DOSBox, one in a PC behind a link of QEMU's datagrams. Both links stay,
+whatever becomes of the network's others, so nothing may be lost that one of the two says to the other, or to all."""
 import select
 import time
 

@@ -13,7 +13,16 @@ from systems import SYSTEM, TOP, Windows
 SOURCE = os.path.join(TOP, "tests", "gateway", "pc", "boot.asm")
 PROGRAMS = ("qemu-system-i386", "qemu-system-x86_64")
 NODE = bytes.fromhex("525400123456")
+MAC = ":".join(f"{it:02x}" for it in NODE)
+SIZES = (0, 1, 17, 546, 1394)
 MOST = 300  # seconds until a PC is taken for lost
+
+
+def boot_sector(folder):
+    """The file with the program that the PC starts, in a folder."""
+    boot = os.path.join(folder, "boot")
+    subprocess.run(["nasm", "-f", "bin", "-o", boot, SOURCE], check=True)
+    return boot
 
 
 class Pc:
@@ -21,12 +30,10 @@ class Pc:
 
     def __init__(self, folder, netdev):
         program = next(it for it in PROGRAMS if shutil.which(it))
-        boot = os.path.join(folder, "boot")
-        subprocess.run(["nasm", "-f", "bin", "-o", boot, SOURCE], check=True)
-        mac = ":".join(f"{it:02x}" for it in NODE)
-        words = ["-nodefaults", "-display", "none", "-vga", "none", "-accel", "tcg", "-m", "16", "-drive", f"if=floppy,format=raw,file={boot}"]
+        drive = f"if=floppy,format=raw,file={boot_sector(folder)}"
+        words = ["-nodefaults", "-display", "none", "-vga", "none", "-accel", "tcg", "-m", "16", "-drive", drive]
         words += ["-netdev", netdev.replace(",", ",id=n,", 1)]
-        words += ["-device", f"ne2k_isa,netdev=n,iobase=0x300,irq=9,mac={mac}"]
+        words += ["-device", f"ne2k_isa,netdev=n,iobase=0x300,irq=9,mac={MAC}"]
         how = {"stdin": subprocess.DEVNULL, "stdout": subprocess.DEVNULL, "stderr": subprocess.PIPE}
         self.run = subprocess.Popen([program, *words], **how)
 
@@ -42,7 +49,7 @@ def is_answered(client, pc, data, crossed=1):
     """Whether the PC sends a packet back, though not at once: it has to boot. What it sent back before may still come."""
     end = time.monotonic() + MOST
     while time.monotonic() < end:
-        assert pc.run.poll() is None, "QEMU has ended: " + pc.run.stderr.read().decode()
+        assert pc.run.poll() is None, "the emulator has ended: " + pc.run.stderr.read().decode()
         client.say(address(0x30, NODE, GAME), data)
         heard = client.hear(lambda it: it[30:] == data, AGAIN)
         if heard is not None:
@@ -50,13 +57,18 @@ def is_answered(client, pc, data, crossed=1):
     return False
 
 
+def all_come_back(client, pc, link):
+    """Packets of several lengths come back."""
+    for size in SIZES:
+        assert is_answered(client, pc, bytes(k % 251 for k in range(size))), f"{size} bytes by {link}"
+
+
 def tried(link, netdev):
     """A PC by one kind of link: packets of several lengths come back."""
     with tempfile.TemporaryDirectory() as folder, Gateway(tunnels(1) + f"network 30 1 1500 {link} raw\n") as gate:
         client = Client(gate.ports[0x10])
         with Pc(folder, netdev) as pc:
-            for size in (0, 1, 17, 546, 1394):
-                assert is_answered(client, pc, bytes(k % 251 for k in range(size))), f"{size} bytes by {link}"
+            all_come_back(client, pc, link)
         assert gate.counted(0x30, "no IPX") == 0
 
 

@@ -4,6 +4,7 @@ import socket
 import sys
 
 import attacks
+import bochs
 import counting
 import dosbox
 import events
@@ -31,7 +32,7 @@ from lab import left_out
 from systems import SYSTEM, Windows
 
 ALL = (counting, words, siphash, unit, orders, status, events, probes, reloading, tunnel, links, six, names, segments, kinds,
-       troubles, wires, houses, attacks, limits, fair, narrow, dosbox, pc)
+       troubles, wires, houses, attacks, limits, fair, narrow, dosbox, pc, bochs)
 TESTS = {it.__name__: it for it in ALL}
 
 

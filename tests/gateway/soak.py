@@ -248,7 +248,8 @@ class Soak:
         count = int(RATE * STAGE)
         port = GATEWAY[1] + self.seed % 2
         places = PLACES[way][self.seed // 2 % len(PLACES[way])]
-        flood = Flood(way, kind, to=f"{GATEWAY[0]}:{port}", gateway=self.ground.gate.run.pid, rate=RATE, count=count, seed=self.seed, **places)
+        gate = self.ground.gate.run.pid
+        flood = Flood(way, kind, to=f"{GATEWAY[0]}:{port}", gateway=gate, rate=RATE, count=count, seed=self.seed, **places)
         self.ground.party.play(lambda: self.trouble.act() or flood.lasts())
         flood.end()
         self.counts[f"{kind}, forged" if way == "forged" else kind] += count

@@ -99,7 +99,7 @@ def status_on_windows():
 
 
 def what_is_right():
-    """What is right is told so: the example, 32 networks, shares, blanks, comments, one port here and there, the last line without its end."""
+    """What is right is told so: the example, 32 networks, shares, blanks, comments, one port at both ends, the last line without its end."""
     example = os.path.join(TOP, "gateway", "example.conf")
     assert asked("--check", example)[:2] == (0, f"{example}: 1 network, nothing wrong\n")
     many = tunnels(32).encode()
@@ -107,7 +107,8 @@ def what_is_right():
     status, _, complaint = asked("--check", "/dev/stdin", stdin=many + b"network FF 1 1424 dosbox 0\n")
     assert status == 2 and complaint == "/dev/stdin:33: 'network': expected at most 32 networks\n"
     for text in (b"\t network  FFFFFFFD 65535 1424 0 65535 dosbox :0 # a comment\r\n\n#\nextend FFFF 1",
-                 b"network 20 1 1500 qemu-udp 0.0.0.0:5001 192.0.2.7:5001 raw", b"network 20 1 1500 qemu-udp [::]:5001 [2001:db8::7]:5001 raw"):
+                 b"network 20 1 1500 qemu-udp 0.0.0.0:5001 192.0.2.7:5001 raw",
+                 b"network 20 1 1500 qemu-udp [::]:5001 [2001:db8::7]:5001 raw"):
         assert asked("--check", "/dev/stdin", stdin=text)[:2] == (0, "/dev/stdin: 1 network, nothing wrong\n"), text
 
 
