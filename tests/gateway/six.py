@@ -77,14 +77,19 @@ def two_gateways():
 
 
 def some_address():
-    """An address in which zeros are frequent."""
-    groups = [random.choice((0, 0, 1, random.randrange(1 << 16))) for _ in range(8)]
+    """An address in which zeros are frequent. (it isn't one of IPv4 behind zeros alone, which systems write with dots)"""
+    groups = [0] * 8
+    while not any(groups[:5]):
+        groups = [random.choice((0, 0, 1, random.randrange(1 << 16))) for _ in groups]
     return ipaddress.IPv6Address(b"".join(it.to_bytes(2, "big") for it in groups))
 
 
 def as_they_are_written():
     """An address is read however it is written, and written as RFC 5952 wants it."""
-    addresses = [some_address() for _ in range(ADDRESSES)]
+    addresses = set()
+    while len(addresses) < ADDRESSES:
+        addresses.add(some_address())
+    addresses = list(addresses)
     forms = [random.choice((it.compressed, it.exploded, it.compressed.upper())) for it in addresses]
     text = "".join(f"network {k + 1:X} 1 1490 qemu-tcp connect [{it}]:5001 raw\n" for k, it in enumerate(forms))
     with Gateway(text) as gate:
