@@ -145,7 +145,7 @@ export const ACTS = {
         lines: (_, it) => ({ now: [`stop ${it.router}`, SETTLE] }),
     },
     time: {
-        label: "Time", title: "Let time pass; after each step the packets arrive that wait", remembers: true,
+        label: "Time", title: "Let time pass; after each step, waiting packets arrive", remembers: true,
         fields: () => [
             { name: "seconds", label: "Seconds", value: "60" },
             { name: "every", label: "in steps of (s)", value: "10", hint: "seconds" }],
@@ -192,7 +192,7 @@ export const ACTS = {
         },
     },
     bytes: {
-        label: "Bytes", title: "Any bytes come in", needs: ports,
+        label: "Bytes", title: "Let any bytes arrive", needs: ports,
         fields: (script, chosen, packet) => [
             { name: "link", label: "By port", choices: ports(script), value: chosenPort(chosen) },
             { name: "hex", label: "Bytes", value: packet, hint: "those of the pane Packet" }],

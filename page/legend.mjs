@@ -4,17 +4,17 @@ import { made } from "./dom.mjs";
 const COLOURS = [["rip", "→", "routes (RIP)"], ["sap", "→", "services (SAP)"], ["crossed", "→", "propagated packets (NetBIOS)"],
     ["data", "→", "all others"]];
 const LOST = ["alarm", "✕", "a packet is lost here, or a port is down"];
-const TABLES = [["new", "new", "a record that came now"], ["changed", "changed", "one that became another"],
-    ["gone", "gone", "one that ended"],
-    ["stale", "stale", "nobody has said it for more than a minute"]];
+const TABLES = [["new", "new", "a new record"], ["changed", "changed", "a record that changed"],
+    ["gone", "gone", "a record that ended"],
+    ["stale", "stale", "a record older than a minute"]];
 
 export const LEGENDS = {
     internet: [["router", "A", "a router with the numbers of its ports; dashed: stopped"], ["network", "net 1", "a network"],
-        ["host", "AA", "a host: a node that sends packets or is sent some"], ["dot", "●", "its tables changed"],
-        ["way", "→", "the way of a traced packet, with the numbers of its receptions"], LOST, ...COLOURS, ...TABLES,
-        ["", "settle", "the packets that wait arrive"], ["", "second", "time passes"]],
+        ["host", "AA", "a host: a node that packets come from or go to"], ["dot", "●", "its tables changed"],
+        ["way", "→", "the path of a traced packet, with the numbers of its receptions"], LOST, ...COLOURS, ...TABLES,
+        ["", "settle", "waiting packets arrive"], ["", "second", "time passes"]],
     replay: [["", "✕ NoRoute", "a packet is dropped, and why"], ...COLOURS, ...TABLES],
-    capture: [["router", "10.1", "a router: it carries packets of others"], ["", "all of 10", "a broadcast on network 10"],
+    capture: [["router", "10.1", "a router: it carries others' packets"], ["", "all of 10", "a broadcast on network 10"],
         ["alarm", "✕ no answer", "a query that nobody answers"], ...COLOURS],
 };
 

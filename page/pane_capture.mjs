@@ -17,8 +17,8 @@ const TYPES = [["", "any type"], ["1", "1 RIP"], ["4", "4 SAP"], ["17", "17 NCP"
 const PAUSE = 200;
 // What the examples show.
 const SHOWS = {
-    "nearest-server": "A client finds its nearest server, and sends it the first packet by the router.",
-    "no-server": "One client asks in another kind of frame than the server's, and nobody answers; another one is answered.",
+    "nearest-server": "A client finds its nearest server, and sends it the first packet via the router.",
+    "no-server": "One client asks in another kind of frame than the server's, and nobody answers; another client gets an answer.",
 };
 
 const isAll = (party) => party.endsWith(`.${EVERYONE}`);

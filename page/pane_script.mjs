@@ -225,7 +225,7 @@ export class ScriptPane {
     momentOf(step) {
         const isLong = (it) => it.length > 20;
         const command = step.line < 0 ? "before the first command" : step.words.filter((it) => !isLong(it)).join(" ");
-        return `Second ${step.second} · ${command}${step.words[0] === "settle" ? " (packets that wait arrive)" : ""}`;
+        return `Second ${step.second} · ${command}${step.words[0] === "settle" ? " (waiting packets arrive)" : ""}`;
     }
 
     // Asks for all tables at a step. While one question is on its way the next waits, and only the last one that waits is asked.

@@ -2,12 +2,12 @@
 
 const REASONS = {
     NotRunning: "the router is stopped", OwnEcho: "it is from the port itself", BadSource: "it is from the broadcast node",
-    CrossedShort: "it has no room for eight networks", CrossedFull: "it has crossed eight networks",
+    CrossedShort: "it has no room for eight networks", CrossedFull: "it has crossed eight networks or more",
     CrossedSeen: "it has crossed this network already", Elsewhere: "it is for another node of this network",
-    OtherSocket: "it is for this network, and for no socket of a router", NotNeighbour: "it is from another network",
+    OtherSocket: "it is for this network, but not for a router's socket", NotNeighbour: "it is from another network",
     NearestReply: "routers don't ask for the nearest service", TooManyRouters: "it came through sixteen routers",
     FarSide: "it is for another port of this router", NoRoute: "no route to its network", TooLong: "it is too long for the network",
-    DownPort: "the port is down", Malformed: "it is no whole packet", BadRip: "its routes can't be read",
+    DownPort: "the port is down", Malformed: "it is not a whole packet", BadRip: "its routes can't be read",
     BadSap: "its services can't be read",
 };
 

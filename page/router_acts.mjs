@@ -62,7 +62,7 @@ export const ROUTER_ACTS = {
         lines: (script, it) => came(script, it, "data", { toNetwork: it.toNetwork, toNode: it.toNode, toSocket: "4003" }),
     },
     bytes: {
-        label: "Bytes", title: "Any bytes come in", needs: ports,
+        label: "Bytes", title: "Let any bytes arrive", needs: ports,
         fields: (script, chosen, packet) => [here(script, chosen),
             { name: "hex", label: "Bytes", value: packet, hint: "those of the pane Packet" }],
         lines: (_, it) => ({ now: [`in ${it.port} ${bytesTyped("hex", it.hex) || "-"}`] }),

@@ -168,7 +168,7 @@ def proposed(b, _):
     act(b, "send", {"from": "10.CC", "to": "10.AA"})
     same(opens(b, "send"), {"from": "10.CC", "to": "10.AA"}, "the hosts of the last packet")
     closes(b)
-    want("(packets that wait arrive)" in (step(b, "internet", 9), text(b, "#pane-internet .moment"))[1], "what settle does")
+    want("(waiting packets arrive)" in (step(b, "internet", 9), text(b, "#pane-internet .moment"))[1], "what settle does")
     opens(b, "time")
     want("in steps of (s)" in text(b, "dialog") and "inserts behind line 9" in text(b, "dialog"), text(b, "dialog"))
     closes(b)
