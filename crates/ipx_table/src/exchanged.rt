@@ -28,15 +28,15 @@ pub struct Exchanged<O> {
 }
 
 /// What became of an offer, with the offer of its key before and after.
-pub(crate) fn exchange_of<O: Offer>(taken: Taken, before: Option<O>, offer: O) -> Exchanged<O>
+pub(crate) fn exchange_of<O: Offer>(taken: Taken, before: Option<O>, offer: &O) -> Exchanged<O>
     ensures taken { result.taken ≡ taken }
     ensures before { result.before ≡ before }
-    ensures after { result.after ≡ offer_left taken before offer }
+    ensures after { result.after ≡ offer_left taken before offer.now }
 {
     let after = match taken {
         Taken::Withdrawn => None,
         Taken::Nothing | Taken::Worse | Taken::Full => before,
-        Taken::Refreshed { .. } | Taken::Replaced | Taken::Admitted => Some(offer),
+        Taken::Refreshed { .. } | Taken::Replaced | Taken::Admitted => Some(*offer),
     };
     Exchanged {
         taken,

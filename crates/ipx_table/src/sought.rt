@@ -39,10 +39,10 @@ impl<'a, O: Offer> Asked for Sought<'a, O> {
 }
 
 /// Where a key stands among offers that ascend by their keys. The place `near` is asked before the others.
-pub(crate) fn place_near<O: Offer>(offers: &[O], near: usize, key: O::Key) -> Found
+pub(crate) fn place_near<O: Offer>(offers: &[O], near: usize, key: &O::Key) -> Found
     requires { Ascends (λ a b. O.Key.cmp (O.reading.key a) (O.reading.key b)) offers.now }
-    ensures below { result.below ≡ (answers_to (λ o. O.Key.cmp (O.reading.key o) key) offers.now).below }
-    ensures held { result.held ≡ (answers_to (λ o. O.Key.cmp (O.reading.key o) key) offers.now).held }
+    ensures below { result.below ≡ (answers_to (λ o. O.Key.cmp (O.reading.key o) key.now) offers.now).below }
+    ensures held { result.held ≡ (answers_to (λ o. O.Key.cmp (O.reading.key o) key.now) offers.now).held }
 {
     if is_at(offers, near, key) {
         return Found {
@@ -50,20 +50,19 @@ pub(crate) fn place_near<O: Offer>(offers: &[O], near: usize, key: O::Key) -> Fo
             held: true,
         };
     }
-    place_in(offers, key)
+    place_in(offers, *key)
 }
 
 /// Whether a key stands at that place.
-fn is_at<O: Offer>(offers: &[O], place: usize, key: O::Key) -> bool
+fn is_at<O: Offer>(offers: &[O], place: usize, key: &O::Key) -> bool
     requires { Ascends (λ a b. O.Key.cmp (O.reading.key a) (O.reading.key b)) offers.now }
-    ensures below { result ≡ true → place ≡ (answers_to (λ o. O.Key.cmp (O.reading.key o) key) offers.now).below }
-    ensures held { result ≡ true → true ≡ (answers_to (λ o. O.Key.cmp (O.reading.key o) key) offers.now).held }
+    ensures below { result ≡ true → place ≡ (answers_to (λ o. O.Key.cmp (O.reading.key o) key.now) offers.now).below }
+    ensures held { result ≡ true → true ≡ (answers_to (λ o. O.Key.cmp (O.reading.key o) key.now) offers.now).held }
 {
     if place >= offers.len() {
         return false;
     }
-    let one = [offers[place]];
-    place_in(&one, key).held
+    offers[place].key() == *key
 }
 
 /// Where a key stands among offers that ascend by their keys.

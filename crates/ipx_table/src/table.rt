@@ -136,9 +136,9 @@ impl<O: Offer, const CAP: usize> Table<O, CAP> {
         ensures unchanged { is_change result.taken ≡ false → same_left O.eq result.before result.after ≡ true }
     {
         self.records.truncate(self.live);
-        let found = place_near(self.records.offers(), self.next, offer.key());
+        let found = place_near(self.records.offers(), self.next, &offer.key());
         self.next = found.below.wrapping_add(1);
-        let exchanged = take_offer(&mut self.records, &self.shares, self.clock, found, offer);
+        let exchanged = take_offer(&mut self.records, &self.shares, self.clock, found, &offer);
         self.live = self.records.len();
         exchanged
     }

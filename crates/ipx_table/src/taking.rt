@@ -27,21 +27,21 @@ pub(crate) fn take_offer<O: Offer, const CAP: usize>(
     shares: &[u16],
     clock: u8,
     found: Found,
-    offer: O,
+    offer: &O,
 ) -> Exchanged<O>
     requires sorted { IsSorted (rules_of O.reading O.Key.cmp CAP shares.now).by_key records.old clock }
-    requires below { found.below ≡ (answers_to (λ o. O.Key.cmp (O.reading.key o) (O.reading.key offer)) (map (λ p. p.0) records.old)).below }
-    requires held { found.held ≡ (answers_to (λ o. O.Key.cmp (O.reading.key o) (O.reading.key offer)) (map (λ p. p.0) records.old)).held }
+    requires below { found.below ≡ (answers_to (λ o. O.Key.cmp (O.reading.key o) (O.reading.key offer.now)) (map (λ p. p.0) records.old)).below }
+    requires held { found.held ≡ (answers_to (λ o. O.Key.cmp (O.reading.key o) (O.reading.key offer.now)) (map (λ p. p.0) records.old)).held }
     ensures records { let rules = rules_of O.reading O.Key.cmp CAP shares.now in
-        seen clock records.new ≡ in_order rules.by_key (after_offer rules (seen clock records.old) offer) }
+        seen clock records.new ≡ in_order rules.by_key (after_offer rules (seen clock records.old) offer.now) }
     ensures slots { AllByRecursion (λ p. p.1 < lifetime) records.new }
-    ensures answer { result.taken ≡ taken_over (rules_of O.reading O.Key.cmp CAP shares.now) O.eq (seen clock records.old) offer }
-    ensures before { result.before ≡ option_map (λ h. h.offer) (known_of (rules_of O.reading O.Key.cmp CAP shares.now) (seen clock records.old) offer) }
-    ensures after { result.after ≡ offer_left result.taken result.before offer }
+    ensures answer { result.taken ≡ taken_over (rules_of O.reading O.Key.cmp CAP shares.now) O.eq (seen clock records.old) offer.now }
+    ensures before { result.before ≡ option_map (λ h. h.offer) (known_of (rules_of O.reading O.Key.cmp CAP shares.now) (seen clock records.old) offer.now) }
+    ensures after { result.after ≡ offer_left result.taken result.before offer.now }
 {
     match record_found(records, records.len(), found) {
         Some(known) => {
-            let taken = take_known(records, shares, clock, found.below, known, offer);
+            let taken = take_known(records, shares, clock, found.below, &known, offer);
             exchange_of(taken, Some(known.0), offer)
         }
         None => {
@@ -73,17 +73,17 @@ fn take_new<O: Offer, const CAP: usize>(
     shares: &[u16],
     clock: u8,
     below: usize,
-    offer: O,
+    offer: &O,
 ) -> Taken
     requires sorted { IsSorted (rules_of O.reading O.Key.cmp CAP shares.now).by_key records.old clock }
     requires none { let rules = rules_of O.reading O.Key.cmp CAP shares.now in
-        list_any (λ h. same_key rules.by_key h.offer offer) (seen clock records.old) ≡ false }
+        list_any (λ h. same_key rules.by_key h.offer offer.now) (seen clock records.old) ≡ false }
     requires below { let rules = rules_of O.reading O.Key.cmp CAP shares.now in
-        below ≡ length (filter (λ h. is_lt (rules.by_key h.offer offer)) (seen clock records.old)) }
+        below ≡ length (filter (λ h. is_lt (rules.by_key h.offer offer.now)) (seen clock records.old)) }
     ensures records { let rules = rules_of O.reading O.Key.cmp CAP shares.now in
-        seen clock records.new ≡ in_order rules.by_key (after_offer rules (seen clock records.old) offer) }
+        seen clock records.new ≡ in_order rules.by_key (after_offer rules (seen clock records.old) offer.now) }
     ensures slots { AllByRecursion (λ p. p.1 < lifetime) records.new }
-    ensures answer { result ≡ taken_beside (rules_of O.reading O.Key.cmp CAP shares.now) O.eq (seen clock records.old) offer None }
+    ensures answer { result ≡ taken_beside (rules_of O.reading O.Key.cmp CAP shares.now) O.eq (seen clock records.old) offer.now None }
 {
     if offer.is_down() {
         return Taken::Nothing;
@@ -94,7 +94,7 @@ fn take_new<O: Offer, const CAP: usize>(
     if !has_share(records.offers(), shares, CAP, offer.source().0) {
         return Taken::Full;
     }
-    records.insert(below, offer, clock);
+    records.insert(below, *offer, clock);
     Taken::Admitted
 }
 
@@ -104,30 +104,30 @@ fn take_known<O: Offer, const CAP: usize>(
     shares: &[u16],
     clock: u8,
     place: usize,
-    known: (O, u8),
-    offer: O,
+    known: &(O, u8),
+    offer: &O,
 ) -> Taken
     requires sorted { IsSorted (rules_of O.reading O.Key.cmp CAP shares.now).by_key records.old clock }
-    requires at { slice_get records.old place ≡ Some known }
-    requires key { same_key (rules_of O.reading O.Key.cmp CAP shares.now).by_key known.0 offer ≡ true }
+    requires at { slice_get records.old place ≡ Some known.now }
+    requires key { same_key (rules_of O.reading O.Key.cmp CAP shares.now).by_key known.now.0 offer.now ≡ true }
     ensures records { let rules = rules_of O.reading O.Key.cmp CAP shares.now in
-        seen clock records.new ≡ in_order rules.by_key (after_offer rules (seen clock records.old) offer) }
+        seen clock records.new ≡ in_order rules.by_key (after_offer rules (seen clock records.old) offer.now) }
     ensures slots { AllByRecursion (λ p. p.1 < lifetime) records.new }
-    ensures answer { result ≡ taken_beside (rules_of O.reading O.Key.cmp CAP shares.now) O.eq (seen clock records.old) offer (Some (seen_at clock known)) }
+    ensures answer { result ≡ taken_beside (rules_of O.reading O.Key.cmp CAP shares.now) O.eq (seen clock records.old) offer.now (Some (seen_at clock known.now)) }
 {
-    if is_of_one_source(&known.0, &offer) {
+    if is_of_one_source(&known.0, offer) {
         return take_own(records, shares, clock, place, known, offer);
     }
     if offer.is_down() {
         return Taken::Nothing;
     }
-    if !is_worse(&known.0, &offer) {
+    if !is_worse(&known.0, offer) {
         return Taken::Worse;
     }
-    if !may_replace(records, shares, place, known, &offer) {
+    if !may_replace(records, shares, place, known, offer) {
         return Taken::Full;
     }
-    records.put(place, offer, clock);
+    records.put(place, *offer, clock);
     Taken::Replaced
 }
 
@@ -137,25 +137,25 @@ fn take_own<O: Offer, const CAP: usize>(
     shares: &[u16],
     clock: u8,
     place: usize,
-    known: (O, u8),
-    offer: O,
+    known: &(O, u8),
+    offer: &O,
 ) -> Taken
     requires sorted { IsSorted (rules_of O.reading O.Key.cmp CAP shares.now).by_key records.old clock }
-    requires at { slice_get records.old place ≡ Some known }
-    requires key { same_key (rules_of O.reading O.Key.cmp CAP shares.now).by_key known.0 offer ≡ true }
-    requires source { (rules_of O.reading O.Key.cmp CAP shares.now).same_source known.0 offer ≡ true }
+    requires at { slice_get records.old place ≡ Some known.now }
+    requires key { same_key (rules_of O.reading O.Key.cmp CAP shares.now).by_key known.now.0 offer.now ≡ true }
+    requires source { (rules_of O.reading O.Key.cmp CAP shares.now).same_source known.now.0 offer.now ≡ true }
     ensures records { let rules = rules_of O.reading O.Key.cmp CAP shares.now in
-        seen clock records.new ≡ in_order rules.by_key (after_offer rules (seen clock records.old) offer) }
+        seen clock records.new ≡ in_order rules.by_key (after_offer rules (seen clock records.old) offer.now) }
     ensures slots { AllByRecursion (λ p. p.1 < lifetime) records.new }
-    ensures answer { result ≡ taken_beside (rules_of O.reading O.Key.cmp CAP shares.now) O.eq (seen clock records.old) offer (Some (seen_at clock known)) }
+    ensures answer { result ≡ taken_beside (rules_of O.reading O.Key.cmp CAP shares.now) O.eq (seen clock records.old) offer.now (Some (seen_at clock known.now)) }
 {
     if offer.is_down() {
         records.remove(place);
         return Taken::Withdrawn;
     }
-    records.put(place, offer, clock);
+    records.put(place, *offer, clock);
     Taken::Refreshed {
-        changed: known.0 != offer,
+        changed: known.0 != *offer,
     }
 }
 
@@ -165,11 +165,11 @@ fn may_replace<O: Offer, const CAP: usize>(
     records: &Slotted<O, CAP>,
     shares: &[u16],
     place: usize,
-    known: (O, u8),
+    known: &(O, u8),
     offer: &O,
 ) -> bool
-    requires at { slice_get records.now place ≡ Some known }
-    ensures { (clock : ℕ) → result ≡ allows_replacement (rules_of O.reading O.Key.cmp CAP shares.now) offer.now (seen clock records.now) (seen_at clock known) }
+    requires at { slice_get records.now place ≡ Some known.now }
+    ensures { (clock : ℕ) → result ≡ allows_replacement (rules_of O.reading O.Key.cmp CAP shares.now) offer.now (seen clock records.now) (seen_at clock known.now) }
 {
     let port = offer.source().0;
     if known.0.source().0 == port {
