@@ -56,16 +56,16 @@ pub(crate) fn is_service_selected(selection: ServiceSelection, service: &Service
     }
 }
 
-/// A service of the table as it is sent: one hop farther away, or unreachable. The hops are chosen first, so that one copy is enough.
-pub(crate) fn service_sent(selection: ServiceSelection, service: &Service) -> Service
+/// Puts a service of the table into its place as it is sent: one hop farther away, or unreachable. It is copied straight there.
+pub(crate) fn put_service_sent(selection: ServiceSelection, service: &Service, place: &mut Service)
     requires { service.now.hops < unreachable }
-    ensures { result ≡ service_sent selection service.now }
+    ensures { place.new ≡ service_sent selection service.now }
 {
-    let hops = match selection {
+    *place = *service;
+    place.hops = match selection {
         ServiceSelection::Dead => RipEntry::UNREACHABLE,
         _ => service.hops + 1,
     };
-    Service { hops, ..*service }
 }
 
 /// Whether a request asks for the entry.

@@ -13,7 +13,7 @@ use crate::advertising::envelope::Envelope;
 use crate::advertising::item::Item;
 use crate::advertising::pages::{ENTRIES_A_PAGE, SERVICES_A_PAGE};
 use crate::advertising::selection::{
-    Selection, ServiceSelection, is_service_selected, select, service_sent,
+    Selection, ServiceSelection, is_service_selected, put_service_sent, select,
 };
 use crate::advertising::told_routes::{ToldRoutes, list_direct};
 use crate::advertising::told_services::ToldServices;
@@ -143,7 +143,7 @@ fn fill_services(
             return count;
         };
         if is_service_selected(selection, &offer.service) {
-            page[count] = service_sent(selection, &offer.service);
+            put_service_sent(selection, &offer.service, &mut page[count]);
             count += 1;
         }
     }

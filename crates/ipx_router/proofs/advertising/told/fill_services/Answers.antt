@@ -17,11 +17,11 @@ returns-in_default-clause-services c =
 pub loop-count-preserved-then-is_service_selected : goal.loop-count-preserved-then-is_service_selected
 loop-count-preserved-then-is_service_selected c = (
   omega (arith, c.loop-count-test.true),
-  length-set c.loop-count.page c.loop-count.count c.service_sent.result ∙ c.loop-count.invariant.1,
+  length-set c.loop-count.page c.loop-count.count c.put_service_sent.new.place ∙ c.loop-count.invariant.1,
   one_filled (service_selected_by c.args.selection) c.loop-count.page c.loop-count.count c.args.services.now c.loop-count.services c.next_offer.new.self
       (farther c.in-Some.offer.now.service) c.in-Some.ensures.some
-      c.loop-count.invariant.2 c.service_sent.result
-      (ap (λ (s : Service). s ∷ []) c.service_sent.ensures ∙ sent_of_offer c.args.selection c.in-Some.offer.now.service c.if-is_service_selected.ensures)
+      c.loop-count.invariant.2 c.put_service_sent.new.place
+      (ap (λ (s : Service). s ∷ []) c.put_service_sent.ensures ∙ sent_of_offer c.args.selection c.in-Some.offer.now.service c.if-is_service_selected.ensures)
       (omega (arith, c.loop-count-test.true, c.loop-count.invariant.1)),
 )
 
