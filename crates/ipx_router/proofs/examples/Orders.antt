@@ -1,5 +1,5 @@
 -- What is told in which order: routes by network, services by type and then name; and which of the nearest services is answered.
-use Rattle.std.proofs.Common.{◌≡◌, ℕ, List, [], ◌∷◌, ◌++◌, refl, codes, replicate}
+use Rattle.std.proofs.Common.{◌≡◌, ◌-◌, ℕ, List, [], ◌∷◌, ◌++◌, refl, codes, replicate}
 use Rattle.hex.specs.Hex.{decode_pairs}
 use Rattle.ipx_wire.specs.Address.{address_bytes, address_at}
 use Rattle.ipx_wire.specs.Crossed.{network_bytes, network_at}
@@ -11,6 +11,7 @@ use Rattle.ipx_wire.specs.Rip.{rip_of, entry_at, entry_bytes}
 use Rattle.ipx_wire.specs.Sap.{sap_of}
 use Rattle.ipx_wire.specs.SapEntries.{sap_entry_at}
 use Rattle.ipx_wire.specs.WriteServices.{service_bytes}
+use Rattle.ipx_table.specs.Alive.{lifetime}
 use Rattle.ipx_router.specs.History.{Start, Second, Packet}
 use Rattle.ipx_router.proofs.examples.Words.{hex, node, sent_by, out, all_nodes, general_request}
 
@@ -96,7 +97,7 @@ abbrev late : List ℕ
 late = hex (codes "FFFF0120000400000020FFFFFFFFFFFF0452000000200000000000BB" ++ codes "04520002000441") ++ replicate 50 0 ++ hex (codes "3000000000000104510002000443") ++ replicate 50 0 ++ hex (codes "3000000000000104510002000541") ++ replicate 50 0 ++ hex (codes "3000000000000104510002000344") ++ replicate 50 0 ++ hex (codes "3000000000000104510002")
 
 -- a service that ends at a period stands as down in its place by type and name
-pub a_service_ends_in_its_place : sent_by (Start ∷ Packet 1 early ∷ replicate 100 Second ++ Packet 1 late ∷ replicate 79 Second) Second
+pub a_service_ends_in_its_place : sent_by (Start ∷ Packet 1 early ∷ replicate 100 Second ++ Packet 1 late ∷ replicate (lifetime - 101) Second) Second
     ≡ out 0 all_nodes (hex (codes "FFFF0028000100000010FFFFFFFFFFFF045300000010000000000001" ++ codes "045300020000002000010002"))
     ∷ out 0 all_nodes (hex (codes "FFFF0160000400000010FFFFFFFFFFFF045200000010000000000001" ++ codes "04520002000344") ++ replicate 50 0 ++ hex (codes "3000000000000104510003000441") ++ replicate 50 0 ++ hex (codes "3000000000000104510003000442") ++ replicate 50 0 ++ hex (codes "3000000000000104510010000443") ++ replicate 50 0 ++ hex (codes "3000000000000104510003000541") ++ replicate 50 0 ++ hex (codes "3000000000000104510003"))
     ∷ out 1 all_nodes (hex (codes "FFFF0028000100000020FFFFFFFFFFFF045300000020000000000002" ++ codes "045300020000001000010002"))
@@ -113,7 +114,7 @@ abbrev late_routes : List ℕ
 late_routes = hex (codes "FFFF0030000100000020FFFFFFFFFFFF0453000000200000000000BB" ++ codes "0453000200000016000100020000001400010002")
 
 -- a route that ends at a period stands as dead in its place by network
-pub a_route_ends_in_its_place : sent_by (Start ∷ Packet 1 early_routes ∷ replicate 100 Second ++ Packet 1 late_routes ∷ replicate 79 Second) Second
+pub a_route_ends_in_its_place : sent_by (Start ∷ Packet 1 early_routes ∷ replicate 100 Second ++ Packet 1 late_routes ∷ replicate (lifetime - 101) Second) Second
     ≡ out 0 all_nodes (hex (codes "FFFF0040000100000010FFFFFFFFFFFF045300000010000000000001" ++ codes "045300020000001400020003000000150010FFFF0000001600020003" ++ codes "0000002000010002"))
     ∷ out 1 all_nodes (hex (codes "FFFF0028000100000020FFFFFFFFFFFF045300000020000000000002" ++ codes "045300020000001000010002"))
     ∷ []
