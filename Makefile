@@ -56,16 +56,16 @@ gateway:
 
 # The gate, then every example and transcript. The last line is 'N passed, M failed'.
 test:
-	@tools/test
+	@dev/test
 
 # Tries every must-fail edit, or with CRATE=NAME those of one crate. The last line is 'N refused, M not refused'.
 edits:
-	@tools/edits $(CRATE)
+	@dev/edits $(CRATE)
 
 # Plays made-up bytes to the built program and to the library for C, for MINUTES in all. With afl++ where it is installed; needs a C
 # compiler. docs/PROVED.md tells what came. The last line is 'N inputs, M crashes'.
 fuzz: build embed
-	@tools/fuzz $(MINUTES)
+	@dev/fuzz $(MINUTES)
 
 # Plays everything at once to the gateway, under the sanitizers, for SOAK minutes, while players play, who may lose 2 % at most. Needs Linux,
 # a C compiler, Python and the right to make networks. The last line is 'N datagrams, M faults'; docs/authors/GATEWAY-TESTS.md.
@@ -74,14 +74,14 @@ soak:
 
 # Proves, builds and runs the measurements; docs/SPEED.md tells what they gave.
 bench:
-	@tools/bench
+	@dev/bench
 
 # Puts what the gate proved and built into dist/, and what is compiled from it for other systems: archives and Debian's packages, with their
 # sums; docs/authors/RELEASING.md. DRAFT=1 makes a draft where the gate wasn't run on this commit.
 dist:
 	@$(if $(DRAFT),,tools/gateway)
 	@$(if $(DRAFT),,tools/platforms all)
-	@tools/dist $(if $(DRAFT),--draft)
+	@release/dist $(if $(DRAFT),--draft)
 
 # What make test leaves out since it takes long: the programs for other systems, played there; then two copies that give one sum, lintian,
 # and the packages and archives in fresh roots.
@@ -91,7 +91,7 @@ release-test:
 	@tools/platforms test-wasm
 	@tools/portable test
 	@tools/page test
-	@tools/release root
+	@release/try root
 
 # Puts the proved program into PREFIX/bin with its manual pages and completions; the library for C with its header, its pkg-config file
 # and its page; and the gateway into PREFIX/sbin with its page, an example of a configuration and a unit for systemd. All of it

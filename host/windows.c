@@ -1,5 +1,5 @@
 /* What the program asks of the system beside the C library and include/heap.c, on Windows: the words of its call, files and streams, and
- * the number of the last fault. tools/targets.py names these functions.
+ * the number of the last fault. tools/lib/targets.py names these functions.
  *
  * A word and a file's name are UTF-8, as on Linux. A file and a pipe give and take bytes as they are. At a console a line ends as
  * everywhere, and Ctrl-Z at the beginning of a line ends the input. */

@@ -62,10 +62,10 @@ def put_empty(file):
 
 
 def packed_with(folder, heading):
-    """What tools/dist says in a folder that has nothing but the tools, where the changes begin with a heading."""
+    """What release/dist says in a folder that has nothing but the tools, where the changes begin with a heading."""
     with open(f"{folder}/CHANGELOG.md", "w", encoding="utf-8") as it:
         it.write(f"# Changes\n\n## {heading}\n\n- What is new.\n\n## {layout.version()}, 2026-01-01\n")
-    return run("tools/dist", cwd=folder)
+    return run("release/dist", cwd=folder)
 
 
 def try_headings(folder):
@@ -109,7 +109,7 @@ def try_gate(folder):
     git(folder, "add", ".")
     git(folder, "commit", "-q", "-m", "A release")
     os.makedirs(f"{folder}/out", exist_ok=True)
-    verdict = "import sys; sys.path.insert(0, 'tools'); import provenance; print(provenance.Commit().verdict)"
+    verdict = "import sys; sys.path[:0] = ['release', 'tools/lib']; import provenance; print(provenance.Commit().verdict)"
 
     def judged(commit):
         with open(f"{folder}/out/gate.passed", "w", encoding="ascii") as it:
@@ -126,7 +126,8 @@ def try_gate(folder):
 
 def try_refusals():
     with tempfile.TemporaryDirectory() as folder:
-        shutil.copytree(f"{TOP}/tools", f"{folder}/tools")
+        for room in ("tools", "release"):
+            shutil.copytree(f"{TOP}/{room}", f"{folder}/{room}")
         shutil.copy(f"{TOP}/VERSION", folder)
         try_headings(folder)
         try_unbuilt(folder)
@@ -245,7 +246,7 @@ def try_archives():
         left_out("packing", "no repository")
         return
     with tempfile.TemporaryDirectory() as folder:
-        said = [run("tools/dist", "--draft", f"{folder}/{name}") for name in ("one", "another")]
+        said = [run("release/dist", "--draft", f"{folder}/{name}") for name in ("one", "another")]
         tell("two drafts are packed", "".join(text for status, text in said if status))
         if any(status for status, _ in said):
             return

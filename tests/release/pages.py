@@ -50,7 +50,7 @@ def shown_words():
 
 
 def try_pages():
-    pages = dict(layout.tool("pages").pages())
+    pages = dict(layout.tool("tools/pages").pages())
     text = re.sub(r"\\f[BR]", "", pages["man1/ipxr.1"])
     words = shown_words()
     missing = sorted(it for it in words if not re.search(rf"\b{it}\b", text))
@@ -68,7 +68,7 @@ def try_pages():
 
 
 def try_api():
-    pages = dict(layout.tool("api").pages())
+    pages = dict(layout.tool("tools/api").pages())
     poor = [name for name, text in pages.items() if name != "index.html" and "<summary>contract" not in text]
     tell(f"{len(pages)} pages of the crates are made, with contracts", "".join(f"    {it} has none" for it in poor))
 

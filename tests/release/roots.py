@@ -34,10 +34,10 @@ def copy_of_repository(folder):
 
 def try_copies(folder):
     """Packs in two copies; returns where the packed files are."""
-    is_release = os.path.isfile(f"{TOP}/out/gate.passed") and not layout.tool("dist").unreleased()
+    is_release = os.path.isfile(f"{TOP}/out/gate.passed") and not layout.tool("release/dist").unreleased()
     for name in ("a", "another/folder/far/below"):
         copy_of_repository(f"{folder}/{name}")
-        status, text = run("tools/dist", *([] if is_release else ["--draft"]), cwd=f"{folder}/{name}", timeout=10 * MINUTE)
+        status, text = run("release/dist", *([] if is_release else ["--draft"]), cwd=f"{folder}/{name}", timeout=10 * MINUTE)
         tell(f"packed in {name}", text if status else "")
         if status:
             return ""

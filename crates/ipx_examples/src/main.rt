@@ -1,6 +1,6 @@
 //! The examples that stand in the doc comments of the public types, run one after the other.
 //!
-//! An example is the body of a function here, without its last line. `tools/doc_examples` compares the two line by line, and what a
+//! An example is the body of a function here, without its last line. `dev/doc_examples` compares the two line by line, and what a
 //! line `// prints` promises with what this program prints. What an example is given stands in this file.
 #![tactic(auto)]
 

@@ -44,7 +44,7 @@ fn stepped(
     }
 }
 
-/// It passes whichever request for memory is refused: `tools/refusals` tries each on the built test.
+/// It passes whichever request for memory is refused: `dev/refusals` tries each on the built test.
 #[test]
 fn a_step_without_memory_can_be_taken_again(rt: HostRuntime) -> Result<(), Fail> {
     let mut router = Router::<2, 50, 8>::new(&ports()?)?;

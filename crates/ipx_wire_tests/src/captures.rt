@@ -41,7 +41,7 @@ fn four(heap: Global, file: &[u8]) -> Result<[Told; 4], CaptureFault> {
     Ok([first, second, third, next(&mut capture)])
 }
 
-/// It passes whichever request for memory is refused: `tools/refusals` tries each on the built test.
+/// It passes whichever request for memory is refused: `dev/refusals` tries each on the built test.
 #[test]
 fn a_record_without_memory_is_refused_for_good(rt: HostRuntime) -> Result<(), Fail> {
     let file = file();

@@ -189,7 +189,7 @@ fn a_client_finds_the_nearest_server_and_its_first_packet_arrives(
     switched_on(&mut internet)?;
     // Nobody has announced the server yet, so C has none to name.
     same(&rt, answers(&mut internet, &query(COUNTED))?, 0);
-    // All know it as soon as it is announced. That is measured (`tools/study`), not proved.
+    // All know it as soon as it is announced. That is measured (`dev/study`), not proved.
     announced(&mut internet)?;
     let known = [Some((0, 0)), Some((1, 0)), Some((2, 0)), Some((2, 0))];
     same(&rt, services(&internet), known);

@@ -62,7 +62,7 @@ fn refused(internet: &mut Small) -> Result<Option<InternetFault>, Fail> {
     Ok(internet.add(router).err().map(|it| it.fault))
 }
 
-/// `tools/refusals` plays the built tests with `without_memory` in their names, each as often as it asks for memory: one request
+/// `dev/refusals` plays the built tests with `without_memory` in their names, each as often as it asks for memory: one request
 /// after the other is refused, and they have to end well. `rt try --test --fail-alloc N` refuses request number N.
 #[test]
 fn a_router_without_memory_is_added_again(rt: HostRuntime) -> Result<(), Fail> {
