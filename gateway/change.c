@@ -3,6 +3,7 @@
 #include <inttypes.h>
 #include <string.h>
 
+#include "events.h"
 #include "links.h"
 #include "node.h"
 #include "note.h"
@@ -242,10 +243,8 @@ static bool stays(const settings *set, const network_setting *one)
 static void tell_removed(const network *on)
 {
     char link[LINK_ROOM];
-    if (on->set->is_of_several)
-        event("network %08" PRIX32 " has lost a link: %s", on->set->network, cable_words(on->cable, on->set, link));
-    else
-        event("network %08" PRIX32 " is removed", on->set->network);
+    event("%snetwork %08" PRIX32 " is removed: %s", part_of(on), on->set->network, cable_words(on->cable, on->set, link));
+    events_removed(on);
 }
 
 /* Takes leave of networks that there are no more. */

@@ -83,7 +83,8 @@ void events_link(const network *on)
     if (!status_is_followed())
         return;
     begin(&h, on->is_up ? "link up" : "link down");
-    sheet_put(&h.line, "network %08" PRIX32 " is %s: %s", on->set->network, on->is_up ? "up" : "down", cable_words(at, on->set, link));
+    sheet_put(&h.line, "%snetwork %08" PRIX32 " is %s: %s", part_of(on), on->set->network, on->is_up ? "up" : "down",
+              cable_words(at, on->set, link));
     put_network(&h, "network", on->set->network);
     put_text(&h, "link", link);
     if (!on->is_up && lacks != NULL) {
@@ -94,6 +95,20 @@ void events_link(const network *on)
         if (fault != 0)
             put_text(&h, "fault", why);
     }
+    tell(&h);
+}
+
+void events_removed(const network *on)
+{
+    char link[LINK_ROOM];
+    happening h;
+    if (!status_is_followed())
+        return;
+    cable_words(on->cable, on->set, link);
+    begin(&h, "link removed");
+    sheet_put(&h.line, "%snetwork %08" PRIX32 " is removed: %s", part_of(on), on->set->network, link);
+    put_network(&h, "network", on->set->network);
+    put_text(&h, "link", link);
     tell(&h);
 }
 

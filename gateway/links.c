@@ -16,27 +16,33 @@ const char *link_lacks(const network *on, int *fault)
     return on->loop.is_shut ? on->loop.why : on->cable->lacks;
 }
 
+const char *part_of(const network *on)
+{
+    return on->set->is_of_several ? "a link of " : "";
+}
+
 static void tell_up(network *on)
 {
     char link[LINK_ROOM], node[WORDS], pc[ADDRESS_ROOM];
     const address *with = cable_with(on->cable);
-    event("network %08" PRIX32 " is up: %s, node %s%s%s", on->set->network, cable_words(on->cable, on->set, link),
+    event("%snetwork %08" PRIX32 " is up: %s, node %s%s%s", part_of(on), on->set->network, cable_words(on->cable, on->set, link),
           node_words(on->node, node), with != NULL ? ", with " : "", with != NULL ? address_words(with, pc) : "");
     on->lacks = NULL;
 }
 
-/* Tells what a network lacks, where that wasn't told. */
-static void tell_down(network *on)
+/* Tells what a network lacks. Returns false where that was told. */
+static bool tell_down(network *on)
 {
     char link[LINK_ROOM];
     int fault;
     const char *lacks = link_lacks(on, &fault);
     if (lacks == NULL || (on->lacks != NULL && strcmp(on->lacks, lacks) == 0 && on->fault == fault))
-        return;
+        return false;
     on->lacks = lacks;
     on->fault = errno = fault;
-    event("network %08" PRIX32 " is down: %s: %s%s%s", on->set->network, cable_words(on->cable, on->set, link), lacks,
+    event("%snetwork %08" PRIX32 " is down: %s: %s%s%s", part_of(on), on->set->network, cable_words(on->cable, on->set, link), lacks,
           fault != 0 ? ": " : "", fault != 0 ? fault_words() : "");
+    return true;
 }
 
 /* The router's port is up as long as one of its links is. Returns false where the router has no memory for it. */
@@ -81,8 +87,8 @@ static void look(gateway *it, cable *at)
         if (was_lost)
             look_at(it, on, false);
         look_at(it, on, is_up && !on->loop.is_shut);
-        if (!on->is_up)
-            tell_down(on);
+        if (!on->is_up && tell_down(on))
+            events_link(on);
     }
 }
 

@@ -11,4 +11,7 @@ void links_look_at_all(gateway *it);
 /* What a link lacks that is down, or NULL; and the system's number for it, or 0. */
 const char *link_lacks(const network *on, int *fault);
 
+/* What is before the words of a network where that is a link of several, "" else. */
+const char *part_of(const network *on);
+
 #endif

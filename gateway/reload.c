@@ -60,7 +60,7 @@ static void sum_up(const changed *what, char words[SUMMARY_ROOM])
         return;
     }
     const char *router = what->is_new_router ? "; the router begins anew" : "";
-    snprintf(words, SUMMARY_ROOM, "%.90s is read anew: networks: %zu added, %zu removed, %zu with another link, %zu with other clients, "
+    snprintf(words, SUMMARY_ROOM, "%.90s is read anew: networks and links: %zu added, %zu removed, %zu with another link, %zu with other clients, "
              "%zu with other sockets%s", name, what->added, what->removed, what->reopened, what->clients, what->sockets, router);
 }
 

@@ -4,6 +4,7 @@ import json
 import os
 import re
 import select
+import signal
 import socket
 import subprocess
 import time
@@ -88,6 +89,20 @@ def links():
         assert told["network"] == "00000030" and told["link"].startswith("qemu-tcp listen 127.0.0.1:") and told["lacks"]
 
 
+def links_by_reload():
+    """A link of several that the configuration adds, and takes away again, is told, though nobody is connected there."""
+    network = "network 20 1 1424\nlink qemu-tcp listen 127.0.0.1:0 raw\n"
+    added = "link qemu-tcp listen 127.0.0.1:0 llc\n"
+    with Watched(tunnels(1) + network) as gate, Follower(gate, "--json") as follower:
+        for text, event in ((network + added, "link down"), (network, "link removed")):
+            with open(gate.configuration, "w", encoding="utf-8") as file:
+                file.write(tunnels(1) + text)
+            gate.run.order(signal.SIGHUP)
+            told = follower.told(event=event)
+            assert told["network"] == "00000020" and told["link"].endswith(" llc"), told
+            assert gate.told(f"a link of network 00000020 is {event.split()[1]}: qemu-tcp listen")
+
+
 def in_words():
     """The same in lines that one can read, with the time in front, as the gateway says them itself."""
     with Watched(tunnels(1)) as gate, Follower(gate) as follower:
@@ -133,7 +148,7 @@ def main():
     if SYSTEM is Windows:
         left_out("following what happens", "the status socket is Linux' own")
         return counts
-    for test in (come_and_go, links, in_words, late_reader):
+    for test in (come_and_go, links, links_by_reload, in_words, late_reader):
         counts.run(test)
     return counts
 

@@ -219,7 +219,7 @@ def links_change_while_it_runs():
         assert all(it.next_is(it.ben, data) for data in said)
         up = it.gate.told(f"network {NUMBER:08X} is up: qemu-udp")
         more.to = int(re.search(r"qemu-udp 127.0.0.1:(\d+)", up)[1])
-        assert any("has lost a link: qemu-udp" in line for line in it.gate.lines)
+        assert any("is removed: qemu-udp" in line for line in it.gate.lines)
         assert not any(" leaves " in line for line in it.gate.lines)
         third = Station(more, "llc", NUMBER, PC, it.pc.gateway)
         for one, other in ((it.anna, it.ben), (it.anna, it.card), (third, it.anna), (it.card, third)):
