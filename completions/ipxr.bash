@@ -46,7 +46,7 @@ _ipxr_gateway() {
     if [ "$COMP_CWORD" -gt 1 ] && [[ $first =~ ^(show|ping|trace|reload)$ ]]; then
         mapfile -t COMPREPLY < <(compgen -W "$(_ipxr_gateway_asking "$first")" -- "$word")
     elif [[ $word == -* ]]; then
-        mapfile -t COMPREPLY < <(compgen -W "--check --example --help --log --pcap --status" -- "$word")
+        mapfile -t COMPREPLY < <(compgen -W "--check --example --help --log --pcap --status --version" -- "$word")
     else
         _ipxr_files "$word" '*.conf'
         [ "$COMP_CWORD" != 1 ] || mapfile -t -O ${#COMPREPLY[@]} COMPREPLY < <(compgen -W "show ping trace reload" -- "$word")

@@ -20,7 +20,7 @@ enum { CANNOT_OPEN = 1, WRONG_CONFIGURATION = 2, WRONG_USE = 64 };
 
 /* What the command line says. */
 typedef struct {
-    bool is_check, is_help, is_log, is_example;
+    bool is_check, is_help, is_version, is_log, is_example;
     const char *capture;
     const char *status;
     const char *configuration;
@@ -40,7 +40,8 @@ static bool read_flag(options *it, const char *word)
     const struct {
         const char *word;
         bool *flag;
-    } flags[] = {{"--check", &it->is_check}, {"--help", &it->is_help}, {"--log", &it->is_log}, {"--example", &it->is_example}};
+    } flags[] = {{"--check", &it->is_check}, {"--help", &it->is_help}, {"--version", &it->is_version}, {"--log", &it->is_log},
+                 {"--example", &it->is_example}};
     for (size_t k = 0; k < sizeof flags / sizeof *flags; k++)
         if (strcmp(word, flags[k].word) == 0) {
             *flags[k].flag = true;
@@ -66,13 +67,13 @@ static bool read_options(options *it, int count, char **words)
         else if (read_flag(it, words[k]))
             continue;
         else if (words[k][0] == '-')
-            return use_fault(words[k], "--check, --log, --pcap, --status, --example, --help or a configuration");
+            return use_fault(words[k], "--check, --log, --pcap, --status, --example, --version, --help or a configuration");
         else if (it->configuration != NULL)
             return use_fault(words[k], "one configuration");
         else
             it->configuration = words[k];
     }
-    return it->is_help || it->is_example || it->configuration != NULL || use_fault(NULL, "a configuration");
+    return it->is_help || it->is_version || it->is_example || it->configuration != NULL || use_fault(NULL, "a configuration");
 }
 
 static void show_use(FILE *file)
@@ -80,9 +81,16 @@ static void show_use(FILE *file)
     fprintf(file, "ipxr-gateway [--log] [--pcap FILE] [--status SOCKET] CONFIG   routes until it is told to stop\n"
                   "ipxr-gateway --check CONFIG   says what is wrong with a configuration\n"
                   "ipxr-gateway --example        prints one\n"
+                  "ipxr-gateway --version        prints its version\n"
                   "ipxr-gateway show [links | clients | stations | routes | services | counts | events] [--json] [--status SOCKET]\n"
                   "ipxr-gateway show counts --prometheus, ping NETWORK.NODE, trace NETWORK, reload   ask one that runs, by its SOCKET\n"
                   "--log writes a line for each packet, --pcap captures them. The manual page is ipxr-gateway(8).\n");
+}
+
+/* The first two numbers of its release, which are those of the library. */
+static void show_version(FILE *file)
+{
+    fprintf(file, "ipxr-gateway %d.%d\n", IPXR_VERSION / 65536, IPXR_VERSION % 65536);
 }
 
 /* What somebody does who begins. */
@@ -173,8 +181,8 @@ int gateway_main(int count, char **words)
         (count > 1 ? show_use : show_beginning)(stderr);
         return WRONG_USE;
     }
-    if (it.is_help || it.is_example) {
-        (it.is_help ? show_use : example_show)(stdout);
+    if (it.is_help || it.is_version || it.is_example) {
+        (it.is_help ? show_use : it.is_version ? show_version : example_show)(stdout);
         return 0;
     }
     int fault = read_configuration(&set, it.configuration);

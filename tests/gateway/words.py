@@ -59,7 +59,7 @@ def the_command_line():
     """A wrong command line is told with the word and what was expected, and how it is right."""
     status, use, complaint = asked("--help")
     assert (status, complaint) == (0, "") and use.startswith("ipxr-gateway [--log]")
-    options = "--check, --log, --pcap, --status, --example, --help or a configuration"
+    options = "--check, --log, --pcap, --status, --example, --version, --help or a configuration"
     for words, what in (
         (("--check",), "the command line ends: expected a configuration"),
         (("--pcap", "wrong.conf"), "the command line ends: expected a configuration"),
@@ -70,6 +70,13 @@ def the_command_line():
         (("wrong.conf", "other.conf"), "'other.conf': expected one configuration"),
     ):
         assert asked(*words) == (64, "", f"ipxr-gateway: {what}\n{use}"), words
+
+
+def the_version():
+    """--version prints the first two numbers of the release."""
+    with open(os.path.join(TOP, "VERSION"), encoding="utf-8") as file:
+        release = file.read().strip().rsplit(".", 1)[0]
+    assert asked("--version") == (0, f"ipxr-gateway {release}\n", "")
 
 
 def no_words():
@@ -144,7 +151,7 @@ def what_cannot_be_opened():
 
 def main():
     counts = Counts()
-    for test in (each_wrong_line, nothing_is_opened, no_configuration, the_command_line, no_words, the_example, what_is_right,
+    for test in (each_wrong_line, nothing_is_opened, no_configuration, the_command_line, the_version, no_words, the_example, what_is_right,
                  names_and_marks, what_cannot_be_opened):
         counts.run(test)
     if SYSTEM is Windows:

@@ -109,7 +109,7 @@ ASKED = {
     "ipxr replay -- examples/dr": "examples/drops.script",
     "ipxr replay examples/drops.script ": "",
     "ipxr-gateway --c": "--check",
-    "ipxr-gateway --": "--check --example --help --log --pcap --status",
+    "ipxr-gateway --": "--check --example --help --log --pcap --status --version",
     "ipxr-gateway --check gateway/ex": "gateway/example.conf",
     "ipxr-gateway sh": "show",
     "ipxr-gateway show l": "links",
