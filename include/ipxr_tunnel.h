@@ -48,7 +48,7 @@ extern "C" {
 #define IPXR_SAID_NOTHING 0 /* nothing that counts: it isn't a packet, or names a source other than its place on this network */
 #define IPXR_REGISTERS 1    /* that it wants to be a client */
 #define IPXR_ANSWERS 2      /* that it heard its ping: it names one of its cookies */
-#define IPXR_SPEAKS 3       /* something to others */
+#define IPXR_SPEAKS 3       /* something to others; of one who is no client nobody gets it */
 
 /* ---- Faults: below 0. The call did nothing. ---- */
 
