@@ -87,10 +87,10 @@ static void show_use(FILE *file)
                   "--log writes a line for each packet, --pcap captures them. The manual page is ipxr-gateway(8).\n");
 }
 
-/* The first two numbers of its release, which are those of the library. */
+/* Its release, which is the library's. */
 static void show_version(FILE *file)
 {
-    fprintf(file, "ipxr-gateway %d.%d\n", IPXR_VERSION / 65536, IPXR_VERSION % 65536);
+    fprintf(file, "ipxr-gateway %s\n", IPXR_RELEASE);
 }
 
 /* What somebody does who begins. */

@@ -12,6 +12,7 @@ typedef struct cursor {
     bool has_begun;         /* the section has its headings */
     size_t written;         /* records of it so far */
     size_t network, index;  /* the record that is next */
+    size_t metric;          /* and of what Prometheus collects */
 } cursor;
 
 /* Begins with a section by its word, or with all where there is none. Returns false where there is no such section. */

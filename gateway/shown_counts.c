@@ -146,24 +146,24 @@ static void put_whole(gateway *it, sheet *s)
 
 bool shown_metric(gateway *it, cursor *at, sheet *s)
 {
-    if (at->section > METRIC_COUNT)
+    if (at->metric > METRIC_COUNT)
         return false;
-    if (at->section == METRIC_COUNT) {
+    if (at->metric == METRIC_COUNT) {
         put_whole(it, s);
-        at->section++;
+        at->metric++;
         return true;
     }
-    size_t first = METRICS[at->section].first, behind = METRICS[at->section].behind;
+    size_t first = METRICS[at->metric].first, behind = METRICS[at->metric].behind;
     bool has_reason = behind - first > 1;
     if (!at->has_begun) {
-        put_head(s, METRICS[at->section].name, METRICS[at->section].type, METRICS[at->section].help);
+        put_head(s, METRICS[at->metric].name, METRICS[at->metric].type, METRICS[at->metric].help);
         at->has_begun = true;
         at->network = at->index = 0;
     } else if (find(it, at, first, behind, has_reason ? first : behind)) {
-        put_sample(it, at, s, METRICS[at->section].name, has_reason);
+        put_sample(it, at, s, METRICS[at->metric].name, has_reason);
         step(at, first, behind);
     } else {
-        at->section++;
+        at->metric++;
         at->has_begun = false;
     }
     return true;

@@ -168,10 +168,18 @@ def metrics():
     with Watched(tunnels(2)) as gate:
         a = Client(gate.ports[0x10])
         a.say(address(0x99, NOBODY, GAME), b"nowhere")
+        with socket.socket(socket.AF_INET, socket.SOCK_DGRAM) as stranger:
+            stranger.sendto(b"junk", ("127.0.0.1", gate.ports[0x10]))
         assert reaches(a, a)
         text = gate.asked("show", "counts", "--prometheus")
         assert 'ipxr_gateway_dropped_packets_total{network="00000010",reason="NoRoute"} 1\n' in text, text
         assert 'ipxr_gateway_clients{network="00000010"} 1\n' in text
+        counts = [it["count"] for it in gate.shown("counts") if it["network"] == "00000010"]
+        lost = [it.removeprefix("lost: ") for it in counts if it.startswith("lost: ")]
+        assert "in" in counts and "out" in counts and lost, counts
+        for name in ("received", "sent"):
+            assert f'ipxr_gateway_{name}_packets_total{{network="00000010"}} ' in text, text
+        assert all(f'ipxr_gateway_lost_packets_total{{network="00000010",reason="{why}"}} ' in text for why in lost), text
         families = []
         for line in text.splitlines():
             name = re.match(r"(?:# (?:HELP|TYPE) )?(\w+)", line)[1]

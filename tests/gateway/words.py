@@ -73,10 +73,9 @@ def the_command_line():
 
 
 def the_version():
-    """--version prints the first two numbers of the release."""
+    """--version prints the release."""
     with open(os.path.join(TOP, "VERSION"), encoding="utf-8") as file:
-        release = file.read().strip().rsplit(".", 1)[0]
-    assert asked("--version") == (0, f"ipxr-gateway {release}\n", "")
+        assert asked("--version") == (0, f"ipxr-gateway {file.read().strip()}\n", "")
 
 
 def no_words():
