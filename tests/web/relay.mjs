@@ -69,6 +69,16 @@ await check("a packet for a third network goes to the client that leads there", 
     assert.equal(hex(await dora.heard((its) => its.to === FAR)).slice(8, 10), "01");
 });
 
+await check("a frame that comes back is neither heard nor handed on", async () => {
+    const back = packet(4, address(FAR, "000000000001", SOCKET), at(anna), "0102");
+    carl.sendFrame(fromHex(`${ROUTER_ON_CABLE}${ROUTER_ON_CABLE}8137${hex(back)}`));
+    carl.sendFrame(fromHex(`${EVERYONE}${ROUTER_ON_CABLE}8137${hex(back)}`));
+    // (what comes next is a packet that was sent behind them)
+    carl.send(packet(4, at(dora, MARK), at(carl), "00"), dora.node);
+    const next = await dora.heard((its) => [SOCKET, MARK].includes(its.toSocket));
+    assert.equal(hex(next.subarray(16, 18)), "4004");
+});
+
 await check("a broadcast reaches its own network, and stays there", async () => {
     for (const [from, near, far] of [[anna, bert, carl], [carl, dora, anna]]) {
         for (const network of [0, from.network]) from.send(toAll(from, SOCKET, network), EVERYONE);

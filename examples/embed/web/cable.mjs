@@ -1,5 +1,6 @@
 // A cable of Ethernet in messages: a message is a frame without its checksum. Each frame, of whatever protocol, goes to all others, whose
-// cards see by themselves what is for them. The router hears the packets of frames of one kind that are for its node, or for many.
+// cards see by themselves what is for them. The router hears the packets of frames of one kind that are for its node, or for many. A frame
+// from the router's own node is forged, or came round a loop: nobody gets it.
 import { readFrame, writeFrame } from "./ipxr.mjs";
 
 const ADDRESS = 6;
@@ -32,7 +33,7 @@ export class Cable {
     }
 
     #heard(connection, frame) {
-        if (frame.length < HEADER) return;
+        if (frame.length < HEADER || this.node.equals(frame.subarray(ADDRESS, 2 * ADDRESS))) return;
         this.#handOn(frame, connection);
         if (!(frame[0] & MANY) && !this.node.equals(frame.subarray(0, ADDRESS))) return;
         const found = readFrame(frame);
