@@ -66,7 +66,7 @@ ends() { prints /dev/null "$@" && timeout 120 "$@" </dev/null >build/log 2>&1; }
 test_c() {
     local name=$1 compiler=$2 folder=$3
     shift 3
-    for program in two_networks answers fields services tunnel tunnel_fields segment segment_fields; do
+    for program in two_networks answers fields services tunnel tunnel_fields segment segment_fields joined; do
         local kept=examples/embed/c/$program.out
         [ -e $kept ] || kept=examples/embed/$program.out
         $compiler -std=c99 $FLAGS examples/embed/c/$program.c "$folder/libipxr.a" -o "$folder/$program.exe"
