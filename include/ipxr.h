@@ -80,7 +80,7 @@ extern "C" {
 #define IPXR_ALREADY_RUNNING 1  /* it was running; nothing was done */
 #define IPXR_STOPPED 2          /* it is stopped, and forgot what it learned */
 #define IPXR_TICKED 3           /* a second passed */
-#define IPXR_LEARNED 4          /* a response was accepted; worse and unreachable offers are left out, and what has no room */
+#define IPXR_LEARNED 4          /* a response was accepted, even if it taught nothing: worse or unreachable offers, own networks, no room */
 #define IPXR_ANSWERED 5         /* a request or a query was heard; also if nothing is sent */
 #define IPXR_FORWARDED 6        /* the packet goes on towards its network */
 #define IPXR_PROPAGATED 7       /* the packet goes on to the other networks; also if there is none */
