@@ -77,7 +77,7 @@ bench:
 	@dev/bench
 
 # Puts what the gate proved and built into dist/, and what is compiled from it for other systems: archives and Debian's packages, with their
-# sums; docs/authors/RELEASING.md. DRAFT=1 makes a draft where the gate wasn't run on this commit.
+# sums; docs/authors/RELEASING.md. DRAFT=1 makes a draft where make test hasn't passed on this commit.
 dist:
 	@$(if $(DRAFT),,tools/gateway)
 	@$(if $(DRAFT),,tools/platforms all)
