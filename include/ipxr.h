@@ -306,7 +306,7 @@ IPXR_CALL int32_t ipxr_service(ipxr *router, size_t index, ipxr_service_record *
 
 /* Returns how the frame carries a packet, and puts into `front` how many bytes stand before the packet. Give ipxr_packet all
  * bytes from there to the frame's end: it finds by itself what is padding. With IPXR_NO_FRAME `front` stays as it was. A frame
- * begins with its six bytes of destination and six of source; check yourself whether it is for you. */
+ * begins with its six bytes of destination and six of source; check yourself that it is for you, and not your own. */
 IPXR_CALL uint8_t ipxr_frame_read(const uint8_t *frame, size_t length, size_t *front);
 
 /* Writes the frame in which a packet is sent to a node from a node: its type, or its length and header, the packet, and zeros up
