@@ -93,6 +93,14 @@ impl ServiceName {
         self.field
     }
 
+    /// The same field, where it lies.
+    pub(crate) fn as_field(&self) -> &[u8; 48]
+        ensures value { result.now ≡ name_field self.now }
+        ensures name { IsServiceName self.now }
+    {
+        &self.field
+    }
+
     /// Writes the name as one word into the front of `room`, as ASCII, and returns how many bytes it has.
     ///
     /// A byte that isn't visible ASCII, and the backslash, is written as a backslash and two upper-case hexadecimal digits.

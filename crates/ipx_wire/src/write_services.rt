@@ -78,6 +78,5 @@ fn put_name(out: &mut [u8], place: usize, name: &ServiceName)
     ensures size { length (name_field name.now) ≡ 48 }
     ensures named { IsServiceName name.now }
 {
-    let field = name.field();
-    out[place..place + ServiceName::SIZE].copy_from_slice(&field);
+    out[place..place + ServiceName::SIZE].copy_from_slice(name.as_field());
 }
