@@ -1,6 +1,7 @@
 -- The nearest of services, found in one pass.
-use Rattle.std.proofs.Common.{◌≡◌, refl, sym, ap, ◌∙◌, Bool, true, false, if◌then◌else◌, List, [], ◌∷◌, inl, inr, true≢false, ℕ, Ordering}
+use Rattle.std.proofs.Common.{◌≡◌, refl, sym, ap, ◌∙◌, Bool, true, false, if◌then◌else◌, List, [], ◌∷◌, ◌++◌, inl, inr, true≢false, ℕ, Ordering, Option, None, Some}
 use Rattle.std.specs.Cmp.{IsTotalOrder}
+use Rattle.std.specs.Option.{option_to_list}
 use Rattle.std.specs.Ordering.{nat_cmp, ordering_then}
 use Rattle.std.proofs.lemmas.Bool.{cases_Bool}
 use Rattle.std.proofs.lemmas.Cmp.{nat_cmp_total, nat_list_cmp_total, on_total, then_total}
@@ -8,7 +9,7 @@ use Rattle.ipx_table.proofs.Order.{not_both, not_below_through}
 use Rattle.ipx_wire.specs.Name.{name_order}
 use Rattle.ipx_wire.specs.declared.service.Service.{Service}
 use Rattle.ipx_router.specs.Sends.{is_nearer, nearest_of, of_kind}
-use Rattle.ipx_router.specs.inside.Selection.{is_of_kind}
+use Rattle.ipx_router.specs.inside.Selection.{is_nearest_yet, is_of_kind}
 use Rattle.ipx_router.proofs.lists.PutInOrder.{IsOrder}
 
 -- ---- what is nearer is an order
@@ -59,18 +60,20 @@ nearest_step best service rest = gives_way is_nearer nearer_orders best service 
 
 -- ---- a pass over services of a type
 
--- a nearer one takes its place
-pub nearer_next : (kind : ℕ) (best service : Service) (rest : List Service) → is_of_kind kind service ≡ true → is_nearer service best ≡ true
-    → nearest_of (service ∷ of_kind kind rest) ≡ nearest_of (best ∷ of_kind kind (service ∷ rest))
-nearer_next kind best service rest same nearer =
+-- the first one, or a nearer one, takes the place of the best
+pub nearest_yet : (kind : ℕ) (best : Option Service) (service : Service) → is_of_kind kind service ≡ true → is_nearest_yet best service ≡ true
+    → (rest : List Service) → nearest_of (service ∷ of_kind kind rest) ≡ nearest_of (option_to_list best ++ of_kind kind (service ∷ rest))
+nearest_yet kind None service same first rest = rw same refl
+nearest_yet kind (Some best) service same nearer rest =
     ap (λ (b : Bool). nearest_of ((if b then service else best) ∷ of_kind kind rest)) (sym nearer)
     ∙ sym (nearest_step best service (of_kind kind rest))
     ∙ rw same refl
 
--- and one that isn't doesn't
-pub farther_next : (kind : ℕ) (best service : Service) (rest : List Service) → is_of_kind kind service ≡ true → is_nearer service best ≡ false
-    → nearest_of (best ∷ of_kind kind rest) ≡ nearest_of (best ∷ of_kind kind (service ∷ rest))
-farther_next kind best service rest same farther =
+-- and another one doesn't
+pub nearest_still : (kind : ℕ) (best : Option Service) (service : Service) → is_of_kind kind service ≡ true → is_nearest_yet best service ≡ false
+    → (rest : List Service) → nearest_of (option_to_list best ++ of_kind kind rest) ≡ nearest_of (option_to_list best ++ of_kind kind (service ∷ rest))
+nearest_still kind None service same first rest = absurd (true≢false first)
+nearest_still kind (Some best) service same farther rest =
     ap (λ (b : Bool). nearest_of ((if b then service else best) ∷ of_kind kind rest)) (sym farther)
     ∙ sym (nearest_step best service (of_kind kind rest))
     ∙ rw same refl

@@ -1,9 +1,10 @@
 -- Which routes and services of all that are advertised are sent, and how.
-use Rattle.std.specs.Prelude.{ℕ, ◌==◌, ◌||◌, Bool, true, if◌then◌else◌, List, [], ◌∷◌}
+use Rattle.std.specs.Prelude.{ℕ, ◌==◌, ◌||◌, Bool, true, if◌then◌else◌, List, [], ◌∷◌, Option, None, Some}
 use Rattle.std.specs.List.{list_any}
 use Rattle.ipx_wire.specs.declared.rip.RipEntry.{RipEntry}
 use Rattle.ipx_wire.specs.declared.service.Service.{Service}
 use Rattle.ipx_router.specs.Numbers.{all_routes, every_service}
+use Rattle.ipx_router.specs.Sends.{is_nearer}
 use Rattle.ipx_router.specs.Told.{dead, dead_service, farther}
 use Rattle.ipx_router.specs.declared.advertising.selection.Selection.{Selection}
 use Rattle.ipx_router.specs.declared.advertising.selection.Selection.TheVariants.{All, Dead, Asked}
@@ -44,3 +45,8 @@ abbrev pub service_sent : ServiceSelection → Service → Service
 service_sent AllServices s = farther s
 service_sent DeadServices s = dead_service s
 service_sent (OfKind kind) s = farther s
+
+-- a service is the first, or nearer than the best so far
+abbrev pub is_nearest_yet : Option Service → Service → Bool
+is_nearest_yet None s = true
+is_nearest_yet (Some best) s = is_nearer s best

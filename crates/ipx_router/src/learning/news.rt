@@ -13,7 +13,7 @@ ghost use Rattle.ipx_router.specs.Sends.{rip_broadcast, sap_broadcast};
 ghost use Rattle.ipx_router.specs.inside.Touched.{change_of};
 
 use crate::advertising::envelope::Envelope;
-use crate::advertising::hops::{dead, dead_service, entry_of, farther, is_reached_on, told_at};
+use crate::advertising::hops::{dead, entry_of, is_reached_on, told_at};
 use crate::advertising::item::Item;
 use crate::advertising::pages::{ENTRIES_A_PAGE, SERVICES_A_PAGE};
 use crate::learning::touched::Touched;
@@ -183,7 +183,7 @@ fn news_services(
 {
     let mut page = ArrayVec::new();
     for change in changes {
-        push_some(&mut page, news_service(number, change));
+        add_news_service(&mut page, number, change);
     }
     page
 }
@@ -200,17 +200,43 @@ fn news_route(ports: &[Port], number: u8, change: &Touched<RouteOffer>) -> Optio
     elsewhere(number, route.port, dead(entry_of(&route)))
 }
 
-/// A changed service as a port advertises it: as it is now or, where it ended, as unreachable at the address that it had.
-fn news_service(number: u8, change: &Touched<ServiceOffer>) -> Option<Service>
-    ensures { option_to_list result ≡ service_told number (change_of change.now) }
+/// Puts a changed service on a page as a port advertises it: as it is now or, where it ended, as unreachable at the address that it
+/// had. It is copied once, from what was noted.
+fn add_news_service(
+    page: &mut ArrayVec<Service, SERVICES_A_PAGE>,
+    number: u8,
+    change: &Touched<ServiceOffer>,
+)
+    requires room { length page.old.items < services_a_page }
+    ensures value { page.new.items ≡ page.old.items ++ service_told number (change_of change.now) }
+    ensures few { length page.new.items ≤ length page.old.items + 1 }
 {
-    if let Some(offer) = change.after {
-        let learned = offer.port;
-        return elsewhere(number, learned, service_now(offer));
+    if let Some(offer) = &change.after {
+        add_elsewhere(page, number, offer, hops_now(offer));
+        return;
     }
-    let offer = change.before?;
-    let learned = offer.port;
-    elsewhere(number, learned, dead_service(offer.service))
+    if let Some(offer) = &change.before {
+        add_elsewhere(page, number, offer, RipEntry::UNREACHABLE);
+    }
+}
+
+/// Split horizon: puts a service on a page with that number of hops, but not where the port is that of its offer.
+fn add_elsewhere(
+    page: &mut ArrayVec<Service, SERVICES_A_PAGE>,
+    number: u8,
+    offer: &ServiceOffer,
+    hops: u16,
+)
+    requires room { length page.old.items < services_a_page }
+    ensures value { page.new.items ≡ page.old.items ++ (if offer.now.port == number then [] else (record offer.now.service { hops = hops }) ∷ []) }
+    ensures few { length page.new.items ≤ length page.old.items + 1 }
+{
+    if offer.port != number {
+        page.push(Service {
+            hops,
+            ..offer.service
+        });
+    }
 }
 
 /// A route as a port advertises it; unreachable where the next router couldn't use it.
@@ -225,14 +251,14 @@ fn route_now(ports: &[Port], number: u8, route: RouteOffer) -> RipEntry
     }
 }
 
-/// A service as it is advertised; unreachable where the next router couldn't use it.
-fn service_now(offer: ServiceOffer) -> Service
-    ensures { result ≡ service_now offer }
+/// The hops with which a service is advertised; unreachable where the next router couldn't use it.
+fn hops_now(offer: &ServiceOffer) -> u16
+    ensures { (record offer.now.service { hops = result }) ≡ service_now offer.now }
 {
     if is_reached_on(offer.service.hops) {
-        farther(offer.service)
+        offer.service.hops + 1
     } else {
-        dead_service(offer.service)
+        RipEntry::UNREACHABLE
     }
 }
 

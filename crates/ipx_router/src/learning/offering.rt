@@ -69,7 +69,7 @@ fn offer_route<const R: usize>(
     if takes_no_route(ports, entry.network) {
         return;
     }
-    take(table, touched, route_offer(number, node, entry));
+    take(table, touched, &route_offer(number, node, entry));
 }
 
 /// Offers the entries of a response from that port and neighbour to the table, but for those without a name. Returns what
@@ -89,7 +89,7 @@ pub(crate) fn offer_services<const S: usize>(
 {
     let mut touched = ArrayVec::new();
     for k in 0..entries.len() {
-        offer_service(table, &mut touched, number, node, entries.entry(k));
+        offer_service(table, &mut touched, number, node, &entries.entry(k));
     }
     touched
 }
@@ -100,34 +100,29 @@ fn offer_service<const S: usize>(
     touched: &mut TouchedServices,
     number: u8,
     node: Node,
-    entry: SapEntry,
+    entry: &SapEntry,
 )
     requires room { length touched.old.items < most_services }
     ensures stands { let rules = rules_of service_reading service_order S table.old.shares in (facts : List (Fact ServiceOffer))
-        → Stands rules table.old.records facts → Stands rules table.new.records (facts ++ services_offered number node (entry ∷ [])) }
+        → Stands rules table.old.records facts → Stands rules table.new.records (facts ++ services_offered number node (entry.now ∷ [])) }
     ensures shares { table.new.shares ≡ table.old.shares }
     ensures touches { (before : List ServiceOffer)
         → Touches (λ s. (s.service.kind, s.service.name)) service_order before (offers table.old.records) touched.old.items
         → Touches (λ s. (s.service.kind, s.service.name)) service_order before (offers table.new.records) touched.new.items }
     ensures few { length touched.new.items ≤ length touched.old.items + 1 }
 {
-    if let Some(name) = entry.name {
-        let service = Service {
-            kind: entry.kind,
-            name,
-            address: entry.address,
-            hops: entry.hops,
-        };
-        let port = number;
-        take(
-            table,
-            touched,
-            ServiceOffer {
-                service,
-                port,
-                node,
+    if let Some(name) = &entry.name {
+        let offer = ServiceOffer {
+            service: Service {
+                kind: entry.kind,
+                name: *name,
+                address: entry.address,
+                hops: entry.hops,
             },
-        );
+            port: number,
+            node,
+        };
+        take(table, touched, &offer);
     }
 }
 

@@ -25,44 +25,49 @@ pub(crate) struct Touched<O> {
 pub(crate) fn take<O: Offer, const CAP: usize, const MOST: usize>(
     table: &mut Table<O, CAP>,
     touched: &mut ArrayVec<Touched<O>, MOST>,
-    offer: O,
+    offer: &O,
 )
     requires room { length touched.old.items < MOST }
     ensures stands { (facts : List (Fact O)) → Stands (rules_of O.reading O.Key.cmp CAP table.old.shares) table.old.records facts
-        → Stands (rules_of O.reading O.Key.cmp CAP table.old.shares) table.new.records (facts ++ Offered offer ∷ []) }
+        → Stands (rules_of O.reading O.Key.cmp CAP table.old.shares) table.new.records (facts ++ Offered offer.now ∷ []) }
     ensures shares { table.new.shares ≡ table.old.shares }
     ensures touches { IsExact O.eq → (before : List O) → Touches O.reading.key O.Key.cmp before (offers table.old.records) touched.old.items
         → Touches O.reading.key O.Key.cmp before (offers table.new.records) touched.new.items }
     ensures few { length touched.new.items ≤ length touched.old.items + 1 }
 {
-    let exchanged = table.exchange(offer);
+    let exchanged = table.exchange(*offer);
     if !exchanged.taken.is_change() {
         return;
     }
-    note(
-        touched,
-        Touched {
-            offer,
-            before: exchanged.before,
-            after: exchanged.after,
-        },
-    );
+    note(touched, offer, &exchanged.before, &exchanged.after);
 }
 
 /// Notes what an offer changed. Of a key that was noted before, only what it has now is new.
-fn note<O: Offer, const MOST: usize>(touched: &mut ArrayVec<Touched<O>, MOST>, one: Touched<O>)
+fn note<O: Offer, const MOST: usize>(
+    touched: &mut ArrayVec<Touched<O>, MOST>,
+    offer: &O,
+    before: &Option<O>,
+    after: &Option<O>,
+)
     requires room { length touched.old.items < MOST }
-    ensures touches { (before now new : List O) → Touches O.reading.key O.Key.cmp before now touched.old.items
-        → one.before ≡ offer_at O.reading.key O.Key.cmp (O.reading.key one.offer) now
-        → one.after ≡ offer_at O.reading.key O.Key.cmp (O.reading.key one.offer) new
-        → ((key : O.Key) → is_eq (O.Key.cmp (O.reading.key one.offer) key) ≡ false
+    ensures touches { (first now new : List O) → Touches O.reading.key O.Key.cmp first now touched.old.items
+        → before.now ≡ offer_at O.reading.key O.Key.cmp (O.reading.key offer.now) now
+        → after.now ≡ offer_at O.reading.key O.Key.cmp (O.reading.key offer.now) new
+        → ((key : O.Key) → is_eq (O.Key.cmp (O.reading.key offer.now) key) ≡ false
         → offer_at O.reading.key O.Key.cmp key new ≡ offer_at O.reading.key O.Key.cmp key now)
-        → Touches O.reading.key O.Key.cmp before new touched.new.items }
+        → Touches O.reading.key O.Key.cmp first new touched.new.items }
     ensures few { length touched.new.items ≤ length touched.old.items + 1 }
 {
-    match place_of(touched, one.offer.key()) {
-        Ok(place) => renew(touched, place, one.after),
-        Err(place) => touched.insert(place, one),
+    match place_of(touched, &offer.key()) {
+        Ok(place) => renew(touched, place, *after),
+        Err(place) => touched.insert(
+            place,
+            Touched {
+                offer: *offer,
+                before: *before,
+                after: *after,
+            },
+        ),
     }
 }
 
@@ -87,27 +92,27 @@ fn renew<O: Offer, const MOST: usize>(
 
 /// The place of a key among those that were touched, or the place where it would stand. The entries of a response mostly
 /// ascend, so the last key is looked at first.
-fn place_of<O: Offer>(touched: &[Touched<O>], key: O::Key) -> Result<usize, usize>
+fn place_of<O: Offer>(touched: &[Touched<O>], key: &O::Key) -> Result<usize, usize>
     ensures known { IfOk result (λ place. (place < length touched.now)
-        × ((d : Touched O) → O.Key.cmp (O.reading.key (get_or touched.now place d).offer) key ≡ Equal)) }
+        × ((d : Touched O) → O.Key.cmp (O.reading.key (get_or touched.now place d).offer) key.now ≡ Equal)) }
     ensures within { IfErr result (λ place. place ≤ length touched.now) }
-    ensures gap { (t : Touched O) → O.reading.key t.offer ≡ key → Ascends (λ a b. O.Key.cmp (O.reading.key a.offer) (O.reading.key b.offer)) touched.now
+    ensures gap { (t : Touched O) → O.reading.key t.offer ≡ key.now → Ascends (λ a b. O.Key.cmp (O.reading.key a.offer) (O.reading.key b.offer)) touched.now
         → IfErr result (λ place. Ascends (λ a b. O.Key.cmp (O.reading.key a.offer) (O.reading.key b.offer)) (insert touched.now place t)
-        × (is_touched O.reading.key O.Key.cmp key touched.now ≡ false)) }
+        × (is_touched O.reading.key O.Key.cmp key.now touched.now ≡ false)) }
 {
     if is_behind(touched, key) {
         return Err(touched.len());
     }
-    touched.binary_search_by_key(&key, |touched| touched.offer.key())
+    touched.binary_search_by_key(key, |touched| touched.offer.key())
 }
 
 /// Whether a key is greater than the last one that was touched, if there is any.
-fn is_behind<O: Offer>(touched: &[Touched<O>], key: O::Key) -> bool
+fn is_behind<O: Offer>(touched: &[Touched<O>], key: &O::Key) -> bool
     ensures { result ≡ true → (d : Touched O) → 0 < length touched.now
-        → is_lt (O.Key.cmp (O.reading.key (get_or touched.now (length touched.now - 1) d).offer) key) ≡ true }
+        → is_lt (O.Key.cmp (O.reading.key (get_or touched.now (length touched.now - 1) d).offer) key.now) ≡ true }
 {
     match touched.last() {
-        Some(last) => last.offer.key().cmp(&key).is_lt(),
+        Some(last) => last.offer.key().cmp(key).is_lt(),
         None => true,
     }
 }

@@ -8,8 +8,8 @@ use Rattle.ipx_router.proofs.learning.news.news_services.Goals as goal
 
 pub loop-change-preserved : goal.loop-change-preserved
 loop-change-preserved c = record {
-  value = map_more (service_told c.args.number) change_of c.args.changes.now c.loop-change.change-index c.change-item.result c.loop-change.page.items c.push_some.new.page.items
+  value = map_more (service_told c.args.number) change_of c.args.changes.now c.loop-change.change-index c.change-item.result c.loop-change.page.items c.add_news_service.new.page.items
       c.loop-change-test.true c.loop-change.invariant.value
-      (c.push_some.ensures.value ∙ ap (λ one. c.loop-change.page.items ++ one) (c.news_service.ensures ∙ ap (λ (ch : Touched ServiceOffer). service_told c.args.number (change_of ch)) c.change-item.is));
-  few = omega (arith, c.push_some.ensures.few, c.loop-change.invariant.few);
+      (c.add_news_service.ensures.value ∙ ap (λ (ch : Touched ServiceOffer). c.loop-change.page.items ++ service_told c.args.number (change_of ch)) c.change-item.is);
+  few = omega (arith, c.add_news_service.ensures.few, c.loop-change.invariant.few);
 }

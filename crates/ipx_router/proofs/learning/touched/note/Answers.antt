@@ -11,7 +11,7 @@ returns-in-Ok-clause-touches g c = λ before now new old was is stay.
     let key_of = g.O.Offer.reading.key in
     let order = g.O.Key.Ord.cmp in
     let all = c.args.touched.now.items in
-    let one = c.args.one in
+    let one : Touched g.row.O.Denot = record { offer = c.args.offer.now; before = c.args.before.now; after = c.args.after.now } in
     let place = c.in-Ok.place in
     let known = subst (λ (xs : List (Touched g.row.O.Denot)). (place < length xs) × ((d : Touched g.row.O.Denot) → order (key_of (get_or xs place d).offer) c.key.result ≡ Equal))
     c.deref.ensures.0 c.in-Ok.ensures.known in
@@ -24,7 +24,7 @@ returns-in-Err-clause-touches g c = λ before now new old was is stay.
     let key_of = g.O.Offer.reading.key in
     let order = g.O.Key.Ord.cmp in
     let all = c.args.touched.now.items in
-    let one = c.args.one in
+    let one : Touched g.row.O.Denot = record { offer = c.args.offer.now; before = c.args.before.now; after = c.args.after.now } in
     let place = subst (λ (xs : List (Touched g.row.O.Denot)). Ascends (λ a b. order (key_of a.offer) (key_of b.offer)) xs
     → Ascends (λ a b. order (key_of a.offer) (key_of b.offer)) (insert xs c.in-Err.place one) × (is_touched key_of order c.key.result xs ≡ false))
     c.deref.ensures.0 (c.in-Err.ensures.gap one (sym c.key.ensures)) old.by_key in

@@ -12,7 +12,7 @@ returns-then-not-is_change-clause-touches g c = λ exact before old.
     let total = g.met.O.Key.Ord.total in
     let now = c.args.table.now.records in
     let new = c.exchange-exchanged.new.self.records in
-    let key = key_of c.args.offer in
+    let key = key_of c.args.offer.now in
     let was = c.exchange-exchanged.ensures.before ∙ sym (found (λ o. is_eq (order (key_of o) key)) now) in
     let is = c.exchange-exchanged.ensures.after ∙ sym (found (λ o. is_eq (order (key_of o) key)) new) in
     let one = exact_left g.O.PartialEq.eq exact c.exchange-exchanged.result.before c.exchange-exchanged.result.after
@@ -28,7 +28,7 @@ returns-clause-touches g c = λ exact before old.
     let total = g.met.O.Key.Ord.total in
     let now = c.args.table.now.records in
     let new = c.exchange-exchanged.new.self.records in
-    let key = key_of c.args.offer in
+    let key = key_of c.args.offer.now in
     let was = c.exchange-exchanged.ensures.before ∙ sym (found (λ o. is_eq (order (key_of o) key)) now) in
     let is = c.exchange-exchanged.ensures.after ∙ sym (found (λ o. is_eq (order (key_of o) key)) new) in
     c.note.ensures.touches before (offers now) (offers new) old was is
