@@ -4,6 +4,7 @@ ghost use Rattle.ipx_router.specs.Services.{service_reading};
 
 use ipx_table::Offer;
 use ipx_wire::{Node, RipEntry, Service, ServiceName};
+use std::cmp::Ordering;
 
 /// A service as a neighbour advertised it: fewer hops are better. It is known by its type and its name.
 ///
@@ -31,6 +32,13 @@ impl Offer for ServiceOffer {
 
     fn key(&self) -> (u16, ServiceName) {
         (self.service.kind, self.service.name)
+    }
+
+    fn cmp_key(&self, key: &(u16, ServiceName)) -> Ordering {
+        self.service
+            .kind
+            .cmp(&key.0)
+            .then(self.service.name.cmp(&key.1))
     }
 
     fn source(&self) -> (u8, Node) {

@@ -3,6 +3,7 @@ ghost use Rattle.std.specs.Prelude.{◌≡◌, true};
 ghost use Rattle.ipx_table.specs.Reading.{Reading};
 
 use ipx_wire::Node;
+use std::cmp::Ordering;
 
 /// What a neighbour advertises and a table keeps: a route, a service, or a type of one's own. Offers that are equal agree in all
 /// four readings.
@@ -62,6 +63,14 @@ pub trait Offer: Copy + Default + Eq {
     /// What it is an offer of.
     fn key(&self) -> Self::Key
         ensures { result ≡ reading.key self.now };
+
+    /// How its key compares with another one. A type whose keys are long can compare them where they lie, without the copy that
+    /// `key` makes; what is compared is the same.
+    fn cmp_key(&self, key: &Self::Key) -> Ordering
+        ensures { result ≡ Self.Key.cmp (reading.key self.now) key.now }
+    {
+        self.key().cmp(key)
+    }
 
     /// The port by which it came, 0 to 255, and the node that sent it. A record changes by its source, or by a better offer.
     fn source(&self) -> (u8, Node)

@@ -30,7 +30,7 @@ impl<'a, O: Offer> Asked for Sought<'a, O> {
 
     fn ask(&mut self, place: usize) -> Ordering {
         self.asks += 1;
-        self.offers[place].key().cmp(&self.key)
+        self.offers[place].cmp_key(&self.key)
     }
 
     fn asks(&self) -> u64 {
@@ -62,7 +62,7 @@ fn is_at<O: Offer>(offers: &[O], place: usize, key: &O::Key) -> bool
     if place >= offers.len() {
         return false;
     }
-    offers[place].key() == *key
+    offers[place].cmp_key(key).is_eq()
 }
 
 /// Where a key stands among offers that ascend by their keys.
