@@ -89,13 +89,16 @@ static bool read_household(reader *r, network_setting *it)
     return read_rate_or_none(r, "the packets that all clients of an address receive", &it->household);
 }
 
+/* (what all clients of an address receive is no matter of a link with frames) */
 static void read_rate(reader *r, network_setting *it)
 {
-    if (!is_first_line(r, it->rate_line) || !read_rate_or_none(r, "the packets that a client receives", &it->rate))
+    bool is_tunnel = it->type == LINK_DOSBOX;
+    const char *what = is_tunnel ? "the packets that a client receives" : "the packets that the link receives of clients";
+    if (!is_first_line(r, it->rate_line) || !read_rate_or_none(r, what, &it->rate))
         return;
     it->share = it->rate < USUAL_SHARE ? it->rate : USUAL_SHARE;
     it->household = USUAL_HOUSEHOLD * it->rate;
-    if ((r->next == r->count || read_share(r, it)) && (r->next == r->count || read_household(r, it)) && reader_ends(r))
+    if ((r->next == r->count || read_share(r, it)) && (r->next == r->count || !is_tunnel || read_household(r, it)) && reader_ends(r))
         it->rate_line = r->line;
 }
 
@@ -189,18 +192,21 @@ static void share_sockets(reader *r, const network_setting *from)
         copy_sockets(&r->into->networks[k], from);
 }
 
+/* What a line stands below: any network or link, one that names a link, or one of DOSBox' alone. */
+typedef enum { BELOW_ANY, BELOW_LINK, BELOW_TUNNEL } below;
+
 static const struct {
     const char *word;
-    bool is_of_tunnel; /* below a network of DOSBox' alone */
+    below stands;
     void (*read)(reader *, network_setting *);
 } LINES[] = {
-    {"extend", false, read_sockets},
-    {"clients", true, read_clients},
-    {"allow", true, read_allowed},
-    {"trust", true, read_trusted},
-    {"rate", true, read_rate},
-    {"strangers", true, read_strangers},
-    {"line", true, read_kilobits},
+    {"extend", BELOW_ANY, read_sockets},
+    {"clients", BELOW_TUNNEL, read_clients},
+    {"allow", BELOW_TUNNEL, read_allowed},
+    {"trust", BELOW_TUNNEL, read_trusted},
+    {"rate", BELOW_LINK, read_rate},
+    {"strangers", BELOW_TUNNEL, read_strangers},
+    {"line", BELOW_TUNNEL, read_kilobits},
 };
 enum { LINE_COUNT = sizeof LINES / sizeof *LINES };
 
@@ -217,7 +223,9 @@ bool read_line_below(reader *r, const char *word)
     network_setting *above = last_of(r);
     if (above == NULL)
         reader_fault(r, word, "expected below the line of a network");
-    else if (LINES[k].is_of_tunnel && (above == &r->network || above->type != LINK_DOSBOX))
+    else if (LINES[k].stands == BELOW_LINK && above == &r->network)
+        reader_fault(r, word, "expected below the line of a link");
+    else if (LINES[k].stands == BELOW_TUNNEL && (above == &r->network || above->type != LINK_DOSBOX))
         reader_fault(r, word, "expected below the line of a %s of dosbox", r->has_links_below ? "link" : "network");
     else
         LINES[k].read(r, above);

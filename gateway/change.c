@@ -208,9 +208,11 @@ static void change_tunnel(gateway *it, network *on, const network *was, changed 
     bool is_tunnel = on->set->type == LINK_DOSBOX, was_tunnel = was != NULL && was->set->type == LINK_DOSBOX;
     if (was_tunnel && (!is_tunnel || on->set->local.port != was->set->local.port))
         tunnel_end(on);
-    if (!is_tunnel)
-        return;
     throttle_set(&on->throttle, on->set); /* (what may be advertised at once follows the shares) */
+    if (!is_tunnel) {
+        what->clients += was != NULL && !was_tunnel && was->set->rate != on->set->rate;
+        return;
+    }
     if (was_tunnel && has_same_clients(was->set, on->set) && has_same_link(was->set, on->set))
         return;
     what->clients += was_tunnel && !has_same_clients(was->set, on->set);

@@ -25,6 +25,7 @@ static const char *const WORDS_OF[REASONS] = {
     [TOO_MUCH_FOR_CLIENT] = "too much for a client",
     [TOO_MUCH_FOR_ADDRESS] = "too much for an address",
     [TOO_MUCH_FOR_LINE] = "too much for the line",
+    [TOO_MUCH_FOR_LINK] = "too much for a link",
     [TOO_MANY_PINGS] = "too many pings",
     [TOO_MANY_QUESTIONS] = "too many questions",
     [TOO_MANY_ADVERTISEMENTS] = "too many advertisements",

@@ -25,6 +25,7 @@ typedef enum {
     TOO_MUCH_FOR_CLIENT, /* a copy for a client that received too much lately */
     TOO_MUCH_FOR_ADDRESS, /* or whose address did, of all its clients */
     TOO_MUCH_FOR_LINE,   /* or for which the line had no room */
+    TOO_MUCH_FOR_LINK,   /* what clients say, for a link with frames that received too much of them lately */
     TOO_MANY_PINGS,      /* a ping for all, of a client that sent too many */
     TOO_MANY_QUESTIONS,  /* a question to the router, of one that asked too many */
     TOO_MANY_ADVERTISEMENTS, /* what a router tells, of an address that told too much */

@@ -49,6 +49,11 @@ bool ether_put(network *on, const uint8_t *from, const uint8_t *node, const uint
 /* (a packet is one, in however many kinds it goes out) */
 void ether_send(network *on, const uint8_t *from, const uint8_t *node, const uint8_t *packet, size_t length)
 {
+    reason why = throttle_carries(&on->throttle, &on->queues, packet, length);
+    if (why != REASONS) {
+        gateway_lose(on, why);
+        return;
+    }
     frames count = put(on, from, node, packet, length);
     on->counts.out += count.sent > 0;
     for (; count.refused > 0; count.refused--)
@@ -83,13 +88,13 @@ static void hear_packet(gateway *it, network *on, const uint8_t *packet, size_t 
 {
     speaker_be_network(&on->speaks, (size_t)(on - it->networks));
     if (has_length(packet, length)) {
-        throttle_bring(&on->speaks, packet);
+        throttle_bring(&on->speaks, NULL, packet);
         length = get16(packet + AT_LENGTH);
         if (is_broadcast(packet + AT_TO_NODE) && is_for_here(on, packet) && length <= LONGEST)
             extend(it, on, packet, length);
     }
     gateway_hear(it, on, packet, length);
-    throttle_bring(NULL, NULL);
+    throttle_bring(NULL, NULL, NULL);
 }
 
 /* Whether another link of the network has proved that a node is there: it is a client of a tunnel. */
@@ -113,9 +118,9 @@ static void hear_at_link(gateway *it, network *on, const uint8_t *frame, const u
         return;
     }
     speaker_be_network(&on->speaks, (size_t)(on - it->networks));
-    throttle_bring(&on->speaks, packet);
+    throttle_bring(&on->speaks, NULL, packet);
     heard what = segment_hear(it, on, from, to, packet, carried);
-    throttle_bring(NULL, NULL);
+    throttle_bring(NULL, NULL, NULL);
     if (what.by_router)
         hear_packet(it, on, packet, length);
     else if (what.links > 0)

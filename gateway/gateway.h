@@ -35,7 +35,8 @@ typedef struct network {
     strangers strangers; /* and who isn't one; */
     pings pings;         /* pings that wait for a narrow line; */
     outgoing outgoing;   /* what waits to be sent to clients */
-    speaker speaks;      /* all who are there, where it isn't one */
+    speaker speaks;      /* all who are there, where it isn't one; */
+    fair queues;         /* and what it receives of each client who speaks */
     ipxr_segment *segment; /* of its network's links, where it is one of several; */
     uint8_t link;          /* and its number there */
     loop loop;             /* whether it is one cable with another of them */

@@ -59,7 +59,7 @@ typedef struct network_setting {
     uint16_t clients;          /* most clients of DOSBox' */
     uint16_t per_address;      /* and most of one address */
     size_t rate_line;          /* the number of the line that says these three, or 0 */
-    uint32_t rate;             /* packets a second that a client receives, 0 for any number */
+    uint32_t rate;             /* packets a second that a client receives, or a link with frames of clients; 0 for any number */
     uint32_t share;            /* and those of an address that says little */
     uint32_t household;        /* and those that all clients of an address receive, 0 for any number */
     size_t kilobits_line;      /* the number of the line that says this, or 0 */

@@ -95,13 +95,17 @@ static void tell_start(const gateway *it)
     }
 }
 
-/* Makes the tunnels. Returns 0, or the library's fault. */
+/* Makes the tunnels, and sets the limits of the other links. Returns 0, or the library's fault. */
 static int32_t open_tunnels(gateway *it)
 {
     int32_t made = 0;
-    for (size_t k = 0; made >= 0 && k < it->count; k++)
-        if (it->networks[k].set->type == LINK_DOSBOX)
-            made = tunnel_open(it, &it->networks[k]);
+    for (size_t k = 0; made >= 0 && k < it->count; k++) {
+        network *on = &it->networks[k];
+        if (on->set->type == LINK_DOSBOX)
+            made = tunnel_open(it, on);
+        else
+            throttle_set(&on->throttle, on->set);
+    }
     return made;
 }
 

@@ -216,12 +216,14 @@ reason throttle_hands(throttle *it, member *from, const uint8_t *packet, size_t 
 /* Whose packet the router hears, and from which node and socket it comes. */
 static struct {
     speaker *from;
+    uint64_t *copies;
     uint8_t source[NODE + SOCKET];
 } brought;
 
-void throttle_bring(speaker *from, const uint8_t *packet)
+void throttle_bring(speaker *from, uint64_t *copies, const uint8_t *packet)
 {
     brought.from = from;
+    brought.copies = copies;
     if (from != NULL)
         memcpy(brought.source, packet + AT_FROM_NODE, sizeof brought.source);
 }
@@ -254,4 +256,20 @@ reason throttle_receives(const throttle *it, member *to, size_t queue, size_t le
     if (it->has_household && !to->is_trusted)
         limit_count(&it->household, &to->speaks->received, 1);
     return REASONS;
+}
+
+/* (networks of another kind have no clients) */
+reason throttle_carries(const throttle *it, fair *queues, const uint8_t *packet, size_t length)
+{
+    speaker *from = throttle_brought(packet);
+    if (it->is_off || from == NULL || from->clients == 0)
+        return REASONS;
+    size_t queue = throttle_queue(from, packet);
+    if (fair_look(&it->received, queues, queue, pieces(length)) != QUEUE_FULL) {
+        fair_add(&it->received, queues, queue, pieces(length));
+        return REASONS;
+    }
+    if (brought.copies != NULL)
+        ++*brought.copies;
+    return TOO_MUCH_FOR_LINK;
 }

@@ -1,8 +1,8 @@
 /* What clients of a tunnel receive and say within limits, so that who floods loses, and not who plays. A client receives so many packets a
  * second, no more than it can read, so that it hears pings and stays. Where more comes for it, each address that speaks to it has the
- * same part of that, however many clients it has, and what one doesn't use the others have. Answers to pings have one part together. What
- * all clients of an address receive has a limit too: else whoever has many that only listen would make each packet cost a copy for each
- * of them.
+ * same part of that, however many clients it has, and what one doesn't use the others have. Answers to pings have one part together. A
+ * link with frames receives what clients say in the same way, since a PC there may read no faster. What all clients of an address receive
+ * has a limit too: else whoever has many that only listen would make each packet cost a copy for each of them.
  *
  * All of this stands behind the library, which has said who is a client and who gets what: who answers the gateway's pings stays, whatever
  * is dropped here. */
@@ -21,7 +21,7 @@ enum { HOUSEHOLD = 4 };
 
 typedef struct throttle {
     bool is_off;
-    fair_limit received;  /* by a client, of all who speak to it */
+    fair_limit received;  /* by a client, of all who speak to it; by a link with frames, of clients */
     bool has_household;
     limit household; /* by an address, of all its clients on any network, */
     limit household_of_much; /* beyond which they get only what finds its queue not half full, by the same meter */
@@ -46,14 +46,19 @@ reason throttle_lets_say(throttle *it, member *from, const uint8_t *packet);
 /* The queue by which clients get a packet of one who says it, or of the router where that is NULL. */
 size_t throttle_queue(speaker *from, const uint8_t *packet);
 
-/* From now on the router hears, and other networks get, what somebody says; NULL where nobody does. */
-void throttle_bring(speaker *from, const uint8_t *packet);
+/* From now on the router hears, and other networks and links get, what somebody says; NULL where nobody does. What links with frames don't
+ * get of it is counted in `copies` too, unless that is NULL. */
+void throttle_bring(speaker *from, uint64_t *copies, const uint8_t *packet);
 
 /* Who says a packet that the router or `extend` sends: NULL where that is the router itself, else he whose packet was brought. */
 speaker *throttle_brought(const uint8_t *packet);
 
 /* Why a client doesn't receive a packet of so many bytes by a queue; REASONS where it does. */
 reason throttle_receives(const throttle *it, member *to, size_t queue, size_t length);
+
+/* Why a link with frames, which has some queues, doesn't get a packet of so many bytes; REASONS where it does. Only what clients say is
+ * limited there. */
+reason throttle_carries(const throttle *it, fair *queues, const uint8_t *packet, size_t length);
 
 /* Whether the gateway answers a client's registration or ping. */
 bool throttle_lets_answer(throttle *it, member *to);

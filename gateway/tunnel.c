@@ -261,11 +261,11 @@ static void pass_on(gateway *it, network *on, member *from, const uint8_t *packe
         gateway_lose(on, why);
         return;
     }
-    throttle_bring(from->speaks, packet);
+    throttle_bring(from->speaks, &from->dropped[DROPPED_OF_IT], packet);
     if (is_broadcast(packet + AT_TO_NODE) && is_for_here(on, packet))
         extend(it, on, packet, length);
     gateway_hear(it, on, packet, length);
-    throttle_bring(NULL, NULL);
+    throttle_bring(NULL, NULL, NULL);
 }
 
 /* What a client said goes to the other links of its network. Returns whether any of them gets it. */
@@ -275,9 +275,9 @@ static bool carry_over(gateway *it, network *on, member *from, const uint8_t *pa
     if (on->segment == NULL)
         return false;
     segment_next(on, packet, to);
-    throttle_bring(from->speaks, packet);
+    throttle_bring(from->speaks, &from->dropped[DROPPED_OF_IT], packet);
     heard what = segment_hear(it, on, from->place, to, packet, length);
-    throttle_bring(NULL, NULL);
+    throttle_bring(NULL, NULL, NULL);
     return what.links > 0;
 }
 

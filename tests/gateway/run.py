@@ -22,6 +22,7 @@ import reloading
 import segments
 import siphash
 import six
+import slow_pc
 import status
 import troubles
 import tunnel
@@ -32,7 +33,7 @@ from lab import left_out
 from systems import SYSTEM, Windows
 
 ALL = (counting, words, siphash, unit, orders, status, events, probes, reloading, tunnel, links, six, names, segments, kinds,
-       troubles, wires, houses, attacks, limits, fair, narrow, dosbox, pc, bochs)
+       troubles, wires, houses, attacks, limits, fair, slow_pc, narrow, dosbox, pc, bochs)
 TESTS = {it.__name__: it for it in ALL}
 
 

@@ -1,0 +1,156 @@
+"""What a PC on a link with frames receives where DOSBox' clients say more than it reads: players are heard, and who floods loses.
+
+It runs in networks of its own (spaces.py). One PC reads as slowly as a DOSBox does; the others are counted by a clock that the test sets.
+"""
+import os
+import re
+import socket
+import struct
+import sys
+import time
+
+from attacks import OTHER_PORT, QUIET, Playground, figures, flood, named, none
+from fair import LASTS, STEP, say_up_to
+from frames import frame
+from lab import EVERYONE, GAME, ROOM, Clock, Counts, left_out, played_anew
+from limits import AT_ONCE, CHAT, FIRST, FLOOD, RATE, RECEIVED, SECONDS, are_answering, come, place_of
+from players import HELLO, NETWORK, Player, Slow
+from spaces import GATEWAY, INSIDE, build_flood, host, tried_inside
+from systems import SYSTEM
+
+PC_PLACE = ("2.0.0.0", 0xAA1)
+PC_NODE = socket.inet_aton(PC_PLACE[0]) + struct.pack(">H", PC_PLACE[1])  # what a flood says to that place goes to this node
+MAC_HEADER = 14  # bytes before the packet of a raw frame
+MANY = 8  # addresses that flood another network: each hands the router 400 packets a second
+WIRE = f"qemu-udp {GATEWAY[0]}:{OTHER_PORT} {host(0)}:{FIRST} raw"
+
+
+def several(below=""):
+    """One network of DOSBox and of a PC in QEMU."""
+    return f"network {NETWORK:X} 1 1424\nlink dosbox 0.0.0.0:{GATEWAY[1]}\nstrangers none\nlink {WIRE}\n{below}"
+
+
+def beside(below=""):
+    """The same PC on a network of its own, to which what players and flooders say is extended."""
+    extended = f"extend {GAME:X} {CHAT:X}\n"
+    return f"network {NETWORK:X} 1 1424 dosbox 0.0.0.0:{GATEWAY[1]}\nstrangers none\n{extended}network 20 1 1424 {WIRE}\n{extended}{below}"
+
+
+class PC(Slow):
+    """A PC in QEMU that reads a frame a millisecond, and says nothing of itself."""
+
+    KIND = "a PC in QEMU"
+
+    def __init__(self, keeps=Slow.KEPT, network=NETWORK):
+        super().__init__(host(0), (GATEWAY[0], OTHER_PORT))
+        self.udp.close()
+        self.udp = socket.socket(socket.AF_INET, socket.SOCK_DGRAM)
+        self.udp.setsockopt(socket.SOL_SOCKET, socket.SO_RCVBUF, keeps)
+        self.udp.bind((host(0), FIRST))
+        self.udp.connect((GATEWAY[0], OTHER_PORT))
+        self.node, self.network = PC_NODE, network
+
+    def send(self, bytes_):
+        super().send(frame("raw", EVERYONE, self.node, bytes_))
+
+    def register(self):
+        """It is there."""
+        self.say(HELLO)
+
+    def hear(self, bytes_):
+        super().hear(bytes_[MAC_HEADER:])
+
+
+class Eager(PC):
+    """The same, but one that reads all."""
+
+    KIND = "a PC that reads all"
+
+    def __init__(self, network=NETWORK):
+        super().__init__(ROOM, network)
+
+    def receive(self, most=sys.maxsize):
+        Player.receive(self, most)
+
+
+def dropped(gate):
+    """How much links with frames didn't receive."""
+    return sum(map(int, re.findall(r"too much for a link: (\d+)", gate.report().partition("report after ")[2])))
+
+
+@played_anew
+def a_pc_is_flooded(text, kind, count, rate):
+    """Some clients flood; what players say is heard by the PC."""
+    with Playground(text, more=count, begins=False) as it:
+        guilty = [Player(free, GATEWAY) for free in it.free]
+        for player in guilty:
+            it.party.put_in("floods", player)
+        it.party.put_in(PC.KIND, PC())
+        it.party.enter()
+        sent = [flood(it.gate, "forged", kind, rate, count=rate * SECONDS, network=NETWORK, **{"for": "{}:{}".format(*PC_PLACE)}, **place_of(player))
+                for player in guilty]
+        began = time.monotonic()
+        lost = it.play(lambda: [flooding for flooding in sent if flooding.lasts()])
+        seconds = time.monotonic() - began
+        figures(f"{sent[0].end()}; the PC got {it.party.all[-1].beside} other packets in {seconds:.1f} s")
+        for flooding in sent[1:]:
+            flooding.end()
+        none(lost, are_answering(it, it.party.all[:-1]), "" if dropped(it.gate) > 0 else "nothing was dropped")
+
+
+def by_a_clock(text, rates, least, most):
+    """Clients of as many addresses say so many packets a second for two seconds: of each at least so many come to the PC, and at most so many
+    of all."""
+    with Playground(f"{text}network 20 1 1424 dosbox 0.0.0.0:0\n", numbers=(0, 0, 0), more=len(rates), clock=Clock()) as it:
+        players = come(it, it.free, [GATEWAY[1]] * len(rates))
+        pc = Eager()
+        it.party.put_in(PC.KIND, pc)
+        for step in range(int(LASTS / STEP)):
+            for player, rate in zip(players, rates):
+                say_up_to(player, int(rate * STEP * (step + 1)))
+                it.gate.report()
+            it.let_pass(STEP)
+        it.party.until(lambda: False, QUIET)
+        heard = [len(pc.heard.get(player.node, ())) for player in players]
+        lost = dropped(it.gate)
+        figures(f"of {[int(LASTS * rate) for rate in rates]} the PC heard {heard}; {lost} were dropped")
+        assert sum(heard) <= most, f"{sum(heard)} packets"
+        assert all(count >= floor for count, floor in zip(heard, least)), f"{heard}"
+        assert sum(heard) + lost == sum(player.said for player in players), f"{heard}, {lost} dropped"
+
+
+ALL = 10 * FLOOD
+TESTS = [
+    named("beside a PC on the same network a client says 8,000 packets a second to all", a_pc_is_flooded, several(), "chat", 1, FLOOD),
+    named("a client says 8,000 packets a second to a PC on the same network", a_pc_is_flooded, several(), "tell", 1, FLOOD),
+    named("clients of eight addresses say as much as they may to a network on which a PC is", a_pc_is_flooded, beside(), "chat", MANY, RATE),
+    named("by a clock, of 2,000 packets a second that a client says the PC gets what a client gets, and of 40 and 200 of others all",
+          by_a_clock, several(), [2000, 40, 200], [1300, 80, 400], int(RECEIVED * LASTS) + AT_ONCE),
+    named("by a clock, with a rate of 100 below the PC's link", by_a_clock, several("rate 100 10\n"), [400, 40], [80, 80], 500),
+    named("by a clock, with no limit below it", by_a_clock, several("rate none\n"), [2000, 40], [4000, 80], ALL),
+]
+
+
+def inside():
+    """In the network of its own."""
+    counts = Counts()
+    build_flood()
+    for test in TESTS:
+        counts.run(test)
+    print(f"{counts.passed} passed, {counts.failed} failed")
+
+
+def main():
+    if SYSTEM.name != "Linux":
+        left_out("what a PC receives", "it is tried on this machine's own system")
+        return Counts()
+    return tried_inside(os.path.realpath(__file__), "what a PC receives")
+
+
+if __name__ == "__main__":
+    if sys.argv[1:] == [INSIDE]:
+        inside()
+    else:
+        ended = main()
+        print(f"{ended.passed} passed, {ended.failed} failed")
+        sys.exit(ended.failed > 0)
