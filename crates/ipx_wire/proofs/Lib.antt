@@ -1,6 +1,7 @@
 pub mod AddressWords
 pub mod Crossings
 pub mod Entries
+pub mod FieldOrder
 pub mod Forwarded
 pub mod Headers
 pub mod HexText

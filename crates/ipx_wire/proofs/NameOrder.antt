@@ -12,7 +12,7 @@ as_large : (x : ℕ) → nat_cmp x x ≡ Equal
 as_large x = sym (nat_cmp_is x x Equal refl)
 
 -- equal first bytes leave it to those behind
-first_equal : (x : ℕ) (a b : List ℕ) → name_order (x ∷ a) (x ∷ b) ≡ name_order a b
+pub first_equal : (x : ℕ) (a b : List ℕ) → name_order (x ∷ a) (x ∷ b) ≡ name_order a b
 first_equal x a b = ap (λ (o : Ordering). ordering_then o (name_order a b)) (as_large x)
 
 itself : (a : List ℕ) → name_order a a ≡ Equal

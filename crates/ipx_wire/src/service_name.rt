@@ -1,5 +1,6 @@
 //! The name of a service: the bytes before the first zero of the 48 that a packet keeps for it.
-ghost use Rattle.std.specs.Prelude.{◌≡◌, ◌-◌, ◌≤◌, ◌==◌, List, ℕ, ◌++◌, length, take, replicate, codes, IfSome, IfNone, Some, refl};
+ghost use Rattle.std.specs.Prelude.{◌≡◌, ◌+◌, ◌-◌, ◌≤◌, ◌==◌, List, ℕ, ◌++◌, length, take, replicate, codes, IfSome, IfNone, Some, refl};
+ghost use Rattle.std.specs.Int.{from_be_bytes, w64};
 ghost use Rattle.std.specs.List.{position_or_len};
 ghost use Rattle.std.proofs.Common.{rules};
 ghost use Rattle.std.specs.Cmp.{partial_equiv_from_equiv};
@@ -7,6 +8,7 @@ ghost use Rattle.std.specs.Cmp.Rules.{hashing};
 ghost use Rattle.std.specs.Hash as fed;
 ghost use Rattle.std.specs.Cmp.Lexicographic.{nat_list_eq_equiv, nat_list_cmp_total, texts_po, texts_ties};
 ghost use Rattle.ipx_wire.specs.NameWord.{name_word};
+ghost use Rattle.ipx_wire.specs.Piece.{piece};
 ghost use Rattle.ipx_wire.specs.Name.{IsName, IsNoName, IsServiceName, name_of, name_field, name_order, same_name, default_name};
 
 use crate::hex_text::write_ascii;
@@ -150,7 +152,7 @@ impl PartialEq for ServiceName {
     ghost laws = { partial_equiv_from_equiv nat_list_eq_equiv };
 
     fn eq(&self, other: &ServiceName) -> bool {
-        self.bytes() == other.bytes()
+        self.cmp(other).is_eq()
     }
 }
 
@@ -178,7 +180,7 @@ impl Ord for ServiceName {
     ghost matches_eq = { λ a b. texts_ties a b };
 
     fn cmp(&self, other: &ServiceName) -> Ordering {
-        self.bytes().cmp(other.bytes())
+        cmp_fields(&self.field, &other.field)
     }
 }
 
@@ -190,6 +192,38 @@ impl Hash for ServiceName {
     fn hash<H: Hasher>(&self, state: &mut H) {
         self.bytes().hash(state);
     }
+}
+
+/// How two fields compare, byte by byte. Eight bytes are compared at once, as a number whose highest byte is the first of them.
+pub(crate) fn cmp_fields(a: &[u8], b: &[u8]) -> Ordering
+    requires a { length a.now ≡ 48 }
+    requires b { length b.now ≡ 48 }
+    ensures { result ≡ name_order a.now b.now }
+{
+    for k in 0..6 {
+        let (one, other) = (word_at(a, 8 * k), word_at(b, 8 * k));
+        if one != other {
+            return one.cmp(&other);
+        }
+    }
+    Ordering::Equal
+}
+
+/// The number in eight bytes of a field.
+fn word_at(field: &[u8], place: usize) -> u64
+    requires { place + 8 ≤ length field.now }
+    ensures { result ≡ from_be_bytes w64 (piece field.now place 8) }
+{
+    u64::from_be_bytes([
+        field[place],
+        field[place + 1],
+        field[place + 2],
+        field[place + 3],
+        field[place + 4],
+        field[place + 5],
+        field[place + 6],
+        field[place + 7],
+    ])
 }
 
 /// How many bytes stand before the first zero; all of them, where there is none.
