@@ -14,6 +14,7 @@ pub mod Places
 pub mod Placing
 pub mod Ranks
 pub mod Refused
+pub mod Renewing
 pub mod Room
 pub mod Searching
 pub mod Seconds

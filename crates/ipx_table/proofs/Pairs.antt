@@ -51,6 +51,15 @@ module _ {A B : Type 0} where
   take-pairs (a ∷ xs) [] (suc k) = refl
   take-pairs (a ∷ xs) (b ∷ ys) (suc k) = ap (λ rest. (a, b) ∷ rest) (take-pairs xs ys k)
 
+-- a pair whose second item is written anew
+pub renew-pairs : {A B : Type 0} (xs : List A) (ys : List B) (k : ℕ) (p : A × B) (y : B) → slice_get (zip xs ys) k ≡ Some p
+    → zip xs (set ys k y) ≡ set (zip xs ys) k (p.0, y)
+renew-pairs [] ys k p y e = refl
+renew-pairs (a ∷ xs) [] k p y e = refl
+renew-pairs (a ∷ xs) (b ∷ ys) zero p y e =
+    ap (λ (o : Option _). (elim o [ None ↦ a | Some q ↦ q.0 ], y) ∷ zip xs ys) e
+renew-pairs (a ∷ xs) (b ∷ ys) (suc k) p y e = ap (λ rest. (a, b) ∷ rest) (renew-pairs xs ys k p y e)
+
 pub set-same : {X : Type 0} (xs : List X) (k : ℕ) (x : X) → slice_get xs k ≡ Some x → set xs k x ≡ xs
 set-same [] k x e = absurd (true≢false (sym (ap is_some e)))
 set-same (y ∷ xs) zero x e = ap (λ (o : Option _). elim o [ None ↦ x ∷ xs | Some z ↦ z ∷ xs ]) (sym e)

@@ -1,6 +1,6 @@
 //! Offers with the slots at which they were accepted, each in an array of its own: so what reads slots alone reads one
 //! byte a record.
-ghost use Rattle.std.specs.Prelude.{◌≡◌, ◌==◌, ◌<◌, ◌≤◌, not, List, [], length, map, insert, remove, set, slice_get, take, drop};
+ghost use Rattle.std.specs.Prelude.{◌≡◌, ◌==◌, ◌<◌, ◌≤◌, not, ℕ, List, [], length, map, insert, remove, set, slice_get, Some, take, drop};
 ghost use Rattle.std.specs.List.{AllByRecursion, filter, list_any, zip};
 ghost use Rattle.ipx_table.specs.Reading.{port_of};
 ghost use Rattle.ipx_table.specs.Slots.{seen};
@@ -124,6 +124,14 @@ impl<O: Offer, const CAP: usize> Slotted<O, CAP> {
         ensures { self.new ≡ set self.old place (offer, slot) }
     {
         write_at(&mut self.offers, place, offer);
+        write_at(&mut self.slots, place, slot);
+    }
+
+    /// Writes a slot over that of the record at that place.
+    pub(crate) fn renew(&mut self, place: usize, slot: u8)
+        requires within { place < length self.old }
+        ensures { (kept : O × ℕ) → slice_get self.old place ≡ Some kept → self.new ≡ set self.old place (kept.0, slot) }
+    {
         write_at(&mut self.slots, place, slot);
     }
 

@@ -1,5 +1,5 @@
 //! The table.
-ghost use Rattle.std.specs.Prelude.{◌≡◌, ◌<◌, ◌≤◌, ◌==◌, List, [], ◌∷◌, ◌++◌, length, map, slice_get, option_map, IfSome, false, true};
+ghost use Rattle.std.specs.Prelude.{◌≡◌, ◌<◌, ◌≤◌, ◌==◌, List, [], ◌∷◌, ◌++◌, length, map, slice_get, set, Some, option_map, IfSome, false, true};
 ghost use Rattle.std.specs.List.{AllByRecursion, list_any};
 ghost use Rattle.std.specs.Ordering.{is_eq};
 ghost use Rattle.ipx_table.specs.Reading.{rules_of, port_of, count_by};
@@ -141,6 +141,30 @@ impl<O: Offer, const CAP: usize> Table<O, CAP> {
         let exchanged = take_offer(&mut self.records, &self.shares, self.clock, found, &offer);
         self.live = self.records.len();
         exchanged
+    }
+
+    /// Renews the record with exactly `place` smaller keys, as its own offer does that comes once more: its age is 0. The offer itself
+    /// isn't needed, so who sees in a packet's bytes that it would come needn't make it.
+    pub fn renew_at(&mut self, place: usize)
+        requires { place < length self.old.records }
+        ensures stands { (known : Held O) → slice_get self.old.records place ≡ Some known
+            → (facts : List (Fact O)) → Stands (rules_of O.reading O.Key.cmp CAP self.old.shares) self.old.records facts
+            → Stands (rules_of O.reading O.Key.cmp CAP self.old.shares) self.new.records (facts ++ Offered known.offer ∷ []) }
+        ensures records { (known : Held O) → slice_get self.old.records place ≡ Some known
+            → self.new.records ≡ set self.old.records place (record { offer = known.offer; age = 0 }) }
+        ensures offers { map (λ h. h.offer) self.new.records ≡ map (λ h. h.offer) self.old.records }
+        ensures shares { self.new.shares ≡ self.old.shares }
+        ensures forgotten { self.new.ended ≡ [] }
+    {
+        self.records.truncate(self.live);
+        self.records.renew(place, self.clock);
+    }
+
+    /// Has the next offer sought at that place first, which may be any number. No record changes.
+    pub fn seek_at(&mut self, place: usize)
+        ensures { self.new ≡ self.old }
+    {
+        self.next = place;
     }
 
     /// Lets a second pass: each record is a second older, and those that are 180 seconds old expire.

@@ -1,7 +1,7 @@
 use Rattle.std.proofs.Common.{◌≡◌, refl, ◌∙◌, ap, ◌+◌, ◌-◌, ◌/◌, ◌<◌, nat_lt, arith}
 use Rattle.std.proofs.lemmas.Bool.{le-ltb}
 use Rattle.ipx_table.specs.Answers.{Answers, answer_at}
-use Rattle.ipx_table.proofs.Narrowing.{narrow, narrow_start, met_now, found}
+use Rattle.ipx_table.proofs.Narrowing.{narrow, narrow_start, met_now}
 use Rattle.ipx_table.proofs.asking.find.Goals as goal
 
 pub loop-size-init : goal.loop-size-init

@@ -1,4 +1,4 @@
-use Rattle.std.proofs.Common.{◌≡◌, sym, ap, ◌∙◌, is_eq}
+use Rattle.std.proofs.Common.{sym, ap, ◌∙◌, is_eq}
 use Rattle.ipx_table.specs.inside.Sought.{answers_to}
 use Rattle.ipx_table.proofs.Order.{is_equal}
 use Rattle.ipx_table.proofs.Searching.{answered, equal_at, through_key}

@@ -1,4 +1,4 @@
-use Rattle.std.proofs.Common.{◌∙◌, sym, ap, subst, List, ◌<◌, take}
+use Rattle.std.proofs.Common.{sym, subst, List, ◌<◌, take}
 use Rattle.std.specs.List.{AllByRecursion}
 use Rattle.ipx_table.specs.Alive.{lifetime}
 use Rattle.ipx_table.specs.declared.held.Held.{Held}
