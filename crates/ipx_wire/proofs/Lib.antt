@@ -1,6 +1,7 @@
 pub mod AddressWords
 pub mod Crossings
 pub mod Entries
+pub mod EntryBytes
 pub mod FieldOrder
 pub mod Forwarded
 pub mod Headers

@@ -85,6 +85,19 @@ impl<'a> SapEntries<'a> {
         entry_from(rest)
     }
 
+    /// The bytes from entry number `k` on, counted from 0, as they were sent; `k` is below `len()`. An entry takes 64.
+    ///
+    /// [`Service::is_entry`](crate::Service::is_entry) and `cmp_entry` compare a service with them, which is faster than to read the
+    /// entry.
+    pub fn bytes_from(&self, k: usize) -> &[u8]
+        requires { k < length self.now }
+        ensures size { 64 ≤ length result.now }
+        ensures entry { slice_get self.now k ≡ Some (sap_entry_at result.now) }
+    {
+        let (_, rest) = self.body.split_at(SapEntry::SIZE * k);
+        rest
+    }
+
     /// Entry number `k`, counted from 0, or `None` if there are no more than `k`.
     pub fn get(&self, k: usize) -> Option<SapEntry>
         ensures { result ≡ slice_get self.now k }
