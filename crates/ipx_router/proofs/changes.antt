@@ -7,4 +7,5 @@ pub mod LearnedEntryByEntry
 pub mod ListedForEachPort
 pub mod NotedAgain
 pub mod NotedInPlace
+pub mod RenewedInPlace
 pub mod TouchedGivesAllChanges

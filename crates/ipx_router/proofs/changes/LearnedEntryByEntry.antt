@@ -51,16 +51,24 @@ services_offered-append number node (x ∷ xs) ys =
     named entry None all one rest e = e
     named entry (Some name) all one rest e = ap (λ fs. offered_as number node entry (Some name) ++ fs) e
 
--- what stands after the entries before one, and after that one, stands after one entry more
+-- what stands after the entries before one stands after that one too
+pub stands_next : {X O : Type 0} (rules : Rules O) (says : List X → List (Fact O)) → ((xs ys : List X) → says (xs ++ ys) ≡ says xs ++ says ys)
+    → (xs : List X) (k : ℕ) (x : X) → slice_get xs k ≡ Some x → (now new : List (Held O))
+    → ((facts : List (Fact O)) → Stands rules now facts → Stands rules new (facts ++ says (x ∷ [])))
+    → (facts : List (Fact O)) → Stands rules now (facts ++ says (take k xs)) → Stands rules new (facts ++ says (take (k + 1) xs))
+stands_next {O} rules says parts xs k x at now new step facts stands =
+    let same = append_assoc facts (says (take k xs)) (says (x ∷ []))
+    ∙ ap (λ fs. facts ++ fs) (sym (parts (take k xs) (x ∷ [])) ∙ ap says (sym (take_got xs k x at))) in
+    subst (λ (fs : List (Fact O)). Stands rules new fs) same (step (facts ++ says (take k xs)) stands)
+
+-- and so from where they began
 pub stands_more : {X O : Type 0} (rules : Rules O) (says : List X → List (Fact O)) → ((xs ys : List X) → says (xs ++ ys) ≡ says xs ++ says ys)
     → (xs : List X) (k : ℕ) (x : X) → slice_get xs k ≡ Some x → (old now new : List (Held O))
     → ((facts : List (Fact O)) → Stands rules old facts → Stands rules now (facts ++ says (take k xs)))
     → ((facts : List (Fact O)) → Stands rules now facts → Stands rules new (facts ++ says (x ∷ [])))
     → (facts : List (Fact O)) → Stands rules old facts → Stands rules new (facts ++ says (take (k + 1) xs))
-stands_more {O} rules says parts xs k x at old now new before step facts stands =
-    let same = append_assoc facts (says (take k xs)) (says (x ∷ []))
-    ∙ ap (λ fs. facts ++ fs) (sym (parts (take k xs) (x ∷ [])) ∙ ap says (sym (take_got xs k x at))) in
-    subst (λ (fs : List (Fact O)). Stands rules new fs) same (step (facts ++ says (take k xs)) (before facts stands))
+stands_more rules says parts xs k x at old now new before step facts stands =
+    stands_next rules says parts xs k x at now new step facts (before facts stands)
 
 -- all items
 pub all_taken : {X : Type 0} (xs : List X) (k : ℕ) → length xs ≤ k → take k xs ≡ xs

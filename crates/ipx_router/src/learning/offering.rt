@@ -1,16 +1,17 @@
 //! Offers the entries of a response to the table, in order, and notes what each of them changes.
-ghost use Rattle.std.specs.Prelude.{◌≡◌, ◌+◌, ◌<◌, ◌≤◌, List, ◌++◌, ◌∷◌, [], length, map};
+ghost use Rattle.std.specs.Prelude.{◌≡◌, ◌+◌, ◌<◌, ◌≤◌, List, ◌++◌, ◌∷◌, [], Some, length, map, slice_get, take as front};
 ghost use Rattle.ipx_table.specs.Facts.{Fact};
 ghost use Rattle.ipx_table.specs.Reading.{rules_of};
 ghost use Rattle.ipx_table.specs.Stands.{Stands};
 ghost use Rattle.ipx_router.specs.Facts.{offers, route_offer as offer_as_heard, routes_offered, services_offered};
-ghost use Rattle.ipx_router.specs.Port.{Port as PortValue};
 ghost use Rattle.ipx_router.specs.Routes.{network_order, route_rules};
-ghost use Rattle.ipx_router.specs.Services.{service_order, service_reading, service_rules};
+ghost use Rattle.ipx_router.specs.Services.{service_order, service_reading};
 ghost use Rattle.ipx_wire.specs.Numbers.{most_entries, most_services};
+ghost use Rattle.ipx_wire.specs.declared.sap_entries.SapEntry.{SapEntry as SapEntryValue};
 ghost use Rattle.ipx_router.specs.inside.Touched.{Touches};
 
 use crate::judging::outgoing::takes_no_route;
+use crate::learning::renewing::renews;
 use crate::learning::touched::{Touched, take};
 use crate::port::Port;
 use crate::route_offer::RouteOffer;
@@ -72,26 +73,54 @@ fn offer_route<const R: usize>(
     take(table, touched, &route_offer(number, node, entry));
 }
 
-/// Offers the entries of a response from that port and neighbour to the table, but for those without a name. Returns what
-/// they touch.
+/// Offers the entries of a response from that port and neighbour to the table, but for those without a name, and for the `first`
+/// ones, which were renewed. Returns what they touch.
 #[inline(never)]
 pub(crate) fn offer_services<const S: usize>(
     table: &mut Table<ServiceOffer, S>,
     number: u8,
     node: Node,
     entries: &SapEntries<'_>,
+    first: usize,
 ) -> TouchedServices
-    ensures stands { (ports : List PortValue) → table.old.shares ≡ map (λ p. p.service_share) ports
-        → (facts : List (Fact ServiceOffer)) → Stands (service_rules ports S) table.old.records facts
-        → Stands (service_rules ports S) table.new.records (facts ++ services_offered number node entries.now) }
+    requires { first ≤ length entries.now }
+    ensures stands { let rules = rules_of service_reading service_order S table.old.shares in (facts : List (Fact ServiceOffer))
+        → Stands rules table.old.records (facts ++ services_offered number node (front first entries.now))
+        → Stands rules table.new.records (facts ++ services_offered number node entries.now) }
     ensures shares { table.new.shares ≡ table.old.shares }
     ensures touches { Touches (λ s. (s.service.kind, s.service.name)) service_order (offers table.old.records) (offers table.new.records) result.items }
 {
     let mut touched = ArrayVec::new();
-    for k in 0..entries.len() {
-        offer_service(table, &mut touched, number, node, &entries.entry(k));
+    for k in first..entries.len() {
+        take_entry(table, &mut touched, number, node, entries, k);
     }
     touched
+}
+
+/// Renews the service of an entry, or offers the entry.
+fn take_entry<const S: usize>(
+    table: &mut Table<ServiceOffer, S>,
+    touched: &mut TouchedServices,
+    number: u8,
+    node: Node,
+    entries: &SapEntries<'_>,
+    k: usize,
+)
+    requires within { k < length entries.now }
+    requires room { length touched.old.items < most_services }
+    ensures stands { (entry : SapEntryValue) → slice_get entries.now k ≡ Some entry
+        → let rules = rules_of service_reading service_order S table.old.shares in (facts : List (Fact ServiceOffer))
+        → Stands rules table.old.records facts → Stands rules table.new.records (facts ++ services_offered number node (entry ∷ [])) }
+    ensures shares { table.new.shares ≡ table.old.shares }
+    ensures touches { (before : List ServiceOffer)
+        → Touches (λ s. (s.service.kind, s.service.name)) service_order before (offers table.old.records) touched.old.items
+        → Touches (λ s. (s.service.kind, s.service.name)) service_order before (offers table.new.records) touched.new.items }
+    ensures few { length touched.new.items ≤ length touched.old.items + 1 }
+{
+    if renews(table, number, node, entries.bytes_from(k)) {
+        return;
+    }
+    offer_service(table, touched, number, node, &entries.entry(k));
 }
 
 /// Offers an entry, if it has a name.

@@ -13,6 +13,7 @@ ghost use Rattle.ipx_router.specs.Services.{service_rules};
 use crate::learning::changed::{keep_changed_routes, keep_changed_services};
 use crate::learning::news::{advertise_route_changes, advertise_service_changes};
 use crate::learning::offering::{offer_routes, offer_services};
+use crate::learning::renewing::renew_services;
 use crate::outbox::Outbox;
 use crate::port::Port;
 use crate::route_offer::RouteOffer;
@@ -68,7 +69,11 @@ pub(crate) fn learn_services<const S: usize>(
         (record { up = up.now; routes = routes; services = offers table.old.records })
         (record { up = up.now; routes = routes; services = offers table.new.records })) up.now) }
 {
-    let mut touched = offer_services(table, number, node, entries);
+    let renewed = renew_services(table, number, node, entries);
+    if renewed >= entries.len() {
+        return;
+    }
+    let mut touched = offer_services(table, number, node, entries, renewed);
     if touched.is_empty() {
         return;
     }

@@ -11,7 +11,7 @@ use Rattle.ipx_router.proofs.learning.offering.offer_services.Given as goal
 abbrev pub invariant-loop-k : goal.invariant-loop-k
 invariant-loop-k g l = record {
   shares : l.table.shares ≡ l.initial.table.shares;
-  stands : (facts : List (Fact ServiceOffer)) → Stands (rules_of service_reading service_order g.row.S l.initial.table.shares) l.initial.table.records facts
+  stands : (facts : List (Fact ServiceOffer)) → Stands (rules_of service_reading service_order g.row.S l.initial.table.shares) l.initial.table.records (facts ++ services_offered l.number l.node (take l.first l.entries))
       → Stands (rules_of service_reading service_order g.row.S l.initial.table.shares) l.table.records (facts ++ services_offered l.number l.node (take l.k l.entries));
   touches : Touches (λ s. (s.service.kind, s.service.name)) service_order (offers l.initial.table.records) (offers l.table.records) l.touched.items;
   few : length l.touched.items ≤ l.k;
