@@ -112,7 +112,7 @@ fn is_behind<O: Offer>(touched: &[Touched<O>], key: &O::Key) -> bool
         → is_lt (O.Key.cmp (O.reading.key (get_or touched.now (length touched.now - 1) d).offer) key.now) ≡ true }
 {
     match touched.last() {
-        Some(last) => last.offer.key().cmp(key).is_lt(),
+        Some(last) => last.offer.cmp_key(key).is_lt(),
         None => true,
     }
 }
