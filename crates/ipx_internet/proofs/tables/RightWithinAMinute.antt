@@ -1,4 +1,5 @@
--- Ticks, one after the other, from real routes: after sixty all tables are right, and they stay so.
+-- Ticks, one after the other, once all routes are real: a period later, from `most_ticks_right` on, each router has the least way to
+-- every network that it wants, and its route stays so.
 use Rattle.std.proofs.Common.{◌≡◌, refl, sym, ap, ◌∙◌, subst, ◌⊎◌, ℕ, zero, suc, ◌+◌, ◌%◌, ◌<◌, ◌≤◌, ◌==◌, Bool, true, false, List, [], ◌∷◌, length, map, find, Option, None, Some, inl, inr, arith, is_eq}
 use Rattle.std.specs.List.{AllByRecursion}
 use Rattle.std.proofs.lemmas.Bool.{cases_Bool, cases_eq, cases_lt, eq-eqb, ne_eqb, both_ways}

@@ -11,7 +11,7 @@ use Rattle.ipx_router.specs.declared.route_offer.RouteOffer.{RouteOffer}
 use Rattle.ipx_router.specs.inside.Ended.{by_route}
 use Rattle.ipx_router.proofs.tables.ToldRises.{network_orders, ascends-drop, rises_told}
 use Rattle.ipx_router.proofs.lists.PutInOrder.{Rises}
-use Rattle.ipx_router.proofs.telling.FromTheFirstChosen.{from_chosen, starts, same_chosen, first_chosen, takes_first, skips_first, no_more}
+use Rattle.ipx_router.proofs.telling.FromTheFirstChosen.{from_chosen, starts, same_chosen, first_chosen, takes_first, no_more}
 use Rattle.ipx_router.proofs.lists.NextOfTwoSources.{waiting_next, other_next}
 
 -- the routes that are left from the first one on that is told
@@ -89,10 +89,3 @@ module _ (number cost : ℕ) (waiting : List RipEntry) (route : RouteOffer) (oth
       → routes_left number cost waiting (route ∷ others) ≡ told_at cost (entry_of route) ∷ routes_left number cost waiting others
   told_first up told waits =
       learned_next number cost waiting (route ∷ others) (route ∷ others) up (sym (starts (is_route_told number) route others told)) route others refl waits
-
-  -- where it isn't told, the others are left
-  pub untold_first : is_route_told number route ≡ false
-      → routes_left number cost waiting (route ∷ others) ≡ routes_left number cost waiting others
-  untold_first untold =
-      ap (λ (offers : List RouteOffer). put_all network_before waiting (map (told_at cost) (map entry_of offers)))
-      (skips_first (is_route_told number) route others untold)

@@ -144,7 +144,8 @@ fn limit_of(direct: &[RipEntry]) -> u64
 }
 
 /// Puts the told ones of a run of routes into a page, behind its first `count` entries, until it is full or the run ends.
-/// Returns the routes that are left and how many entries the page has then. All that the loop uses stays in registers.
+/// Returns the routes that are left and how many entries the page has then. It is a function of its own, so that its loop keeps few
+/// values.
 fn put_run<'a>(
     routes: &'a [RouteOffer],
     number: u8,
