@@ -7,6 +7,12 @@ SOAK ?= 10
 
 .PHONY: run try show build embed aarch64 windows portable wasm page web gateway test edits fuzz soak bench dist release-test install
 
+# What builds from the sources says first if there is no toolchain.
+.PHONY: toolchain
+run try show build embed aarch64 windows portable wasm page web gateway fuzz soak bench install: | toolchain
+toolchain:
+	@command -v rt >/dev/null || { echo "the toolchain's command rt is missing: README.md says where it comes from" >&2; exit 1; }
+
 # Proves and builds all, then plays the worked script and prints what the router sent and learned.
 run: build
 	@$(PROGRAM) replay crates/ipxr/stdin
@@ -78,7 +84,7 @@ bench:
 
 # Puts what the gate proved and built into dist/, and what is compiled from it for other systems: archives and Debian's packages, with their
 # sums; docs/authors/RELEASING.md. DRAFT=1 makes a draft where make test hasn't passed on this commit.
-dist:
+dist: | $(if $(DRAFT),,toolchain)
 	@$(if $(DRAFT),,tools/gateway)
 	@$(if $(DRAFT),,tools/platforms all)
 	@release/dist $(if $(DRAFT),--draft)
