@@ -33,6 +33,8 @@ typedef struct network {
     roster roster;       /* and its clients, */
     throttle throttle;   /* within limits, */
     strangers strangers; /* and who isn't one; */
+    uint8_t refused[4];  /* the address that isn't allowed and was told last, */
+    uint64_t refused_at; /* and when, or 0; */
     pings pings;         /* pings that wait for a narrow line; */
     outgoing outgoing;   /* what waits to be sent to clients */
     speaker speaks;      /* all who are there, where it isn't one; */

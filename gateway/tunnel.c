@@ -7,6 +7,7 @@
 #include <string.h>
 
 #include "capture.h"
+#include "clock.h"
 #include "cookie.h"
 #include "events.h"
 #include "extend.h"
@@ -17,12 +18,16 @@
 #include "segment.h"
 #include "strangers.h"
 #include "throttle.h"
+#include "words.h"
 
 /* Seconds with which a client is kept: from its answer on, and from each word of one that is trusted. */
 enum { ANSWER_LASTS = 30, TRUST_LASTS = 180 };
 
 /* Seconds for which a cookie is a place's own. The one before counts too. */
 enum { MINUTE = 60 };
+
+/* Milliseconds from one line about an address that isn't allowed to the next, and to the next about the same. */
+enum { BETWEEN = 1000, BETWEEN_SAME = 60000 };
 
 /* ---- Beginning and end ---- */
 
@@ -321,6 +326,20 @@ static void hear(gateway *it, network *on, const ipxr_sender *sender, const uint
         carry(it, on, from, bytes, carried);
 }
 
+/* Counts a datagram from an address that isn't allowed, and tells it: it may be a friend's new one. */
+static void refuse(network *on, const address *from)
+{
+    char who[ADDRESS_ROOM];
+    uint64_t now = clock_now();
+    bool is_same = memcmp(on->refused, from->host, sizeof on->refused) == 0;
+    gateway_lose(on, NOT_ALLOWED);
+    if (on->refused_at != 0 && now - on->refused_at < (is_same ? BETWEEN_SAME : BETWEEN))
+        return;
+    memcpy(on->refused, from->host, sizeof on->refused);
+    on->refused_at = now;
+    event("%s is refused on %08" PRIX32 ": %s", address_words(from, who), on->set->network, reason_words(NOT_ALLOWED));
+}
+
 void tunnel_hear(gateway *it, network *on, uint8_t *bytes, size_t length, const address *from)
 {
     ipxr_sender sender = tunnel_sender(it, on, from);
@@ -331,7 +350,7 @@ void tunnel_hear(gateway *it, network *on, uint8_t *bytes, size_t length, const 
     }
     capture_packet(bytes, length, sender.place);
     if (!tunnel_lets_in(on->set, from)) {
-        gateway_lose(on, NOT_ALLOWED);
+        refuse(on, from);
         return;
     }
     /* (a driver clears it; DOSBox' leaves there what the program left) */

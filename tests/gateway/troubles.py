@@ -306,9 +306,26 @@ def who_stays():
         silent.wire.socket.close()
 
 
+def who_is_refused():
+    """A line names an address that isn't allowed: one a second, and the same again after a minute."""
+    clock = Clock()
+    how = {"program": SYSTEM.fast, "environment": clock.environment()}
+    with Gateway(tunnels(1, extra="allow 127.0.0.1\n"), **how) as gate:
+        a, b = (Client(gate.ports[0x10], host=host, registers=False) for host in ("127.0.0.2", "127.0.0.3"))
+        named = []
+        for k, (who, seconds, is_named) in enumerate(((a, 0, 1), (b, 0, 0), (a, 59, 0), (b, 0, 1), (a, 1, 1), (a, 59, 0), (a, 1, 1)), 1):
+            clock.let_pass(seconds)
+            who.send(registration())
+            gate.until_counted(0x10, "address not allowed", k)
+            named += [f"{socket.inet_ntoa(who.node[:4])}:{int.from_bytes(who.node[4:], 'big')}"] * is_named
+            said = [it.split()[1] for it in gate.lines if it.endswith(" is refused on 00000010: address not allowed")]
+            assert said == named, (k, said, named)
+
+
 def main():
     counts = Counts()
-    for test in (each_fails, one_is_refused, who_is_silent, who_left, stands_still, late_answers, an_hour, full_tables, who_stays):
+    for test in (each_fails, one_is_refused, who_is_silent, who_left, stands_still, late_answers, who_is_refused, an_hour,
+                 full_tables, who_stays):
         counts.run(test)
     return counts
 
