@@ -11,7 +11,7 @@ const [UNREACHABLE, ASKED] = [16, 0xffff];
 const QUERIES = new Set([1, 3]);
 const RIP_WORDS = { 1: "request", 2: "response" };
 const SAP_WORDS = { 1: "general query", 2: "general response", 3: "nearest query", 4: "nearest response" };
-const TYPES = { 0: "unknown", 1: "RIP", 4: "SAP", 5: "SPX", 17: "NCP", 20: "NetBIOS propagation" };
+const TYPES = { 0: "unknown", 1: "RIP", 4: "SAP or data", 5: "SPX", 17: "NCP", 20: "NetBIOS propagation" };
 const [IS_TYPE, LLC, SNAP, NO_CHECKSUM] = [0x600, 0xe0, 0xaa, 0xffff];
 const [MACS, LLC_LENGTH, SNAP_LENGTH] = [14, 3, 8];
 

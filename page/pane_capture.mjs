@@ -13,7 +13,8 @@ import { VirtualList } from "./virtual_list.mjs";
 
 // As many packets are in a ladder.
 const MOST_ROWS = 200;
-const TYPES = [["", "any type"], ["1", "1 RIP"], ["4", "4 SAP"], ["17", "17 NCP"], ["20", "20 NetBIOS"], ["5", "5 SPX"], ["0", "0"]];
+const TYPES = [["", "any type"], ["1", "1 RIP"], ["4", "4 SAP or data"], ["17", "17 NCP"], ["20", "20 NetBIOS"], ["5", "5 SPX"],
+    ["0", "0"]];
 const PAUSE = 200;
 // What the examples show.
 const SHOWS = {

@@ -8,7 +8,8 @@ const SHOWN = 3;
 export const SOCKETS = { "0451": "NCP", "0452": "SAP", "0453": "RIP", "0455": "NetBIOS", "0456": "diagnostics" };
 // The kinds of frames, in words of the trade beside those of `ipxr`.
 export const FRAMES = { Raw: "802.3 raw", Llc: "802.2", EthernetII: "Ethernet II", Snap: "SNAP" };
-const TYPES = { 0: "data", 1: "RIP", 4: "SAP", 5: "SPX", 17: "NCP", 20: "NetBIOS" };
+// (what is RIP or SAP, its socket says; else a packet of type 1 or 4 is what some program says)
+const TYPES = { 0: "data", 4: "data", 5: "SPX", 17: "NCP", 20: "NetBIOS" };
 
 function entry(line) {
     const words = line.split(" ");
