@@ -238,7 +238,7 @@ def named(b, _):
     b.click("#pane-internet .help")
     want("its tables changed" in text(b, "dialog.legend"), "the legend")
     b.click("dialog.legend button.main")
-    same(count(b, "dialog"), 0, "it is closed")
+    b.waits("!document.querySelector('dialog')")
     shows(b, "capture")
     b.waits("page.panes.capture.menu.value === 'nearest-server'")
     chosen_example(b, "no-server")
