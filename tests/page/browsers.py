@@ -46,8 +46,9 @@ class ByDriver:
         "WebDriver:SetWindowRect": ("POST", "/window/rect"), "WebDriver:SetTimeouts": ("POST", "/timeouts"),
     }
 
-    def __init__(self, words, capabilities, environment=None):
-        self.port = free_port()
+    def __init__(self, words, capabilities, screen=None):
+        self.port, self.screen = free_port(), screen
+        environment = {**os.environ, "DISPLAY": screen.name} if screen else None
         self.process = subprocess.Popen([*words, f"--port={self.port}"], env=environment, stdout=subprocess.DEVNULL,
             stderr=subprocess.DEVNULL)
         until(self.listens, words[0])
@@ -83,6 +84,21 @@ class ByDriver:
             pass
         self.process.terminate()
         self.process.wait()
+        if self.screen:
+            self.screen.close()
+
+
+class Screen:
+    """One that nobody sees, for a browser that needs one."""
+
+    def __init__(self):
+        words = ["Xvfb", "-displayfd", "1", "-screen", "0", "1280x1024x24", "-nolisten", "tcp"]
+        self.process = subprocess.Popen(words, stdout=subprocess.PIPE, stderr=subprocess.DEVNULL)
+        self.name = f":{int(self.process.stdout.readline())}"
+
+    def close(self):
+        self.process.terminate()
+        self.process.communicate()
 
 
 class ByMarionette:
@@ -211,8 +227,8 @@ def firefox(folder):
 
 def webkit(_):
     options = {"binary": glob.glob(MINIBROWSERS)[0], "args": ["--automation"]}
-    words = ["xvfb-run", "-a", "WebKitWebDriver"] if not os.environ.get("DISPLAY") else ["WebKitWebDriver"]
-    return Browser("webkit", ByDriver(words, {"webkitgtk:browserOptions": options}))
+    screen = None if os.environ.get("DISPLAY") else Screen()
+    return Browser("webkit", ByDriver(["WebKitWebDriver"], {"webkitgtk:browserOptions": options}, screen))
 
 
 def missing(*programs):
@@ -223,5 +239,5 @@ def missing(*programs):
 ALL = {
     "chromium": (chromium, lambda: missing("chromium", "chromedriver")),
     "firefox": (firefox, lambda: missing("firefox-esr")),
-    "webkit": (webkit, lambda: missing("WebKitWebDriver", "xvfb-run") or (None if glob.glob(MINIBROWSERS) else "MiniBrowser")),
+    "webkit": (webkit, lambda: missing("WebKitWebDriver", "Xvfb") or (None if glob.glob(MINIBROWSERS) else "MiniBrowser")),
 }
