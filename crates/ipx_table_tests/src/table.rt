@@ -322,6 +322,30 @@ fn what_ends_in_place_is_lent_by_key(rt: HostRuntime) {
 }
 
 #[test]
+fn a_record_is_renewed_at_its_place(rt: HostRuntime) {
+    let mut table: Table<Way, 4> = Table::new();
+    for number in [3, 5] {
+        let way = way_to(number, 0xAA, 1, 1);
+        same(&rt, table.offer(way), Taken::Admitted);
+    }
+    for _ in 0..100 {
+        table.second();
+    }
+    assert!(rt; 1 < table.len());
+    table.renew_at(1);
+    table.seek_at(7);
+    for _ in 0..80 {
+        table.second();
+    }
+    let held = Held {
+        offer: way_to(5, 0xAA, 1, 1),
+        age: 80,
+    };
+    same(&rt, table.get_at(0), Some(held));
+    same(&rt, table.get_at(1), None);
+}
+
+#[test]
 fn a_search_asks_seldom(rt: HostRuntime) {
     same(&rt, asks_in_vain(0, 0), 0);
     same(&rt, asks_in_vain(0, 1), 1);

@@ -5,6 +5,7 @@ use ipx_wire::{
     Address, Network, Node, Packet, Sap, SapEntry, SapFault, Service, ServiceName, Socket,
     write_sap,
 };
+use std::cmp::Ordering;
 use std::test::Fail;
 
 #[test]
@@ -39,15 +40,20 @@ fn name() -> Option<ServiceName> {
     ServiceName::read(&field)
 }
 
-/// The answer that tells the server to a query for the nearest, with two bytes EEh behind it, and the length that is told of it.
-fn told(name: ServiceName) -> ([u8; 98], usize) {
-    let mut out = [0xEE; 98];
-    let service = Service {
+/// The file server of that name.
+fn server(name: ServiceName) -> Service {
+    Service {
         kind: 4,
         name,
         address: on(0x30, 1, Socket(0x0451)),
         hops: 2,
-    };
+    }
+}
+
+/// The answer that tells the server to a query for the nearest, with two bytes EEh behind it, and the length that is told of it.
+fn told(name: ServiceName) -> ([u8; 98], usize) {
+    let mut out = [0xEE; 98];
+    let service = server(name);
     let from = on(0x10, 1, Socket::SAP);
     let to = on(0x10, 0xAA, Socket::SAP);
     let count = write_sap(from, to, true, &[service], &mut out);
@@ -81,6 +87,26 @@ fn reads_a_service_that_was_written(rt: HostRuntime) -> Result<(), Fail> {
                 hops: 2,
             };
             same(&rt, entries.get(0), Some(entry));
+        }
+        Sap::Query { .. } => panic!(rt; "a query"),
+    }
+    Ok(())
+}
+
+#[test]
+fn compares_a_service_with_the_bytes_of_an_entry(rt: HostRuntime) -> Result<(), Fail> {
+    let sent = server(name().expect(&rt, "a name"));
+    let (out, _) = told(sent.name);
+    let packet = Packet::read(&out)?;
+    match Sap::read(packet.payload())? {
+        Sap::Response { entries, .. } => {
+            assert!(rt; 0 < entries.len());
+            let bytes = entries.bytes_from(0);
+            assert!(rt; sent.is_entry(bytes));
+            same(&rt, sent.cmp_entry(bytes), Ordering::Equal);
+            assert!(rt; !Service { hops: 3, ..sent }.is_entry(bytes));
+            let printer = Service { kind: 7, ..sent };
+            same(&rt, printer.cmp_entry(bytes), Ordering::Greater);
         }
         Sap::Query { .. } => panic!(rt; "a query"),
     }
