@@ -26,10 +26,24 @@ typedef struct frames {
     size_t sent, refused;
 } frames;
 
+/* The kinds of frames in which a packet goes to a node, or to all, as bits; and how many they are. */
+static unsigned kinds_to(const network *on, const uint8_t *node)
+{
+    return on->set->kind == ANY_KIND ? kinds_for(&on->kinds, node) : 1u << on->set->kind;
+}
+
+static uint32_t count_of(unsigned kinds)
+{
+    uint32_t count = 0;
+    for (; kinds != 0; kinds &= kinds - 1)
+        count++;
+    return count;
+}
+
 static frames put(network *on, const uint8_t *from, const uint8_t *node, const uint8_t *packet, size_t length)
 {
     frames count = {0};
-    unsigned kinds = on->set->kind == ANY_KIND ? kinds_for(&on->kinds, node) : 1u << on->set->kind;
+    unsigned kinds = kinds_to(on, node);
     for (uint8_t kind = IPXR_FRAME_ETHERNET2; kind <= IPXR_FRAME_SNAP; kind++) {
         if ((kinds & 1u << kind) == 0)
             continue;
@@ -49,7 +63,8 @@ bool ether_put(network *on, const uint8_t *from, const uint8_t *node, const uint
 /* (a packet is one, in however many kinds it goes out) */
 void ether_send(network *on, const uint8_t *from, const uint8_t *node, const uint8_t *packet, size_t length)
 {
-    reason why = throttle_carries(&on->throttle, &on->queues, packet, length);
+    unsigned kinds = kinds_to(on, node);
+    reason why = throttle_carries(&on->throttle, on->of_link, packet, length, count_of(kinds));
     if (why != REASONS) {
         gateway_lose(on, why);
         return;
@@ -88,6 +103,11 @@ static void hear_packet(gateway *it, network *on, const uint8_t *packet, size_t 
 {
     speaker_be_network(&on->speaks, (size_t)(on - it->networks));
     if (has_length(packet, length)) {
+        reason why = throttle_hears(&on->throttle, &on->speaks, packet, length);
+        if (why != REASONS) {
+            gateway_lose(on, why);
+            return;
+        }
         throttle_bring(&on->speaks, NULL, packet);
         length = get16(packet + AT_LENGTH);
         if (is_broadcast(packet + AT_TO_NODE) && is_for_here(on, packet) && length <= LONGEST)

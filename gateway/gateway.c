@@ -220,11 +220,11 @@ static int patience(const gateway *it)
         if (cable_has_more(&it->cables[k]))
             return 0;
     for (size_t k = 0; k < it->count; k++)
-        left = pings_patience(&it->networks[k].pings, left);
+        left = asks_patience(&it->networks[k].asks, pings_patience(&it->networks[k].pings, left));
     return left;
 }
 
-/* Pings those whose pings have waited for a narrow line. */
+/* Pings those whose pings have waited. */
 static void send_pings(gateway *it)
 {
     for (size_t k = 0; k < it->count; k++)

@@ -36,9 +36,11 @@ typedef struct network {
     uint8_t refused[4];  /* the address that isn't allowed and was told last, */
     uint64_t refused_at; /* and when, or 0; */
     pings pings;         /* pings that wait for a narrow line; */
+    asks asks;           /* when pings are repeated that aren't answered; */
     outgoing outgoing;   /* what waits to be sent to clients */
     speaker speaks;      /* all who are there, where it isn't one; */
-    fair queues;         /* and what it receives of each client who speaks */
+    fair queues;         /* and what its link receives of each client who speaks: */
+    fair *of_link;       /* the first network on the link has that for all */
     ipxr_segment *segment; /* of its network's links, where it is one of several; */
     uint8_t link;          /* and its number there */
     loop loop;             /* whether it is one cable with another of them */

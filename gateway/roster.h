@@ -6,6 +6,7 @@
 #include <stddef.h>
 #include <stdint.h>
 
+#include "asked.h"
 #include "fair.h"
 #include "limit.h"
 #include "speaker.h"
@@ -30,6 +31,7 @@ typedef struct member {
     bool is_trusted;  /* whether that needn't answer pings */
     bool is_by_line;  /* whether it is reached by the narrow line */
     fair *queues;     /* what it receives of each who speaks to it */
+    asked ping;       /* the last that it was sent */
     meter pinged, asked, answered;
 } member;
 

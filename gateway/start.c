@@ -49,8 +49,19 @@ bool gateway_open(gateway *it, const settings *set)
     return true;
 }
 
+/* The first network that is on the same link, in whatever kind of frames. */
+static network *first_on_link(gateway *it, network *on)
+{
+    network *first = it->networks;
+    while (first != on && !same_link(first->set, on->set)) /* (a port that is taken free is nobody else's) */
+        first++;
+    return first;
+}
+
 void gateway_take_ports(gateway *it)
 {
+    for (size_t k = 0; k < it->count; k++)
+        it->networks[k].of_link = &first_on_link(it, &it->networks[k])->queues;
     it->port_count = 0;
     for (size_t k = 0; k < it->count; k++) {
         port *at = &it->ports[it->networks[k].set->port];

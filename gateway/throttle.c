@@ -11,15 +11,19 @@ enum { BURST = 64 };
  * kept for those who have less than their part of it. */
 enum { SHARES = 2, SHARES_AT_ONCE = 3, LEAST_AT_ONCE = 150, SHARES_KEPT = 2, LEAST_KEPT = 100 };
 
-/* Bytes are counted by the piece, and so many are the longest packet of DOSBox'. At once there is room for so many of these, of which one
- * who speaks alone has two thirds, and more are kept: as on Windows a system keeps 64 KB for a program that hasn't read them. */
-enum { PIECE = 16, LONGEST_PIECES = 89, LONGEST_AT_ONCE = 48, LONGEST_KEPT = 16 };
+/* What a packet takes of the room that a system keeps for a program which hasn't read it, 208 KB on Linux, is counted by the piece: the
+ * longest of DOSBox' takes so many. At once there is room for so many of these, of which one who speaks alone has two thirds, and more are
+ * kept. Linux takes 768 bytes for a short packet, 1,280 for one of more than some 110 bytes, and 2,304 for one of more than some 600. */
+enum { LONGEST_PIECES = 89, LONGEST_AT_ONCE = 48, LONGEST_KEPT = 16 };
+enum { MIDDLE = 110, MIDDLE_PIECES = 37, LONG = 600, SHORT_PIECES = 22 };
 
 /* Pings of a client, and of all together, and questions to the router: a second, and at once. */
 enum { PINGS = 1, PINGS_AT_ONCE = 2, ALL_PINGS = 4, ALL_PINGS_AT_ONCE = 8, QUESTIONS = 1, QUESTIONS_AT_ONCE = 4 };
 
-/* Packets a second of what an address tells as a router, and at least so many at once; and what one has. */
-enum { ADVERTISEMENTS = 4, ADVERTISEMENTS_AT_ONCE = 32, ROUTES_IN_PACKET = 50, SERVICES_IN_PACKET = 7 };
+/* Packets a second of what an address tells as a router, and at least so many at once; the same of a link with frames, on which there may be
+ * many routers; and what one has. */
+enum { ADVERTISEMENTS = 4, ADVERTISEMENTS_AT_ONCE = 32, LINK_ADVERTISEMENTS = 100, LINK_ADVERTISEMENTS_AT_ONCE = 400 };
+enum { ROUTES_IN_PACKET = 50, SERVICES_IN_PACKET = 7 };
 
 /* So many times a second, and no fewer, what an address' limit is at once. */
 enum { HOUSEHOLD_PART = 8, HOUSEHOLD_AT_ONCE = 2 * (LEAST_AT_ONCE + LEAST_KEPT) };
@@ -53,9 +57,16 @@ static uint32_t advertisements_at_once(const network_setting *set)
     return most(2 * packets_of_shares(set), ADVERTISEMENTS_AT_ONCE);
 }
 
+static limit advertisements_of(const network_setting *set)
+{
+    if (set->type == LINK_DOSBOX)
+        return limit_of(ADVERTISEMENTS, 1, advertisements_at_once(set));
+    return limit_of(LINK_ADVERTISEMENTS, 1, LINK_ADVERTISEMENTS_AT_ONCE);
+}
+
 static uint32_t pieces(size_t length)
 {
-    return (uint32_t)((length + PIECE - 1) / PIECE);
+    return length > LONG ? LONGEST_PIECES : length > MIDDLE ? MIDDLE_PIECES : SHORT_PIECES;
 }
 
 /* The limits of what all clients of an address receive: half of what may come at once is kept for those whose queues
@@ -84,7 +95,7 @@ void throttle_set(throttle *it, const network_setting *set)
     it->is_off = rate == 0;
     if (it->is_off)
         return;
-    it->advertisements = limit_of(ADVERTISEMENTS, 1, advertisements_at_once(set));
+    it->advertisements = advertisements_of(set);
     it->received = received_of(rate, set->share);
     for (uint32_t k = 0; k < HOUSEHOLD; k++) {
         it->all_questions[k] = limit_of(QUESTIONS * (k + 1), 1, QUESTIONS_AT_ONCE * (k + 1));
@@ -249,27 +260,36 @@ reason throttle_receives(const throttle *it, member *to, size_t queue, size_t le
     fullness is = fair_look(&it->received, to->queues, queue, count);
     if (is == QUEUE_FULL && queue != OF_ROUTER)
         return TOO_MUCH_FOR_CLIENT;
-    if (!household_has_room(it, to, is == QUEUE_LITTLE || queue == OF_ROUTER))
-        return TOO_MUCH_FOR_ADDRESS;
+    /* (what its address has no room for counts too: else the queue of who floods would be empty each time) */
     if (is != QUEUE_FULL)
         fair_add(&it->received, to->queues, queue, count);
+    if (!household_has_room(it, to, is == QUEUE_LITTLE || queue == OF_ROUTER))
+        return TOO_MUCH_FOR_ADDRESS;
     if (it->has_household && !to->is_trusted)
         limit_count(&it->household, &to->speaks->received, 1);
     return REASONS;
 }
 
 /* (networks of another kind have no clients) */
-reason throttle_carries(const throttle *it, fair *queues, const uint8_t *packet, size_t length)
+reason throttle_carries(const throttle *it, fair *queues, const uint8_t *packet, size_t length, uint32_t frames)
 {
     speaker *from = throttle_brought(packet);
     if (it->is_off || from == NULL || from->clients == 0)
         return REASONS;
     size_t queue = throttle_queue(from, packet);
     if (fair_look(&it->received, queues, queue, pieces(length)) != QUEUE_FULL) {
-        fair_add(&it->received, queues, queue, pieces(length));
+        for (; frames > 0; frames--)
+            fair_add(&it->received, queues, queue, pieces(length));
         return REASONS;
     }
     if (brought.copies != NULL)
         ++*brought.copies;
     return TOO_MUCH_FOR_LINK;
+}
+
+reason throttle_hears(throttle *it, speaker *from, const uint8_t *packet, size_t length)
+{
+    if (it->is_off || !is_of_routers(packet) || is_question(packet, length) || limit_lets(&it->advertisements, &from->advertised, 1))
+        return REASONS;
+    return TOO_MANY_ADVERTISEMENTS;
 }

@@ -31,7 +31,7 @@ typedef struct throttle {
     limit all_pings; /* of all clients together: each of them answers each ping */
     limit questions; /* of a client, to the router; */
     limit all_questions[HOUSEHOLD]; /* and of an address with one client, or two, .. */
-    limit advertisements; /* of an address, to the router: what changes by them it says to all other networks at once */
+    limit advertisements; /* of an address, or of a link with frames, to the router: what changes it says to all other networks at once */
     limit answers;   /* of the gateway, to what a client says to it, or somebody in its name; */
     limit all_answers[HOUSEHOLD]; /* and to an address with one client, or two, .. */
     meter pinged;
@@ -56,9 +56,13 @@ speaker *throttle_brought(const uint8_t *packet);
 /* Why a client doesn't receive a packet of so many bytes by a queue; REASONS where it does. */
 reason throttle_receives(const throttle *it, member *to, size_t queue, size_t length);
 
-/* Why a link with frames, which has some queues, doesn't get a packet of so many bytes; REASONS where it does. Only what clients say is
- * limited there. */
-reason throttle_carries(const throttle *it, fair *queues, const uint8_t *packet, size_t length);
+/* Why a link with frames, which has some queues, doesn't get a packet of so many bytes, in so many frames; REASONS where it does. Only what
+ * clients say is limited there. */
+reason throttle_carries(const throttle *it, fair *queues, const uint8_t *packet, size_t length, uint32_t frames);
+
+/* Why the router doesn't hear a packet that came in a frame; REASONS where it does. (what it hears of other routers it says to all other
+ * networks at once) */
+reason throttle_hears(throttle *it, speaker *from, const uint8_t *packet, size_t length);
 
 /* Whether the gateway answers a client's registration or ping. */
 bool throttle_lets_answer(throttle *it, member *to);

@@ -166,13 +166,22 @@ static void ping_again(network *on)
     }
 }
 
-/* Pings clients: by a narrow line one after the other, later. */
+/* Pings a client, and again until it answers. */
+static void ping_one(network *on, const ipxr_own *own)
+{
+    member *to = roster_find(&on->roster, own->place);
+    send_one(on, own, true);
+    if (to != NULL && on->set->kilobits == 0)
+        asked_ping(&to->ping, &on->asks, on->strangers.key, own);
+}
+
+/* Pings clients: by a narrow line one after the other, later, and once. */
 static void ping(network *on)
 {
     ipxr_own own;
     for (size_t k = 0; ipxr_tunnel_own(&on->tunnel, k, &own) == 0; k++)
         if (!pings_add(&on->pings, &own))
-            send_one(on, &own, true);
+            ping_one(on, &own);
     if (on->pings.count > 0)
         pings_pace(&on->pings, line_between_pings(sizeof own.bytes));
 }
@@ -187,11 +196,25 @@ void tunnel_second(network *on)
     ping_again(on);
 }
 
+/* Pings clients once more that haven't answered. */
+static void ping_unanswered(network *on)
+{
+    for (size_t k = 0; k < on->roster.count; k++) {
+        asked *of = &on->roster.list[k].ping;
+        if (asked_is_due(of, &on->asks)) {
+            send_one(on, &of->ping, true);
+            asked_again(of, &on->asks, on->strangers.key);
+        }
+    }
+}
+
 void tunnel_ping(network *on)
 {
     const ipxr_own *next;
     while ((next = pings_due(&on->pings)) != NULL)
         send_one(on, next, true);
+    if (asks_are_due(&on->asks))
+        ping_unanswered(on);
 }
 
 /* ---- Hearing ---- */
@@ -316,9 +339,10 @@ static void hear(gateway *it, network *on, const ipxr_sender *sender, const uint
         tunnel_tell_comes(on, sender->place);
     member *from = roster_find(&on->roster, sender->place);
     reason why = why_lost(on, from != NULL, said, has_length(bytes, length));
-    if (from != NULL)
+    if (from != NULL) {
+        from->ping.waits = from->ping.waits && said != IPXR_ANSWERS;
         answer_client(on, from);
-    else if (!answer_stranger(on, sender->place, said == IPXR_REGISTERS))
+    } else if (!answer_stranger(on, sender->place, said == IPXR_REGISTERS))
         why = TOO_MANY_STRANGERS;
     if (why != REASONS)
         gateway_lose(on, why);

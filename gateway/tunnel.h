@@ -14,7 +14,7 @@ void tunnel_hear(gateway *it, network *on, uint8_t *bytes, size_t length, const 
 /* A second passed: who doesn't answer leaves, and who is silent is asked. */
 void tunnel_second(network *on);
 
-/* Pings clients whose pings wait for room on a narrow line, as far as it is time. */
+/* Pings clients whose pings wait for room on a narrow line, and those again that haven't answered, as far as it is time. */
 void tunnel_ping(network *on);
 
 /* Sends a packet of the router's to the client that has a node, or to all. Its bytes stay where they are until gateway_flush. */

@@ -15,7 +15,7 @@
 #include <unistd.h>
 
 /* Bytes that the system keeps: of what has come, while the gateway sends to many; and of what it sends, as to machines that are gone. */
-enum { KEPT = 1 << 20, KEPT_SENT = 8 << 20, MOST_WAITING = 4 };
+enum { KEPT = 8 << 20, KEPT_SENT = 8 << 20, MOST_WAITING = 4 };
 
 /* What goes to strangers may hold one part in so many of what the system keeps of what is sent. */
 enum { STRANGERS_PART = 4 };

@@ -13,9 +13,10 @@ from systems import SYSTEM, Windows
 
 FLOPPY = 1474560  # bytes
 ROMS = "/usr/share/bochs"
+BIOS = f"{ROMS}/BIOS-bochs-latest"
 CONFIGURATION = f"""config_interface: textconfig
 display_library: term
-romimage: file={ROMS}/BIOS-bochs-latest
+romimage: file={BIOS}
 vgaromimage: file={ROMS}/VGABIOS-lgpl-latest
 megs: 16
 pci: enabled=0
@@ -88,6 +89,8 @@ def lacks():
     for program in "bochs", "script", "nasm":
         if not shutil.which(program):
             return f"no {program}"
+    if not os.path.isfile(BIOS):
+        return f"no {BIOS}, of Debian's bochsbios"
     said = subprocess.run(["bochs", "--help"], stdin=subprocess.DEVNULL, capture_output=True, text=True, check=False)
     is_debians = "-rc filename" in said.stdout + said.stderr and os.path.isdir(ROMS)
     return "" if is_debians else "another one than Debian's, which has a debugger"

@@ -83,7 +83,7 @@ def no_more_than_it_reads():
     hears pings too; of each address it is given its part of what is kept."""
     with Playground(TWO, numbers=(0, 0, 0), more=7, clock=Clock()) as it:
         listener, *others = come(it, [it.free[0], *it.free[1:] * HOUSEHOLD], [GATEWAY[1]] * (1 + 6 * HOUSEHOLD))
-        for passed, part, least, most in (0, KEPT // 6, AT_ONCE - KEPT, AT_ONCE), (0.1, 0, 0, AT_ONCE + RECEIVED // 10):
+        for passed, part, least, most in (0, KEPT // 8, AT_ONCE - KEPT, AT_ONCE), (0.1, 0, 0, AT_ONCE + RECEIVED // 10):
             it.let_pass(passed)
             for player in others:
                 say_up_to(player, player.said + SHARE)

@@ -178,6 +178,20 @@ def a_large_household():
 
 
 @played_anew
+def a_house_of_sixteen():
+    """16 players of one address, who say 288 packets a second together, lose nothing while a client elsewhere says 8,000, though their
+    address receives no more than 14 may."""
+    with Playground(numbers=(0, 0, 0), more=2, begins=False) as it:
+        guilty = flooder(it)
+        for _ in range(HOUSEHOLD_RATE):
+            it.party.put_in("house", Player(it.free[1], GATEWAY, 1 / 18))
+        it.party.speakers += it.party.all[-HOUSEHOLD_RATE:]
+        it.party.enter()
+        stands(it, flood(it.gate, "forged", "chat", FLOOD, count=FLOOD * SECONDS, **place_of(guilty)), it.party.all)
+        assert it.gate.counted(NETWORK, "too much for an address") > 0
+
+
+@played_anew
 def many_that_listen():
     """800 clients of one host only listen, while a client says 400 packets a second: their address receives as much as 16 clients may, and
     players lose nothing."""
@@ -300,9 +314,9 @@ def a_narrow_line():
 # ---- What an address says, by a clock that stands still ----
 
 
-def come(it, hosts, ports):
+def come(it, hosts, ports, kind=Player):
     """A client at each of some addresses, each at a port of the gateway's. Returns them."""
-    players = [Player(host, (GATEWAY[0], port)) for host, port in zip(hosts, ports)]
+    players = [kind(host, (GATEWAY[0], port)) for host, port in zip(hosts, ports)]
     for player in players:
         it.party.put_in("by a clock", player)
         player.register()
@@ -479,6 +493,7 @@ TESTS = [
           f"qemu-udp {GATEWAY[0]}:{OTHER_PORT} {host(8)}:{FIRST} raw"),
     a_crowd_floods,
     a_large_household,
+    a_house_of_sixteen,
     many_that_listen,
     pings_in_its_name,
     named("with full tables SAP's queries in a player's name, 50 a second", questions_in_its_name, "sap"),

@@ -3,6 +3,7 @@
 import socket
 import sys
 
+import asked
 import attacks
 import bochs
 import counting
@@ -33,7 +34,7 @@ from lab import left_out
 from systems import SYSTEM, Windows
 
 ALL = (counting, words, siphash, unit, orders, status, events, probes, reloading, tunnel, links, six, names, segments, kinds,
-       troubles, wires, houses, attacks, limits, fair, slow_pc, narrow, dosbox, pc, bochs)
+       troubles, wires, houses, attacks, limits, asked, fair, slow_pc, narrow, dosbox, pc, bochs)
 TESTS = {it.__name__: it for it in ALL}
 
 

@@ -12,7 +12,7 @@ import time
 from attacks import OTHER_PORT, QUIET, Playground, figures, flood, named, none
 from fair import LASTS, STEP, say_up_to
 from frames import frame
-from lab import EVERYONE, GAME, ROOM, Clock, Counts, left_out, played_anew
+from lab import EVERYONE, GAME, ROOM, Clock, Counts, address, left_out, packet, played_anew, rip_response
 from limits import AT_ONCE, CHAT, FIRST, FLOOD, RATE, RECEIVED, SECONDS, are_answering, come, place_of
 from players import HELLO, NETWORK, Player, Slow
 from spaces import GATEWAY, INSIDE, build_flood, host, tried_inside
@@ -98,13 +98,18 @@ def a_pc_is_flooded(text, kind, count, rate):
         none(lost, are_answering(it, it.party.all[:-1]), "" if dropped(it.gate) > 0 else "nothing was dropped")
 
 
-def by_a_clock(text, rates, least, most):
+def by_a_clock(text, rates, least, most, kinds=("raw",)):
     """Clients of as many addresses say so many packets a second for two seconds: of each at least so many come to the PC, and at most so many
-    of all."""
-    with Playground(f"{text}network 20 1 1424 dosbox 0.0.0.0:0\n", numbers=(0, 0, 0), more=len(rates), clock=Clock()) as it:
+    frames of all. Computers of some kinds of frames are there."""
+    if "network 20" not in text:
+        text += "network 20 1 1424 dosbox 0.0.0.0:0\n"
+    with Playground(text, numbers=(0, 0, 0), more=len(rates), clock=Clock()) as it:
         players = come(it, it.free, [GATEWAY[1]] * len(rates))
         pc = Eager()
         it.party.put_in(PC.KIND, pc)
+        for k, kind in enumerate(kinds):
+            pc.udp.send(frame(kind, EVERYONE, PC_NODE[:5] + bytes([k]), packet(address(0, EVERYONE, CHAT), pc.at(CHAT))))
+        it.gate.report()
         for step in range(int(LASTS / STEP)):
             for player, rate in zip(players, rates):
                 say_up_to(player, int(rate * STEP * (step + 1)))
@@ -114,20 +119,48 @@ def by_a_clock(text, rates, least, most):
         heard = [len(pc.heard.get(player.node, ())) for player in players]
         lost = dropped(it.gate)
         figures(f"of {[int(LASTS * rate) for rate in rates]} the PC heard {heard}; {lost} were dropped")
-        assert sum(heard) <= most, f"{sum(heard)} packets"
+        assert sum(heard) + pc.twice <= most, f"{sum(heard)} packets, and {pc.twice} more frames"
         assert all(count >= floor for count, floor in zip(heard, least)), f"{heard}"
-        assert sum(heard) + lost == sum(player.said for player in players), f"{heard}, {lost} dropped"
+        said = sum(player.said for player in players)
+        assert len(kinds) > 1 or sum(heard) + lost == said, f"{heard}, {lost} dropped"
+
+
+def changes_of_a_route():
+    """A PC in QEMU changes a route 600 times, and a second later 200 times: the router hears it 400 times, then 100, and tells DOSBox's
+    clients no more."""
+    with Playground(beside(), numbers=(0, 0, 1), more=0, begins=False, clock=Clock()) as it:
+        it.party.enter()
+        client, pc = it.party.all[0], PC(network=0x20)
+        for count, heard in (600, 400), (200, 500):
+            for k in range(count):
+                pc.send(rip_response(0x20, pc.node, [(0x99, 16 if k % 2 else 1, 2)]))
+                if k % 50 == 0:
+                    it.gate.report()
+            it.gate.report()
+            it.party.until(lambda: False, QUIET)
+            figures(f"the client heard {client.beside} packets")
+            assert 0 < client.beside <= heard, f"{client.beside} packets"
+            it.let_pass(1)
+        assert it.gate.counted(0x20, "too many advertisements") == 300, it.gate.report()
+        pc.close()
 
 
 ALL = 10 * FLOOD
+MOST = RECEIVED * LASTS + AT_ONCE
+TWO_KINDS = ("raw", "ethernet2")
+ON_ONE_LINK = beside() + f"network 30 1 1424 {WIRE.replace(' raw', ' ethernet2')}\nextend {GAME:X}\n"
 TESTS = [
     named("beside a PC on the same network a client says 8,000 packets a second to all", a_pc_is_flooded, several(), "chat", 1, FLOOD),
     named("a client says 8,000 packets a second to a PC on the same network", a_pc_is_flooded, several(), "tell", 1, FLOOD),
     named("clients of eight addresses say as much as they may to a network on which a PC is", a_pc_is_flooded, beside(), "chat", MANY, RATE),
     named("by a clock, of 2,000 packets a second that a client says the PC gets what a client gets, and of 40 and 200 of others all",
-          by_a_clock, several(), [2000, 40, 200], [1300, 80, 400], int(RECEIVED * LASTS) + AT_ONCE),
+          by_a_clock, several(), [2000, 40, 200], [1300, 80, 400], MOST),
+    named("the same where the PC's link has two kinds of frames, so that each packet goes out twice", by_a_clock,
+          several().replace(" raw", " auto"), [2000, 40, 200], [400, 80, 280], MOST, TWO_KINDS),
+    named("the same where two networks are on its link", by_a_clock, ON_ONE_LINK, [350, 40, 200], [280, 80, 240], MOST, TWO_KINDS),
     named("by a clock, with a rate of 100 below the PC's link", by_a_clock, several("rate 100 10\n"), [400, 40], [80, 80], 500),
     named("by a clock, with no limit below it", by_a_clock, several("rate none\n"), [2000, 40], [4000, 80], ALL),
+    changes_of_a_route,
 ]
 
 
