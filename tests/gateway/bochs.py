@@ -1,4 +1,5 @@
 """A real Bochs: a PC whose boot sector drives an NE2000 and sends packets back, its frames in datagrams or by a TAP in a bridge."""
+import glob
 import os
 import shutil
 import subprocess
@@ -13,11 +14,14 @@ from systems import SYSTEM, Windows
 
 FLOPPY = 1474560  # bytes
 ROMS = "/usr/share/bochs"
-BIOS = f"{ROMS}/BIOS-bochs-latest"
+BIOS, VGA_BIOS = f"{ROMS}/BIOS-bochs-latest", f"{ROMS}/VGABIOS-lgpl-latest"
+TERMINAL = "/usr/lib/*/bochs/plugins/libbx_term_gui.so"
+# The packages of Debian that have these.
+PACKAGES = {BIOS: "bochsbios", VGA_BIOS: "vgabios", TERMINAL: "bochs-term"}
 CONFIGURATION = f"""config_interface: textconfig
 display_library: term
 romimage: file={BIOS}
-vgaromimage: file={ROMS}/VGABIOS-lgpl-latest
+vgaromimage: file={VGA_BIOS}
 megs: 16
 pci: enabled=0
 boot: floppy
@@ -89,8 +93,9 @@ def lacks():
     for program in "bochs", "script", "nasm":
         if not shutil.which(program):
             return f"no {program}"
-    if not os.path.isfile(BIOS):
-        return f"no {BIOS}, of Debian's bochsbios"
+    for file, package in PACKAGES.items():
+        if not any(map(os.path.isfile, glob.glob(file))):
+            return f"no {package}"
     said = subprocess.run(["bochs", "--help"], stdin=subprocess.DEVNULL, capture_output=True, text=True, check=False)
     is_debians = "-rc filename" in said.stdout + said.stderr and os.path.isdir(ROMS)
     return "" if is_debians else "another one than Debian's, which has a debugger"
