@@ -128,9 +128,8 @@ def by_a_clock(text, rates, least, most, kinds=("raw",)):
 def changes_of_a_route():
     """A PC in QEMU changes a route 600 times, and a second later 200 times: the router hears it 400 times, then 100, and tells DOSBox's
     clients no more."""
-    with Playground(beside(), numbers=(0, 0, 1), more=0, begins=False, clock=Clock()) as it:
-        it.party.enter()
-        client, pc = it.party.all[0], PC(network=0x20)
+    with Playground(beside(), numbers=(0, 0, 0), more=1, clock=Clock()) as it:
+        (client,), pc = come(it, it.free, [GATEWAY[1]]), PC(network=0x20)
         for count, heard in (600, 400), (200, 500):
             for k in range(count):
                 pc.send(rip_response(0x20, pc.node, [(0x99, 16 if k % 2 else 1, 2)]))
