@@ -13,7 +13,8 @@ enum { SHARES = 2, SHARES_AT_ONCE = 3, LEAST_AT_ONCE = 150, SHARES_KEPT = 2, LEA
 
 /* What a packet takes of the room that a system keeps for a program which hasn't read it, 208 KB on Linux, is counted by the piece: the
  * longest of DOSBox' takes so many. At once there is room for so many of these, of which one who speaks alone has two thirds, and more are
- * kept. Linux takes 768 bytes for a short packet, 1,280 for one of more than some 110 bytes, and 2,304 for one of more than some 600. */
+ * kept. By a virtual card Linux takes 768 bytes for a short packet, 1,280 for one of more than some 110 bytes, and 2,304 for one of more
+ * than some 600; a real card's driver may take more. */
 enum { LONGEST_PIECES = 89, LONGEST_AT_ONCE = 48, LONGEST_KEPT = 16 };
 enum { MIDDLE = 110, MIDDLE_PIECES = 37, LONG = 600, SHORT_PIECES = 22 };
 
