@@ -21,8 +21,8 @@ enum { MIDDLE = 110, MIDDLE_PIECES = 37, LONG = 600, SHORT_PIECES = 22 };
 /* Pings of a client, and of all together, and questions to the router: a second, and at once. */
 enum { PINGS = 1, PINGS_AT_ONCE = 2, ALL_PINGS = 4, ALL_PINGS_AT_ONCE = 8, QUESTIONS = 1, QUESTIONS_AT_ONCE = 4 };
 
-/* Packets a second of what an address tells as a router, and at least so many at once; the same of a link with frames, on which there may be
- * many routers; and what one has. */
+/* Packets a second of what an address tells as a router, and at least so many at once; the same of a link with frames, on which there may
+ * be many routers; and what one has. */
 enum { ADVERTISEMENTS = 4, ADVERTISEMENTS_AT_ONCE = 32, LINK_ADVERTISEMENTS = 100, LINK_ADVERTISEMENTS_AT_ONCE = 400 };
 enum { ROUTES_IN_PACKET = 50, SERVICES_IN_PACKET = 7 };
 
