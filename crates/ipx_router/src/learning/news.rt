@@ -60,8 +60,9 @@ pub(crate) fn advertise_service_changes(
     if changes.is_empty() {
         return;
     }
+    let mut page = ArrayVec::new();
     for &number in up {
-        broadcast_service_changes(outbox, ports, number, changes);
+        broadcast_service_changes(outbox, ports, number, changes, &mut page);
     }
 }
 
@@ -82,12 +83,13 @@ fn broadcast_route_changes(
     broadcast_page(outbox, ports, number, &page);
 }
 
-/// Broadcasts changed services on one port, in at most one packet.
+/// Broadcasts changed services on one port, in at most one packet. They are put on a page that all ports share.
 fn broadcast_service_changes(
     outbox: &mut Outbox,
     ports: &[Port],
     number: u8,
     changes: &[Touched<ServiceOffer>],
+    page: &mut ArrayVec<Service, SERVICES_A_PAGE>,
 )
     requires port { number < length ports.now }
     requires few { length changes.now ≤ services_a_page }
@@ -95,8 +97,8 @@ fn broadcast_service_changes(
     ensures sent { Appends outbox.old outbox.new (sap_broadcast ports.now number (flat_map (service_told number) (map change_of changes.now))) }
     ensures left { (packets bytes : ℕ) → HasRoom outbox.old (packets + 1) (bytes + most_own_length) → HasRoom outbox.new packets bytes }
 {
-    let page = news_services(number, changes);
-    broadcast_service_page(outbox, ports, number, &page);
+    list_news_services(page, number, changes);
+    broadcast_service_page(outbox, ports, number, page);
 }
 
 /// Broadcasts a page of entries on a port, if there is any.
@@ -173,19 +175,19 @@ fn news_routes(
     page
 }
 
-/// Changed services as a port advertises them, by type and name.
-fn news_services(
+/// Puts the changed services as a port advertises them, by type and name, on a page in place of what was there.
+fn list_news_services(
+    page: &mut ArrayVec<Service, SERVICES_A_PAGE>,
     number: u8,
     changes: &[Touched<ServiceOffer>],
-) -> ArrayVec<Service, SERVICES_A_PAGE>
+)
     requires few { length changes.now ≤ services_a_page }
-    ensures { result.items ≡ flat_map (service_told number) (map change_of changes.now) }
+    ensures { page.new.items ≡ flat_map (service_told number) (map change_of changes.now) }
 {
-    let mut page = ArrayVec::new();
+    page.clear();
     for change in changes {
-        add_news_service(&mut page, number, change);
+        add_news_service(page, number, change);
     }
-    page
 }
 
 /// A changed route as a port advertises it: as it is now or, where it ended, as unreachable.

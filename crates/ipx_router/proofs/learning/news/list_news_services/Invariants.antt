@@ -2,7 +2,7 @@ use Rattle.std.proofs.Common.{◌≡◌, ◌≤◌, length, map, take}
 use Rattle.std.specs.List.{flat_map}
 use Rattle.ipx_router.specs.News.{service_told}
 use Rattle.ipx_router.specs.inside.Touched.{change_of}
-use Rattle.ipx_router.proofs.learning.news.news_services.Given as goal
+use Rattle.ipx_router.proofs.learning.news.list_news_services.Given as goal
 
 abbrev pub invariant-loop-change : goal.invariant-loop-change
 invariant-loop-change l = record {

@@ -4,7 +4,7 @@ use Rattle.ipx_router.specs.inside.Touched.{change_of}
 use Rattle.ipx_router.specs.declared.learning.touched.Touched.{Touched}
 use Rattle.ipx_router.specs.declared.service_offer.ServiceOffer.{ServiceOffer}
 use Rattle.ipx_router.proofs.changes.ListedForEachPort.{map_more}
-use Rattle.ipx_router.proofs.learning.news.news_services.Goals as goal
+use Rattle.ipx_router.proofs.learning.news.list_news_services.Goals as goal
 
 pub loop-change-preserved : goal.loop-change-preserved
 loop-change-preserved c = record {
