@@ -1,5 +1,5 @@
 -- A service compared with the bytes of an entry.
-use Rattle.std.proofs.Common.{◌≡◌, ◌≢◌, refl, sym, ap, ◌∙◌, ℕ, ◌==◌, Bool, true, false, not, subst, ◌&&◌, List, Some, true≢false, is_eq, nat_eq, ap₂}
+use Rattle.std.proofs.Common.{◌≡◌, refl, sym, ap, ◌∙◌, ℕ, ◌==◌, Bool, true, false, not, subst, ◌&&◌, List, Some, true≢false, is_eq, nat_eq, ap₂}
 use Rattle.std.specs.Cmp.{nat_cmp_is}
 use Rattle.std.specs.Cmp.Lexicographic.{pointwise, same_text}
 use Rattle.std.specs.Int.{from_be_bytes, w16}
@@ -79,3 +79,9 @@ unfolding sap_entry_at
 order_of s bytes e zeros =
     let kind : s.kind ≡ from_be_bytes w16 (piece bytes 0 2) = sym (ap (λ (entry : SapEntry). entry.kind) e) in
     ap₂ (λ (a b : Ordering). is_eq (ordering_then a b)) (sym (nat_cmp_is s.kind (from_be_bytes w16 (piece bytes 0 2)) Equal kind)) (is_equal (name_field s.name) (piece bytes 2 48) (sym zeros))
+
+-- where neither comes first, the entry keeps the name as it is sent
+pub zeros_behind : (s : Service) (bytes : List ℕ) → is_eq (entry_order s bytes) ≡ true → piece bytes 2 48 ≡ name_field s.name
+zeros_behind s bytes order =
+    let parts = equal_parts (nat_cmp s.kind (from_be_bytes w16 (piece bytes 0 2))) (name_order (name_field s.name) (piece bytes 2 48)) order in
+    sym (equal_is (name_field s.name) (piece bytes 2 48) parts.1)

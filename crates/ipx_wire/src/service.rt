@@ -64,6 +64,7 @@ impl Service {
         requires { 64 ≤ length bytes.now }
         ensures only { result ≡ true → sap_entry_at bytes.now ≡ entry_of self.now }
         ensures always { sap_entry_at bytes.now ≡ entry_of self.now → piece bytes.now 2 48 ≡ name_field self.now.name → result ≡ true }
+        ensures zeros { result ≡ true → piece bytes.now 2 48 ≡ name_field self.now.name }
     {
         if self.hops != u16_at(bytes, 62) {
             return false;
