@@ -127,6 +127,19 @@ static bool is_client_elsewhere(gateway *it, const network *on, const uint8_t *n
     return false;
 }
 
+/* Tells of a node that is heard on two links by turns. */
+static void look_for_twins(gateway *it, network *on, const uint8_t *node)
+{
+    char words[WORDS], link[LINK_ROOM], other[LINK_ROOM];
+    uint8_t before;
+    port *at = port_of(it, on);
+    if (!twins_hear(&at->twins, node, on->link, it->seconds, &before))
+        return;
+    const network *with = first_of(it, at) + before;
+    event("network %08" PRIX32 " hears node %s by turns on %s and on %s: each machine needs a node of its own", on->set->network,
+          node_words(node, words), cable_words(with->cable, with->set, other), cable_words(on->cable, on->set, link));
+}
+
 /* A packet came on one of several links, from a node for a node or for all. */
 static void hear_at_link(gateway *it, network *on, const uint8_t *frame, const uint8_t *packet, size_t length)
 {
@@ -141,6 +154,8 @@ static void hear_at_link(gateway *it, network *on, const uint8_t *frame, const u
     throttle_bring(&on->speaks, NULL, packet);
     heard what = segment_hear(it, on, from, to, packet, carried);
     throttle_bring(NULL, NULL, NULL);
+    if (what.by_router || what.links > 0)
+        look_for_twins(it, on, from);
     if (what.by_router)
         hear_packet(it, on, packet, length);
     else if (what.links > 0)

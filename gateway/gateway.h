@@ -19,6 +19,7 @@
 #include "siphash.h"
 #include "strangers.h"
 #include "throttle.h"
+#include "twins.h"
 
 /* A network on a link. A network of several links is one of these for each, which share a port of the router. */
 typedef struct network {
@@ -51,7 +52,8 @@ typedef struct network {
 typedef struct port {
     size_t first, count;  /* in the list of networks on links */
     bool is_up;           /* one of them is */
-    ipxr_segment segment; /* says which of several links get a packet */
+    ipxr_segment segment; /* says which of several links get a packet; */
+    twins twins;          /* and two machines with one node are told */
 } port;
 
 typedef struct gateway {

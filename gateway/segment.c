@@ -32,6 +32,7 @@ int32_t segment_open(gateway *it, port *at)
     ipxr_segment_setting set = {.network = first->set->network, .links = (uint8_t)at->count, .capacity = capacity_of(it, at)};
     memcpy(set.node, first->node, NODE);
     int32_t made = ipxr_segment_make(&at->segment, &set);
+    memset(&at->twins, 0, sizeof at->twins);
     for (size_t k = 0; made >= 0 && k < at->count; k++) {
         first[k].segment = &at->segment;
         first[k].link = (uint8_t)k;

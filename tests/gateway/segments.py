@@ -3,6 +3,7 @@ import os
 import re
 import signal
 import sys
+import time
 
 from frames import Packets, Station, Udp, frame
 from lab import EVERYONE, GAME, LIMIT, Client, Clock, Counts, Gateway, address, fresh, is_routers, left_out, packet, reaches, until
@@ -132,6 +133,27 @@ def a_node_moves():
         assert hears(moved, data)
         last = calls(it.anna)
         assert hears(it.pc, last) and not hears(it.pc, data, 0), "it isn't where it was"
+
+
+def two_with_one_node():
+    """Two PCs with one node, on two links, are told once; a PC that is plugged in elsewhere and back is not."""
+    with Party() as it:
+        twin = Station(it.wires[1], "ethernet2", NUMBER, PC, it.pc.gateway)
+        for one in (it.pc, twin, it.pc):
+            assert hears(it.anna, calls(one))
+            time.sleep(1)
+        assert not any("by turns" in line for line in told_so_far(it.gate)), it.gate.lines
+        for one in (twin, it.pc) * 3:
+            assert hears(it.anna, calls(one))
+            time.sleep(1)
+        told = [line for line in told_so_far(it.gate) if "by turns" in line]
+        assert len(told) == 1 and f"network {NUMBER:08X} hears node {PC.hex().upper()} by turns on qemu-udp " in told[0], told
+
+
+def told_so_far(gate):
+    """All lines of the gateway up to now."""
+    gate.report()
+    return gate.lines
 
 
 def nobody_takes_a_clients_name():
@@ -313,7 +335,7 @@ def can(test):
     return True
 
 
-TESTS = (a_call_finds_all, an_answer_goes_to_one, a_node_moves, nobody_takes_a_clients_name, the_router_is_a_station)
+TESTS = (a_call_finds_all, an_answer_goes_to_one, a_node_moves, two_with_one_node, nobody_takes_a_clients_name, the_router_is_a_station)
 OF_LINUX = (stations_are_shown, links_change_while_it_runs, stations_age)
 
 

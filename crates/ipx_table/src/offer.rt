@@ -9,7 +9,7 @@ use std::cmp::Ordering;
 /// four readings.
 ///
 /// A whole offer type, with `use ipx_table::Offer;` and `use ipx_wire::Node;` above. `reading` gives the four readings as
-/// functions, to which the check compares the four calls; `alike` is proved by the words that stand here, as long as the
+/// functions, to which the check compares the calls of their names; `alike` is proved by the words that stand here, as long as the
 /// readings look at fields alone:
 ///
 /// ```
