@@ -410,7 +410,7 @@ static void read_line(reader *r, char *line)
     else if (strcmp(word, "link") == 0)
         read_link_line(r);
     else if (!read_line_below(r, word))
-        reader_fault(r, word, "expected network, link, extend, clients, allow, trust, rate or strangers");
+        reader_fault(r, word, "expected network, link, extend, clients, allow, trust, rate, strangers or line");
 }
 
 /* Reads all lines; returns false where memory or the file fails. */

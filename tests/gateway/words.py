@@ -123,7 +123,7 @@ def names_and_marks():
     with tempfile.TemporaryDirectory() as folder:
         for text, status, told in (
             (tunnels(2).replace("\n", "\r\n"), 0, ": 2 networks, nothing wrong\n"),
-            (tunnels(1) + "\x1a\nnetwork", 2, ":2: '\\x1A': expected network, link, extend, clients, allow, trust, rate or strangers\n"),
+            (tunnels(1) + "\x1a\nnetwork", 2, ":2: '\\x1A': expected network, link, extend, clients, allow, trust, rate, strangers or line\n"),
         ):
             name = "Müller Ωμέγα.conf"
             with open(os.path.join(folder, name), "w", encoding="utf-8", newline="") as it:
