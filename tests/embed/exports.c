@@ -1,0 +1,530 @@
+/* Calls every export of the headers, and is made of these alone. Each argument and each field has a value of its own, and what each call
+ * answers is read back: the first wrong answer is named, and the program ends with 1. dev/exports sees that it fails where two exports,
+ * two arguments or two fields are exchanged. What is wanted was given here, or follows from the documents: docs/PACKETS.md,
+ * docs/ROUTER.md, docs/TUNNEL.md and docs/SEGMENT.md. */
+#include <stdio.h>
+#include <stdlib.h>
+#include <string.h>
+
+#include "ipxr_segment.h"
+#include "ipxr_tunnel.h"
+
+/* A call, and the number that it must return. */
+#define ANSWERS(wanted, call) (is_number(#call, (long long)(call), wanted), called = #call)
+/* A call that returns nothing: the next ones show what it did. */
+#define CALLS(call) ((call), called = #call)
+/* A number, or bytes in hexadecimal, that the last call must have written. */
+#define WROTE(wanted, number) is_number(#number, (long long)(number), wanted)
+#define WROTE_BYTES(wanted, bytes) are_bytes(#bytes, bytes, wanted)
+
+enum { HEADER = 30, GAME_SOCKET = 0x4142 };
+
+/* The broadcast node. */
+#define EVERYONE {0xFF, 0xFF, 0xFF, 0xFF, 0xFF, 0xFF}
+
+static const char *called = "nothing";
+static uint8_t buffer[1024];
+
+static void is_number(const char *what, long long number, long long wanted)
+{
+    if (number == wanted)
+        return;
+    printf("%s is %lld, not %lld, after %s\n", what, number, wanted, called);
+    exit(1);
+}
+
+/* The text has two digits for each byte; blanks may stand between bytes. */
+static void are_bytes(const char *what, const uint8_t *bytes, const char *wanted)
+{
+    char digits[3];
+    for (size_t k = 0; *wanted; k++, wanted += 2) {
+        wanted += strspn(wanted, " ");
+        sprintf(digits, "%02X", bytes[k]);
+        if (memcmp(digits, wanted, 2) == 0)
+            continue;
+        printf("%s has %s, not %.2s, at byte %u, after %s\n", what, digits, wanted, (unsigned)k, called);
+        exit(1);
+    }
+}
+
+/* ---- Words and version ---- */
+
+static void words(void)
+{
+    char text[IPXR_MOST_WORD];
+    ANSWERS(IPXR_VERSION, ipxr_version());
+    ANSWERS(12, ipxr_word(IPXR_NO_ROUTE, buffer, 13));
+    WROTE_BYTES("64726F70204E6F526F75746500", buffer);
+    ANSWERS(7, ipxr_word(IPXR_STOPPED, buffer, 7));
+    WROTE_BYTES("64726F70204E6F526F75746500", buffer);
+    ANSWERS(9, ipxr_text(IPXR_FORWARDED, text, sizeof text));
+    WROTE_BYTES("666F7277617264656400", (const uint8_t *)text);
+}
+
+/* ---- Packets and frames ---- */
+
+static const ipxr_address FROM = {.network = 0xB1B2B3B4, .node = {0xB5, 0xB6, 0xB7, 0xB8, 0xB9, 0xBA}, .socket = 0xBBBC};
+static const ipxr_address TO = {.network = 0xC1C2C3C4, .node = {0xC5, 0xC6, 0xC7, 0xC8, 0xC9, 0xCA}, .socket = 0xCBCC};
+#define TO_AND_FROM "C1C2C3C4 C5C6C7C8C9CA CBCC B1B2B3B4 B5B6B7B8B9BA BBBC "
+
+static const ipxr_route_entry ENTRIES[2] = {
+    {.network = 0xD1D2D3D4, .hops = 0xD5D6, .ticks = 0xD7D8},
+    {.network = 0xE1E2E3E4, .hops = 0xE5E6, .ticks = 0xE7E8},
+};
+
+static const ipxr_service_entry OFFERS[2] = {
+    {.name = "FILES", .network = 0x01020304, .node = {5, 6, 7, 8, 9, 10}, .socket = 0x0B0C, .type = 0x0D0E, .hops = 0x0F10},
+    {.name = "PRINT", .network = 0x11121314, .node = {21, 22, 23, 24, 25, 26}, .socket = 0x1B1C, .type = 0x1D1E, .hops = 0x1F20},
+};
+#define ZEROS_8 "0000000000000000"
+#define BEHIND_A_NAME "000000 " ZEROS_8 ZEROS_8 ZEROS_8 ZEROS_8 ZEROS_8 " "
+
+static const uint8_t DATA[20] = {0xF1, 0xF2, 0xF3, 0xF4};
+
+static void packets(void)
+{
+    ANSWERS(48, ipxr_write_rip(&FROM, &TO, IPXR_RIP_RESPONSE, ENTRIES, 2, buffer, 49));
+    WROTE_BYTES("FFFF 0030 00 01 " TO_AND_FROM "0002 D1D2D3D4 D5D6 D7D8 E1E2E3E4 E5E6 E7E8", buffer);
+    ANSWERS(34, ipxr_write_query(&FROM, &TO, 1, 0x0304, buffer, 35));
+    WROTE_BYTES("FFFF 0022 00 04 " TO_AND_FROM "0003 0304", buffer);
+    ANSWERS(160, ipxr_write_sap(&FROM, &TO, 0, OFFERS, 2, buffer, 161));
+    WROTE_BYTES("FFFF 00A0 00 04 " TO_AND_FROM "0002 "
+                "0D0E 46494C4553 " BEHIND_A_NAME "01020304 05060708090A 0B0C 0F10 "
+                "1D1E 5052494E54 " BEHIND_A_NAME "11121314 15161718191A 1B1C 1F20",
+                buffer);
+    ANSWERS(50, ipxr_write_packet(&FROM, &TO, 6, 3, DATA, sizeof DATA, buffer, 51));
+    WROTE_BYTES("FFFF 0032 03 06 " TO_AND_FROM "F1F2F3F4", buffer);
+}
+
+/* Nothing is written without entries, nor where the buffer is a byte short. */
+static void packets_refused(void)
+{
+    ANSWERS(IPXR_BAD_OPERATION, ipxr_write_rip(&FROM, &TO, 3, ENTRIES, 2, buffer, 48));
+    ANSWERS(IPXR_SHORT_BUFFER, ipxr_write_rip(&FROM, &TO, IPXR_RIP_RESPONSE, ENTRIES, 2, buffer, 47));
+    ANSWERS(IPXR_SHORT_BUFFER, ipxr_write_query(&FROM, &TO, 1, 0x0304, buffer, 33));
+    ANSWERS(IPXR_NO_ENTRIES, ipxr_write_sap(&FROM, &TO, 1, OFFERS, 0, buffer, 160));
+    ANSWERS(IPXR_SHORT_BUFFER, ipxr_write_sap(&FROM, &TO, 1, OFFERS, 2, buffer, 159));
+    ANSWERS(IPXR_SHORT_BUFFER, ipxr_write_packet(&FROM, &TO, 6, 3, DATA, sizeof DATA, buffer, 49));
+    WROTE_BYTES("FFFF 0032 03 06 " TO_AND_FROM "F1F2F3F4", buffer);
+}
+
+/* The packet that packets() wrote last, in a frame. */
+static void frames(void)
+{
+    uint8_t frame[80];
+    size_t front = 0;
+    ANSWERS(67, ipxr_frame_write(IPXR_FRAME_LLC, TO.node, FROM.node, buffer, 50, frame, sizeof frame));
+    WROTE_BYTES("C5C6C7C8C9CA B5B6B7B8B9BA 0035 E0E003 FFFF 0032 03 06 " TO_AND_FROM "F1F2F3F4", frame);
+    ANSWERS(IPXR_FRAME_LLC, ipxr_frame_read(frame, 67, &front));
+    WROTE(17, front);
+    ANSWERS(IPXR_NO_FRAME, ipxr_frame_read(frame, 13, &front));
+}
+
+/* ---- A router ---- */
+
+static const ipxr_port PORTS[2] = {
+    {.network = 0x11121314, .node = {0x21, 0x22, 0x23, 0x24, 0x25, 0x26}, .cost = 5, .longest = 600, .routes = 1, .services = 9},
+    {.network = 0x31323334, .node = {0x41, 0x42, 0x43, 0x44, 0x45, 0x46}, .cost = 7, .longest = 700, .routes = 3, .services = 2},
+};
+
+/* A neighbour on the second port's network, and what it advertises there: a route and a service more than are learned. */
+static const ipxr_address NEIGHBOUR = {.network = 0x31323334, .node = {0x71, 0x72, 0x73, 0x74, 0x75, 0x76}, .socket = IPXR_RIP_SOCKET};
+static const ipxr_address ALL_RIP = {.network = 0x31323334, .node = EVERYONE, .socket = IPXR_RIP_SOCKET};
+static const ipxr_address ALL_SAP = {.network = 0x31323334, .node = EVERYONE, .socket = IPXR_SAP_SOCKET};
+static const ipxr_route_entry ROUTES[4] = {
+    {.network = 0x51, .hops = 4, .ticks = 0x0102},
+    {.network = 0x52, .hops = 5, .ticks = 0x0103},
+    {.network = 0x53, .hops = 6, .ticks = 0x0104},
+    {.network = 0x54, .hops = 7, .ticks = 0x0105},
+};
+static const ipxr_service_entry SERVICES[3] = {
+    {.name = "FILES A", .network = 0x51, .node = {0x91, 0x92, 0x93, 0x94, 0x95, 0x96}, .socket = 0xA1A2, .type = 4, .hops = 5},
+    {.name = "FILES B", .network = 0x52, .node = {0x91, 0x92, 0x93, 0x94, 0x95, 0x97}, .socket = 0xA1A3, .type = 4, .hops = 6},
+    {.name = "FILES C", .network = 0x53, .node = {0x91, 0x92, 0x93, 0x94, 0x95, 0x98}, .socket = 0xA1A4, .type = 4, .hops = 7},
+};
+
+/* Every call with a handle that has no router. */
+static void without_router(ipxr *router)
+{
+    ipxr_packet_sent sent;
+    ipxr_route_record route;
+    ipxr_service_record service;
+    ANSWERS(IPXR_NO_ROUTER, ipxr_start(router));
+    ANSWERS(IPXR_NO_ROUTER, ipxr_stop(router));
+    ANSWERS(IPXR_NO_ROUTER, ipxr_second(router));
+    ANSWERS(IPXR_NO_ROUTER, ipxr_packet(router, 1, DATA, sizeof DATA));
+    ANSWERS(IPXR_NO_ROUTER, ipxr_port_down(router, 1));
+    ANSWERS(IPXR_NO_ROUTER, ipxr_port_up(router, 1));
+    ANSWERS(0, ipxr_sent(router));
+    ANSWERS(IPXR_NO_ROUTER, ipxr_get(router, 0, &sent, buffer, sizeof buffer));
+    CALLS(ipxr_clear(router));
+    ANSWERS(IPXR_NO_ROUTER, ipxr_is_running(router));
+    ANSWERS(IPXR_NO_ROUTER, ipxr_is_up(router, 1));
+    ANSWERS(0, ipxr_routes(router));
+    ANSWERS(0, ipxr_services(router));
+    ANSWERS(IPXR_NO_ROUTER, ipxr_route(router, 0, &route));
+    ANSWERS(IPXR_NO_ROUTER, ipxr_service(router, 0, &service));
+    CALLS(ipxr_free(router));
+}
+
+/* It starts, and asks both networks for their routes and services. */
+static void starts(ipxr *router)
+{
+    ipxr_packet_sent sent;
+    ANSWERS(IPXR_NO_PORTS, ipxr_make(router, PORTS, 0));
+    ANSWERS(0, ipxr_make(router, PORTS, 2));
+    ANSWERS(0, ipxr_is_running(router));
+    ANSWERS(0, ipxr_is_up(router, 1));
+    ANSWERS(IPXR_NO_PORT, ipxr_is_up(router, 2));
+    ANSWERS(IPXR_NOT_RUNNING, ipxr_stop(router));
+    ANSWERS(IPXR_NOT_RUNNING, ipxr_second(router));
+    ANSWERS(IPXR_STARTED, ipxr_start(router));
+    ANSWERS(IPXR_ALREADY_RUNNING, ipxr_start(router));
+    ANSWERS(1, ipxr_is_running(router));
+    ANSWERS(1, ipxr_is_up(router, 1));
+    ANSWERS(6, ipxr_sent(router));
+    ANSWERS(0, ipxr_get(router, 5, &sent, buffer, 35));
+    WROTE(34, sent.length);
+    WROTE(1, sent.port);
+    WROTE_BYTES("FFFFFFFFFFFF", sent.node);
+    WROTE_BYTES("FFFF 0022 00 04 31323334 FFFFFFFFFFFF 0452 31323334 414243444546 0452 0001 FFFF", buffer);
+    ANSWERS(IPXR_SHORT_BUFFER, ipxr_get(router, 5, &sent, buffer, 33));
+    ANSWERS(IPXR_NO_PACKET, ipxr_get(router, 6, &sent, buffer, 35));
+    CALLS(ipxr_clear(router));
+    ANSWERS(0, ipxr_sent(router));
+    ANSWERS(1, ipxr_is_running(router));
+}
+
+/* It learns what the second port's shares let in, and advertises it on the first network, with its cost. */
+static void learns(ipxr *router)
+{
+    ipxr_packet_sent sent;
+    int32_t length = ipxr_write_rip(&NEIGHBOUR, &ALL_RIP, IPXR_RIP_RESPONSE, ROUTES, 4, buffer, sizeof buffer);
+    ANSWERS(IPXR_NO_PORT, ipxr_packet(router, 2, buffer, (size_t)length));
+    ANSWERS(IPXR_LEARNED, ipxr_packet(router, 1, buffer, (size_t)length));
+    ANSWERS(3, ipxr_routes(router));
+    ANSWERS(0, ipxr_services(router));
+    ANSWERS(0, ipxr_get(router, 0, &sent, buffer, sizeof buffer));
+    WROTE(0, sent.port);
+    WROTE_BYTES("FFFF 0038 00 01 11121314 FFFFFFFFFFFF 0453 11121314 212223242526 0453 0002 "
+                "00000051 0005 0107 00000052 0006 0108 00000053 0007 0109",
+                buffer);
+    ANSWERS(IPXR_TICKED, ipxr_second(router));
+    length = ipxr_write_sap(&NEIGHBOUR, &ALL_SAP, 0, SERVICES, 3, buffer, sizeof buffer);
+    ANSWERS(IPXR_LEARNED, ipxr_packet(router, 1, buffer, (size_t)length));
+    ANSWERS(2, ipxr_services(router));
+    ANSWERS(3, ipxr_routes(router));
+    ANSWERS(IPXR_TICKED, ipxr_second(router));
+    ANSWERS(IPXR_TICKED, ipxr_second(router));
+}
+
+static void knows(ipxr *router)
+{
+    ipxr_route_record route;
+    ipxr_service_record service;
+    ANSWERS(0, ipxr_route(router, 2, &route));
+    WROTE(0x53, route.network);
+    WROTE(6, route.hops);
+    WROTE(0x0104, route.ticks);
+    WROTE_BYTES("717273747576", route.node);
+    WROTE(1, route.port);
+    WROTE(3, route.age);
+    ANSWERS(0, ipxr_service(router, 1, &service));
+    WROTE_BYTES("46494C45532042 00", service.name);
+    WROTE(0x52, service.network);
+    WROTE_BYTES("919293949597", service.node);
+    WROTE(0xA1A3, service.socket);
+    WROTE(4, service.type);
+    WROTE(6, service.hops);
+    WROTE_BYTES("717273747576", service.neighbour);
+    WROTE(1, service.port);
+    WROTE(2, service.age);
+    ANSWERS(IPXR_NO_RECORD, ipxr_service(router, 2, &service));
+    ANSWERS(0, ipxr_route(router, 0, &route));
+    WROTE(0x51, route.network);
+    ANSWERS(IPXR_NO_RECORD, ipxr_route(router, 3, &route));
+}
+
+/* Writes a packet from the neighbour to a node of the first network, so many bytes long, and returns how many these are. */
+static size_t packet_of(size_t length)
+{
+    static const uint8_t data[1024];
+    static const ipxr_address to = {.network = 0x11121314, .node = {0x61, 0x62, 0x63, 0x64, 0x65, 0x66}, .socket = GAME_SOCKET};
+    ipxr_write_packet(&NEIGHBOUR, &to, 0, 0, data, length - HEADER, buffer, sizeof buffer);
+    return length;
+}
+
+/* It forwards, loses a port and has it again, and stops. */
+static void forwards(ipxr *router)
+{
+    ipxr_packet_sent sent;
+    CALLS(ipxr_clear(router));
+    ANSWERS(IPXR_TOO_LONG, ipxr_packet(router, 1, buffer, packet_of(601)));
+    ANSWERS(IPXR_FORWARDED, ipxr_packet(router, 1, buffer, packet_of(600)));
+    ANSWERS(1, ipxr_sent(router));
+    ANSWERS(0, ipxr_get(router, 0, &sent, buffer, sizeof buffer));
+    WROTE(600, sent.length);
+    WROTE_BYTES("616263646566", sent.node);
+    ANSWERS(IPXR_WENT_DOWN, ipxr_port_down(router, 1));
+    ANSWERS(IPXR_ALREADY_DOWN, ipxr_port_down(router, 1));
+    ANSWERS(0, ipxr_is_up(router, 1));
+    ANSWERS(1, ipxr_is_up(router, 0));
+    ANSWERS(IPXR_CAME_UP, ipxr_port_up(router, 1));
+    ANSWERS(1, ipxr_is_up(router, 1));
+    ANSWERS(IPXR_ALREADY_UP, ipxr_port_up(router, 1));
+    ANSWERS(IPXR_STOPPED, ipxr_stop(router));
+    ANSWERS(0, ipxr_is_running(router));
+}
+
+static void a_router(void)
+{
+    ipxr router = IPXR_NONE;
+    without_router(&router);
+    starts(&router);
+    learns(&router);
+    knows(&router);
+    forwards(&router);
+    CALLS(ipxr_free(&router));
+    without_router(&router);
+}
+
+/* ---- A tunnel ---- */
+
+static const ipxr_tunnel_setting TUNNEL = {
+    .network = 0x11121314, .node = {0x21, 0x22, 0x23, 0x24, 0x25, 0x26}, .capacity = 3, .share = 2};
+enum { TUNNEL_SOCKET = 2 };
+
+static const uint8_t NOBODY[6] = {0}, ALL[6] = EVERYONE;
+
+/* One who has to answer, and two at one trusted address. */
+static const ipxr_sender STRANGER = {.place = {0x51, 0x52, 0x53, 0x54, 0x55, 0x56},
+                                     .current = {0x61, 0x62, 0x63, 0x64, 0x65, 0x66},
+                                     .previous = {0x71, 0x72, 0x73, 0x74, 0x75, 0x76},
+                                     .is_trusted = false};
+static const ipxr_sender PLAYERS[2] = {
+    {.place = {0x81, 0x82, 0x83, 0x84, 0x85, 0x86}, .current = {0x91}, .previous = {0xA1}, .is_trusted = true},
+    {.place = {0x81, 0x82, 0x83, 0x84, 0x85, 0x87}, .current = {0x92}, .previous = {0xA2}, .is_trusted = true},
+};
+
+static void without_tunnel(ipxr_tunnel *tunnel)
+{
+    ipxr_own own;
+    ipxr_client client;
+    uint8_t place[6];
+    ANSWERS(IPXR_NO_TUNNEL, ipxr_tunnel_hear(tunnel, &STRANGER, DATA, sizeof DATA));
+    ANSWERS(IPXR_NO_TUNNEL, ipxr_tunnel_second(tunnel));
+    ANSWERS(IPXR_NO_TUNNEL, ipxr_tunnel_send(tunnel, ALL));
+    ANSWERS(0, ipxr_tunnel_owns(tunnel));
+    ANSWERS(IPXR_NO_TUNNEL, ipxr_tunnel_own(tunnel, 0, &own));
+    ANSWERS(0, ipxr_tunnel_receivers(tunnel));
+    ANSWERS(IPXR_NO_TUNNEL, ipxr_tunnel_receiver(tunnel, 0, place));
+    ANSWERS(0, ipxr_tunnel_carried(tunnel));
+    ANSWERS(0, ipxr_tunnel_is_heard(tunnel));
+    ANSWERS(0, ipxr_tunnel_leavers(tunnel));
+    ANSWERS(IPXR_NO_TUNNEL, ipxr_tunnel_leaver(tunnel, 0, place));
+    ANSWERS(0, ipxr_tunnel_clients(tunnel));
+    ANSWERS(IPXR_NO_TUNNEL, ipxr_tunnel_client(tunnel, 0, &client));
+    CALLS(ipxr_tunnel_free(tunnel));
+}
+
+/* Writes a datagram of a sender for that node and socket, a packet of 32 bytes and 7 bytes behind it, and returns how many these are. */
+static size_t datagram(const ipxr_sender *sender, const uint8_t *node, uint16_t socket)
+{
+    ipxr_address from = {.network = 0x11121314, .socket = socket}, to = {.network = 0x11121314, .socket = socket};
+    memcpy(from.node, sender->place, sizeof from.node);
+    memcpy(to.node, node, sizeof to.node);
+    ipxr_write_packet(&from, &to, 0, 0, DATA, 2, buffer, sizeof buffer);
+    return 39;
+}
+
+/* The stranger registers, and answers the ping with the older of its cookies. */
+static void registers(ipxr_tunnel *tunnel)
+{
+    ipxr_own own;
+    ipxr_client client;
+    ANSWERS(0, ipxr_tunnel_make(tunnel, &TUNNEL));
+    ANSWERS(IPXR_REGISTERS, ipxr_tunnel_hear(tunnel, &STRANGER, buffer, datagram(&STRANGER, NOBODY, TUNNEL_SOCKET)));
+    ANSWERS(2, ipxr_tunnel_owns(tunnel));
+    ANSWERS(0, ipxr_tunnel_leavers(tunnel));
+    ANSWERS(0, ipxr_tunnel_own(tunnel, 1, &own));
+    WROTE_BYTES("515253545556", own.place);
+    WROTE_BYTES("FFFF 001E 00 00 11121314 FFFFFFFFFFFF 0002 11121314 616263646566 0002", own.bytes);
+    ANSWERS(IPXR_NO_RECORD, ipxr_tunnel_own(tunnel, 2, &own));
+    ANSWERS(0, ipxr_tunnel_clients(tunnel));
+    ANSWERS(IPXR_ANSWERS, ipxr_tunnel_hear(tunnel, &STRANGER, buffer, datagram(&STRANGER, STRANGER.previous, TUNNEL_SOCKET)));
+    ANSWERS(1, ipxr_tunnel_clients(tunnel));
+    ANSWERS(IPXR_REGISTERS, ipxr_tunnel_hear(tunnel, &PLAYERS[0], buffer, datagram(&PLAYERS[0], NOBODY, TUNNEL_SOCKET)));
+    ANSWERS(IPXR_REGISTERS, ipxr_tunnel_hear(tunnel, &PLAYERS[1], buffer, datagram(&PLAYERS[1], NOBODY, TUNNEL_SOCKET)));
+    ANSWERS(3, ipxr_tunnel_clients(tunnel));
+    ANSWERS(0, ipxr_tunnel_client(tunnel, 2, &client));
+    WROTE_BYTES("818283848587", client.place);
+    WROTE(180, client.seconds_left);
+    ANSWERS(IPXR_NO_RECORD, ipxr_tunnel_client(tunnel, 3, &client));
+}
+
+/* A player speaks to all, the router to a player; then the stranger leaves, since it answers no ping. */
+static void passes_on(ipxr_tunnel *tunnel)
+{
+    uint8_t place[6] = {0};
+    ANSWERS(IPXR_SPEAKS, ipxr_tunnel_hear(tunnel, &PLAYERS[0], buffer, datagram(&PLAYERS[0], ALL, GAME_SOCKET)));
+    ANSWERS(32, ipxr_tunnel_carried(tunnel));
+    ANSWERS(1, ipxr_tunnel_is_heard(tunnel));
+    ANSWERS(0, ipxr_tunnel_owns(tunnel));
+    ANSWERS(2, ipxr_tunnel_receivers(tunnel));
+    ANSWERS(0, ipxr_tunnel_receiver(tunnel, 1, place));
+    WROTE_BYTES("818283848587", place);
+    ANSWERS(IPXR_NO_RECORD, ipxr_tunnel_leaver(tunnel, 0, place));
+    ANSWERS(0, ipxr_tunnel_send(tunnel, PLAYERS[0].place));
+    ANSWERS(0, ipxr_tunnel_carried(tunnel));
+    ANSWERS(0, ipxr_tunnel_is_heard(tunnel));
+    ANSWERS(1, ipxr_tunnel_receivers(tunnel));
+    ANSWERS(0, ipxr_tunnel_receiver(tunnel, 0, place));
+    WROTE_BYTES("818283848586", place);
+    for (int seconds = 0; seconds < 30; seconds++)
+        ANSWERS(0, ipxr_tunnel_second(tunnel));
+    ANSWERS(0, ipxr_tunnel_receivers(tunnel));
+    ANSWERS(1, ipxr_tunnel_leavers(tunnel));
+    ANSWERS(0, ipxr_tunnel_leaver(tunnel, 0, place));
+    WROTE_BYTES("515253545556", place);
+    ANSWERS(IPXR_NO_RECORD, ipxr_tunnel_receiver(tunnel, 0, place));
+    ANSWERS(2, ipxr_tunnel_clients(tunnel));
+}
+
+/* A broadcast to the second of two sockets, with a byte behind its packet, goes to another network too. The further sockets are looked at
+ * only if another argument is taken for their number. */
+static void extends(void)
+{
+    static const uint16_t sockets[64] = {GAME_SOCKET + 1, GAME_SOCKET};
+    const ipxr_address from = {.network = 0x10, .node = {0xB5, 0xB6, 0xB7, 0xB8, 0xB9, 0xBA}, .socket = GAME_SOCKET};
+    const ipxr_address to = {.network = 0x10, .node = EVERYONE, .socket = GAME_SOCKET};
+    ipxr_write_packet(&from, &to, 0, 0, DATA, 2, buffer, sizeof buffer);
+    ANSWERS(0, ipxr_tunnel_extend(0x10, sockets, 1, 0x11, buffer, 33));
+    ANSWERS(1, ipxr_tunnel_extend(0x10, sockets, 2, 0x11, buffer, 33));
+    WROTE_BYTES("FFFF 0020 00 00 00000011 FFFFFFFFFFFF 4142 00000010 B5B6B7B8B9BA 4142 F1F2", buffer);
+}
+
+static void a_tunnel(void)
+{
+    ipxr_tunnel tunnel = IPXR_TUNNEL_NONE;
+    without_tunnel(&tunnel);
+    registers(&tunnel);
+    passes_on(&tunnel);
+    CALLS(ipxr_tunnel_free(&tunnel));
+    without_tunnel(&tunnel);
+    extends();
+}
+
+/* ---- A segment ---- */
+
+enum { FIRST, SECOND, THIRD, FOURTH, LINKS };
+
+static const ipxr_segment_setting SEGMENT = {
+    .network = 0x11121314, .node = {0x21, 0x22, 0x23, 0x24, 0x25, 0x26}, .links = LINKS, .capacity = 5};
+static const ipxr_link WIRE = {.kind = IPXR_LINK_CABLE, .share = 6}, SURE = {.kind = IPXR_LINK_SURE, .share = 7};
+static const uint8_t ONE[6] = {0x51, 0x52, 0x53, 0x54, 0x55, 0x56}, TWO[6] = {0x61, 0x62, 0x63, 0x64, 0x65, 0x66};
+static const ipxr_address NEAR = {.network = 0x11121314, .node = {0xB5, 0xB6, 0xB7, 0xB8, 0xB9, 0xBA}, .socket = 0xBBBC};
+
+static void without_segment(ipxr_segment *segment)
+{
+    ipxr_station station;
+    ipxr_link values;
+    uint8_t link, node[6];
+    ANSWERS(IPXR_NO_SEGMENT, ipxr_segment_change(segment, FIRST, &WIRE));
+    ANSWERS(IPXR_NO_SEGMENT, ipxr_segment_hear(segment, FIRST, ONE, TWO));
+    ANSWERS(IPXR_NO_SEGMENT, ipxr_segment_come(segment, FIRST, ONE));
+    ANSWERS(IPXR_NO_SEGMENT, ipxr_segment_leave(segment, FIRST, ONE));
+    ANSWERS(IPXR_NO_SEGMENT, ipxr_segment_second(segment));
+    ANSWERS(IPXR_NO_SEGMENT, ipxr_segment_send(segment, ONE));
+    ANSWERS(0, ipxr_segment_receivers(segment));
+    ANSWERS(IPXR_NO_SEGMENT, ipxr_segment_receiver(segment, 0, &link));
+    ANSWERS(0, ipxr_segment_stations(segment));
+    ANSWERS(IPXR_NO_SEGMENT, ipxr_segment_station(segment, 0, &station));
+    ANSWERS(IPXR_NO_SEGMENT, ipxr_segment_link(segment, FIRST, &values));
+    ANSWERS(IPXR_NO_SEGMENT, ipxr_segment_next_node(segment, &NEAR, node));
+    CALLS(ipxr_segment_free(segment));
+}
+
+static void links(ipxr_segment *segment)
+{
+    ipxr_link values;
+    ANSWERS(0, ipxr_segment_make(segment, &SEGMENT));
+    ANSWERS(0, ipxr_segment_change(segment, FIRST, &WIRE));
+    ANSWERS(0, ipxr_segment_change(segment, SECOND, &SURE));
+    ANSWERS(0, ipxr_segment_change(segment, THIRD, &WIRE));
+    ANSWERS(0, ipxr_segment_change(segment, FOURTH, &WIRE));
+    ANSWERS(IPXR_NO_LINK, ipxr_segment_change(segment, LINKS, &WIRE));
+    ANSWERS(0, ipxr_segment_link(segment, SECOND, &values));
+    WROTE(IPXR_LINK_SURE, values.kind);
+    WROTE(7, values.share);
+    ANSWERS(IPXR_NO_LINK, ipxr_segment_link(segment, LINKS, &values));
+}
+
+/* One comes to the sure link, and two is heard on a cable. */
+static void stations(ipxr_segment *segment)
+{
+    ipxr_station station;
+    uint8_t link = LINKS;
+    ANSWERS(0, ipxr_segment_come(segment, SECOND, ONE));
+    ANSWERS(1, ipxr_segment_stations(segment));
+    ANSWERS(0, ipxr_segment_receivers(segment));
+    ANSWERS(1, ipxr_segment_hear(segment, THIRD, TWO, ALL));
+    ANSWERS(3, ipxr_segment_receivers(segment));
+    ANSWERS(0, ipxr_segment_receiver(segment, 2, &link));
+    WROTE(FOURTH, link);
+    ANSWERS(IPXR_NO_RECORD, ipxr_segment_receiver(segment, 3, &link));
+    ANSWERS(0, ipxr_segment_second(segment));
+    ANSWERS(0, ipxr_segment_receivers(segment));
+    ANSWERS(2, ipxr_segment_stations(segment));
+    ANSWERS(0, ipxr_segment_station(segment, 1, &station));
+    WROTE_BYTES("616263646566", station.node);
+    WROTE(THIRD, station.link);
+    WROTE(0, station.is_sure);
+    WROTE(299, station.seconds_left);
+    ANSWERS(0, ipxr_segment_station(segment, 0, &station));
+    WROTE_BYTES("515253545556", station.node);
+    WROTE(SECOND, station.link);
+    WROTE(1, station.is_sure);
+    ANSWERS(IPXR_NO_RECORD, ipxr_segment_station(segment, 2, &station));
+}
+
+/* A packet for a station goes to its link alone, from another one and from the router; then the station leaves. */
+static void delivers(ipxr_segment *segment)
+{
+    uint8_t link = LINKS, node[6] = {0};
+    ANSWERS(0, ipxr_segment_hear(segment, SECOND, ONE, TWO));
+    ANSWERS(1, ipxr_segment_receivers(segment));
+    ANSWERS(0, ipxr_segment_receiver(segment, 0, &link));
+    WROTE(THIRD, link);
+    ANSWERS(0, ipxr_segment_send(segment, ONE));
+    ANSWERS(0, ipxr_segment_receiver(segment, 0, &link));
+    WROTE(SECOND, link);
+    ANSWERS(0, ipxr_segment_next_node(segment, &NEAR, node));
+    WROTE_BYTES("B5B6B7B8B9BA", node);
+    ANSWERS(0, ipxr_segment_next_node(segment, &FROM, node));
+    WROTE_BYTES("212223242526", node);
+    ANSWERS(0, ipxr_segment_leave(segment, SECOND, ONE));
+    ANSWERS(1, ipxr_segment_stations(segment));
+}
+
+static void a_segment(void)
+{
+    ipxr_segment segment = IPXR_SEGMENT_NONE;
+    without_segment(&segment);
+    links(&segment);
+    stations(&segment);
+    delivers(&segment);
+    CALLS(ipxr_segment_free(&segment));
+    without_segment(&segment);
+}
+
+int main(void)
+{
+    words();
+    packets();
+    packets_refused();
+    frames();
+    a_router();
+    a_tunnel();
+    a_segment();
+    return 0;
+}
