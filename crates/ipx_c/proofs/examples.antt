@@ -1,3 +1,4 @@
--- Worked examples: each is checked by computing it.
+-- Worked examples: each is checked by computing it, or follows from the definitions alone.
 pub mod Delivered
+pub mod RoomKept
 pub mod WrittenPackets
