@@ -1,10 +1,9 @@
 -- A listing of a tree under way: what is listed so far, and what is left to list.
-use Rattle.std.specs.Prelude.{◌≡◌, ℕ, ◌+◌, ◌<◌, ◌≤◌, Bool, true, false, if◌then◌else◌, List, [], ◌∷◌, ◌++◌, length, map, None, Some, slice_index_or}
+use Rattle.std.specs.Prelude.{◌≡◌, ℕ, ◌+◌, ◌<◌, ◌≤◌, List, [], ◌∷◌, ◌++◌, length, map, take, drop, None, Some, slice_index_or}
 use Rattle.std.specs.List.{AllByRecursion, flat_map}
 use Rattle.ipx_router.specs.Port.{Port}
 use Rattle.ipx_router.specs.Relays.{Sent}
 use Rattle.ipx_router.specs.declared.outcome.Outcome.{Outcome}
-use Rattle.ipx_internet.specs.Batches.{sent_at}
 use Rattle.ipx_internet.specs.Internet.{IsPlace}
 use Rattle.ipx_internet.specs.inside.Stations.{place_of, hearers}
 use Rattle.ipx_internet.specs.Traced.{Traced, outcome_of, tree, outcome_at}
@@ -13,55 +12,40 @@ use Rattle.ipx_internet.specs.declared.fault.TraceFault.{TraceFault}
 use Rattle.ipx_internet.specs.declared.fault.TraceFault.TheVariants.{NoSuchPort, Limit, Memory}
 use Rattle.ipx_internet.specs.declared.listing.Listed.{Listed}
 use Rattle.ipx_internet.specs.declared.listing.Parent.{Parent}
-use Rattle.ipx_internet.specs.declared.listing.Source.{Source}
-use Rattle.ipx_internet.specs.declared.listing.Source.TheVariants.{First, Even, Odd}
 use Rattle.ipx_internet.specs.declared.stations.Station.{Station}
 
--- ---- as it is kept: the bytes stand with the caller or in one of two outboxes
+-- ---- as it is kept: the first bytes stand with the caller, the others one behind the other, as they were sent on
 
-module _ (first : List ℕ) (even odd : List Sent) where
-  -- the bytes that stand there
-  abbrev pub bytes_in : Source → List ℕ
-  bytes_in First = first
-  bytes_in (Even number) = (sent_at even number).bytes
-  bytes_in (Odd number) = (sent_at odd number).bytes
+module _ (first store : List ℕ) where
+  -- the bytes of a reception that is kept
+  abbrev pub bytes_in : Listed → List ℕ
+  bytes_in l = elim l.parent [ None ↦ first | Some number ↦ take l.size (drop l.start store) ]
 
-  -- a reception that is kept
+  -- the reception
   abbrev pub copy_in : Listed → Copy
-  copy_in l = record { parent = l.parent; to = record { router = l.router; port = l.port }; bytes = bytes_in l.source }
+  copy_in l = record { parent = l.parent; to = record { router = l.router; port = l.port }; bytes = bytes_in l }
 
--- there are such bytes
-abbrev pub IsIn : List Sent → List Sent → Source → Type 0
-IsIn even odd First = Unit
-IsIn even odd (Even number) = number < length even
-IsIn even odd (Odd number) = number < length odd
+-- its bytes are there
+abbrev pub IsIn : List ℕ → Listed → Type 0
+IsIn store l = l.start + l.size ≤ length store
 
-abbrev pub AreKept : List Sent → List Sent → List Listed → Type 0
-AreKept even odd list = AllByRecursion (λ l. IsIn even odd l.source) list
+abbrev pub AreKept : List ℕ → List Listed → Type 0
+AreKept store list = AllByRecursion (IsIn store) list
 
--- what is sent on goes into the outbox in which it doesn't stand
-abbrev pub into_odd : Source → Bool
-into_odd First = true
-into_odd (Even number) = true
-into_odd (Odd number) = false
+-- the bytes of packets that were sent
+abbrev pub sent_bytes : List Sent → List ℕ
+sent_bytes sents = flat_map (λ s. s.bytes) sents
 
-abbrev pub outbox_of : Bool → List Sent → List Sent → List Sent
-outbox_of in_odd even odd = if in_odd then odd else even
-
--- where a packet of an outbox stands
-abbrev pub source_in : Bool → ℕ → Source
-source_in true number = Odd number
-source_in false number = Even number
-
--- the reception of a packet by a station
-abbrev pub child : Parent → ℕ → Station → Listed
-child parent number s = record { parent = Some parent.number; router = s.router; port = s.port; source = source_in parent.odd number }
+-- the reception of a packet by a station, where the packet's bytes begin there and are that many
+abbrev pub child : Parent → ℕ → ℕ → Station → Listed
+child parent start size s = record { parent = Some parent.number; router = s.router; port = s.port; start = start; size = size }
 
 module _ (stations : List Station) (ports : List Port) (parent : Parent) where
-  -- the receptions of packets, where the first of them has a number
+  -- the receptions of packets, where the bytes of the first of them begin there
   abbrev pub listed_from : ℕ → List Sent → List Listed
-  listed_from number [] = []
-  listed_from number (s ∷ sents) = map (child parent number) (hearers stations ports parent.router s) ++ listed_from (number + 1) sents
+  listed_from start [] = []
+  listed_from start (s ∷ sents) =
+      map (child parent start (length s.bytes)) (hearers stations ports parent.router s) ++ listed_from (start + length s.bytes) sents
 
 -- ---- as its callers see it
 

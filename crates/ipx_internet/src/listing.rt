@@ -1,8 +1,8 @@
 //! The receptions of a tree as they are listed, and what was sent on of them.
-ghost use Rattle.std.specs.Prelude.{◌≡◌, ◌+◌, ◌<◌, ◌≤◌, true, false, [], ◌∷◌, ◌++◌, length, map, filter, drop, slice_get, Some, IfOk, OnOk, OnErr, IfErr};
+ghost use Rattle.std.specs.Prelude.{◌≡◌, ◌+◌, ◌<◌, ◌≤◌, [], ◌∷◌, ◌++◌, length, map, filter, slice_get, Some, IfOk, OnOk, IfErr};
 ghost use Rattle.ipx_router.specs.Facts.{offers};
 ghost use Rattle.ipx_router.specs.Relay.{relay_outcome, relay_sends};
-ghost use Rattle.ipx_internet.specs.Listed.{bytes_in, IsIn, into_odd, outbox_of, child, listed_from, copy_at, waits_next, children_by, GoesOn, IsCut};
+ghost use Rattle.ipx_internet.specs.Listed.{bytes_in, sent_bytes, IsIn, child, listed_from, copy_at, waits_next, children_by, GoesOn, IsCut};
 ghost use Rattle.ipx_internet.specs.inside.Stations.{hears};
 ghost use Rattle.ipx_internet.specs.Traced.{router_of, outcome_of};
 ghost use Rattle.ipx_internet.specs.Tree.{root, sent_on};
@@ -15,17 +15,6 @@ use ipx_wire::{Node, Packet};
 use std::alloc::Global;
 use std::marker::Model;
 
-/// Where the bytes of a reception stand.
-#[derive(Clone, Copy, Debug)]
-pub(crate) enum Source {
-    /// With the caller: those of the first reception.
-    First,
-    /// In an outbox, the packet of that number.
-    Even(usize),
-    /// The same in the other outbox.
-    Odd(usize),
-}
-
 /// A reception of a tree.
 #[derive(Clone, Copy, Debug)]
 pub(crate) struct Listed {
@@ -33,15 +22,16 @@ pub(crate) struct Listed {
     pub parent: Option<usize>,
     pub router: usize,
     pub port: u8,
-    pub source: Source,
+    /// Where its bytes begin among those that were sent on, and how many they are; the first one's stand with the caller.
+    pub start: usize,
+    pub size: usize,
 }
 
-/// A reception whose router sends on: its number, its router, and whether what is sent on goes into the odd outbox.
+/// A reception whose router sends on: its number and its router.
 #[derive(Clone, Copy)]
 pub(crate) struct Parent {
     pub number: usize,
     pub router: usize,
-    pub odd: bool,
 }
 
 /// The receptions of a tree, as far as they are listed. Those that were asked what they send on have their outcomes: the
@@ -49,10 +39,8 @@ pub(crate) struct Parent {
 #[derive(Debug, Drop)]
 pub(crate) struct Listing<'a> {
     first: &'a [u8],
-    /// What was sent on of the packets in the odd one.
-    even: Outbox,
-    /// What was sent on of the first bytes, and of the packets in the even one.
-    odd: Outbox,
+    /// The bytes of all packets that were sent on, one behind the other.
+    store: Vec<u8>,
     list: Vec<Listed>,
     outcomes: Vec<Outcome>,
 }
@@ -63,9 +51,9 @@ impl<'a> Model for Listing<'a> {
 
     ghost Value = { Progress };
 
-    ghost view = { λ l. record { copies = map (copy_in l.first.now l.even.sent l.odd.sent) l.list.items; outcomes = l.outcomes.items } };
+    ghost view = { λ l. record { copies = map (copy_in l.first.now l.store.items) l.list.items; outcomes = l.outcomes.items } };
 
-    ghost invariant = { λ l. AreKept l.even.sent l.odd.sent l.list.items };
+    ghost invariant = { λ l. AreKept l.store.items l.list.items };
 }
 
 /// A reception that is listed, lent.
@@ -96,13 +84,13 @@ impl<'a> Listing<'a> {
             parent: None,
             router,
             port,
-            source: Source::First,
+            start: 0,
+            size: 0,
         };
         add(&mut list, listed, limit)?;
         Ok(Listing {
             first,
-            even: Outbox::new(alloc),
-            odd: Outbox::new(alloc),
+            store: Vec::new(alloc),
             list,
             outcomes: Vec::new(alloc),
         })
@@ -132,7 +120,7 @@ impl<'a> Listing<'a> {
             parent: listed.parent,
             router: listed.router,
             port: listed.port,
-            bytes: bytes_of(self.first, &self.even, &self.odd, listed.source),
+            bytes: bytes_of(self.first, &self.store, listed),
         }
     }
 
@@ -144,11 +132,13 @@ impl<'a> Listing<'a> {
         self.outcomes[k]
     }
 
-    /// The router of the reception that waits next sends on what it received, and those that receive it are listed.
+    /// The router of the reception that waits next sends on what it received, and those that receive it are listed. The outbox
+    /// serves from one reception to the next, and what stands in it is removed first.
     pub fn go_on<const P: usize, const R: usize, const S: usize>(
         self,
         router: &Router<P, R, S>,
         stations: &Stations,
+        outbox: &mut Outbox,
         limit: usize,
     ) -> Result<Listing<'a>, TraceFault>
         requires waits { length self.outcomes < length self.copies }
@@ -161,8 +151,7 @@ impl<'a> Listing<'a> {
     {
         let Listing {
             first,
-            mut even,
-            mut odd,
+            mut store,
             mut list,
             mut outcomes,
         } = self;
@@ -171,74 +160,30 @@ impl<'a> Listing<'a> {
         let parent = Parent {
             number,
             router: at.router,
-            odd: is_for_odd(at.source),
         };
-        let before = sent_so_far(&even, &odd, parent.odd);
-        let outcome = send_on(router, at, first, &mut even, &mut odd)?;
-        list_sent(
-            &mut list, stations, router, &even, &odd, before, parent, limit,
+        outbox.clear();
+        let outcome = relay(router, at.port, bytes_of(first, &store, at), outbox)?;
+        list_children(
+            &mut list, &mut store, stations, router, outbox, parent, limit,
         )?;
         keep(&mut outcomes, outcome)?;
         Ok(Listing {
             first,
-            even,
-            odd,
+            store,
             list,
             outcomes,
         })
     }
 }
 
-/// The bytes that stand there.
-fn bytes_of<'a>(first: &'a [u8], even: &'a Outbox, odd: &'a Outbox, source: Source) -> &'a [u8]
-    requires { IsIn even.now.sent odd.now.sent source }
-    ensures { result.now ≡ bytes_in first.entry.now even.entry.now.sent odd.entry.now.sent source }
+/// The bytes of a reception.
+fn bytes_of<'a>(first: &'a [u8], store: &'a [u8], listed: Listed) -> &'a [u8]
+    requires { IsIn store.now listed }
+    ensures { result.now ≡ bytes_in first.entry.now store.entry.now listed }
 {
-    match source {
-        Source::First => first,
-        Source::Even(packet) => even.get(packet).bytes,
-        Source::Odd(packet) => odd.get(packet).bytes,
-    }
-}
-
-/// Whether what is sent on of these bytes goes into the odd outbox.
-fn is_for_odd(source: Source) -> bool
-    ensures { result ≡ into_odd source }
-{
-    match source {
-        Source::First | Source::Even(_) => true,
-        Source::Odd(_) => false,
-    }
-}
-
-/// How many packets stand in the odd outbox, or in the even one.
-fn sent_so_far(even: &Outbox, odd: &Outbox, in_odd: bool) -> usize
-    ensures { result ≡ length (outbox_of in_odd even.now.sent odd.now.sent) }
-{
-    if in_odd { odd.len() } else { even.len() }
-}
-
-/// Sends on what a router received, into the outbox in which it doesn't stand.
-fn send_on<const P: usize, const R: usize, const S: usize>(
-    router: &Router<P, R, S>,
-    at: Listed,
-    first: &[u8],
-    even: &mut Outbox,
-    odd: &mut Outbox,
-) -> Result<Outcome, TraceFault>
-    requires port { at.port < length router.now.ports }
-    requires there { IsIn even.old.sent odd.old.sent at.source }
-    ensures even { OnOk result (into_odd at.source ≡ false → even.new.sent ≡ even.old.sent ++ sent_on (router_of router.now) at.port (bytes_in first.now even.old.sent odd.old.sent at.source)) }
-    ensures odd { OnOk result (into_odd at.source ≡ true → odd.new.sent ≡ odd.old.sent ++ sent_on (router_of router.now) at.port (bytes_in first.now even.old.sent odd.old.sent at.source)) }
-    ensures even_stays { OnOk result (into_odd at.source ≡ true → even.new.sent ≡ even.old.sent) }
-    ensures odd_stays { OnOk result (into_odd at.source ≡ false → odd.new.sent ≡ odd.old.sent) }
-    ensures outcome { IfOk result (λ o. o ≡ outcome_of (router_of router.now) at.port (bytes_in first.now even.old.sent odd.old.sent at.source)) }
-    ensures refused { IfErr result (λ fault. fault ≡ NoMemory) }
-{
-    match at.source {
-        Source::First => relay(router, at.port, first, odd),
-        Source::Even(packet) => relay(router, at.port, even.get(packet).bytes, odd),
-        Source::Odd(packet) => relay(router, at.port, odd.get(packet).bytes, even),
+    match listed.parent {
+        None => first,
+        Some(_) => &store[listed.start..listed.start + listed.size],
     }
 }
 
@@ -282,88 +227,72 @@ fn relay_packet<const P: usize, const R: usize, const S: usize>(
     }
 }
 
-/// Lists those that receive what was sent on of a reception: the packets of its outbox from one number on.
-fn list_sent<const P: usize, const R: usize, const S: usize>(
-    list: &mut Vec<Listed>,
-    stations: &Stations,
-    router: &Router<P, R, S>,
-    even: &Outbox,
-    odd: &Outbox,
-    before: usize,
-    parent: Parent,
-    limit: usize,
-) -> Result<(), TraceFault>
-    requires { before ≤ length (outbox_of parent.odd even.now.sent odd.now.sent) }
-    ensures listed { OnOk result (list.new.items ≡ list.old.items ++ listed_from stations.now.list router.now.ports parent before (drop before (outbox_of parent.odd even.now.sent odd.now.sent))) }
-    ensures few { OnOk result (length list.old.items ≤ limit → length list.new.items ≤ limit) }
-    ensures refused { IfErr result (IsCut limit (length list.old.items
-        + length (listed_from stations.now.list router.now.ports parent before (drop before (outbox_of parent.odd even.now.sent odd.now.sent))))) }
-{
-    if parent.odd {
-        list_children(list, stations, router, odd, before, parent, limit)
-    } else {
-        list_children(list, stations, router, even, before, parent, limit)
-    }
-}
-
-/// The same where the outbox is known.
+/// Lists those that receive what was sent on of a reception, and keeps its bytes.
 fn list_children<const P: usize, const R: usize, const S: usize>(
     list: &mut Vec<Listed>,
+    store: &mut Vec<u8>,
     stations: &Stations,
     router: &Router<P, R, S>,
     outbox: &Outbox,
-    before: usize,
     parent: Parent,
     limit: usize,
 ) -> Result<(), TraceFault>
-    requires { before ≤ length outbox.now.sent }
-    ensures listed { OnOk result (list.new.items ≡ list.old.items ++ listed_from stations.now.list router.now.ports parent before (drop before outbox.now.sent)) }
+    requires { 0 < limit }
+    ensures listed { OnOk result (list.new.items ≡ list.old.items ++ listed_from stations.now.list router.now.ports parent (length store.old.items) outbox.now.sent) }
+    ensures stored { OnOk result (store.new.items ≡ store.old.items ++ sent_bytes outbox.now.sent) }
     ensures few { OnOk result (length list.old.items ≤ limit → length list.new.items ≤ limit) }
     ensures refused { IfErr result (IsCut limit (length list.old.items
-        + length (listed_from stations.now.list router.now.ports parent before (drop before outbox.now.sent)))) }
+        + length (listed_from stations.now.list router.now.ports parent (length store.old.items) outbox.now.sent))) }
 {
-    for packet in before..outbox.len() {
+    for packet in 0..outbox.len() {
         let sent = outbox.get(packet);
         let near = stations.on(network_of(router, sent.port));
-        list_receivers(list, near, sent.link, parent, packet, limit)?;
+        list_receivers(
+            list,
+            near,
+            sent.link,
+            parent,
+            store.len(),
+            sent.bytes.len(),
+            limit,
+        )?;
+        append(store, sent.bytes)?;
     }
     Ok(())
 }
 
-/// Lists those of some stations that receive a packet of an outbox.
+/// Lists those of some stations that receive a packet.
 fn list_receivers(
     list: &mut Vec<Listed>,
     stations: &[Station],
     link: Node,
     parent: Parent,
-    packet: usize,
+    start: usize,
+    size: usize,
     limit: usize,
 ) -> Result<(), TraceFault>
-    ensures listed { OnOk result (list.new.items ≡ list.old.items ++ map (child parent packet) (filter (hears parent.router link) stations.now)) }
+    ensures listed { OnOk result (list.new.items ≡ list.old.items ++ map (child parent start size) (filter (hears parent.router link) stations.now)) }
     ensures few { OnOk result (length list.old.items ≤ limit → length list.new.items ≤ limit) }
-    ensures refused { IfErr result (IsCut limit (length list.old.items + length (map (child parent packet) (filter (hears parent.router link) stations.now)))) }
+    ensures refused { IfErr result (IsCut limit (length list.old.items + length (map (child parent start size) (filter (hears parent.router link) stations.now)))) }
 {
     for station in stations {
         if station.hears(parent.router, link) {
-            add(list, child(parent, packet, station), limit)?;
+            add(list, child(parent, start, size, station), limit)?;
         }
     }
     Ok(())
 }
 
-/// The reception of a packet of an outbox by a station.
-fn child(parent: Parent, packet: usize, station: &Station) -> Listed
-    ensures { result ≡ child parent packet station.now }
+/// The reception of a packet by a station.
+fn child(parent: Parent, start: usize, size: usize, station: &Station) -> Listed
+    ensures { result ≡ child parent start size station.now }
 {
     Listed {
         parent: Some(parent.number),
         router: station.router,
         port: station.port,
-        source: if parent.odd {
-            Source::Odd(packet)
-        } else {
-            Source::Even(packet)
-        },
+        start,
+        size,
     }
 }
 
@@ -388,6 +317,17 @@ fn keep(outcomes: &mut Vec<Outcome>, outcome: Outcome) -> Result<(), TraceFault>
     ensures refused { IfErr result (λ fault. fault ≡ NoMemory) }
 {
     match outcomes.push(outcome) {
+        Ok(()) => Ok(()),
+        Err(_) => Err(TraceFault::Memory),
+    }
+}
+
+/// Appends the bytes of a packet.
+fn append(store: &mut Vec<u8>, bytes: &[u8]) -> Result<(), TraceFault>
+    ensures appended { OnOk result (store.new.items ≡ store.old.items ++ bytes.now) }
+    ensures refused { IfErr result (λ fault. fault ≡ NoMemory) }
+{
+    match store.extend_from_slice(bytes) {
         Ok(()) => Ok(()),
         Err(_) => Err(TraceFault::Memory),
     }

@@ -18,7 +18,7 @@ use crate::internet::Internet;
 use crate::listing::Listing;
 use crate::stations::Stations;
 use crate::trace_iter::TraceIter;
-use ipx_router::{Outcome, Router};
+use ipx_router::{Outbox, Outcome, Router};
 use std::alloc::Global;
 use std::marker::Model;
 
@@ -196,9 +196,10 @@ fn list_tree<'a, const P: usize, const R: usize, const S: usize>(
     crate::laws::weights();
     proves_bytes(bytes);
     let mut listing = Listing::new(alloc, router, port, bytes, limit)?;
+    let mut outbox = Outbox::new(alloc);
     while listing.mark() < listing.len() {
         let at = listing.get(listing.mark()).router;
-        listing = listing.go_on(&routers[at], stations, limit)?;
+        listing = listing.go_on(&routers[at], stations, &mut outbox, limit)?;
     }
     Ok(listing)
 }

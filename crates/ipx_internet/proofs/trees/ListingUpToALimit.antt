@@ -6,8 +6,8 @@ use Rattle.std.proofs.lemmas.Option.{get_or_from_slice_get, slice_get_within}
 use Rattle.ipx_wire.specs.declared.network.Network.{Network}
 use Rattle.ipx_router.specs.Port.{Port, port_at}
 use Rattle.ipx_router.specs.Relays.{Sent}
-use Rattle.ipx_internet.specs.Listed.{child, listed_from, IsCut, Fills}
-use Rattle.ipx_internet.specs.inside.Stations.{stations_on, hears, hearers}
+use Rattle.ipx_internet.specs.Listed.{sent_bytes, child, listed_from, IsCut, Fills}
+use Rattle.ipx_internet.specs.inside.Stations.{stations_on, hears}
 use Rattle.ipx_internet.specs.declared.fault.TraceFault.{TraceFault}
 use Rattle.ipx_internet.specs.declared.fault.TraceFault.TheVariants.{NoSuchPort, Limit, Memory}
 use Rattle.ipx_internet.specs.declared.listing.Listed.{Listed}
@@ -69,31 +69,36 @@ drop_all (x ∷ xs) (suc k) past = drop_all xs k (omega (arith, past))
 
 -- ---- what is left of some packets
 
-module _ (stations : List Station) (ports : List Port) (parent : Parent) where
-  pub next_packet : (sents : List Sent) (k : ℕ) (s : Sent) → slice_get sents k ≡ Some s
-      → listed_from stations ports parent k (drop k sents)
-      ≡ map (child parent k) (hearers stations ports parent.router s) ++ listed_from stations ports parent (k + 1) (drop (k + 1) sents)
-  next_packet sents k s there =
-      let within : k < length sents = slice_get_within sents k s there in
-      let e : drop k sents ≡ s ∷ drop (suc k) sents =
-      drop-cons sents k s within ∙ ap (λ (x : Sent). x ∷ drop (suc k) sents) (get_or_from_slice_get sents k s s there) in
-      let n : suc k ≡ k + 1 = omega arith in
-      ap (λ (xs : List Sent). listed_from stations ports parent k xs) e
-      ∙ ap (λ (m : ℕ). map (child parent k) (hearers stations ports parent.router s) ++ listed_from stations ports parent (k + 1) (drop m sents)) n
+-- from one packet on
+pub from_one : (sents : List Sent) (k : ℕ) (s : Sent) → slice_get sents k ≡ Some s → drop k sents ≡ s ∷ drop (k + 1) sents
+from_one sents k s there =
+    let within : k < length sents = slice_get_within sents k s there in
+    let n : suc k ≡ k + 1 = omega arith in
+    drop-cons sents k s within ∙ ap (λ (x : Sent). x ∷ drop (suc k) sents) (get_or_from_slice_get sents k s s there)
+    ∙ ap (λ (m : ℕ). s ∷ drop m sents) n
 
 -- a station, where none is asked for
 abbrev pub some_station : Station
 some_station = record { network = record { 0 = 0 }; node = record { 0 = [] }; router = 0; port = 0 }
 
 -- what is left before a packet is asked, over the stations that are on its network
-pub packet_fills : (limit : ℕ) (first now all : List Listed) (stations : List Station) (ports : List Port) (parent : Parent) (sents : List Sent) (k : ℕ) (s : Sent)
+pub packet_fills : (limit : ℕ) (first now all : List Listed) (stations : List Station) (ports : List Port) (parent : Parent) (sents : List Sent) (k start : ℕ) (s : Sent)
     (network : Network) (near : List Station) → near ≡ stations_on stations network → network ≡ (port_at ports s.port).network → slice_get sents k ≡ Some s
-    → Fills limit first now all (listed_from stations ports parent k (drop k sents))
-    → Fills limit first now all (map (child parent k) (filter (hears parent.router s.link) near) ++ listed_from stations ports parent (k + 1) (drop (k + 1) sents))
-packet_fills limit first now all stations ports parent sents k s network near on of there fills =
+    → Fills limit first now all (listed_from stations ports parent start (drop k sents))
+    → Fills limit first now all (map (child parent start (length s.bytes)) (filter (hears parent.router s.link) near)
+    ++ listed_from stations ports parent (start + length s.bytes) (drop (k + 1) sents))
+packet_fills limit first now all stations ports parent sents k start s network near on of there fills =
     let same : near ≡ stations_on stations (port_at ports s.port).network = on ∙ ap (λ (n : Network). stations_on stations n) of in
+    let rest = listed_from stations ports parent (start + length s.bytes) (drop (k + 1) sents) in
     subst (λ (rest : List Listed). Fills limit first now all rest)
-    (next_packet stations ports parent sents k s there
-    ∙ ap (λ (xs : List Station).
-    map (child parent k) (filter (hears parent.router s.link) xs) ++ listed_from stations ports parent (k + 1) (drop (k + 1) sents)) (sym same))
+    (ap (λ (xs : List Sent). listed_from stations ports parent start xs) (from_one sents k s there)
+    ∙ ap (λ (xs : List Station). map (child parent start (length s.bytes)) (filter (hears parent.router s.link) xs) ++ rest) (sym same))
     fills
+
+-- its bytes are appended, and those of the others are left
+pub packet_joins : (first now next : List ℕ) (sents : List Sent) (k : ℕ) (s : Sent) → slice_get sents k ≡ Some s → next ≡ now ++ s.bytes
+    → now ++ sent_bytes (drop k sents) ≡ first → next ++ sent_bytes (drop (k + 1) sents) ≡ first
+packet_joins first now next sents k s there is joins =
+    ap (λ (xs : List ℕ). xs ++ sent_bytes (drop (k + 1) sents)) is
+    ∙ append_assoc now s.bytes (sent_bytes (drop (k + 1) sents))
+    ∙ ap (λ (xs : List Sent). now ++ sent_bytes xs) (sym (from_one sents k s there)) ∙ joins

@@ -12,7 +12,7 @@ returns-in_err-add-clause-refused c =
     let k = c.loop-station.station-index in
     let xs = c.args.stations.now in
     let first = c.args.list.now.items in
-    let of = child c.args.parent c.args.packet in
+    let of = child c.args.parent c.args.start c.args.size in
     let test = hears c.args.parent.router c.args.link in
     let there = one_hears of test xs k some_station c.loop-station-test.true (sym c.hears.ensures ∙ c.if-hears.true) in
     let fills : Fills c.args.limit first c.loop-station.list.items (map of (filter test xs))

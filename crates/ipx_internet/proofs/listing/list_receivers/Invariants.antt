@@ -5,6 +5,6 @@ use Rattle.ipx_internet.proofs.listing.list_receivers.Given as goal
 
 abbrev pub invariant-loop-station : goal.invariant-loop-station
 invariant-loop-station l = record {
-  fills : Fills l.limit l.initial.list.items l.list.items (map (child l.parent l.packet) (filter (hears l.parent.router l.link) l.stations))
-      (map (child l.parent l.packet) (filter (hears l.parent.router l.link) (drop l.station-index l.stations)));
+  fills : Fills l.limit l.initial.list.items l.list.items (map (child l.parent l.start l.size) (filter (hears l.parent.router l.link) l.stations))
+      (map (child l.parent l.start l.size) (filter (hears l.parent.router l.link) (drop l.station-index l.stations)));
 }

@@ -1,14 +1,16 @@
-use Rattle.std.proofs.Common.{ap, is_err, ◌≡◌, ◌<◌, ◌≤◌, arith, length}
+use Rattle.std.proofs.Common.{ap, is_err, ◌≡◌, ◌<◌, ◌≤◌, ◌+◌, ◌∙◌, sym, refl, subst, ℕ, List, ◌++◌, arith, length}
 use Rattle.std.proofs.lemmas.List.{length-map}
 use Rattle.std.proofs.lemmas.Result.{err_from_is_err_and, IfOk-from_err}
-use Rattle.ipx_internet.specs.Listed.{IsIn, Listing, copy_in, outbox_of}
-use Rattle.ipx_internet.specs.Traced.{router_of}
+use Rattle.ipx_router.specs.Relays.{Sent}
+use Rattle.ipx_internet.specs.Listed.{IsIn, Listing, copy_in, bytes_in, sent_bytes, listed_from}
+use Rattle.ipx_internet.specs.Traced.{router_of, outcome_of}
+use Rattle.ipx_internet.specs.Tree.{sent_on}
 use Rattle.ipx_internet.proofs.listing.Listing.go_on.Goals as goal
-use Rattle.ipx_internet.proofs.trees.ListingUpToALimit.{no_memory}
-use Rattle.ipx_internet.proofs.trees.OneStepOfListing.{after, port_is, there_is, cut, kept_all, few_all, went_on}
+use Rattle.ipx_internet.proofs.trees.ListingUpToALimit.{cut_more, no_memory}
+use Rattle.ipx_internet.proofs.trees.OneStepOfListing.{news, after, port_is, there_is, cut, kept_all, few_all, went_on}
 
-pub send_on-requires : goal.send_on-requires
-send_on-requires g c =
+pub bytes_of-requires : goal.bytes_of-requires
+bytes_of-requires g c =
     let i = c.self.inside in
     let r = router_of c.args.router.now in
     let n = c.len-number.result in
@@ -17,16 +19,37 @@ send_on-requires g c =
     let done : n ≡ length i.outcomes.items = omega (arith, counted, all) in
     let at = c.index-at.result.now in
     let first = i.first.now in
-    let even = i.even.sent in
-    let odd = i.odd.sent in
+    let store = i.store.items in
     let list = i.list.items in
     let stations = c.args.stations.now.list in
-    let there : IsIn even odd at.source = there_is first even odd list i.outcomes.items at n r stations c.args.self c.self.view_is
-    done c.index-at.ensures c.requires.waits c.self.invariant in
+    let lent : c.deref.result.now ≡ store = c.deref.ensures.value in
+    subst (λ (bs : List ℕ). IsIn bs at) (sym lent)
+    (there_is first store list i.outcomes.items at n r stations c.args.self c.self.view_is done c.index-at.ensures c.requires.waits c.self.invariant)
+
+pub relay-requires : goal.relay-requires
+relay-requires g c =
+    let i = c.self.inside in
+    let r = router_of c.args.router.now in
+    let n = c.len-number.result in
+    let counted = c.len-number.ensures in
+    let all = i.outcomes.ok.0 in
+    let done : n ≡ length i.outcomes.items = omega (arith, counted, all) in
+    let at = c.index-at.result.now in
+    let first = i.first.now in
+    let store = i.store.items in
+    let list = i.list.items in
+    let stations = c.args.stations.now.list in
     let port : at.port < length c.args.router.now.ports =
-    port_is first even odd list i.outcomes.items at n r stations c.args.self c.self.view_is done c.index-at.ensures c.requires.waits
+    port_is first store list i.outcomes.items at n r stations c.args.self c.self.view_is done c.index-at.ensures c.requires.waits
     (length c.args.router.now.ports) c.requires.port in
-    (first_of (assumption c.well_formed, search c.well_formed), (port, there))
+    (first_of (assumption c.well_formed, search c.well_formed), port)
+
+pub list_children-requires : goal.list_children-requires
+list_children-requires g c =
+    let waits = c.requires.waits in
+    let few = c.requires.few in
+    let some : 0 < c.args.limit = omega (arith, waits, few) in
+    (first_of (assumption c.well_formed, search c.well_formed), some)
 
 pub returns-in_err-outcome-clause-refused : goal.returns-in_err-outcome-clause-refused
 returns-in_err-outcome-clause-refused g c =
@@ -35,8 +58,9 @@ returns-in_err-outcome-clause-refused g c =
     let few = c.requires.few in
     rw (p.1, p.2) (no_memory c.args.limit _ _ (omega (arith, waits, few)) c.in_err-outcome.ensures.refused)
 
-pub list_sent-requires : goal.list_sent-requires
-list_sent-requires g c =
+pub returns-in_err-list_children-clause-refused : goal.returns-in_err-list_children-clause-refused
+returns-in_err-list_children-clause-refused g c =
+    let p = err_from_is_err_and c.from_residual-in_err-list_children.result c.from_residual-in_err-list_children.ensures.1 in
     let i = c.self.inside in
     let r = router_of c.args.router.now in
     let n = c.len-number.result in
@@ -45,44 +69,22 @@ list_sent-requires g c =
     let done : n ≡ length i.outcomes.items = omega (arith, counted, all) in
     let at = c.index-at.result.now in
     let first = i.first.now in
-    let even = i.even.sent in
-    let odd = i.odd.sent in
+    let store = i.store.items in
     let list = i.list.items in
     let stations = c.args.stations.now.list in
-    let even2 = c.send_on.new.even.sent in
-    let odd2 = c.send_on.new.odd.sent in
-    let flag = c.is_for_odd.result in
-    let before = c.sent_so_far-before.result in
-    let s = c.in_ok-outcome.ensures in
-    let a = after first even odd list at n r stations c.self.invariant flag before even2 odd2 c.is_for_odd.ensures c.sent_so_far-before.ensures
-    s.even s.odd s.even_stays s.odd_stays in
-    let fits : before ≤ length (outbox_of flag even2 odd2) = a.fits in
-    (first_of (assumption c.well_formed, search c.well_formed), fits)
-
-pub returns-in_err-list_sent-clause-refused : goal.returns-in_err-list_sent-clause-refused
-returns-in_err-list_sent-clause-refused g c =
-    let p = err_from_is_err_and c.from_residual-in_err-list_sent.result c.from_residual-in_err-list_sent.ensures.1 in
-    let i = c.self.inside in
-    let r = router_of c.args.router.now in
-    let n = c.len-number.result in
-    let counted = c.len-number.ensures in
-    let all = i.outcomes.ok.0 in
-    let done : n ≡ length i.outcomes.items = omega (arith, counted, all) in
-    let at = c.index-at.result.now in
-    let first = i.first.now in
-    let even = i.even.sent in
-    let odd = i.odd.sent in
-    let list = i.list.items in
-    let stations = c.args.stations.now.list in
-    let even2 = c.send_on.new.even.sent in
-    let odd2 = c.send_on.new.odd.sent in
-    let flag = c.is_for_odd.result in
-    let before = c.sent_so_far-before.result in
-    let s = c.in_ok-outcome.ensures in
-    let a = after first even odd list at n r stations c.self.invariant flag before even2 odd2 c.is_for_odd.ensures c.sent_so_far-before.ensures
-    s.even s.odd s.even_stays s.odd_stays in
-    rw (p.1, p.2) (cut first even odd list i.outcomes.items at n r stations c.args.self c.self.view_is done c.index-at.ensures
-    c.requires.waits flag before even2 odd2 a c.args.limit _ c.in_err-list_sent.ensures.refused)
+    let lent : c.deref.result.now ≡ store = c.deref.ensures.value in
+    let bytes : c.bytes_of.result.now ≡ bytes_in first store at = c.bytes_of.ensures ∙ ap (λ (bs : List ℕ). bytes_in first bs at) lent in
+    let relayed : c.relay.new.outbox.sent ≡ c.clear.new.self.sent ++ sent_on r at.port c.bytes_of.result.now = c.in_ok-outcome.ensures.sent in
+    let sent : c.relay.new.outbox.sent ≡ sent_on r at.port (bytes_in first store at) =
+    relayed ∙ ap (λ (ss : List Sent). ss ++ sent_on r at.port c.bytes_of.result.now) c.clear.ensures.sent ∙ ap (λ (bs : List ℕ). sent_on r at.port bs) bytes in
+    let a = after first store list at n r stations c.self.invariant (store ++ sent_bytes (sent_on r at.port (bytes_in first store at))) refl in
+    let same : length (listed_from stations c.args.router.now.ports (record { number = n; router = at.router }) (length store) c.relay.new.outbox.sent)
+    ≡ length (news first store list at n r stations) =
+    ap (λ (ss : List Sent). length (listed_from stations c.args.router.now.ports (record { number = n; router = at.router }) (length store) ss)) sent in
+    let more : length list + length (listed_from stations c.args.router.now.ports (record { number = n; router = at.router }) (length store) c.relay.new.outbox.sent)
+    ≤ length list + length (news first store list at n r stations) = omega (arith, same) in
+    rw (p.1, p.2) (cut first store list i.outcomes.items at n r stations c.args.self c.self.view_is done c.index-at.ensures c.requires.waits _ a c.args.limit _
+    (cut_more c.args.limit _ _ _ more c.in_err-list_children.ensures.refused))
 
 pub invariant_of-result : goal.invariant_of-result
 invariant_of-result g c =
@@ -94,19 +96,21 @@ invariant_of-result g c =
     let done : n ≡ length i.outcomes.items = omega (arith, counted, all) in
     let at = c.index-at.result.now in
     let first = i.first.now in
-    let even = i.even.sent in
-    let odd = i.odd.sent in
+    let store = i.store.items in
     let list = i.list.items in
     let stations = c.args.stations.now.list in
-    let even2 = c.send_on.new.even.sent in
-    let odd2 = c.send_on.new.odd.sent in
-    let flag = c.is_for_odd.result in
-    let before = c.sent_so_far-before.result in
-    let s = c.in_ok-outcome.ensures in
-    let a = after first even odd list at n r stations c.self.invariant flag before even2 odd2 c.is_for_odd.ensures c.sent_so_far-before.ensures
-    s.even s.odd s.even_stays s.odd_stays in
-    kept_all first even odd list i.outcomes.items at n r stations c.args.self c.self.view_is done c.index-at.ensures c.requires.waits
-    flag before even2 odd2 a c.list_sent.new.list.items c.in_ok-list_sent.ensures.listed
+    let lent : c.deref.result.now ≡ store = c.deref.ensures.value in
+    let bytes : c.bytes_of.result.now ≡ bytes_in first store at = c.bytes_of.ensures ∙ ap (λ (bs : List ℕ). bytes_in first bs at) lent in
+    let relayed : c.relay.new.outbox.sent ≡ c.clear.new.self.sent ++ sent_on r at.port c.bytes_of.result.now = c.in_ok-outcome.ensures.sent in
+    let sent : c.relay.new.outbox.sent ≡ sent_on r at.port (bytes_in first store at) =
+    relayed ∙ ap (λ (ss : List Sent). ss ++ sent_on r at.port c.bytes_of.result.now) c.clear.ensures.sent ∙ ap (λ (bs : List ℕ). sent_on r at.port bs) bytes in
+    let store2 = c.list_children.new.store.items in
+    let a = after first store list at n r stations c.self.invariant store2
+    (c.in_ok-list_children.ensures.stored ∙ ap (λ (ss : List Sent). store ++ sent_bytes ss) sent) in
+    let listed : c.list_children.new.list.items ≡ list ++ news first store list at n r stations =
+    c.in_ok-list_children.ensures.listed
+    ∙ ap (λ (ss : List Sent). list ++ listed_from stations c.args.router.now.ports (record { number = n; router = at.router }) (length store) ss) sent in
+    kept_all first store list i.outcomes.items at n r stations c.args.self c.self.view_is done c.index-at.ensures c.requires.waits store2 a c.list_children.new.list.items listed
 
 pub returns-clause-goes_on : goal.returns-clause-goes_on
 returns-clause-goes_on g c =
@@ -118,20 +122,22 @@ returns-clause-goes_on g c =
     let done : n ≡ length i.outcomes.items = omega (arith, counted, all) in
     let at = c.index-at.result.now in
     let first = i.first.now in
-    let even = i.even.sent in
-    let odd = i.odd.sent in
+    let store = i.store.items in
     let list = i.list.items in
     let stations = c.args.stations.now.list in
-    let even2 = c.send_on.new.even.sent in
-    let odd2 = c.send_on.new.odd.sent in
-    let flag = c.is_for_odd.result in
-    let before = c.sent_so_far-before.result in
-    let s = c.in_ok-outcome.ensures in
-    let a = after first even odd list at n r stations c.self.invariant flag before even2 odd2 c.is_for_odd.ensures c.sent_so_far-before.ensures
-    s.even s.odd s.even_stays s.odd_stays in
-    went_on first even odd list i.outcomes.items at n r stations c.args.self c.self.view_is done c.index-at.ensures c.requires.waits
-    flag before even2 odd2 a c.list_sent.new.list.items c.in_ok-list_sent.ensures.listed c.keep.new.outcomes.items _
-    c.in_ok-keep.ensures.kept s.outcome
+    let lent : c.deref.result.now ≡ store = c.deref.ensures.value in
+    let bytes : c.bytes_of.result.now ≡ bytes_in first store at = c.bytes_of.ensures ∙ ap (λ (bs : List ℕ). bytes_in first bs at) lent in
+    let relayed : c.relay.new.outbox.sent ≡ c.clear.new.self.sent ++ sent_on r at.port c.bytes_of.result.now = c.in_ok-outcome.ensures.sent in
+    let sent : c.relay.new.outbox.sent ≡ sent_on r at.port (bytes_in first store at) =
+    relayed ∙ ap (λ (ss : List Sent). ss ++ sent_on r at.port c.bytes_of.result.now) c.clear.ensures.sent ∙ ap (λ (bs : List ℕ). sent_on r at.port bs) bytes in
+    let store2 = c.list_children.new.store.items in
+    let a = after first store list at n r stations c.self.invariant store2
+    (c.in_ok-list_children.ensures.stored ∙ ap (λ (ss : List Sent). store ++ sent_bytes ss) sent) in
+    let listed : c.list_children.new.list.items ≡ list ++ news first store list at n r stations =
+    c.in_ok-list_children.ensures.listed
+    ∙ ap (λ (ss : List Sent). list ++ listed_from stations c.args.router.now.ports (record { number = n; router = at.router }) (length store) ss) sent in
+    went_on first store list i.outcomes.items at n r stations c.args.self c.self.view_is done c.index-at.ensures c.requires.waits store2 a c.list_children.new.list.items listed
+    c.keep.new.outcomes.items _ c.in_ok-keep.ensures.kept (c.in_ok-outcome.ensures.outcome ∙ ap (λ (bs : List ℕ). outcome_of r at.port bs) bytes)
 
 pub returns-clause-few : goal.returns-clause-few
 returns-clause-few g c =
@@ -143,19 +149,22 @@ returns-clause-few g c =
     let done : n ≡ length i.outcomes.items = omega (arith, counted, all) in
     let at = c.index-at.result.now in
     let first = i.first.now in
-    let even = i.even.sent in
-    let odd = i.odd.sent in
+    let store = i.store.items in
     let list = i.list.items in
     let stations = c.args.stations.now.list in
-    let even2 = c.send_on.new.even.sent in
-    let odd2 = c.send_on.new.odd.sent in
-    let flag = c.is_for_odd.result in
-    let before = c.sent_so_far-before.result in
-    let s = c.in_ok-outcome.ensures in
-    let a = after first even odd list at n r stations c.self.invariant flag before even2 odd2 c.is_for_odd.ensures c.sent_so_far-before.ensures
-    s.even s.odd s.even_stays s.odd_stays in
-    few_all first even odd list i.outcomes.items at n r stations c.args.self c.self.view_is done c.index-at.ensures c.requires.waits
-    flag before even2 odd2 a c.list_sent.new.list.items c.in_ok-list_sent.ensures.listed c.args.limit c.in_ok-list_sent.ensures.few c.requires.few
+    let lent : c.deref.result.now ≡ store = c.deref.ensures.value in
+    let bytes : c.bytes_of.result.now ≡ bytes_in first store at = c.bytes_of.ensures ∙ ap (λ (bs : List ℕ). bytes_in first bs at) lent in
+    let relayed : c.relay.new.outbox.sent ≡ c.clear.new.self.sent ++ sent_on r at.port c.bytes_of.result.now = c.in_ok-outcome.ensures.sent in
+    let sent : c.relay.new.outbox.sent ≡ sent_on r at.port (bytes_in first store at) =
+    relayed ∙ ap (λ (ss : List Sent). ss ++ sent_on r at.port c.bytes_of.result.now) c.clear.ensures.sent ∙ ap (λ (bs : List ℕ). sent_on r at.port bs) bytes in
+    let store2 = c.list_children.new.store.items in
+    let a = after first store list at n r stations c.self.invariant store2
+    (c.in_ok-list_children.ensures.stored ∙ ap (λ (ss : List Sent). store ++ sent_bytes ss) sent) in
+    let listed : c.list_children.new.list.items ≡ list ++ news first store list at n r stations =
+    c.in_ok-list_children.ensures.listed
+    ∙ ap (λ (ss : List Sent). list ++ listed_from stations c.args.router.now.ports (record { number = n; router = at.router }) (length store) ss) sent in
+    few_all first store list i.outcomes.items at n r stations c.args.self c.self.view_is done c.index-at.ensures c.requires.waits store2 a c.list_children.new.list.items listed
+    c.args.limit c.in_ok-list_children.ensures.few c.requires.few
 
 pub returns-in_err-outcome-clause-goes_on : goal.returns-in_err-outcome-clause-goes_on
 returns-in_err-outcome-clause-goes_on g c =
@@ -165,13 +174,13 @@ pub returns-in_err-outcome-clause-few : goal.returns-in_err-outcome-clause-few
 returns-in_err-outcome-clause-few g c =
     IfOk-from_err c.from_residual.result _ (ap (λ r. is_err r) (err_from_is_err_and c.from_residual.result c.from_residual.ensures.1).1)
 
-pub returns-in_err-list_sent-clause-goes_on : goal.returns-in_err-list_sent-clause-goes_on
-returns-in_err-list_sent-clause-goes_on g c =
-    IfOk-from_err c.from_residual-in_err-list_sent.result _ (ap (λ r. is_err r) (err_from_is_err_and c.from_residual-in_err-list_sent.result c.from_residual-in_err-list_sent.ensures.1).1)
+pub returns-in_err-list_children-clause-goes_on : goal.returns-in_err-list_children-clause-goes_on
+returns-in_err-list_children-clause-goes_on g c =
+    IfOk-from_err c.from_residual-in_err-list_children.result _ (ap (λ r. is_err r) (err_from_is_err_and c.from_residual-in_err-list_children.result c.from_residual-in_err-list_children.ensures.1).1)
 
-pub returns-in_err-list_sent-clause-few : goal.returns-in_err-list_sent-clause-few
-returns-in_err-list_sent-clause-few g c =
-    IfOk-from_err c.from_residual-in_err-list_sent.result _ (ap (λ r. is_err r) (err_from_is_err_and c.from_residual-in_err-list_sent.result c.from_residual-in_err-list_sent.ensures.1).1)
+pub returns-in_err-list_children-clause-few : goal.returns-in_err-list_children-clause-few
+returns-in_err-list_children-clause-few g c =
+    IfOk-from_err c.from_residual-in_err-list_children.result _ (ap (λ r. is_err r) (err_from_is_err_and c.from_residual-in_err-list_children.result c.from_residual-in_err-list_children.ensures.1).1)
 
 pub returns-in_err-keep-clause-goes_on : goal.returns-in_err-keep-clause-goes_on
 returns-in_err-keep-clause-goes_on g c =
@@ -193,7 +202,7 @@ index-at-requires g c =
     let i = c.self.inside in
     let copies = ap (λ (l : Listing). length l.copies) c.self.view_is in
     let outcomes = ap (λ (l : Listing). length l.outcomes) c.self.view_is in
-    let size = length-map i.list.items (copy_in i.first.now i.even.sent i.odd.sent) in
+    let size = length-map i.list.items (copy_in i.first.now i.store.items) in
     let all = i.list.ok.0 in
     let done = i.outcomes.ok.0 in
     let counted = c.len-number.ensures in
