@@ -1,5 +1,5 @@
 //! Where the ports of a network are found: all ports of an internet by network, and on each by router and port.
-ghost use Rattle.std.specs.Prelude.{◌≡◌, ◌↔◌, ℕ, ◌+◌, ◌<◌, ◌≤◌, ◌==◌, ◌-◌, true, false, [], ◌∷◌, ◌++◌, if◌then◌else◌, length, take, drop, nat_le, OnOk};
+ghost use Rattle.std.specs.Prelude.{◌≡◌, ◌≢◌, ◌↔◌, ℕ, ◌+◌, ◌<◌, ◌≤◌, ◌==◌, ◌-◌, true, false, [], ◌∷◌, ◌++◌, if◌then◌else◌, length, take, drop, slice_index_or, nat_le, OnOk};
 ghost use Rattle.std.specs.List.{insert, list_any};
 ghost use Rattle.std.specs.List.Sorted.{IsNonDecreasingBy, IsPartitionPoint};
 ghost use Rattle.std.specs.Vec.{vec_len, vec_capacity};
@@ -10,6 +10,7 @@ ghost use Rattle.ipx_internet.specs.Internet.{Internet};
 ghost use Rattle.ipx_internet.specs.Moment.{SharesNode};
 ghost use Rattle.ipx_internet.specs.Most.{most_on_network};
 ghost use Rattle.ipx_internet.specs.inside.Stations.{stations_on, station, hears, AreOf};
+ghost use Rattle.ipx_internet.specs.declared.stations.Station.{Station as SomeStation};
 
 use ipx_router::{Port, Router};
 use ipx_wire::{Network, Node, OutOfMemory};
@@ -182,8 +183,22 @@ fn bounds(list: &[Station], network: Network) -> (usize, usize)
     ensures point { IsPartitionPoint (λ s. nat_le s.network.0 network.0 ≡ true) (λ s. nat_le s.network.0 network.0 ≡ false) list.now result.1 }
 {
     let first = list.partition_point(|s| s.network < network);
-    let end = list.partition_point(|s| s.network <= network);
-    (first, end)
+    (first, end_from(list, first, network))
+}
+
+/// Where the stations on a network end, from a place on. Mostly they are few, so they are passed one by one.
+fn end_from(list: &[Station], first: usize, network: Network) -> usize
+    requires { first ≤ length list.now }
+    ensures from { first ≤ result }
+    ensures within { result ≤ length list.now }
+    ensures on { (k : ℕ) (d : SomeStation) → first ≤ k → k < result → (slice_index_or list.now k d).network.0 ≡ network.0 }
+    ensures other { (d : SomeStation) → result < length list.now → (slice_index_or list.now result d).network.0 ≢ network.0 }
+{
+    let mut end = first;
+    while end < list.len() && list[end].network == network {
+        end += 1;
+    }
+    end
 }
 
 /// Inserts a station at a place, into the room that is there.
