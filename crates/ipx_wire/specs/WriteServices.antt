@@ -3,6 +3,7 @@ use Rattle.std.specs.Prelude.{ℕ, ◌+◌, ◌*◌, ◌<◌, ◌^◌, Bool, Lis
 use Rattle.std.specs.Int.{to_be_bytes, w16}
 use Rattle.std.specs.List.{flat_map}
 use Rattle.ipx_wire.specs.Address.{IsAddress, address_bytes}
+use Rattle.ipx_wire.specs.Header.{header_bytes}
 use Rattle.ipx_wire.specs.Name.{IsServiceName, name_field}
 use Rattle.ipx_wire.specs.Numbers.{sap_type}
 use Rattle.ipx_wire.specs.Packet.{Parts}
@@ -30,6 +31,11 @@ entry_of s = record { kind = s.kind; name = Some s.name; address = s.address; ho
 -- the data of a response: the operation and the services, and nothing behind them
 abbrev pub sap_payload : Bool → List Service → List ℕ
 sap_payload nearest services = to_be_bytes w16 (response_number nearest) ++ flat_map service_bytes services
+
+-- what stands before the services of a response of that many: the header and the operation, 32 bytes
+abbrev pub sap_front : Address → Address → Bool → ℕ → List ℕ
+sap_front from to nearest count =
+    header_bytes (own_header sap_type from to (2 + 64 * count)) ++ to_be_bytes w16 (response_number nearest)
 
 -- a response
 abbrev pub sap_packet_parts : Address → Address → Bool → List Service → Parts

@@ -75,4 +75,4 @@ pub use crate::sink::Sink;
 pub use crate::socket::Socket;
 pub use crate::source::Source;
 pub use crate::write::{write_query, write_rip};
-pub use crate::write_services::write_sap;
+pub use crate::write_services::{put_service, write_sap, write_sap_front};

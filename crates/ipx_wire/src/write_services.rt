@@ -1,12 +1,13 @@
 //! Responses of services, written whole to the beginning of a slice.
-ghost use Rattle.std.specs.Prelude.{◌≡◌, ◌+◌, ◌*◌, ◌≤◌, ◌++◌, length, drop, map};
+ghost use Rattle.std.specs.Prelude.{◌≡◌, ◌+◌, ◌*◌, ◌≤◌, ◌++◌, List, length, drop, map};
 ghost use Rattle.std.specs.List.{flat_map, AllByRecursion};
 ghost use Rattle.ipx_wire.specs.Name.{IsServiceName, name_field};
 ghost use Rattle.ipx_wire.specs.Numbers.{most_services};
 ghost use Rattle.ipx_wire.specs.Packet.{IsPacket};
 ghost use Rattle.ipx_wire.specs.Put.{PutsAt};
 ghost use Rattle.ipx_wire.specs.Sap.{IsResponse};
-ghost use Rattle.ipx_wire.specs.WriteServices.{IsService, service_bytes, entry_of, sap_payload, sap_packet, sap_packet_parts};
+ghost use Rattle.ipx_wire.specs.WriteServices.{IsService, service_bytes, entry_of, sap_front, sap_payload, sap_packet, sap_packet_parts};
+ghost use Rattle.ipx_wire.specs.declared.service.Service.{Service as ServiceValue};
 
 use crate::address::Address;
 use crate::fields::{put_address, put_u16};
@@ -54,22 +55,53 @@ fn put_services(out: &mut [u8], place: usize, services: &[Service])
 {
     let mut next = place;
     for service in services {
-        put_service(out, next, service);
+        put_service(out, next, service, service.hops);
         next += SapEntry::SIZE;
     }
 }
 
+/// Writes a service as one that is that many hops away, whatever its own hops are, into the 64 bytes of `out` from `place` on.
+///
+/// With `write_sap_front` this writes a response service by service, with no list of them before.
 #[tactic(auto, unfolding(crate::specs::WriteServices::service_bytes))]
-fn put_service(out: &mut [u8], place: usize, service: &Service)
+pub fn put_service(out: &mut [u8], place: usize, service: &Service, hops: u16)
     requires { place + 64 ≤ length out.old }
-    ensures bytes { PutsAt out.old place (service_bytes service.now) out.new }
-    ensures is { IsService service.now }
+    ensures bytes { PutsAt out.old place (service_bytes (record service.now { hops = hops })) out.new }
+    ensures size { length (service_bytes (record service.now { hops = hops })) ≡ 64 }
+    ensures is { IsService (record service.now { hops = hops }) }
 {
     is_in_range(*service);
     put_u16(out, place, service.kind);
     put_name(out, place + 2, &service.name);
     put_address(out, place + 50, service.address);
-    put_u16(out, place + 62, service.hops);
+    put_u16(out, place + 62, hops);
+}
+
+/// Writes what stands before the services of a response of that many of them, general or to a query for the nearest, to the
+/// beginning of `out`, and returns how many bytes the whole response has: 32, and 64 for each service.
+///
+/// The bytes behind these first 32 stay; where the services stand there, the whole is the packet that `write_sap` writes.
+pub fn write_sap_front(
+    from: Address,
+    to: Address,
+    nearest: bool,
+    count: usize,
+    out: &mut [u8],
+) -> usize
+    requires most { count ≤ most_services }
+    requires room { 32 ≤ length out.old }
+    ensures size { result ≡ 32 + 64 * count }
+    ensures bytes { out.new ≡ sap_front from to nearest count ++ drop 32 out.old }
+    ensures front { length (sap_front from to nearest count) ≡ 32 }
+    // With services behind it, it is their packet.
+    ensures packet { (services : List ServiceValue) → length services ≡ count
+        → sap_packet from to nearest services ≡ sap_front from to nearest count ++ flat_map service_bytes services }
+{
+    let size = 2 + SapEntry::SIZE * count;
+    own(Header::SAP, from, to, size as u16).write(out);
+    let operation = if nearest { 4 } else { 2 };
+    put_u16(out, Header::SIZE, operation);
+    Header::SIZE + size
 }
 
 fn put_name(out: &mut [u8], place: usize, name: &ServiceName)
@@ -78,5 +110,6 @@ fn put_name(out: &mut [u8], place: usize, name: &ServiceName)
     ensures size { length (name_field name.now) ≡ 48 }
     ensures named { IsServiceName name.now }
 {
-    out[place..place + ServiceName::SIZE].copy_from_slice(name.as_field());
+    // (by way of a copy, which no write can change: so it is copied in three words of 16 bytes, and not byte by byte)
+    out[place..place + ServiceName::SIZE].copy_from_slice(&name.field());
 }
