@@ -6,4 +6,6 @@ pub mod PacketsOfTheirKind
 pub mod PageByPage
 pub mod PagesFilledFirst
 pub mod PortByPort
+pub mod RoomForServices
 pub mod SentAfterAnyHistory
+pub mod ServicesInPlace

@@ -6,6 +6,7 @@ pub mod Envelope
 pub mod Following
 pub mod Judged
 pub mod Owed
+pub mod Putting
 pub mod Received
 pub mod Selection
 pub mod Sources

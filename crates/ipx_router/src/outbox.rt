@@ -1,19 +1,25 @@
 //! The outbox: what a router sends goes into room that its caller made before, and taking it out leaves that room.
-ghost use Rattle.std.specs.Prelude.{◌≡◌, ◌↔◌, ◌==◌, true, ℕ, ◌+◌, ◌-◌, ◌<◌, ◌≤◌, [], ◌∷◌, ◌++◌, length, take, slice_get, Some, IsOk, OnOk, OnErr, max, ◌*◌};
+ghost use Rattle.std.specs.Prelude.{◌≡◌, ◌↔◌, ◌==◌, false, true, ℕ, ◌+◌, ◌-◌, ◌<◌, ◌≤◌, List, [], ◌∷◌, ◌++◌, length, take, drop, slice_get, Some, IsOk, OnOk, OnErr, max, ◌*◌};
+ghost use Rattle.std.specs.List.{flat_map};
 ghost use Rattle.std.specs.Vec.{vec_len, vec_capacity};
 ghost use Rattle.ipx_wire.specs.Forward.{forwarded, propagated};
 ghost use Rattle.ipx_wire.specs.Numbers.{crossed_bytes, crossed_places, most_entries, most_services};
 ghost use Rattle.ipx_wire.specs.Write.{packet_bytes, rip_packet, query_packet};
-ghost use Rattle.ipx_wire.specs.WriteServices.{sap_packet};
+ghost use Rattle.ipx_wire.specs.WriteServices.{sap_front, sap_packet, service_bytes};
+ghost use Rattle.ipx_wire.specs.declared.service.Service.{Service as ServiceValue};
 ghost use Rattle.ipx_wire.specs.declared.network.Network.{Network};
 ghost use Rattle.ipx_router.specs.Outbox.{Memory, HasRoom, Fits, Appends, KeepsMemory, KeepsRoom, TakesRoom, total};
+ghost use Rattle.ipx_router.specs.Numbers.{services_a_page};
 ghost use Rattle.ipx_router.specs.Port.{broadcast};
 ghost use Rattle.ipx_router.specs.Relays.{Sent};
+ghost use Rattle.ipx_router.specs.inside.Putting.{PutsServices, SendsServices};
 
+use crate::advertising::envelope::Envelope;
+use crate::advertising::source::Source;
 use crate::outbox_iter::OutboxIter;
 use ipx_wire::{
     Address, Network, Node, Operation, OutOfMemory, Packet, RipEntry, Service, write_crossed,
-    write_forwarded, write_query, write_rip, write_sap,
+    write_forwarded, write_query, write_rip, write_sap, write_sap_front,
 };
 use std::alloc::Global;
 use std::marker::Model;
@@ -207,6 +213,25 @@ impl Outbox {
         self.used += size;
     }
 
+    /// Appends a response of the next services of a source, to the node that it is for; nothing, where none is left. Returns how many
+    /// they are. Each is written once, to its place in the packet.
+    pub(crate) fn append_services<S: Source>(&mut self, envelope: Envelope, source: &mut S) -> usize
+        requires places { 1 ≤ length (S.left source.old) → 1 ≤ self.old.places }
+        requires spare { S.needs source.old ≤ self.old.spare }
+        ensures sends { SendsServices envelope (S.left source.old) (S.left source.new) result self.old self.new }
+        ensures few { result ≤ services_a_page }
+        ensures last { result < services_a_page → S.left source.new ≡ [] }
+    {
+        let Envelope { port, from, to } = envelope;
+        let count = put_next(&mut self.bytes, self.used, source);
+        if count > 0 {
+            let size = put_front(&mut self.bytes, self.used, from, to, count);
+            add_slot(&mut self.slots, port, to.node, self.used, size);
+            self.used += size;
+        }
+        count
+    }
+
     /// Appends a query for services, to the node that it is for.
     pub(crate) fn append_query(
         &mut self,
@@ -343,6 +368,36 @@ fn put_sap(
     ipx_wire::laws::sizes();
     ipx_wire::laws::in_range(page);
     write_sap(from, to, nearest, page, &mut bytes[start..])
+}
+
+/// Writes the next services of a source into the room, behind the place for a front from `start` on, and returns how many they are.
+fn put_next<S: Source>(bytes: &mut Vec<u8>, start: usize, source: &mut S) -> usize
+    requires start { start ≤ vec_len bytes.old }
+    requires room { start + S.needs source.old ≤ vec_len bytes.old }
+    ensures puts { PutsServices (S.left source.old) (S.left source.new) result (drop start bytes.old.items) (drop start bytes.new.items) }
+    ensures few { result ≤ services_a_page }
+    ensures last { result < services_a_page → S.left source.new ≡ [] }
+    ensures before { take start bytes.new.items ≡ take start bytes.old.items }
+    ensures len { vec_len bytes.new ≡ vec_len bytes.old }
+    ensures capacity { vec_capacity bytes.new ≡ vec_capacity bytes.old }
+{
+    source.put(&mut bytes[start..])
+}
+
+/// Writes the front of a response of that many services into the room, from `start` on, and returns the length of the whole response.
+fn put_front(bytes: &mut Vec<u8>, start: usize, from: Address, to: Address, count: usize) -> usize
+    requires most { count ≤ most_services }
+    requires room { start + 32 ≤ vec_len bytes.old }
+    ensures size { result ≡ 32 + 64 * count }
+    ensures front { length (sap_front from to false count) ≡ 32 }
+    ensures packet { (services : List ServiceValue) → length services ≡ count
+        → sap_packet from to false services ≡ sap_front from to false count ++ flat_map service_bytes services }
+    ensures before { take start bytes.new.items ≡ take start bytes.old.items }
+    ensures behind { drop start bytes.new.items ≡ sap_front from to false count ++ drop 32 (drop start bytes.old.items) }
+    ensures len { vec_len bytes.new ≡ vec_len bytes.old }
+    ensures capacity { vec_capacity bytes.new ≡ vec_capacity bytes.old }
+{
+    write_sap_front(from, to, false, count, &mut bytes[start..])
 }
 
 fn put_query(

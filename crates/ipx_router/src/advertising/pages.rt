@@ -7,13 +7,16 @@ use crate::advertising::envelope::Envelope;
 use crate::advertising::item::Item;
 use crate::outbox::Outbox;
 use arrayvec::ArrayVec;
-use ipx_wire::{RipEntry, SapEntry};
+use ipx_wire::{Header, RipEntry, SapEntry};
 
 /// How many entries a page has: as many as a packet may have.
 pub(crate) const ENTRIES_A_PAGE: usize = RipEntry::MOST;
 
 /// How many services a page has: as many as a packet may have.
 pub(crate) const SERVICES_A_PAGE: usize = SapEntry::MOST;
+
+/// Where the services of a packet begin: behind its header and the number of its operation.
+pub(crate) const SERVICES_AT: usize = Header::SIZE + 2;
 
 /// Adds an item to a page; a full page is sent first.
 pub(crate) fn add_item<X: Item, const PAGE: usize>(

@@ -56,16 +56,15 @@ pub(crate) fn is_service_selected(selection: ServiceSelection, service: &Service
     }
 }
 
-/// Puts a service of the table into its place as it is sent: one hop farther away, or unreachable. It is copied straight there.
-pub(crate) fn put_service_sent(selection: ServiceSelection, service: &Service, place: &mut Service)
+/// The hops with which a service of the table is sent: one more, or those of what is unreachable.
+pub(crate) fn hops_sent(selection: ServiceSelection, service: &Service) -> u16
     requires { service.now.hops < unreachable }
-    ensures { place.new ≡ service_sent selection service.now }
+    ensures value { (record service.now { hops = result }) ≡ service_sent selection service.now }
 {
-    *place = *service;
-    place.hops = match selection {
+    match selection {
         ServiceSelection::Dead => RipEntry::UNREACHABLE,
         _ => service.hops + 1,
-    };
+    }
 }
 
 /// Whether a request asks for the entry.

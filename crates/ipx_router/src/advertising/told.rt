@@ -1,20 +1,23 @@
 //! What a port advertises goes from tables and ports straight into pages of the outbox: no list of all of it is made.
-ghost use Rattle.std.specs.Prelude.{◌≡◌, ◌<◌, ◌≤◌, [], ◌++◌, length, take, false};
+ghost use Rattle.std.specs.Prelude.{◌≡◌, ℕ, ◌<◌, ◌≤◌, ◌^◌, [], ◌++◌, length, take, false};
 ghost use Rattle.std.specs.List.{AllByRecursion, flat_map};
+ghost use Rattle.ipx_wire.specs.WriteServices.{service_bytes};
 ghost use Rattle.ipx_router.specs.Facts.{offers};
 ghost use Rattle.ipx_router.specs.Numbers.{entries_a_page, services_a_page, most_ports};
 ghost use Rattle.ipx_router.specs.Outbox.{Fits, Appends};
 ghost use Rattle.ipx_router.specs.inside.Envelope.{entries_in, services_in};
 ghost use Rattle.ipx_router.specs.inside.Owed.{owed};
+ghost use Rattle.ipx_router.specs.inside.Putting.{PutsServices, packet_size};
 ghost use Rattle.ipx_router.specs.inside.Selection.{service_selected_by, selected_by};
 ghost use Rattle.ipx_router.specs.Told.{told, told_services};
 
 use crate::advertising::envelope::Envelope;
 use crate::advertising::item::Item;
-use crate::advertising::pages::{ENTRIES_A_PAGE, SERVICES_A_PAGE};
+use crate::advertising::pages::{ENTRIES_A_PAGE, SERVICES_A_PAGE, SERVICES_AT};
 use crate::advertising::selection::{
-    Selection, ServiceSelection, is_service_selected, put_service_sent, select,
+    Selection, ServiceSelection, hops_sent, is_service_selected, select,
 };
+use crate::advertising::source::Source;
 use crate::advertising::told_routes::{ToldRoutes, list_direct};
 use crate::advertising::told_services::ToldServices;
 use crate::outbox::Outbox;
@@ -24,7 +27,8 @@ use crate::route_offer::RouteOffer;
 use crate::service_offer::ServiceOffer;
 use arrayvec::ArrayVec;
 use ipx_table::Table;
-use ipx_wire::{RipEntry, Service};
+use ipx_wire::{RipEntry, SapEntry, Service, put_service};
+use std::slice::from_ref;
 
 /// Sends the routes that a port advertises, as they are selected, in an envelope of that port.
 pub(crate) fn send_routes<const R: usize>(
@@ -116,25 +120,48 @@ pub(crate) fn send_services<const S: usize>(
     requires room { Fits outbox.old (owed services_a_page (services_in false envelope) [] (flat_map (service_selected_by selection) (told_services (offers table.now.records) envelope.port))) }
     ensures { Appends outbox.old outbox.new (owed services_a_page (services_in false envelope) [] (flat_map (service_selected_by selection) (told_services (offers table.now.records) envelope.port))) }
 {
-    let mut services = ToldServices::new(table, envelope.port);
-    let mut page = [Service::default(); SERVICES_A_PAGE];
+    let services = ToldServices::new(table, envelope.port);
+    let mut selected = Selected {
+        services,
+        selection,
+    };
     let mut count = SERVICES_A_PAGE;
     while count == SERVICES_A_PAGE {
-        count = fill_services(&mut services, selection, &mut page);
-        let (filled, _) = page.split_at(count);
-        send_filled(outbox, envelope, filled);
+        count = outbox.append_services(envelope, &mut selected);
     }
 }
 
-/// Fills a page with the next services to send, and returns their number: fewer than a page holds only where none is left.
-/// Each of them is copied once, from the table to its place.
-fn fill_services(
+/// What is left of the services that are sent.
+#[derive(Drop)]
+struct Selected<'a> {
+    services: ToldServices<'a>,
+    selection: ServiceSelection,
+}
+
+impl<'a> Source for Selected<'a> {
+    ghost use Rattle.std.specs.List.{flat_map};
+    ghost use Rattle.ipx_router.specs.inside.Putting.{packet_size};
+    ghost use Rattle.ipx_router.specs.inside.Selection.{service_selected_by};
+
+    ghost left = { λ s. flat_map (service_selected_by s.selection) s.services };
+
+    ghost needs = { λ s. packet_size (flat_map (service_selected_by s.selection) s.services) };
+
+    fn put(&mut self, out: &mut [u8]) -> usize {
+        put_selected(&mut self.services, self.selection, out)
+    }
+}
+
+/// Writes the next services to send, each from the table to its place in a packet, and returns their number: fewer than a packet has at
+/// most only where none is left.
+fn put_selected(
     services: &mut ToldServices<'_>,
     selection: ServiceSelection,
-    page: &mut [Service; SERVICES_A_PAGE],
+    out: &mut [u8],
 ) -> usize
+    requires room { packet_size (flat_map (service_selected_by selection) services.old) ≤ length out.old }
+    ensures puts { PutsServices (flat_map (service_selected_by selection) services.old) (flat_map (service_selected_by selection) services.new) result out.old out.new }
     ensures few { result ≤ services_a_page }
-    ensures services { flat_map (service_selected_by selection) services.old ≡ take result page.new ++ flat_map (service_selected_by selection) services.new }
     ensures last { result < services_a_page → flat_map (service_selected_by selection) services.new ≡ [] }
 {
     let mut count = 0;
@@ -143,9 +170,23 @@ fn fill_services(
             return count;
         };
         if is_service_selected(selection, &offer.service) {
-            put_service_sent(selection, &offer.service, &mut page[count]);
+            proves_size(&offer.service);
+            let place = SERVICES_AT + SapEntry::SIZE * count;
+            put_service(
+                out,
+                place,
+                &offer.service,
+                hops_sent(selection, &offer.service),
+            );
             count += 1;
         }
     }
     count
+}
+
+/// A service has 64 bytes in a packet.
+fn proves_size(service: &Service)
+    ensures { (hops : ℕ) → hops < 2 ^ 16 → length (service_bytes (record service.now { hops = hops })) ≡ 64 }
+{
+    ipx_wire::laws::in_range(from_ref(service));
 }

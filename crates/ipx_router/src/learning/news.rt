@@ -1,21 +1,22 @@
 //! Advertises changes at once: each on every port that is up, but not on that of the route or service itself.
-ghost use Rattle.std.specs.Prelude.{◌≡◌, ℕ, ◌+◌, ◌*◌, ◌<◌, ◌≤◌, ◌==◌, if◌then◌else◌, [], ◌∷◌, ◌++◌, length, map, false};
+ghost use Rattle.std.specs.Prelude.{◌≡◌, ℕ, ◌+◌, ◌*◌, ◌<◌, ◌≤◌, ◌==◌, if◌then◌else◌, [], ◌∷◌, ◌++◌, length, map};
 ghost use Rattle.std.specs.List.{AllByRecursion, flat_map};
 ghost use Rattle.std.specs.Option.{option_to_list};
 ghost use Rattle.ipx_wire.specs.Write.{rip_packet};
-ghost use Rattle.ipx_wire.specs.WriteServices.{sap_packet};
 ghost use Rattle.ipx_wire.specs.declared.rip.Operation.TheVariants.{Response};
 ghost use Rattle.ipx_router.specs.News.{route_now, route_told, service_now, service_told};
 ghost use Rattle.ipx_router.specs.Numbers.{entries_a_page, services_a_page, most_own_length};
 ghost use Rattle.ipx_router.specs.Outbox.{HasRoom, Appends};
 ghost use Rattle.ipx_router.specs.Port.{port_at};
 ghost use Rattle.ipx_router.specs.Sends.{rip_broadcast, sap_broadcast};
+ghost use Rattle.ipx_router.specs.inside.Putting.{PutsAfter, PutsServices};
 ghost use Rattle.ipx_router.specs.inside.Touched.{change_of};
 
 use crate::advertising::envelope::Envelope;
 use crate::advertising::hops::{dead, entry_of, is_reached_on, told_at};
 use crate::advertising::item::Item;
-use crate::advertising::pages::{ENTRIES_A_PAGE, SERVICES_A_PAGE};
+use crate::advertising::pages::{ENTRIES_A_PAGE, SERVICES_A_PAGE, SERVICES_AT};
+use crate::advertising::source::Source;
 use crate::learning::touched::Touched;
 use crate::outbox::Outbox;
 use crate::port::Port;
@@ -23,7 +24,7 @@ use crate::ports::addresses::port_of;
 use crate::route_offer::RouteOffer;
 use crate::service_offer::ServiceOffer;
 use arrayvec::ArrayVec;
-use ipx_wire::{Address, RipEntry, Service};
+use ipx_wire::{Address, RipEntry, SapEntry, put_service};
 
 /// Advertises changed routes on the ports that are up, in at most a packet each.
 pub(crate) fn advertise_route_changes(
@@ -60,9 +61,8 @@ pub(crate) fn advertise_service_changes(
     if changes.is_empty() {
         return;
     }
-    let mut page = ArrayVec::new();
     for &number in up {
-        broadcast_service_changes(outbox, ports, number, changes, &mut page);
+        broadcast_service_changes(outbox, ports, number, changes);
     }
 }
 
@@ -83,13 +83,12 @@ fn broadcast_route_changes(
     broadcast_page(outbox, ports, number, &page);
 }
 
-/// Broadcasts changed services on one port, in at most one packet. They are put on a page that all ports share.
+/// Broadcasts changed services on one port, in at most one packet.
 fn broadcast_service_changes(
     outbox: &mut Outbox,
     ports: &[Port],
     number: u8,
     changes: &[Touched<ServiceOffer>],
-    page: &mut ArrayVec<Service, SERVICES_A_PAGE>,
 )
     requires port { number < length ports.now }
     requires few { length changes.now ≤ services_a_page }
@@ -97,8 +96,8 @@ fn broadcast_service_changes(
     ensures sent { Appends outbox.old outbox.new (sap_broadcast ports.now number (flat_map (service_told number) (map change_of changes.now))) }
     ensures left { (packets bytes : ℕ) → HasRoom outbox.old (packets + 1) (bytes + most_own_length) → HasRoom outbox.new packets bytes }
 {
-    list_news_services(page, number, changes);
-    broadcast_service_page(outbox, ports, number, page);
+    let envelope = Envelope::services_to_all(ports, number);
+    outbox.append_services(envelope, &mut Changed { changes, number });
 }
 
 /// Broadcasts a page of entries on a port, if there is any.
@@ -121,41 +120,12 @@ fn broadcast_page(
     RipEntry::send_page(outbox, envelope, page);
 }
 
-/// Broadcasts a page of services on a port, if there is any.
-fn broadcast_service_page(
-    outbox: &mut Outbox,
-    ports: &[Port],
-    number: u8,
-    page: &ArrayVec<Service, SERVICES_A_PAGE>,
-)
-    requires port { number < length ports.now }
-    requires room { HasRoom outbox.old 1 most_own_length }
-    ensures sent { Appends outbox.old outbox.new (sap_broadcast ports.now number page.now.items) }
-    ensures left { (packets bytes : ℕ) → HasRoom outbox.old (packets + 1) (bytes + most_own_length) → HasRoom outbox.new packets bytes }
-{
-    if page.is_empty() {
-        return;
-    }
-    let envelope = Envelope::services_to_all(ports, number);
-    proves_services_fit(envelope.from, envelope.to, page);
-    Service::send_page(outbox, envelope, page);
-}
-
 /// A page of entries makes no packet that is longer than an own one may be.
 fn proves_routes_fit(from: Address, to: Address, page: &[RipEntry])
     requires { length page.now ≤ entries_a_page }
     ensures { length (rip_packet from to Response page.now) ≤ most_own_length }
 {
     ipx_wire::laws::sizes();
-}
-
-/// A page of services makes no packet that is longer than an own one may be.
-fn proves_services_fit(from: Address, to: Address, page: &[Service])
-    requires { length page.now ≤ services_a_page }
-    ensures { length (sap_packet from to false page.now) ≤ most_own_length }
-{
-    ipx_wire::laws::sizes();
-    ipx_wire::laws::in_range(page);
 }
 
 /// Changed routes as a port advertises them, by network.
@@ -175,19 +145,54 @@ fn news_routes(
     page
 }
 
-/// Puts the changed services as a port advertises them, by type and name, on a page in place of what was there.
-fn list_news_services(
-    page: &mut ArrayVec<Service, SERVICES_A_PAGE>,
+/// What is left of changed services, on a port.
+#[derive(Drop)]
+struct Changed<'a> {
+    changes: &'a [Touched<ServiceOffer>],
     number: u8,
-    changes: &[Touched<ServiceOffer>],
-)
-    requires few { length changes.now ≤ services_a_page }
-    ensures { page.new.items ≡ flat_map (service_told number) (map change_of changes.now) }
-{
-    page.clear();
-    for change in changes {
-        add_news_service(page, number, change);
+}
+
+impl<'a> Source for Changed<'a> {
+    ghost use Rattle.std.specs.Prelude.{map};
+    ghost use Rattle.std.specs.List.{flat_map};
+    ghost use Rattle.ipx_router.specs.News.{service_told};
+    ghost use Rattle.ipx_router.specs.Numbers.{most_own_length};
+    ghost use Rattle.ipx_router.specs.inside.Touched.{change_of};
+
+    ghost left = { λ c. flat_map (service_told c.number) (map change_of c.changes.now) };
+
+    ghost needs = { λ c. most_own_length };
+
+    fn put(&mut self, out: &mut [u8]) -> usize {
+        let (count, rest) = put_changes(self.changes, self.number, out);
+        self.changes = rest;
+        count
     }
+}
+
+/// Writes changed services as a port advertises them, each to its place in a packet, until it is full. Returns how many they are, and
+/// what is left of the changes.
+fn put_changes<'a>(
+    changes: &'a [Touched<ServiceOffer>],
+    number: u8,
+    out: &mut [u8],
+) -> (usize, &'a [Touched<ServiceOffer>])
+    requires room { most_own_length ≤ length out.old }
+    ensures puts { PutsServices (flat_map (service_told number) (map change_of changes.entry.now)) (flat_map (service_told number) (map change_of result.1.now))
+        result.0 out.old out.new }
+    ensures few { result.0 ≤ services_a_page }
+    ensures last { result.0 < services_a_page → result.1.now ≡ [] }
+{
+    let mut rest = changes;
+    let mut count = 0;
+    while count < SERVICES_A_PAGE {
+        let Some((change, others)) = rest.split_first() else {
+            return (count, rest);
+        };
+        count = put_change(out, count, number, change);
+        rest = others;
+    }
+    (count, rest)
 }
 
 /// A changed route as a port advertises it: as it is now or, where it ended, as unreachable.
@@ -202,43 +207,34 @@ fn news_route(ports: &[Port], number: u8, change: &Touched<RouteOffer>) -> Optio
     elsewhere(number, route.port, dead(entry_of(&route)))
 }
 
-/// Puts a changed service on a page as a port advertises it: as it is now or, where it ended, as unreachable at the address that it
-/// had. It is copied once, from what was noted.
-fn add_news_service(
-    page: &mut ArrayVec<Service, SERVICES_A_PAGE>,
-    number: u8,
-    change: &Touched<ServiceOffer>,
-)
-    requires room { length page.old.items < services_a_page }
-    ensures value { page.new.items ≡ page.old.items ++ service_told number (change_of change.now) }
-    ensures few { length page.new.items ≤ length page.old.items + 1 }
+/// Writes a changed service behind `count` others as a port advertises it, and returns how many there are then: as it is now or, where
+/// it ended, as unreachable at the address that it had.
+fn put_change(out: &mut [u8], count: usize, number: u8, change: &Touched<ServiceOffer>) -> usize
+    requires room { most_own_length ≤ length out.old }
+    requires few { count < services_a_page }
+    ensures puts { PutsAfter count (service_told number (change_of change.now)) result out.old out.new }
 {
     if let Some(offer) = &change.after {
-        add_elsewhere(page, number, offer, hops_now(offer));
-        return;
+        return put_elsewhere(out, count, number, offer, hops_now(offer));
     }
     if let Some(offer) = &change.before {
-        add_elsewhere(page, number, offer, RipEntry::UNREACHABLE);
+        return put_elsewhere(out, count, number, offer, RipEntry::UNREACHABLE);
     }
+    count
 }
 
-/// Split horizon: puts a service on a page with that number of hops, but not where the port is that of its offer.
-fn add_elsewhere(
-    page: &mut ArrayVec<Service, SERVICES_A_PAGE>,
-    number: u8,
-    offer: &ServiceOffer,
-    hops: u16,
-)
-    requires room { length page.old.items < services_a_page }
-    ensures value { page.new.items ≡ page.old.items ++ (if offer.now.port == number then [] else (record offer.now.service { hops = hops }) ∷ []) }
-    ensures few { length page.new.items ≤ length page.old.items + 1 }
+/// Split horizon: writes a service with that number of hops, but not where the port is that of its offer.
+fn put_elsewhere(out: &mut [u8], count: usize, number: u8, offer: &ServiceOffer, hops: u16) -> usize
+    requires room { most_own_length ≤ length out.old }
+    requires few { count < services_a_page }
+    ensures puts { PutsAfter count (if offer.now.port == number then [] else (record offer.now.service { hops = hops }) ∷ []) result out.old out.new }
 {
-    if offer.port != number {
-        page.push(Service {
-            hops,
-            ..offer.service
-        });
+    if offer.port == number {
+        return count;
     }
+    let place = SERVICES_AT + SapEntry::SIZE * count;
+    put_service(out, place, &offer.service, hops);
+    count + 1
 }
 
 /// A route as a port advertises it; unreachable where the next router couldn't use it.

@@ -11,11 +11,10 @@ use Rattle.ipx_router.proofs.advertising.told.send_services.Given as goal
 abbrev pub invariant-loop-count : goal.invariant-loop-count
 invariant-loop-count g l =
     Pays l.initial.outbox l.outbox
-    (owed services_a_page (services_in false l.envelope) [] (flat_map (service_selected_by l.selection) (told_services (offers l.table.records) l.envelope.port)))
-    (owed services_a_page (services_in false l.envelope) [] (flat_map (service_selected_by l.selection) l.services))
+    (owed services_a_page (services_in false l.envelope) [] (flat_map (service_selected_by l.fn.selection) (told_services (offers l.table.records) l.envelope.port)))
+    (owed services_a_page (services_in false l.envelope) [] (flat_map (service_selected_by l.selected.selection) l.selected.services))
     × (l.count ≤ services_a_page)
-    × (l.count < services_a_page → flat_map (service_selected_by l.selection) l.services ≡ [])
-    × (length l.page ≡ services_a_page)
+    × (l.count < services_a_page → flat_map (service_selected_by l.selected.selection) l.selected.services ≡ [])
 
 abbrev pub decreases-loop-count : goal.decreases-loop-count
-decreases-loop-count g l = length (flat_map (service_selected_by l.selection) l.services) + l.count
+decreases-loop-count g l = length (flat_map (service_selected_by l.selected.selection) l.selected.services) + l.count
