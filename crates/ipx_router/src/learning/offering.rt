@@ -74,27 +74,27 @@ fn offer_route<const R: usize>(
 }
 
 /// Offers the entries of a response from that port and neighbour to the table, but for those without a name, and for the `first`
-/// ones, which were renewed. Returns what they touch.
+/// ones, which were renewed. Puts down what they touch where the caller keeps it, so that it isn't copied.
 #[inline(never)]
 pub(crate) fn offer_services<const S: usize>(
     table: &mut Table<ServiceOffer, S>,
+    touched: &mut TouchedServices,
     number: u8,
     node: Node,
     entries: &SapEntries<'_>,
     first: usize,
-) -> TouchedServices
-    requires { first ≤ length entries.now }
+)
+    requires first { first ≤ length entries.now }
+    requires none { touched.old.items ≡ [] }
     ensures stands { let rules = rules_of service_reading service_order S table.old.shares in (facts : List (Fact ServiceOffer))
         → Stands rules table.old.records (facts ++ services_offered number node (front first entries.now))
         → Stands rules table.new.records (facts ++ services_offered number node entries.now) }
     ensures shares { table.new.shares ≡ table.old.shares }
-    ensures touches { Touches (λ s. (s.service.kind, s.service.name)) service_order (offers table.old.records) (offers table.new.records) result.items }
+    ensures touches { Touches (λ s. (s.service.kind, s.service.name)) service_order (offers table.old.records) (offers table.new.records) touched.new.items }
 {
-    let mut touched = ArrayVec::new();
     for k in first..entries.len() {
-        take_entry(table, &mut touched, number, node, entries, k);
+        take_entry(table, touched, number, node, entries, k);
     }
-    touched
 }
 
 /// Renews the service of an entry, or offers the entry.

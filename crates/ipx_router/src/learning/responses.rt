@@ -18,6 +18,7 @@ use crate::outbox::Outbox;
 use crate::port::Port;
 use crate::route_offer::RouteOffer;
 use crate::service_offer::ServiceOffer;
+use arrayvec::ArrayVec;
 use ipx_table::Table;
 use ipx_wire::{Node, Rip, SapEntries};
 
@@ -73,7 +74,8 @@ pub(crate) fn learn_services<const S: usize>(
     if renewed >= entries.len() {
         return;
     }
-    let mut touched = offer_services(table, number, node, entries, renewed);
+    let mut touched = ArrayVec::new();
+    offer_services(table, &mut touched, number, node, entries, renewed);
     if touched.is_empty() {
         return;
     }

@@ -1,13 +1,27 @@
-use Rattle.std.proofs.Common.{◌≤◌, ◌∙◌, ap, subst, List, ℕ, ◌++◌, ◌∷◌, [], length, arith}
+use Rattle.std.proofs.Common.{◌≤◌, ◌∙◌, refl, sym, ap, subst, List, ℕ, ◌++◌, ◌∷◌, [], length, arith}
 use Rattle.ipx_table.specs.Facts.{Fact}
 use Rattle.ipx_table.specs.Reading.{rules_of}
 use Rattle.ipx_table.specs.Stands.{Stands}
 use Rattle.ipx_router.specs.Facts.{offers, services_offered}
 use Rattle.ipx_router.specs.Services.{service_order, service_reading}
+use Rattle.ipx_router.specs.inside.Touched.{Touches}
+use Rattle.ipx_router.specs.declared.learning.touched.Touched.{Touched}
 use Rattle.ipx_router.specs.declared.service_offer.ServiceOffer.{ServiceOffer}
 use Rattle.ipx_router.proofs.changes.LearnedEntryByEntry.{all_taken, services_offered-append, stands_next}
-use Rattle.ipx_router.proofs.changes.RenewedInPlace.{item_at}
+use Rattle.ipx_router.proofs.changes.RenewedInPlace.{item_at, none_touched}
 use Rattle.ipx_router.proofs.learning.offering.offer_services.Goals as goal
+
+pub loop-k-init : goal.loop-k-init
+loop-k-init g c =
+    let here = offers c.args.table.now.records in
+    let none = c.requires.none in
+    record {
+      shares = refl;
+      stands = λ facts begun. begun;
+      touches = subst (λ (ts : List (Touched ServiceOffer)). Touches (λ s. (s.service.kind, s.service.name)) service_order here here ts) (sym none)
+          (none_touched (λ s. (s.service.kind, s.service.name)) service_order here here refl);
+      few = omega (arith, ap length none);
+    }
 
 pub loop-k-preserved : goal.loop-k-preserved
 loop-k-preserved g c =
