@@ -127,6 +127,14 @@ static bool is_client_elsewhere(gateway *it, const network *on, const uint8_t *n
     return false;
 }
 
+/* Whether a packet names as its source a client of another link of its network. (the frame's own source the library judges; but the router
+ * answers to where the packet says that it comes from, so somebody could bring as much upon a client as he asks for) */
+static bool is_in_clients_name(gateway *it, const network *on, const uint8_t *packet)
+{
+    uint32_t from = get32(packet + AT_FROM_NETWORK);
+    return (from == 0 || from == on->set->network) && is_client_elsewhere(it, on, packet + AT_FROM_NODE);
+}
+
 /* Tells of a node that is heard on two links by turns. */
 static void look_for_twins(gateway *it, network *on, const uint8_t *node)
 {
@@ -148,6 +156,10 @@ static void hear_at_link(gateway *it, network *on, const uint8_t *frame, const u
     size_t carried = is_whole ? get16(packet + AT_LENGTH) : 0;
     if (!is_whole || carried > on->set->longest) {
         gateway_lose(on, is_whole ? TOO_LONG : NO_IPX);
+        return;
+    }
+    if (is_in_clients_name(it, on, packet)) {
+        gateway_lose(on, FALSE_SOURCE);
         return;
     }
     speaker_be_network(&on->speaks, (size_t)(on - it->networks));

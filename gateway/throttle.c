@@ -21,6 +21,9 @@ enum { MIDDLE = 110, MIDDLE_PIECES = 37, LONG = 600, SHORT_PIECES = 22 };
 /* Pings of a client, and of all together, and questions to the router: a second, and at once. */
 enum { PINGS = 1, PINGS_AT_ONCE = 2, ALL_PINGS = 4, ALL_PINGS_AT_ONCE = 8, QUESTIONS = 1, QUESTIONS_AT_ONCE = 4 };
 
+/* The same of a link with frames, on which many may ask: a question costs as much as the tables are long, while players wait. */
+enum { LINK_QUESTIONS = 20, LINK_QUESTIONS_AT_ONCE = 80 };
+
 /* Packets a second of what an address tells as a router, and at least so many at once; the same of a link with frames, on which there may
  * be many routers; and what one has. */
 enum { ADVERTISEMENTS = 4, ADVERTISEMENTS_AT_ONCE = 32, LINK_ADVERTISEMENTS = 100, LINK_ADVERTISEMENTS_AT_ONCE = 400 };
@@ -65,6 +68,13 @@ static limit advertisements_of(const network_setting *set)
     return limit_of(LINK_ADVERTISEMENTS, 1, LINK_ADVERTISEMENTS_AT_ONCE);
 }
 
+static limit questions_of(const network_setting *set)
+{
+    if (set->type == LINK_DOSBOX)
+        return limit_of(QUESTIONS, 1, QUESTIONS_AT_ONCE);
+    return limit_of(LINK_QUESTIONS, 1, LINK_QUESTIONS_AT_ONCE);
+}
+
 static uint32_t pieces(size_t length)
 {
     return length > LONG ? LONGEST_PIECES : length > MIDDLE ? MIDDLE_PIECES : SHORT_PIECES;
@@ -107,7 +117,7 @@ void throttle_set(throttle *it, const network_setting *set)
     it->handed_with_pings = limit_of(rate, 2, BURST_WITH_PINGS);
     it->pings = limit_of(PINGS, 1, PINGS_AT_ONCE);
     it->all_pings = limit_of(ALL_PINGS, 1, ALL_PINGS_AT_ONCE);
-    it->questions = limit_of(QUESTIONS, 1, QUESTIONS_AT_ONCE);
+    it->questions = questions_of(set);
     it->answers = limit_of(ANSWERS, 1, ANSWERS_AT_ONCE);
 }
 
@@ -290,7 +300,9 @@ reason throttle_carries(const throttle *it, fair *queues, const uint8_t *packet,
 
 reason throttle_hears(throttle *it, speaker *from, const uint8_t *packet, size_t length)
 {
-    if (it->is_off || !is_of_routers(packet) || is_question(packet, length) || limit_lets(&it->advertisements, &from->advertised, 1))
+    if (it->is_off || !is_of_routers(packet))
         return REASONS;
-    return TOO_MANY_ADVERTISEMENTS;
+    if (is_question(packet, length))
+        return limit_lets(&it->questions, &from->asked, 1) ? REASONS : TOO_MANY_QUESTIONS;
+    return limit_lets(&it->advertisements, &from->advertised, 1) ? REASONS : TOO_MANY_ADVERTISEMENTS;
 }

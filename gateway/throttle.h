@@ -29,7 +29,7 @@ typedef struct throttle {
     limit handed_with_pings; /* beyond which no answers to pings are, by the same meter */
     limit pings;     /* of a client */
     limit all_pings; /* of all clients together: each of them answers each ping */
-    limit questions; /* of a client, to the router; */
+    limit questions; /* of a client, or of a link with frames, to the router; */
     limit all_questions[HOUSEHOLD]; /* and of an address with one client, or two, .. */
     limit advertisements; /* of an address, or of a link with frames, to the router: what changes it says to all other networks at once */
     limit answers;   /* of the gateway, to what a client says to it, or somebody in its name; */
@@ -61,7 +61,7 @@ reason throttle_receives(const throttle *it, member *to, size_t queue, size_t le
 reason throttle_carries(const throttle *it, fair *queues, const uint8_t *packet, size_t length, uint32_t frames);
 
 /* Why the router doesn't hear a packet that came in a frame; REASONS where it does. (what it hears of other routers it says to all other
- * networks at once) */
+ * networks at once, and what it is asked it answers at length) */
 reason throttle_hears(throttle *it, speaker *from, const uint8_t *packet, size_t length);
 
 /* Whether the gateway answers a client's registration or ping. */

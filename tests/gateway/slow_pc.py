@@ -12,7 +12,7 @@ import time
 from attacks import OTHER_PORT, QUIET, Playground, figures, flood, named, none
 from fair import LASTS, STEP, say_up_to
 from frames import frame
-from lab import EVERYONE, GAME, ROOM, Clock, Counts, address, left_out, packet, played_anew, rip_response
+from lab import EVERYONE, GAME, RIP, ROOM, Clock, Counts, address, left_out, packet, played_anew, rip_response
 from limits import AT_ONCE, CHAT, FIRST, FLOOD, RATE, RECEIVED, SECONDS, are_answering, come, place_of
 from players import HELLO, NETWORK, Player, Slow
 from spaces import GATEWAY, INSIDE, build_flood, host, tried_inside
@@ -22,6 +22,7 @@ PC_PLACE = ("2.0.0.0", 0xAA1)
 PC_NODE = socket.inet_aton(PC_PLACE[0]) + struct.pack(">H", PC_PLACE[1])  # what a flood says to that place goes to this node
 MAC_HEADER = 14  # bytes before the packet of a raw frame
 MANY = 8  # addresses that flood another network: each hands the router 400 packets a second
+ASKED = 100  # questions at once
 WIRE = f"qemu-udp {GATEWAY[0]}:{OTHER_PORT} {host(0)}:{FIRST} raw"
 
 
@@ -144,6 +145,32 @@ def changes_of_a_route():
         pc.close()
 
 
+def questions_of_a_pc():
+    """A PC on one of several links asks the router 100 times in the name of a client of another, who gets nothing of that. In its own name
+    it asks 100 times: it is answered 80 times, and 20 times a second later."""
+    with Playground(several() + "network 20 1 1424 dosbox 0.0.0.0:0\n", numbers=(0, 0, 0), more=1, clock=Clock()) as it:
+        (client,), pc = come(it, it.free, [GATEWAY[1]]), Eager()
+        it.party.put_in(PC.KIND, pc)
+        router = it.gate.nodes[NETWORK]
+        request = struct.pack(">HIHH", 1, 0xFFFFFFFF, 0xFFFF, 0xFFFF)
+
+        def asks(node, network=0):
+            before, of_client = pc.beside, client.beside
+            for _ in range(ASKED):
+                question = packet(address(network, router, RIP), address(network, node, RIP), request, kind=1)
+                pc.udp.send(frame("raw", router, PC_NODE, question))
+            it.gate.report()
+            it.party.until(lambda: False, QUIET)
+            return pc.beside - before, client.beside - of_client
+
+        for node, network, answered in (client.node, 0, 0), (client.node, NETWORK, 0), (PC_NODE, 0, 80):
+            assert asks(node, network) == (answered, 0), f"{node.hex()} asks"
+        it.let_pass(1)
+        assert asks(PC_NODE) == (20, 0), it.gate.report()
+        lost = re.findall(r"(?:source of another|too many questions): (\d+)", it.gate.report())
+        assert sorted(map(int, lost)) == [2 * ASKED - 100, 2 * ASKED], lost
+
+
 ALL = 10 * FLOOD
 MOST = RECEIVED * LASTS + AT_ONCE
 TWO_KINDS = ("raw", "ethernet2")
@@ -160,6 +187,7 @@ TESTS = [
     named("by a clock, with a rate of 100 below the PC's link", by_a_clock, several("rate 100 10\n"), [400, 40], [80, 80], 500),
     named("by a clock, with no limit below it", by_a_clock, several("rate none\n"), [2000, 40], [4000, 80], ALL),
     changes_of_a_route,
+    questions_of_a_pc,
 ]
 
 
