@@ -89,6 +89,19 @@ static bool read_household(reader *r, network_setting *it)
     return read_rate_or_none(r, "the packets that all clients of an address receive", &it->household);
 }
 
+void share_rate(reader *r, network_setting *of)
+{
+    for (size_t k = 0; k < r->into->count; k++) {
+        network_setting *other = &r->into->networks[k];
+        network_setting *from = of->rate_line > 0 ? of : other, *to = of->rate_line > 0 ? other : of;
+        if (of->type == LINK_DOSBOX || !same_link(of, other))
+            continue;
+        to->rate_line = from->rate_line;
+        to->rate = from->rate;
+        to->share = from->share;
+    }
+}
+
 /* (what all clients of an address receive is no matter of a link with frames) */
 static void read_rate(reader *r, network_setting *it)
 {
@@ -98,8 +111,10 @@ static void read_rate(reader *r, network_setting *it)
         return;
     it->share = it->rate < USUAL_SHARE ? it->rate : USUAL_SHARE;
     it->household = USUAL_HOUSEHOLD * it->rate;
-    if ((r->next == r->count || read_share(r, it)) && (r->next == r->count || !is_tunnel || read_household(r, it)) && reader_ends(r))
+    if ((r->next == r->count || read_share(r, it)) && (r->next == r->count || !is_tunnel || read_household(r, it)) && reader_ends(r)) {
         it->rate_line = r->line;
+        share_rate(r, it);
+    }
 }
 
 static void read_strangers(reader *r, network_setting *it)

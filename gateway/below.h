@@ -7,4 +7,7 @@
 /* Reads the line that the word, its first, begins. Returns false where none begins so, and nothing is told then. */
 bool read_line_below(reader *r, const char *word);
 
+/* All networks on a link with frames share what it receives, so a rate that is below one of them holds for all. */
+void share_rate(reader *r, network_setting *of);
+
 #endif

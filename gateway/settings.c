@@ -318,10 +318,13 @@ static bool fits(reader *r, const network_setting *it)
 
 /* ---- Networks and links ---- */
 
-/* A link, with its kind of frames. */
+/* A link, with its kind of frames; and with its rate, where another network on it has one. */
 static bool read_whole_link(reader *r, network_setting *it)
 {
-    return read_link(r, it) && read_kind(r, it) && is_single(r, it) && is_for_another(r, it) && fits(r, it);
+    if (!read_link(r, it) || !read_kind(r, it) || !is_single(r, it) || !is_for_another(r, it) || !fits(r, it))
+        return false;
+    share_rate(r, it);
+    return true;
 }
 
 /* Whether the line says no link: its end comes first, or the gateway's node. */

@@ -186,6 +186,8 @@ TESTS = [
     named("the same where two networks are on its link", by_a_clock, ON_ONE_LINK, [350, 40, 200], [280, 80, 240], MOST, TWO_KINDS),
     named("by a clock, with a rate of 100 below the PC's link", by_a_clock, several("rate 100 10\n"), [400, 40], [80, 80], 500),
     named("by a clock, with no limit below it", by_a_clock, several("rate none\n"), [2000, 40], [4000, 80], ALL),
+    named("the same where two networks are on its link, below one of which a rate stands", by_a_clock,
+          ON_ONE_LINK + "rate 799\n", [350, 40, 200], [270, 80, 230], MOST, TWO_KINDS),
     changes_of_a_route,
     questions_of_a_pc,
 ]
