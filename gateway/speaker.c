@@ -94,7 +94,8 @@ void speakers_second(void)
 
 static void forget(speaker *it)
 {
-    it->received = it->asked = it->answered = it->handed = it->advertised = 0;
+    memset(&it->received, 0, sizeof it->received);
+    it->among = it->asked = it->answered = it->handed = it->advertised = 0;
 }
 
 void speakers_forget(void)

@@ -6,6 +6,7 @@
 #include <stddef.h>
 #include <stdint.h>
 
+#include "fair.h"
 #include "limit.h"
 #include "line.h"
 
@@ -19,7 +20,8 @@ typedef struct speaker {
     size_t clients;
     size_t queue;     /* the number of its queue, or 0 where an address doesn't speak; */
     unsigned quiet;   /* and seconds since it did */
-    meter received;   /* by all its clients */
+    fair received;    /* by all its clients, of each other who speaks to them; */
+    meter among;      /* and of each other */
     meter asked;      /* of the router */
     meter answered;   /* by the gateway */
     meter handed;     /* to the router */

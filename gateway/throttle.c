@@ -29,8 +29,9 @@ enum { LINK_QUESTIONS = 20, LINK_QUESTIONS_AT_ONCE = 80 };
 enum { ADVERTISEMENTS = 4, ADVERTISEMENTS_AT_ONCE = 32, LINK_ADVERTISEMENTS = 100, LINK_ADVERTISEMENTS_AT_ONCE = 400 };
 enum { ROUTES_IN_PACKET = 50, SERVICES_IN_PACKET = 7 };
 
-/* So many times a second, and no fewer, what an address' limit is at once. */
-enum { HOUSEHOLD_PART = 8, HOUSEHOLD_AT_ONCE = 2 * (LEAST_AT_ONCE + LEAST_KEPT) };
+/* So many times a second, and no fewer, what an address' limit is at once of one who speaks alone. There is half as much room again for all
+ * together, and half of it is kept. They never take so many times that. */
+enum { HOUSEHOLD_PART = 8, HOUSEHOLD_AT_ONCE = 2 * (LEAST_AT_ONCE + LEAST_KEPT), HALVES = 3, HOUSEHOLD_MOST = 2 };
 
 /* Answers to pings may use so much of the burst that an address hands to the router. Answers of the gateway to what a client says to it. */
 enum { BURST_WITH_PINGS = BURST / 2, ANSWERS = 2, ANSWERS_AT_ONCE = 8 };
@@ -80,16 +81,18 @@ static uint32_t pieces(size_t length)
     return length > LONG ? LONGEST_PIECES : length > MIDDLE ? MIDDLE_PIECES : SHORT_PIECES;
 }
 
-/* The limits of what all clients of an address receive: half of what may come at once is kept for those whose queues
- * aren't half full. */
+/* The limit of what all clients of an address receive, of each who speaks to them his part: else somebody who fills no client's queue would
+ * leave no room for others. What they say to each other isn't taken from that: it would be much more than a part. (how long packets are is
+ * no matter of it) */
 static void set_household(throttle *it, uint32_t household)
 {
-    uint32_t burst = most(household / HOUSEHOLD_PART, HOUSEHOLD_AT_ONCE);
+    uint32_t half = most(household / HOUSEHOLD_PART, HOUSEHOLD_AT_ONCE) / 2;
+    fair_room packets = {HALVES * half, half};
     it->has_household = household > 0;
     if (!it->has_household)
         return;
-    it->household = limit_of(household, 1, burst);
-    it->household_of_much = limit_of(household, 1, burst / 2);
+    it->household = fair_limit_of(household, packets, packets, 1);
+    it->among_household = limit_of(household, 1, 2 * half);
 }
 
 /* The limit of what a client receives. */
@@ -256,11 +259,20 @@ speaker *throttle_brought(const uint8_t *packet)
     return memcmp(packet + AT_FROM_NODE, brought.source, sizeof brought.source) == 0 ? brought.from : NULL;
 }
 
-/* Whether an address has room for a copy for one of its clients. */
-static bool household_has_room(const throttle *it, const member *to, bool is_little)
+/* Whether an address has room for a copy for one of its clients; it is counted then. (where its clients are on networks with different
+ * limits the queues begin anew with each, and what they take together is the limit) */
+static bool household_receives(const throttle *it, member *to, size_t queue)
 {
-    const limit *packets = is_little ? &it->household : &it->household_of_much;
-    return !it->has_household || to->is_trusted || limit_has_room(packets, &to->speaks->received, 1);
+    if (!it->has_household || to->is_trusted)
+        return true;
+    if (queue >= OF_ADDRESSES && queue == to->speaks->queue)
+        return limit_lets(&it->among_household, &to->speaks->among, 1);
+    fair *received = &to->speaks->received;
+    bool has_room = fair_look(&it->household, received, queue, 1) != QUEUE_FULL &&
+                    limit_ahead(&received->used) <= HOUSEHOLD_MOST * (it->household.room + it->household.kept);
+    if (has_room)
+        fair_add(&it->household, received, queue, 1);
+    return has_room;
 }
 
 reason throttle_receives(const throttle *it, member *to, size_t queue, size_t length)
@@ -274,11 +286,7 @@ reason throttle_receives(const throttle *it, member *to, size_t queue, size_t le
     /* (what its address has no room for counts too: else the queue of who floods would be empty each time) */
     if (is != QUEUE_FULL)
         fair_add(&it->received, to->queues, queue, count);
-    if (!household_has_room(it, to, is == QUEUE_LITTLE || queue == OF_ROUTER))
-        return TOO_MUCH_FOR_ADDRESS;
-    if (it->has_household && !to->is_trusted)
-        limit_count(&it->household, &to->speaks->received, 1);
-    return REASONS;
+    return household_receives(it, to, queue) ? REASONS : TOO_MUCH_FOR_ADDRESS;
 }
 
 /* (networks of another kind have no clients) */

@@ -23,8 +23,8 @@ typedef struct throttle {
     bool is_off;
     fair_limit received;  /* by a client, of all who speak to it; by a link with frames, of clients */
     bool has_household;
-    limit household; /* by an address, of all its clients on any network, */
-    limit household_of_much; /* beyond which they get only what finds its queue not half full, by the same meter */
+    fair_limit household; /* by an address, of all its clients on any network, of all others who speak to these; */
+    limit among_household; /* and of each other */
     limit handed;    /* by an address, to the router */
     limit handed_with_pings; /* beyond which no answers to pings are, by the same meter */
     limit pings;     /* of a client */

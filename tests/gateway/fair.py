@@ -17,8 +17,9 @@ STEP = 0.05  # seconds from one look at the clock to the next
 CLIENTS_AT_ONCE = 8  # that speak until the gateway has heard them
 KEPT = 2 * SHARE  # packets at once, of those that a client receives, for who has less than his part of these
 LONGEST_AT_ONCE, ALL_LONG_AT_ONCE = 32, 64  # of the longest packets that a client receives of one who speaks alone, and of all
+WORDS = 20  # packets at once of one who speaks beside another
 ALONE = 100  # short packets at once of one who speaks alone
-HALF_FULL = 75  # packets that are half of his queue
+HOUSE_AT_ONCE = 500  # packets that all clients of an address receive at once of one who speaks alone
 
 
 def say_up_to(player, count):
@@ -127,17 +128,20 @@ def one_part_on_two_networks():
         assert ALONE <= listener.beside <= ALONE + 1, f"{listener.beside} packets"
 
 
-def half_is_kept():
-    """Of what four clients of an address receive, half of what comes at once is kept for those whose queues aren't half full."""
+def each_has_its_part_of_an_address():
+    """Of 500 packets at once that eight clients of an address receive of one who says 128 to all, each has its own; whoever says 20 then is
+    heard whole, and so is one who says 2 more."""
     below = f"strangers none\nrate {RATE} {SHARE} 160\n"
-    with Playground(TWO.replace("network 20", below + "network 20"), numbers=(0, 0, 0), more=3, clock=Clock()) as it:
-        floods, says, *household = come(it, [*it.free[:2], *it.free[2:] * HOUSEHOLD], [GATEWAY[1]] * (2 + HOUSEHOLD))
-        for player, said, heard in (floods, 2 * BURST, HALF_FULL), (says, SHARE // 2, SHARE // 2):
+    with Playground(TWO.replace("network 20", below + "network 20"), numbers=(0, 0, 0), more=4, clock=Clock()) as it:
+        clients = come(it, [*it.free[:3], *it.free[3:] * 2 * HOUSEHOLD], [GATEWAY[1]] * (3 + 2 * HOUSEHOLD))
+        (floods, says, one), household = clients[:3], clients[3:]
+        for player, said, heard in (floods, 2 * BURST, HOUSE_AT_ONCE), (says, WORDS, None), (one, 2, None):
             before = [each.beside for each in household]
             chatter(it, player, said)
             it.party.until(lambda: False, QUIET)
             came = [each.beside - old for each, old in zip(household, before)]
-            assert all(heard <= count <= heard + 1 for count in came), came
+            figures(f"{sum(came)} packets, {came}")
+            assert sum(came) == (heard or said * len(household)), came
 
 
 TESTS = [
@@ -150,7 +154,7 @@ TESTS = [
     no_more_than_it_reads,
     long_packets_at_once,
     one_part_on_two_networks,
-    half_is_kept,
+    each_has_its_part_of_an_address,
 ]
 
 

@@ -31,6 +31,8 @@ PORTS = {NETWORK: GATEWAY[1], 0x20: OTHER_PORT}
 HOUSEHOLD = 4  # clients of an address that ask the router
 LONGEST = 1424  # bytes of the longest packet
 FLOOD = 8000  # packets a second
+HOUSE = f"{TUNNEL_LINE}rate {RATE} {SHARE} {10 * RATE}\n"  # whose addresses receive as much of others as ten clients may
+STEADY = 560  # packets a second that fill no client's queue
 CROWD, FIRST = 200, 20000  # clients of one host, and the first of their ports
 LISTENING, HOUSEHOLD_RATE = 800, 16  # clients of one host that only listen, and as much as how many they receive
 FILLS_TABLES = 147  # packets that answer a question, where the tables are full
@@ -180,14 +182,28 @@ def a_large_household():
 @played_anew
 def a_house_of_sixteen():
     """16 players of one address, who say 288 packets a second together, lose nothing while a client elsewhere says 8,000, though their
-    address receives no more than 14 may."""
-    with Playground(numbers=(0, 0, 0), more=2, begins=False) as it:
+    address receives of others no more than ten may."""
+    with Playground(HOUSE, numbers=(0, 0, 0), more=2, begins=False) as it:
         guilty = flooder(it)
         for _ in range(HOUSEHOLD_RATE):
             it.party.put_in("house", Player(it.free[1], GATEWAY, 1 / 18))
         it.party.speakers += it.party.all[-HOUSEHOLD_RATE:]
         it.party.enter()
         stands(it, flood(it.gate, "forged", "chat", FLOOD, count=FLOOD * SECONDS, **place_of(guilty)), it.party.all)
+        assert it.gate.counted(NETWORK, "too much for an address") > 0
+
+
+@played_anew
+def a_house_beside_steady_words():
+    """16 players of one address, who say 288 packets a second together, lose nothing while a client elsewhere says 560 evenly: it fills no
+    queue of a player's, but it is more than their address receives of others."""
+    with Playground(HOUSE, numbers=(0, 0, 0), more=2, begins=False, program=SYSTEM.delivered) as it:
+        guilty = flooder(it)
+        for _ in range(HOUSEHOLD_RATE):
+            it.party.put_in("house", Player(it.free[1], GATEWAY, 1 / 18))
+        it.party.speakers += it.party.all[-HOUSEHOLD_RATE:]
+        it.party.enter()
+        stands(it, flood(it.gate, "forged", "chat", STEADY, count=STEADY * SECONDS, **place_of(guilty)), it.party.all)
         assert it.gate.counted(NETWORK, "too much for an address") > 0
 
 
@@ -494,6 +510,7 @@ TESTS = [
     a_crowd_floods,
     a_large_household,
     a_house_of_sixteen,
+    a_house_beside_steady_words,
     many_that_listen,
     pings_in_its_name,
     named("with full tables SAP's queries in a player's name, 50 a second", questions_in_its_name, "sap"),
