@@ -105,7 +105,7 @@ def status_on_windows():
 
 
 def what_is_right():
-    """What is right is told so: the example, 32 networks, shares, blanks, comments, one port at both ends, the last line without its end."""
+    """What is right is told so: the example, 32 networks, shares, blanks, comments, a port at both ends, the last line without its end."""
     example = os.path.join(TOP, "gateway", "example.conf")
     assert asked("--check", example)[:2] == (0, f"{example}: 1 network, nothing wrong\n")
     many = tunnels(32).encode()
@@ -118,12 +118,22 @@ def what_is_right():
         assert asked("--check", "/dev/stdin", stdin=text)[:2] == (0, "/dev/stdin: 1 network, nothing wrong\n"), text
 
 
+def one_rate_a_link():
+    """Networks on one link share a rate: below one of them it is right, below a second it is told where the first is."""
+    frames = [f"network {number} 1 1492 qemu-udp 5001 192.0.2.7:5001 {kind}\n" for number, kind in ((20, "raw"), (30, "llc"))]
+    right = f"{frames[0]}rate 900\n{frames[1]}"
+    assert asked("--check", "/dev/stdin", stdin=right.encode())[:2] == (0, "/dev/stdin: 2 networks, nothing wrong\n")
+    status, _, complaint = asked("--check", "/dev/stdin", stdin=f"{right}rate 800\n".encode())
+    assert status == 2 and complaint == "/dev/stdin:4: 'rate': expected no more than once, line 2 has it\n", complaint
+
+
 def names_and_marks():
     """Names in letters of any country, lines that end as on Windows, and a Ctrl-Z, which ends no file."""
     with tempfile.TemporaryDirectory() as folder:
         for text, status, told in (
             (tunnels(2).replace("\n", "\r\n"), 0, ": 2 networks, nothing wrong\n"),
-            (tunnels(1) + "\x1a\nnetwork", 2, ":2: '\\x1A': expected network, link, extend, clients, allow, trust, rate, strangers or line\n"),
+            (tunnels(1) + "\x1a\nnetwork", 2,
+             ":2: '\\x1A': expected network, link, extend, clients, allow, trust, rate, strangers or line\n"),
         ):
             name = "Müller Ωμέγα.conf"
             with open(os.path.join(folder, name), "w", encoding="utf-8", newline="") as it:
@@ -151,7 +161,7 @@ def what_cannot_be_opened():
 def main():
     counts = Counts()
     for test in (each_wrong_line, nothing_is_opened, no_configuration, the_command_line, the_version, no_words, the_example, what_is_right,
-                 names_and_marks, what_cannot_be_opened):
+                 one_rate_a_link, names_and_marks, what_cannot_be_opened):
         counts.run(test)
     if SYSTEM is Windows:
         counts.run(status_on_windows)
