@@ -3,7 +3,7 @@
 use crate::same::same;
 use ipx_wire::{
     Address, Network, Node, Packet, Sap, SapEntry, SapFault, Service, ServiceName, Socket,
-    write_sap,
+    put_service, write_sap, write_sap_front,
 };
 use std::cmp::Ordering;
 use std::test::Fail;
@@ -69,6 +69,24 @@ fn writes_a_service_and_leaves_the_rest(rt: HostRuntime) {
     same(&rt, &out[30..39], front.as_slice());
     let behind = [0, 0, 0, 0x30, 0, 0, 0, 0, 0, 1, 4, 0x51, 0, 2];
     same(&rt, &out[82..96], behind.as_slice());
+}
+
+#[test]
+fn writes_a_response_service_by_service(rt: HostRuntime) {
+    let first = server(name().expect(&rt, "a name"));
+    let second = Service { kind: 7, ..first };
+    let from = on(0x10, 1, Socket::SAP);
+    let to = on(0x10, 0xAA, Socket::SAP);
+    for nearest in [false, true] {
+        let mut whole = [0xEE; 162];
+        let sent = [first, Service { hops: 16, ..second }];
+        let size = write_sap(from, to, nearest, &sent, &mut whole);
+        let mut out = [0xEE; 162];
+        put_service(&mut out, 96, &second, 16);
+        put_service(&mut out, 32, &first, first.hops);
+        same(&rt, write_sap_front(from, to, nearest, 2, &mut out), size);
+        same(&rt, out.as_slice(), whole.as_slice());
+    }
 }
 
 #[test]
