@@ -179,6 +179,43 @@ fn the_longest_packet_is_traced(rt: HostRuntime) -> Result<(), Fail> {
     Ok(())
 }
 
+/// A port that the longest packets pass.
+fn wide(network: u32, node: u8) -> Result<Port, PortFault> {
+    Port::new(Network(network), Node([0, 0, 0, 0, 0, node]), 1, 65_535)
+}
+
+/// The line of routers 0 and 1 once more, settled, where the longest packets pass.
+fn wide_line(heap: Global) -> Result<Small, Fail> {
+    let mut internet = Small::new(heap);
+    for (west, east) in [(0x10, 0x20), (0x20, 0x30)] as [(u8, u8); 2] {
+        let first = wide(u32::from(west), west + 1)?;
+        let second = wide(u32::from(east), east + 2)?;
+        added(&mut internet, Router::new(&[first, second])?)?;
+    }
+    happened(&mut internet, 0, Event::Start)?;
+    happened(&mut internet, 1, Event::Start)?;
+    settled(&mut internet)?;
+    Ok(internet)
+}
+
+#[test]
+fn the_longest_packet_is_kept_for_the_next_router(rt: HostRuntime) -> Result<(), Fail> {
+    let internet = wide_line(rt.alloc())?;
+    let mut bytes = [7u8; 65_535];
+    bytes[..FAR.len()].copy_from_slice(&FAR);
+    bytes[2] = 0xFF;
+    bytes[3] = 0xFF;
+    bytes[9] = 0x30;
+    let trace = internet.trace(0, 0, &bytes, 17)?;
+    same(&rt, trace.len(), 2);
+    for it in trace.iter() {
+        same(&rt, it.outcome, Outcome::Forwarded);
+        same(&rt, it.bytes.len(), 65_535);
+        same(&rt, it.bytes.last().copied(), Some(7));
+    }
+    Ok(())
+}
+
 #[test]
 fn a_high_limit_takes_no_memory(rt: HostRuntime) -> Result<(), Fail> {
     let internet = looped(rt.alloc())?;
