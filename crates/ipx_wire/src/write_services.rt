@@ -60,9 +60,10 @@ fn put_services(out: &mut [u8], place: usize, services: &[Service])
     }
 }
 
-/// Writes a service as one that is that many hops away, whatever its own hops are, into the 64 bytes of `out` from `place` on.
+/// Writes a service as one that is that many hops away, whatever its own hops are, into the 64 bytes of `out` from `place` on. The other
+/// bytes stay.
 ///
-/// With `write_sap_front` this writes a response service by service, with no list of them before.
+/// With `write_sap_front` this writes a response service by service, with no list of them before: the first of them from place 32 on.
 #[tactic(auto, unfolding(crate::specs::WriteServices::service_bytes))]
 pub fn put_service(out: &mut [u8], place: usize, service: &Service, hops: u16)
     requires { place + 64 ≤ length out.old }
@@ -77,10 +78,11 @@ pub fn put_service(out: &mut [u8], place: usize, service: &Service, hops: u16)
     put_u16(out, place + 62, hops);
 }
 
-/// Writes what stands before the services of a response of that many of them, general or to a query for the nearest, to the
-/// beginning of `out`, and returns how many bytes the whole response has: 32, and 64 for each service.
+/// Writes what stands before the services of a response of `count` of them, at most 7, general or to a query for the nearest, to
+/// the beginning of `out`, and returns how many bytes the whole response has: 32, and 64 for each service. `out` has room for 32.
 ///
-/// The bytes behind these first 32 stay; where the services stand there, the whole is the packet that `write_sap` writes.
+/// The bytes behind these first 32 stay; where the services stand there, the whole is the packet that `write_sap` writes. With a
+/// `count` of 0 it is a response without an entry, which readers refuse.
 pub fn write_sap_front(
     from: Address,
     to: Address,
