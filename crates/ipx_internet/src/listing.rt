@@ -1,5 +1,6 @@
 //! The receptions of a tree as they are listed, and what was sent on of them.
-ghost use Rattle.std.specs.Prelude.{◌≡◌, ◌+◌, ◌<◌, ◌≤◌, [], ◌∷◌, ◌++◌, length, map, filter, slice_get, Some, IfOk, OnOk, IfErr};
+ghost use Rattle.std.specs.Prelude.{◌≡◌, ◌+◌, ◌<◌, ◌≤◌, [], ◌∷◌, ◌++◌, length, map, filter, slice_get, Some, IsOk, IfOk, OnOk, IfErr};
+ghost use Rattle.std.specs.Vec.{vec_len, vec_capacity};
 ghost use Rattle.ipx_router.specs.Facts.{offers};
 ghost use Rattle.ipx_router.specs.Relay.{relay_outcome, relay_sends};
 ghost use Rattle.ipx_internet.specs.Listed.{bytes_in, sent_bytes, IsIn, child, listed_from, copy_at, waits_next, children_by, GoesOn, IsCut};
@@ -301,6 +302,7 @@ fn add(list: &mut Vec<Listed>, listed: Listed, limit: usize) -> Result<(), Trace
     ensures added { OnOk result (list.new.items ≡ list.old.items ++ listed ∷ []) }
     ensures few { OnOk result (length list.old.items < limit) }
     ensures refused { IfErr result (IsCut limit (length list.old.items + 1)) }
+    ensures there { length list.old.items < limit → vec_len list.old < vec_capacity list.old → IsOk result }
 {
     if list.len() >= limit {
         return Err(TraceFault::Limit);
@@ -315,6 +317,7 @@ fn add(list: &mut Vec<Listed>, listed: Listed, limit: usize) -> Result<(), Trace
 fn keep(outcomes: &mut Vec<Outcome>, outcome: Outcome) -> Result<(), TraceFault>
     ensures kept { OnOk result (outcomes.new.items ≡ outcomes.old.items ++ outcome ∷ []) }
     ensures refused { IfErr result (λ fault. fault ≡ NoMemory) }
+    ensures there { vec_len outcomes.old < vec_capacity outcomes.old → IsOk result }
 {
     match outcomes.push(outcome) {
         Ok(()) => Ok(()),
@@ -326,6 +329,7 @@ fn keep(outcomes: &mut Vec<Outcome>, outcome: Outcome) -> Result<(), TraceFault>
 fn append(store: &mut Vec<u8>, bytes: &[u8]) -> Result<(), TraceFault>
     ensures appended { OnOk result (store.new.items ≡ store.old.items ++ bytes.now) }
     ensures refused { IfErr result (λ fault. fault ≡ NoMemory) }
+    ensures there { vec_len store.old + length bytes.now ≤ vec_capacity store.old → IsOk result }
 {
     match store.extend_from_slice(bytes) {
         Ok(()) => Ok(()),

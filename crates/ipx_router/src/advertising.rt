@@ -3,7 +3,7 @@
 //! Goes out: packets of at most fifty entries or seven services in the order of their keys; requests and queries.
 //! Touches: the outbox. The tables are read item by item and not copied.
 //! `told_routes` and `told_services` have what is advertised, and `selection` chooses of it; `told` and `pages` put it into packets.
-//! The services of a table, and those that changed, make no page: a `source` writes each straight to its place in a packet.
+//! The services of a table, and those that changed, make no page: a `service_source` writes each straight to its place in a packet.
 pub(crate) mod broadcasts;
 pub(crate) mod envelope;
 pub(crate) mod hops;
@@ -12,7 +12,7 @@ pub(crate) mod item;
 pub(crate) mod pages;
 mod requests;
 pub(crate) mod selection;
-pub(crate) mod source;
+pub(crate) mod service_source;
 pub(crate) mod stopping;
 pub(crate) mod told;
 pub(crate) mod told_routes;

@@ -15,7 +15,7 @@ ghost use Rattle.ipx_router.specs.Relays.{Sent};
 ghost use Rattle.ipx_router.specs.inside.Putting.{PutsServices, SendsServices};
 
 use crate::advertising::envelope::Envelope;
-use crate::advertising::source::Source;
+use crate::advertising::service_source::ServiceSource;
 use crate::outbox_iter::OutboxIter;
 use ipx_wire::{
     Address, Network, Node, Operation, OutOfMemory, Packet, RipEntry, Service, write_crossed,
@@ -215,7 +215,7 @@ impl Outbox {
 
     /// Appends a response of the next services of a source, to the node that it is for; nothing, where none is left. Returns how many
     /// they are. Each is written once, to its place in the packet.
-    pub(crate) fn append_services<S: Source>(&mut self, envelope: Envelope, source: &mut S) -> usize
+    pub(crate) fn append_services<S: ServiceSource>(&mut self, envelope: Envelope, source: &mut S) -> usize
         requires places { 1 ≤ length (S.left source.old) → 1 ≤ self.old.places }
         requires spare { S.needs source.old ≤ self.old.spare }
         ensures sends { SendsServices envelope (S.left source.old) (S.left source.new) result self.old self.new }
@@ -371,7 +371,7 @@ fn put_sap(
 }
 
 /// Writes the next services of a source into the room, behind the place for a front from `start` on, and returns how many they are.
-fn put_next<S: Source>(bytes: &mut Vec<u8>, start: usize, source: &mut S) -> usize
+fn put_next<S: ServiceSource>(bytes: &mut Vec<u8>, start: usize, source: &mut S) -> usize
     requires start { start ≤ vec_len bytes.old }
     requires room { start + S.needs source.old ≤ vec_len bytes.old }
     ensures puts { PutsServices (S.left source.old) (S.left source.new) result (drop start bytes.old.items) (drop start bytes.new.items) }

@@ -1,4 +1,4 @@
-//! Responses of services, written whole to the beginning of a slice.
+//! Responses of services, written to the beginning of a slice: whole, or service by service.
 ghost use Rattle.std.specs.Prelude.{◌≡◌, ◌+◌, ◌*◌, ◌≤◌, ◌++◌, List, length, drop, map};
 ghost use Rattle.std.specs.List.{flat_map, AllByRecursion};
 ghost use Rattle.ipx_wire.specs.Name.{IsServiceName, name_field};

@@ -17,7 +17,7 @@ use crate::advertising::pages::{ENTRIES_A_PAGE, SERVICES_A_PAGE, SERVICES_AT};
 use crate::advertising::selection::{
     Selection, ServiceSelection, hops_sent, is_service_selected, select,
 };
-use crate::advertising::source::Source;
+use crate::advertising::service_source::ServiceSource;
 use crate::advertising::told_routes::{ToldRoutes, list_direct};
 use crate::advertising::told_services::ToldServices;
 use crate::outbox::Outbox;
@@ -138,7 +138,7 @@ struct Selected<'a> {
     selection: ServiceSelection,
 }
 
-impl<'a> Source for Selected<'a> {
+impl<'a> ServiceSource for Selected<'a> {
     ghost use Rattle.std.specs.List.{flat_map};
     ghost use Rattle.ipx_router.specs.inside.Putting.{packet_size};
     ghost use Rattle.ipx_router.specs.inside.Selection.{service_selected_by};

@@ -16,7 +16,7 @@ use crate::advertising::envelope::Envelope;
 use crate::advertising::hops::{dead, entry_of, is_reached_on, told_at};
 use crate::advertising::item::Item;
 use crate::advertising::pages::{ENTRIES_A_PAGE, SERVICES_A_PAGE, SERVICES_AT};
-use crate::advertising::source::Source;
+use crate::advertising::service_source::ServiceSource;
 use crate::learning::touched::Touched;
 use crate::outbox::Outbox;
 use crate::port::Port;
@@ -152,7 +152,7 @@ struct Changed<'a> {
     number: u8,
 }
 
-impl<'a> Source for Changed<'a> {
+impl<'a> ServiceSource for Changed<'a> {
     ghost use Rattle.std.specs.Prelude.{map};
     ghost use Rattle.std.specs.List.{flat_map};
     ghost use Rattle.ipx_router.specs.News.{service_told};

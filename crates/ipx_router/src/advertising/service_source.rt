@@ -4,7 +4,7 @@ ghost use Rattle.ipx_router.specs.Numbers.{services_a_page};
 ghost use Rattle.ipx_router.specs.inside.Putting.{PutsServices};
 
 /// Services, from the first on.
-pub(crate) trait Source {
+pub(crate) trait ServiceSource {
     ghost use Rattle.std.specs.Prelude.{ℕ, List};
     ghost use Rattle.ipx_wire.specs.declared.service.Service.{Service};
 
