@@ -215,7 +215,11 @@ impl Outbox {
 
     /// Appends a response of the next services of a source, to the node that it is for; nothing, where none is left. Returns how many
     /// they are. Each is written once, to its place in the packet.
-    pub(crate) fn append_services<S: ServiceSource>(&mut self, envelope: Envelope, source: &mut S) -> usize
+    pub(crate) fn append_services<S: ServiceSource>(
+        &mut self,
+        envelope: Envelope,
+        source: &mut S,
+    ) -> usize
         requires places { 1 ≤ length (S.left source.old) → 1 ≤ self.old.places }
         requires spare { S.needs source.old ≤ self.old.spare }
         ensures sends { SendsServices envelope (S.left source.old) (S.left source.new) result self.old self.new }
