@@ -2,6 +2,7 @@ pub mod AddressWords
 pub mod Crossings
 pub mod Entries
 pub mod EntryBytes
+pub mod EntryNumber
 pub mod FieldOrder
 pub mod Forwarded
 pub mod Headers

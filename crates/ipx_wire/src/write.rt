@@ -1,5 +1,6 @@
 //! Packets of routing information, and queries for services, written whole to the beginning of a slice.
 ghost use Rattle.std.specs.Prelude.{◌≡◌, ◌+◌, ◌*◌, ◌^◌, ◌<◌, ◌≤◌, ◌++◌, length, drop};
+ghost use Rattle.std.specs.Int.{to_be_bytes, w64};
 ghost use Rattle.std.specs.List.{flat_map};
 ghost use Rattle.ipx_wire.specs.Numbers.{most_entries};
 ghost use Rattle.ipx_wire.specs.Packet.{IsPacket};
@@ -8,9 +9,10 @@ ghost use Rattle.ipx_wire.specs.Rip.{entry_bytes};
 ghost use Rattle.ipx_wire.specs.Write.{own_header, rip_packet, rip_packet_parts, query_packet, query_packet_parts};
 
 use crate::address::Address;
-use crate::fields::{put_u16, put_u32};
+use crate::fields::put_u16;
 use crate::header::Header;
 use crate::rip::{Operation, RipEntry};
+use byteorder::{BigEndian, ByteOrder};
 
 /// Writes a routing information packet of 1 to 50 entries to the beginning of `out`, and returns its number of bytes: 32, and 8
 /// for each entry. `out` has room for as many.
@@ -85,12 +87,17 @@ fn put_entries(out: &mut [u8], place: usize, entries: &[RipEntry])
     }
 }
 
-#[tactic(auto, unfolding(crate::specs::Rip::entry_bytes))]
+// (one store of eight bytes: three of fewer bytes take twice the time)
 fn put_entry(out: &mut [u8], place: usize, entry: RipEntry)
     requires { place + 8 ≤ length out.old }
     ensures { PutsAt out.old place (entry_bytes entry) out.new }
 {
-    put_u32(out, place, entry.network.0);
-    put_u16(out, place + 4, entry.hops);
-    put_u16(out, place + 6, entry.ticks);
+    BigEndian::write_u64(&mut out[place..place + 8], number_of(entry));
+}
+
+/// The eight bytes of an entry as one number.
+fn number_of(entry: RipEntry) -> u64
+    ensures { to_be_bytes w64 result ≡ entry_bytes entry }
+{
+    (u64::from(entry.network.0) << 16 | u64::from(entry.hops)) << 16 | u64::from(entry.ticks)
 }
