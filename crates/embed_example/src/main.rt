@@ -29,7 +29,7 @@ fn main(rt: HostRuntime) -> Result<(), Stop> {
     ];
     let mut router = Router::<2, 256, 128>::new(&ports)?;
     let mut outbox = Outbox::new(rt.alloc());
-    // Room for any event, where no packet that comes is longer than 1,500 bytes. From here on none takes memory.
+    // Room for any event, where no packet that comes is longer than 1,500 bytes. From here on no event takes memory.
     outbox.reserve(router.most_need(1500))?;
     router.step(Event::Start, &mut outbox)?;
     send(&rt, &mut outbox)?;
