@@ -128,7 +128,7 @@ static bool read_name(reader *r, network_setting *it)
 {
     const char *word = reader_word(r);
     if (word == NULL || !is_name(word))
-        return reader_fault(r, word, "expected the name of %s, of at most %d letters, without %% / and :",
+        return reader_fault(r, word, "expected the name of %s, of at most %d bytes, without %% / and :",
                             it->type == LINK_TAP ? "a TAP" : "an interface", NAME_ROOM - 1);
     strcpy(it->name, word);
     return true;

@@ -5,7 +5,7 @@ import contents
 import layout
 from systems import PORTABLE_SOURCE
 
-# The licence of the texts from which wasm2c writes: its own notice and the whole of it, where Debian has them.
+# The licence of the code that wasm2c puts there: its own notice and the whole of it, where Debian has them.
 NOTICES = ("/usr/share/doc/wabt/copyright", "/usr/share/common-licenses/Apache-2.0")
 STORIES = ["examples", ":!examples/embed"]
 MANUAL = "share/man/"
@@ -16,19 +16,20 @@ README = """ipxr {version}, as one file of C
     cc -O2 ipxr.c -o ipxr
     ./ipxr decode examples/nearest-server.pcap
 
-The first line takes a minute or two. The second writes what stands in
-examples/nearest-server.out. Any compiler for C99 does, on a little-endian
-system of 32 or 64 bits. On a big-endian one it refuses to compile.
+The first line takes a minute or two. The second writes the same lines as
+examples/nearest-server.out has. Any compiler for C99 will do, on a
+little-endian system of 32 or 64 bits. On a big-endian one ipxr.c refuses to
+compile.
 
-What it does and the words that it takes stand in its manual pages:
+The manual pages say what it does and which words it takes:
 man -M man ipxr, man -M man ipxr-script. The gateway and the library for C
 aren't here: the releases for Linux and Windows have them.
 
-PROVENANCE says from what ipxr.c was made. It was written by the tool wasm2c,
-for whose texts a licence stands: NOTICE.
+PROVENANCE says from what ipxr.c was made. The tool wasm2c wrote it, partly
+from code of its own; NOTICE has the licence of that code.
 """
 NOTICE = """ipxr.c was written by wasm2c, a tool of WABT, the WebAssembly Binary Toolkit,
-and changed for this program. The texts from which wasm2c writes have this
+and changed for this program. The code that wasm2c puts there is under this
 licence.
 
 """
