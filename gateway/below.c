@@ -21,7 +21,7 @@ static bool read_socket(reader *r, network_setting *it)
     if (word == NULL || !is_hexadecimal(word, 4, &socket) || socket == 0)
         return reader_fault(r, word, "expected a socket in hexadecimal digits, 1 to FFFF");
     if (names_socket(it, socket))
-        return reader_fault(r, word, "expected another socket, this one is named already");
+        return reader_fault(r, word, "expected another socket: this one is there already");
     if (it->socket_count == MOST_SOCKETS)
         return reader_fault(r, word, "expected at most %d sockets", MOST_SOCKETS);
     it->sockets[it->socket_count++] = (uint16_t)socket;
@@ -49,7 +49,7 @@ static bool read_most(reader *r, uint32_t most, const char *what, uint16_t *numb
 /* Whether a line of that kind stands below the network for the first time. */
 static bool is_first_line(reader *r, size_t line)
 {
-    return line == 0 || reader_fault(r, r->words[0], "expected no more than once, line %zu has it", line);
+    return line == 0 || reader_fault(r, r->words[0], "expected only once: line %zu has it", line);
 }
 
 static void read_clients(reader *r, network_setting *it)
@@ -57,7 +57,7 @@ static void read_clients(reader *r, network_setting *it)
     if (!is_first_line(r, it->clients_line) || !read_most(r, IPXR_MOST_CLIENTS, "", &it->clients))
         return;
     it->per_address = it->clients;
-    if ((r->next == r->count || read_most(r, it->clients, " of one address", &it->per_address)) && reader_ends(r))
+    if ((r->next == r->count || read_most(r, it->clients, " from one address", &it->per_address)) && reader_ends(r))
         it->clients_line = r->line;
 }
 
@@ -80,7 +80,7 @@ static bool read_share(reader *r, network_setting *it)
     if (it->rate == 0)
         return reader_fault(r, word, "expected nothing more");
     if (!is_number(word, it->rate, &it->share) || it->share == 0)
-        return reader_fault(r, word, "expected the packets a second of who says little, 1 to %lu", (unsigned long)it->rate);
+        return reader_fault(r, word, "expected the share of a quiet sender in packets a second, 1 to %lu", (unsigned long)it->rate);
     return true;
 }
 
@@ -106,7 +106,7 @@ void share_rate(reader *r, network_setting *of)
 static void read_rate(reader *r, network_setting *it)
 {
     bool is_tunnel = it->type == LINK_DOSBOX;
-    const char *what = is_tunnel ? "the packets that a client receives" : "the packets that the link receives of clients";
+    const char *what = is_tunnel ? "the packets that a client receives" : "the packets that the link receives from clients";
     if (!is_first_line(r, it->rate_line) || !read_rate_or_none(r, what, &it->rate))
         return;
     it->share = it->rate < USUAL_SHARE ? it->rate : USUAL_SHARE;
@@ -156,7 +156,7 @@ static bool read_range(reader *r, ranges *into)
     range found;
     const char *word = reader_word(r);
     if (word == NULL || !is_range(word, &found))
-        return reader_fault(r, word, "expected an address in numbers and the bits that count, as 192.168.1.0/24, or an address alone");
+        return reader_fault(r, word, "expected a numeric address and the bits that count, such as 192.168.1.0/24, or an address alone");
     if (!is_first(found.host, found.bits))
         return reader_fault(r, word, "expected an address that is 0 behind its %d bits", found.bits);
     if (into->count == MOST_RANGES)

@@ -186,7 +186,7 @@ void probe_ping(gateway *it, viewer *v, const char *word, unsigned number)
     uint8_t hop[NODE];
     probe *p = &v->probe;
     if (word == NULL || !is_station(word, &p->to, &p->has_socket)) {
-        viewer_complain(v, "expected NETWORK.NODE or NETWORK.NODE.SOCKET in hexadecimal digits, as 00000010.7F0000010BB8");
+        viewer_complain(v, "expected NETWORK.NODE or NETWORK.NODE.SOCKET in hexadecimal digits, such as 00000010.7F0000010BB8");
         return;
     }
     network *on = way_to(it, &p->to, hop);
@@ -259,7 +259,7 @@ static void say_way(viewer *v, const uint8_t *data, size_t length, const char *t
                        get16(data + at + 6));
         return;
     }
-    viewer_say(v, "%s answers in %s, but not of this network", station_words(&p->asked, words), took);
+    viewer_say(v, "%s answers in %s, but not about this network", station_words(&p->asked, words), took);
 }
 
 /* Whether a packet goes to where one was asked from, and comes from who was asked. */

@@ -56,12 +56,12 @@ static void complain_lines(char *text)
 static void sum_up(const changed *what, char words[SUMMARY_ROOM])
 {
     if (!has_changed(what)) {
-        snprintf(words, SUMMARY_ROOM, "%s is read anew: nothing changed", name);
+        snprintf(words, SUMMARY_ROOM, "%s was read again: nothing changed", name);
         return;
     }
-    const char *router = what->is_new_router ? "; the router begins anew" : "";
-    snprintf(words, SUMMARY_ROOM, "%.90s is read anew: networks and links: %zu added, %zu removed, %zu with another link, %zu with other clients, "
-             "%zu with other sockets%s", name, what->added, what->removed, what->reopened, what->clients, what->sockets, router);
+    const char *router = what->is_new_router ? "; the router starts afresh" : "";
+    snprintf(words, SUMMARY_ROOM, "%.90s was read again: networks and links: %zu added, %zu removed, %zu with another link, "
+             "%zu with other clients, %zu with other sockets%s", name, what->added, what->removed, what->reopened, what->clients, what->sockets, router);
 }
 
 /* Reads and changes. Returns whether the file was right; tells what was done, or, in text that the caller frees, what is wrong. */

@@ -103,7 +103,7 @@ static bool read_local(reader *r, network_setting *it)
 {
     const char *word = reader_word(r);
     if (word == NULL || !is_address(word, &it->local))
-        return reader_fault(r, word, "expected an address in numbers and a port, as 127.0.0.1:5001, or a port alone");
+        return reader_fault(r, word, "expected a numeric address and a port, such as 127.0.0.1:5001, or a port alone");
     return it->type != LINK_DOSBOX || !it->local.is_six ||
            reader_fault(r, word, "expected an address of IPv4: a client's node is its address and port, and has six bytes");
 }
@@ -113,9 +113,9 @@ static bool read_remote(reader *r, network_setting *it)
 {
     const char *word = reader_word(r);
     if (word == NULL || !is_place(word, &it->remote, it->host) || it->remote.port == 0)
-        return reader_fault(r, word, "expected an address and a port, as 127.0.0.1:5001 or b.example.net:5001");
+        return reader_fault(r, word, "expected an address and a port, such as 127.0.0.1:5001 or b.example.net:5001");
     return it->type != LINK_QEMU_UDP || it->host[0] != '\0' || it->remote.is_six == it->local.is_six ||
-           reader_fault(r, word, "expected an address of %s, as the one before it", it->local.is_six ? "IPv6" : "IPv4");
+           reader_fault(r, word, "expected an address of %s, like the one before it", it->local.is_six ? "IPv6" : "IPv4");
 }
 
 /* Whether Linux takes it for the name of one interface: with a % it would make up a number, and with the others it takes none. */
@@ -222,7 +222,7 @@ static bool read_node(reader *r, network_setting *it)
         return reader_fault(r, word, "expected node, or nothing more");
     word = reader_word(r);
     if (word == NULL || !is_node(word, it->node) || (it->node[0] & 1) != 0 || memcmp(it->node, "\0\0\0\0\0", sizeof it->node) == 0)
-        return reader_fault(r, word, "expected a node, twelve digits, as 02005E000001, whose first byte is even");
+        return reader_fault(r, word, "expected a node, twelve digits, such as 02005E000001, whose first byte is even");
     it->has_node = true;
     return true;
 }

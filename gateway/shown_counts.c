@@ -104,12 +104,12 @@ static const struct {
     const char *name, *type, *help;
     size_t first, behind;
 } METRICS[] = {
-    {"ipxr_gateway_received_packets_total", "counter", "Datagrams or frames that came by the link.", IN, IN + 1},
+    {"ipxr_gateway_received_packets_total", "counter", "Datagrams or frames that arrived on the link.", IN, IN + 1},
     {"ipxr_gateway_sent_packets_total", "counter", "Packets that left; a broadcast to several clients is one.", OUT, OUT + 1},
     {"ipxr_gateway_extended_packets_total", "counter", "Copies of broadcasts that were handed to the network.", EXTENDED, EXTENDED + 1},
     {"ipxr_gateway_refused_connections_total", "counter", "Connections that came while a PC was connected.", REFUSED, REFUSED + 1},
-    {"ipxr_gateway_lost_packets_total", "counter", "Packets that the gateway let go of, by the reason.", LOST, DROPPED},
-    {"ipxr_gateway_dropped_packets_total", "counter", "Packets that the router dropped, by the reason.", DROPPED, COUNTED},
+    {"ipxr_gateway_lost_packets_total", "counter", "Packets that the gateway dropped, by reason.", LOST, DROPPED},
+    {"ipxr_gateway_dropped_packets_total", "counter", "Packets that the router dropped, by reason.", DROPPED, COUNTED},
     {"ipxr_gateway_up", "gauge", "Whether the network's link is up, or one of its links.", UP, UP + 1},
     {"ipxr_gateway_clients", "gauge", "Clients of DOSBox' tunnel.", CLIENTS, CLIENTS + 1},
 };

@@ -151,7 +151,7 @@ static void take_one(void)
         viewer_begin(v, fd);
         return;
     }
-    static const char FULL[] = "-too many ask at once: expected a few less\n\0001";
+    static const char FULL[] = "-too many ask at once: expected fewer\n\0001";
     if (fd >= 0)
         (void)!connection_send(fd, (const uint8_t *)FULL, sizeof FULL - 1);
     close_any(&fd);

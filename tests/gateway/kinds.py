@@ -265,7 +265,7 @@ def read_anew(gate, old, new):
     with open(gate.configuration, "w", encoding="utf-8") as file:
         file.write(text.replace(old, new))
     gate.run.order(signal.SIGHUP)
-    gate.told(" is read anew: ")
+    gate.told(" was read again: ")
 
 
 def read_while_it_runs():

@@ -49,7 +49,7 @@ def nothing_changes():
         a, b = Client(gate.ports[0x10]), Client(gate.ports[0x20])
         assert gate.asked("reload").endswith(": nothing changed\n")
         gate.run.order(signal.SIGHUP)
-        gate.told("is read anew: nothing changed")
+        gate.told("was read again: nothing changed")
         assert reaches(a, b) and reaches(b, a)
         assert not is_told_to_leave(gate)
 
@@ -194,7 +194,7 @@ def a_link_is_another():
 
 
 def networks_come_and_go():
-    """Networks that are added and removed are so; on another network nothing is lost, though the router begins anew."""
+    """Networks that are added and removed are so; on another network nothing is lost, though the router starts afresh."""
     others_play(lambda port: at(0x20, port) + at(0x30, "127.0.0.1:0"), lambda port: "")
 
 
@@ -241,7 +241,7 @@ def the_router_begins_anew():
         a.send(rip_response(0x10, a.node, [(0x77, 2, 3)]))
         gate.until("00000077 hops 2")
         said = gate.reload(tunnels(2).replace("network 20 1", "network 20 5"))
-        assert said.endswith("; the router begins anew\n"), said
+        assert said.endswith("; the router starts afresh\n"), said
         assert b.hear(lambda it: is_farewell(it, 0x10)) is not None, "it takes leave"
         asks = a.hear(lambda it: socket_of(it) == 0x453 and it[30:32] == b"\0\1")
         assert asks is not None, "it asks for routes"

@@ -244,7 +244,7 @@ def many_ask():
         some = [gate.connects(b"show events\n") for _ in range(MOST_ASKED)]
         for it in some:
             assert it.recv(1) == b"+"
-        assert asked(gate.path, "show")[::2] == (1, "too many ask at once: expected a few less\n")
+        assert asked(gate.path, "show")[::2] == (1, "too many ask at once: expected fewer\n")
         some.pop().close()
         until(lambda: asked(gate.path, "show", "links")[0] == 0, "one may ask again")
         for it in some:

@@ -124,7 +124,7 @@ def one_rate_a_link():
     right = f"{frames[0]}rate 900\n{frames[1]}"
     assert asked("--check", "/dev/stdin", stdin=right.encode())[:2] == (0, "/dev/stdin: 2 networks, nothing wrong\n")
     status, _, complaint = asked("--check", "/dev/stdin", stdin=f"{right}rate 800\n".encode())
-    assert status == 2 and complaint == "/dev/stdin:4: 'rate': expected no more than once, line 2 has it\n", complaint
+    assert status == 2 and complaint == "/dev/stdin:4: 'rate': expected only once: line 2 has it\n", complaint
 
 
 def names_and_marks():
