@@ -60,6 +60,8 @@ pub(crate) fn renews<const S: usize>(
 }
 
 /// Whether the offer at that place is what an entry from that port and neighbour offers, by the bytes of the entry.
+// (this and the next one stand in line: they are asked about each entry of a response)
+#[inline(always)]
 fn is_known(offers: &[ServiceOffer], place: usize, number: u8, node: Node, bytes: &[u8]) -> bool
     requires { 64 ≤ length bytes.now }
     ensures { result ≡ true → (known : Known) × (slice_get offers.now place ≡ Some known)
@@ -72,6 +74,7 @@ fn is_known(offers: &[ServiceOffer], place: usize, number: u8, node: Node, bytes
 }
 
 /// Whether an offer is what an entry from that port and neighbour offers, by the bytes of the entry.
+#[inline(always)]
 fn is_offered(known: &ServiceOffer, number: u8, node: Node, bytes: &[u8]) -> bool
     requires { 64 ≤ length bytes.now }
     ensures { result ≡ true → services_offered number node (sap_entry_at bytes.now ∷ []) ≡ Offered known.now ∷ [] }

@@ -22,6 +22,8 @@ pub(crate) struct Touched<O> {
 }
 
 /// Takes an offer, and notes what it changes.
+// (this and the functions below stand in line, so that the offers before and after are copied once less)
+#[inline(always)]
 pub(crate) fn take<O: Offer, const CAP: usize, const MOST: usize>(
     table: &mut Table<O, CAP>,
     touched: &mut ArrayVec<Touched<O>, MOST>,
@@ -43,6 +45,7 @@ pub(crate) fn take<O: Offer, const CAP: usize, const MOST: usize>(
 }
 
 /// Notes what an offer changed. Of a key that was noted before, only what it has now is new.
+#[inline(always)]
 fn note<O: Offer, const MOST: usize>(
     touched: &mut ArrayVec<Touched<O>, MOST>,
     offer: &O,
@@ -72,6 +75,7 @@ fn note<O: Offer, const MOST: usize>(
 }
 
 /// Writes what a key has now.
+#[inline(always)]
 fn renew<O: Offer, const MOST: usize>(
     touched: &mut ArrayVec<Touched<O>, MOST>,
     place: usize,
@@ -92,6 +96,7 @@ fn renew<O: Offer, const MOST: usize>(
 
 /// The place of a key among those that were touched, or the place where it would stand. The entries of a response mostly
 /// ascend, so the last key is looked at first.
+#[inline(always)]
 fn place_of<O: Offer>(touched: &[Touched<O>], key: &O::Key) -> Result<usize, usize>
     ensures known { IfOk result (λ place. (place < length touched.now)
         × ((d : Touched O) → O.Key.cmp (O.reading.key (get_or touched.now place d).offer) key.now ≡ Equal)) }
@@ -107,6 +112,7 @@ fn place_of<O: Offer>(touched: &[Touched<O>], key: &O::Key) -> Result<usize, usi
 }
 
 /// Whether a key is greater than the last one that was touched, if there is any.
+#[inline(always)]
 fn is_behind<O: Offer>(touched: &[Touched<O>], key: &O::Key) -> bool
     ensures { result ≡ true → (d : Touched O) → 0 < length touched.now
         → is_lt (O.Key.cmp (O.reading.key (get_or touched.now (length touched.now - 1) d).offer) key.now) ≡ true }
