@@ -4,6 +4,7 @@ pub mod OnePacketMore
 pub mod OwnPacketsAreValid
 pub mod PacketsOfTheirKind
 pub mod PageByPage
+pub mod PageOfServices
 pub mod PagesFilledFirst
 pub mod PortByPort
 pub mod RoomForServices

@@ -24,6 +24,18 @@ pub record PutsAfter (count : ℕ) (services : List Service) (counts : ℕ) (old
   pub sizes : length (flat_map service_bytes services) ≡ 64 * length services
   pub bytes : PutsAt old (32 + 64 * count) (flat_map service_bytes services) new
 
+-- a page has these services, that many, behind the place of a front
+pub record IsPage (services : List Service) (count : ℕ) (page : List ℕ) : Type 0 where
+  pub counted : length services ≡ count
+  pub few : count ≤ services_a_page
+  pub sizes : length (flat_map service_bytes services) ≡ 64 * count
+  pub room : 32 + 64 * count ≤ length page
+  pub bytes : take (64 * count) (drop 32 page) ≡ flat_map service_bytes services
+
+-- no port has this number
+abbrev pub no_port : ℕ
+no_port = 256
+
 -- of the services that were left the first ones, that many, were sent in one packet; none, where none is left
 pub record SendsServices (envelope : Envelope) (left leaves : List Service) (count : ℕ) (old new : Contents) : Type 0 where
   pub services : List Service

@@ -1,7 +1,8 @@
 //! Advertises changes at once: each on every port that is up, but not on that of the route or service itself.
-ghost use Rattle.std.specs.Prelude.{◌≡◌, ℕ, ◌+◌, ◌*◌, ◌<◌, ◌≤◌, ◌==◌, if◌then◌else◌, [], ◌∷◌, ◌++◌, length, map};
+ghost use Rattle.std.specs.Prelude.{◌≡◌, ℕ, ◌+◌, ◌*◌, ◌<◌, ◌≤◌, ◌==◌, if◌then◌else◌, [], ◌∷◌, ◌++◌, length, map, take, drop, false};
 ghost use Rattle.std.specs.List.{AllByRecursion, flat_map};
 ghost use Rattle.std.specs.Option.{option_to_list};
+ghost use Rattle.ipx_wire.specs.Put.{PutsAt};
 ghost use Rattle.ipx_wire.specs.Write.{rip_packet};
 ghost use Rattle.ipx_wire.specs.declared.rip.Operation.TheVariants.{Response};
 ghost use Rattle.ipx_router.specs.News.{route_now, route_told, service_now, service_told};
@@ -9,7 +10,7 @@ ghost use Rattle.ipx_router.specs.Numbers.{entries_a_page, services_a_page, most
 ghost use Rattle.ipx_router.specs.Outbox.{HasRoom, Appends};
 ghost use Rattle.ipx_router.specs.Port.{port_at};
 ghost use Rattle.ipx_router.specs.Sends.{rip_broadcast, sap_broadcast};
-ghost use Rattle.ipx_router.specs.inside.Putting.{PutsAfter, PutsServices};
+ghost use Rattle.ipx_router.specs.inside.Putting.{IsPage, PutsAfter, PutsServices, no_port};
 ghost use Rattle.ipx_router.specs.inside.Touched.{change_of};
 
 use crate::advertising::envelope::Envelope;
@@ -25,6 +26,12 @@ use crate::route_offer::RouteOffer;
 use crate::service_offer::ServiceOffer;
 use arrayvec::ArrayVec;
 use ipx_wire::{Address, RipEntry, SapEntry, put_service};
+
+/// How many bytes a page of services has, with the place for a front.
+const PAGE: usize = SERVICES_AT + SapEntry::SIZE * SERVICES_A_PAGE;
+
+/// No port has this number.
+const NO_PORT: u16 = 256;
 
 /// Advertises changed routes on the ports that are up, in at most a packet each.
 pub(crate) fn advertise_route_changes(
@@ -61,8 +68,10 @@ pub(crate) fn advertise_service_changes(
     if changes.is_empty() {
         return;
     }
+    let mut page = [0; PAGE];
+    let (count, _) = put_changes(changes, NO_PORT, &mut page);
     for &number in up {
-        broadcast_service_changes(outbox, ports, number, changes);
+        broadcast_service_changes(outbox, ports, number, changes, count, &page);
     }
 }
 
@@ -83,21 +92,59 @@ fn broadcast_route_changes(
     broadcast_page(outbox, ports, number, &page);
 }
 
-/// Broadcasts changed services on one port, in at most one packet.
+/// Broadcasts changed services on one port, in at most one packet. Unless one of them was learned there, this has all that `page` has.
 fn broadcast_service_changes(
     outbox: &mut Outbox,
     ports: &[Port],
     number: u8,
     changes: &[Touched<ServiceOffer>],
+    count: usize,
+    page: &[u8],
 )
     requires port { number < length ports.now }
     requires few { length changes.now ≤ services_a_page }
+    requires page { IsPage (flat_map (service_told no_port) (map change_of changes.now)) count page.now }
     requires room { HasRoom outbox.old 1 most_own_length }
     ensures sent { Appends outbox.old outbox.new (sap_broadcast ports.now number (flat_map (service_told number) (map change_of changes.now))) }
     ensures left { (packets bytes : ℕ) → HasRoom outbox.old (packets + 1) (bytes + most_own_length) → HasRoom outbox.new packets bytes }
 {
     let envelope = Envelope::services_to_all(ports, number);
-    outbox.append_services(envelope, &mut Changed { changes, number });
+    if has_learned(changes, number) {
+        let number = u16::from(number);
+        outbox.append_services(envelope, &mut Changed { changes, number });
+    } else {
+        let mut written = Written {
+            changes,
+            count,
+            page,
+        };
+        outbox.append_services(envelope, &mut written);
+    }
+}
+
+/// Whether one of the changed services was learned on a port.
+fn has_learned(changes: &[Touched<ServiceOffer>], number: u8) -> bool
+    ensures { result ≡ false → flat_map (service_told number) (map change_of changes.now) ≡ flat_map (service_told no_port) (map change_of changes.now) }
+{
+    for change in changes {
+        if is_learned(change, number) {
+            return true;
+        }
+    }
+    false
+}
+
+/// Whether a changed service was learned on a port.
+fn is_learned(change: &Touched<ServiceOffer>, number: u8) -> bool
+    ensures { result ≡ false → service_told number (change_of change.now) ≡ service_told no_port (change_of change.now) }
+{
+    if let Some(offer) = &change.after {
+        return offer.port == number;
+    }
+    if let Some(offer) = &change.before {
+        return offer.port == number;
+    }
+    false
 }
 
 /// Broadcasts a page of entries on a port, if there is any.
@@ -149,7 +196,7 @@ fn news_routes(
 #[derive(Drop)]
 struct Changed<'a> {
     changes: &'a [Touched<ServiceOffer>],
-    number: u8,
+    number: u16,
 }
 
 impl<'a> ServiceSource for Changed<'a> {
@@ -170,11 +217,60 @@ impl<'a> ServiceSource for Changed<'a> {
     }
 }
 
+/// What is left of changed services that stand on a page, as they are advertised on each port where none of them was learned.
+#[derive(Drop)]
+struct Written<'a> {
+    changes: &'a [Touched<ServiceOffer>],
+    count: usize,
+    page: &'a [u8],
+    ghost whole: { IsPage (flat_map (service_told no_port) (map change_of changes.now)) count page.now },
+}
+
+impl<'a> ServiceSource for Written<'a> {
+    ghost use Rattle.std.specs.Prelude.{map};
+    ghost use Rattle.std.specs.List.{flat_map};
+    ghost use Rattle.ipx_router.specs.News.{service_told};
+    ghost use Rattle.ipx_router.specs.Numbers.{most_own_length};
+    ghost use Rattle.ipx_router.specs.inside.Putting.{no_port};
+    ghost use Rattle.ipx_router.specs.inside.Touched.{change_of};
+
+    ghost left = { λ w. flat_map (service_told no_port) (map change_of w.changes.now) };
+
+    ghost needs = { λ w. most_own_length };
+
+    fn put(&mut self, out: &mut [u8]) -> usize {
+        let count = self.count;
+        copy_page(out, self.page, count);
+        self.changes = &[];
+        self.count = 0;
+        count
+    }
+}
+
+/// Copies that many services from a page to a packet, behind the place for its front.
+fn copy_page(out: &mut [u8], page: &[u8], count: usize)
+    requires page { 32 + 64 * count ≤ length page.now }
+    requires room { 32 + 64 * count ≤ length out.old }
+    ensures { PutsAt out.old 32 (take (64 * count) (drop 32 page.now)) out.new }
+{
+    let (_, behind) = page.split_at(SERVICES_AT);
+    let (services, _) = behind.split_at(SapEntry::SIZE * count);
+    copy_bytes(out, SERVICES_AT, services);
+}
+
+/// Copies bytes to a place.
+fn copy_bytes(out: &mut [u8], place: usize, bytes: &[u8])
+    requires { place + length bytes.now ≤ length out.old }
+    ensures { PutsAt out.old place bytes.now out.new }
+{
+    out[place..place + bytes.len()].copy_from_slice(bytes);
+}
+
 /// Writes changed services as a port advertises them, each to its place in a packet, until it is full. Returns how many they are, and
 /// what is left of the changes.
 fn put_changes<'a>(
     changes: &'a [Touched<ServiceOffer>],
-    number: u8,
+    number: u16,
     out: &mut [u8],
 ) -> (usize, &'a [Touched<ServiceOffer>])
     requires room { most_own_length ≤ length out.old }
@@ -209,7 +305,7 @@ fn news_route(ports: &[Port], number: u8, change: &Touched<RouteOffer>) -> Optio
 
 /// Writes a changed service behind `count` others as a port advertises it, and returns how many there are then: as it is now or, where
 /// it ended, as unreachable at the address that it had.
-fn put_change(out: &mut [u8], count: usize, number: u8, change: &Touched<ServiceOffer>) -> usize
+fn put_change(out: &mut [u8], count: usize, number: u16, change: &Touched<ServiceOffer>) -> usize
     requires room { most_own_length ≤ length out.old }
     requires few { count < services_a_page }
     ensures puts { PutsAfter count (service_told number (change_of change.now)) result out.old out.new }
@@ -224,12 +320,18 @@ fn put_change(out: &mut [u8], count: usize, number: u8, change: &Touched<Service
 }
 
 /// Split horizon: writes a service with that number of hops, but not where the port is that of its offer.
-fn put_elsewhere(out: &mut [u8], count: usize, number: u8, offer: &ServiceOffer, hops: u16) -> usize
+fn put_elsewhere(
+    out: &mut [u8],
+    count: usize,
+    number: u16,
+    offer: &ServiceOffer,
+    hops: u16,
+) -> usize
     requires room { most_own_length ≤ length out.old }
     requires few { count < services_a_page }
     ensures puts { PutsAfter count (if offer.now.port == number then [] else (record offer.now.service { hops = hops }) ∷ []) result out.old out.new }
 {
-    if offer.port == number {
+    if u16::from(offer.port) == number {
         return count;
     }
     let place = SERVICES_AT + SapEntry::SIZE * count;

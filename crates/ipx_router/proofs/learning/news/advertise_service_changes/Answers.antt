@@ -1,14 +1,27 @@
-use Rattle.std.proofs.Common.{◌∙◌, refl, sym, ap, subst, length, map, []}
+use Rattle.std.proofs.Common.{◌∙◌, refl, sym, ap, subst, length, map, List, [], arith}
+use Rattle.std.proofs.lemmas.List.{length-map}
 use Rattle.std.specs.List.{flat_map}
 use Rattle.ipx_router.specs.News.{service_told}
 use Rattle.ipx_router.specs.Numbers.{most_own_length}
 use Rattle.ipx_router.specs.Outbox.{Appends}
 use Rattle.ipx_router.specs.Sends.{sap_broadcast}
+use Rattle.ipx_router.specs.inside.Putting.{no_port}
 use Rattle.ipx_router.specs.inside.Touched.{change_of}
+use Rattle.ipx_router.specs.declared.learning.touched.Touched.{Touched}
+use Rattle.ipx_router.specs.declared.service_offer.ServiceOffer.{ServiceOffer}
 use Rattle.ipx_router.proofs.changes.ListedForEachPort.{no_items, room_next, sent_next}
 use Rattle.ipx_router.proofs.ended.SentIsOfEnded.{none_each}
 use Rattle.ipx_router.proofs.sending.OneAfterAnother.{appends_none}
+use Rattle.ipx_router.proofs.sending.PageOfServices.{page_of}
+use Rattle.ipx_router.proofs.sending.RoomForServices.{told_few}
 use Rattle.ipx_router.proofs.learning.news.advertise_service_changes.Goals as goal
+
+pub broadcast_service_changes-requires-clause-page : goal.broadcast_service_changes-requires-clause-page
+broadcast_service_changes-requires-clause-page c =
+    let changes = c.args.changes.now in
+    let put = c.put_changes-count.ensures in
+    page_of put.puts (omega (arith, told_few no_port (map change_of changes), length-map changes change_of, c.requires.few)) put.few
+    (λ less. ap (λ (cs : List (Touched ServiceOffer)). flat_map (service_told no_port) (map change_of cs)) (put.last less)) (omega arith)
 
 pub loop-number-preserved : goal.loop-number-preserved
 loop-number-preserved c =
