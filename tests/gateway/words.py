@@ -42,7 +42,7 @@ def each_wrong_line():
 def nothing_is_opened():
     """A wrong configuration is told without --check too, and nothing is opened."""
     status, out, complaint = asked("/dev/stdin", stdin=b"network 10 1 1424 dosbox 0\nnetwork 20 1 1424 dosbox x\n")
-    assert (status, out) == (2, "") and complaint.startswith("/dev/stdin:2: 'x': expected an address"), complaint
+    assert (status, out) == (2, "") and complaint.startswith("/dev/stdin:2: 'x': expected a numeric address"), complaint
 
 
 def no_configuration():
