@@ -83,7 +83,7 @@ extern "C" {
 #define IPXR_LEARNED 4          /* a response was accepted, even if it taught nothing: worse or unreachable offers, own networks, no room */
 #define IPXR_ANSWERED 5         /* a request or a query was heard; also if nothing is sent */
 #define IPXR_FORWARDED 6        /* the packet goes on towards its network */
-#define IPXR_PROPAGATED 7       /* the packet goes on to the other networks; also if there is none */
+#define IPXR_PROPAGATED 7       /* the packet goes on to each other network that is up, uncrossed and allows its length, if any */
 #define IPXR_WENT_DOWN 8        /* the port is down from now on */
 #define IPXR_CAME_UP 9          /* the port is up from now on */
 #define IPXR_ALREADY_DOWN 10    /* the port was down; nothing was done */
@@ -118,7 +118,7 @@ extern "C" {
 #define IPXR_TOO_MANY_ROUTERS 1400    /* came through sixteen routers or more */
 #define IPXR_FAR_SIDE 1500            /* for another port of this router */
 #define IPXR_NO_ROUTE 1600            /* for a network to which there is no route */
-#define IPXR_TOO_LONG 1700            /* longer than the outgoing port allows */
+#define IPXR_TOO_LONG 1700            /* to be forwarded, and longer than the outgoing port allows */
 #define IPXR_DOWN_PORT 1800           /* came on a port that is down */
 
 /* ---- Faults: below 0. The call did nothing. ---- */
