@@ -1,6 +1,7 @@
 /* Where libipxr gets its memory. An embedder with an allocator of its own puts it in the place of malloc, realloc and free:
  * the three belong together, and a block of n bytes is aligned to each power of two up to 16 that divides n. A refused
- * request is told by `there`; the router then answers IPXR_OUT_OF_MEMORY and is as it was. */
+ * request is told by `there`; the router then answers IPXR_OUT_OF_MEMORY and is as it was. A file in C++ declares the three
+ * extern "C": otherwise the linker takes these here, without a word. */
 #include <stdbool.h>
 #include <stddef.h>
 #include <stdlib.h>
