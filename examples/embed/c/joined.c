@@ -1,5 +1,5 @@
 /* A tunnel of DOSBox clients and a card joined into one network, without their sockets: how the segment learns who came and who left, and
- * that it never gets a stranger's packet. What goes where is printed. */
+ * that it never gets a stranger's packet. What goes where is printed, except for the tunnel's own datagrams: tunnel.c shows these. */
 #include <stdbool.h>
 #include <stdio.h>
 #include <string.h>
