@@ -85,6 +85,7 @@ bench:
 # Puts what the gate proved and built into dist/, and what is compiled from it for other systems: archives and Debian's packages, with their
 # sums; docs/authors/RELEASING.md. DRAFT=1 makes a draft where make test hasn't passed on this commit.
 dist: | $(if $(DRAFT),,toolchain)
+	@$(if $(DRAFT),,release/dist --check)
 	@$(if $(DRAFT),,tools/gateway)
 	@$(if $(DRAFT),,tools/platforms all)
 	@release/dist $(if $(DRAFT),--draft)

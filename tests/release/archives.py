@@ -118,7 +118,10 @@ def try_gate(folder):
 
     commit = git(folder, "rev-parse", "HEAD")
     tell("the commit on which the gate passed is a release", differs(judged(commit), (0, "1 passed, 0 failed\n")))
+    tell("nothing is said of it before it is built", differs(run("release/dist", "--check", cwd=folder), (0, "")))
     tell(f"{asked} of another commit than the gate's", differs(judged("0" * 40), (0, "None\n")))
+    status, text = run("release/dist", "--check", cwd=folder)
+    tell("that is said before anything is built", differs((status, text.split(" ")[0]), (1, "out/gate.passed")))
     with open(f"{folder}/VERSION", "a", encoding="ascii") as it:
         it.write("\n")
     tell(f"{asked} where a file differs from the commit", differs(judged(commit), (0, "None\n")))

@@ -28,8 +28,9 @@ def try_numbers():
     dates = [re.fullmatch(r"(\d+\.\d+\.\d+), \d{4}-\d\d-\d\d", it) for it in released]
     tell("the newest release of the changes is this one", differs(dates and dates[0] and dates[0][1], version))
     tell("each release of the changes has its date", "".join(f"    {it}\n" for it, found in zip(released, dates) if not found))
-    name = f"ipxr-{version}-"
-    tell("the page for releases names it", "" if name in text_of("docs/RELEASES.md") else f"    no {name} in docs/RELEASES.md")
+    for page in ("README.md", "docs/RELEASES.md"):
+        named = set(re.findall(r"\bipxr-(\d+\.\d+\.\d+)-", text_of(page)))
+        tell(f"the commands of {page} name it, and no other", differs(named, {version}))
 
 
 # ---- Pages ----
