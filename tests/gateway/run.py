@@ -1,5 +1,5 @@
 """The tests of the gateway on the system that GATEWAY_SYSTEM names (systems.py), all or those that are named. The last line is
-'N passed, M failed'."""
+'N passed, M failed'. With --known it only says which of the names are no test's: tools/gateway asks that before it builds."""
 import socket
 import sys
 
@@ -56,15 +56,22 @@ def chosen(names):
     return [TESTS[it] for it in TESTS if it not in ("troubles", "wires")]
 
 
-def main():
+def main(names):
+    only_asked = names[:1] == ["--known"]
+    names = names[only_asked:]
+    if unknown := [it for it in names if it not in TESTS]:
+        print(f"there is no test {', '.join(unknown)}: expected {', '.join(TESTS)}", file=sys.stderr)
+        return 2
+    if only_asked:
+        return 0
     if not has_loopback():
         print("left out: gateway: all tests (no sockets on the loopback address)\n0 passed, 0 failed")
         return 0
-    counts = [it.main() for it in chosen(sys.argv[1:])]
+    counts = [it.main() for it in chosen(names)]
     passed, failed = sum(it.passed for it in counts), sum(it.failed for it in counts)
     print(f"{passed} passed, {failed} failed")
     return 1 if failed else 0
 
 
 if __name__ == "__main__":
-    sys.exit(main())
+    sys.exit(main(sys.argv[1:]))
