@@ -39,6 +39,13 @@ if [ "$1" = remove ]; then
     fi
 fi
 """
+PURGED = """#!/bin/sh
+# What the service kept goes when the package is purged. (systemd keeps it below private, and a link to it)
+set -e
+if [ "$1" = purge ]; then
+    rm -rf /var/lib/ipxr-gateway /var/lib/private/ipxr-gateway
+fi
+"""
 # Which packages are of use beside one: the documents are in ipxr, and it reads what the gateway captures.
 SUGGESTED = {"ipxr": "ipxr-gateway, libipxr-dev", "libipxr-dev": "ipxr", "ipxr-gateway": "ipxr"}
 
@@ -144,7 +151,7 @@ def extras(name, release):
     programs that are linked with the library depend on."""
     if name == "ipxr-gateway":
         kept = "".join(f"/etc/{file}\n" for file in CONFIGURATIONS[name])
-        return {"postinst": BEGUN, "prerm": ENDED, "conffiles": kept}
+        return {"postinst": BEGUN, "prerm": ENDED, "postrm": PURGED, "conffiles": kept}
     if name != "libipxr1":
         return {}
     return {"shlibs": f"libipxr 1 libipxr1 (>= {release.version})\n", "triggers": "activate-noawait ldconfig\n"}
