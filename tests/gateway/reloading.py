@@ -1,6 +1,7 @@
 """The configuration is read anew while the gateway runs: what changed changes, and all else runs on."""
 import os
 import pty
+import re
 import signal
 import socket
 import subprocess
@@ -11,11 +12,12 @@ from lab import (AGAIN, ALL_THERE_IS, EVERYONE, GAME, LIMIT, TUNNEL, Client, Cou
                  reaches, registration, rip_response, socket_of, tunnels, until)
 from orders import is_farewell, told_until
 from status import Watched, asked
-from systems import SYSTEM, Windows
+from systems import SYSTEM, TOP, Windows
 
 TIMES = 20  # that the configuration is read anew while others play
 BETWEEN = 25  # packets from one time to the next
 ADVERTISED = 60  # packets that tell of routes: too many at once for a usual share, and few for all that there is
+OF_OTHERS = {"port", "has_shares"}  # fields of a network's settings that follow from the others
 FLOOD = 300  # packets of a client, more than another receives at once where there are limits
 
 
@@ -41,6 +43,21 @@ def comes_in(port):
     it = Client(port, registers=False)
     it.send(registration())
     return it.hear(is_ping, AGAIN) is not None
+
+
+def source(name):
+    with open(os.path.join(TOP, "gateway", name), encoding="utf-8") as it:
+        return it.read()
+
+
+def all_is_compared():
+    """Each field of a network's settings is compared when they are read again: none can be forgotten there that a new word sets."""
+    struct = re.search(r"typedef struct network_setting \{(.*?)\} network_setting;", source("settings.h"), re.DOTALL)[1]
+    declared = re.findall(r"^\s*\w+ ([^;]+);", struct, re.MULTILINE)
+    fields = [name for names in declared for name in re.findall(r"(\w+)(?:\[\w+\])?(?:,|$)", names)]
+    compared = source("change.c")
+    forgotten = [it for it in fields if not it.endswith("line") and it not in OF_OTHERS and f"a->{it}" not in compared]
+    assert len(fields) > len(OF_OTHERS) and not forgotten, forgotten
 
 
 def nothing_changes():
@@ -284,7 +301,7 @@ def main():
     if SYSTEM is Windows:
         left_out("reading the configuration anew", "it is Linux' own")
         return counts
-    for test in (nothing_changes, wrong_file, rules_for_clients, limits, a_line, shares, sockets, a_link_is_another,
+    for test in (all_is_compared, nothing_changes, wrong_file, rules_for_clients, limits, a_line, shares, sockets, a_link_is_another,
                  networks_come_and_go, another_address, a_link_is_taken, the_router_begins_anew, followed, at_a_terminal):
         counts.run(test)
     return counts
