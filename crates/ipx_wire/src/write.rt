@@ -87,7 +87,7 @@ fn put_entries(out: &mut [u8], place: usize, entries: &[RipEntry])
     }
 }
 
-// (one store of eight bytes: three of fewer bytes take twice the time)
+// (one store of eight bytes: three of fewer bytes take longer)
 fn put_entry(out: &mut [u8], place: usize, entry: RipEntry)
     requires { place + 8 ≤ length out.old }
     ensures { PutsAt out.old place (entry_bytes entry) out.new }
