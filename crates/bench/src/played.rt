@@ -4,7 +4,7 @@
 use crate::plain::internet::PlainInternet;
 use crate::plain::{Plain, Port as PlainPort};
 use crate::traffic::{NEIGHBOUR, UNICAST, number_of, service};
-use ipx_internet::Internet;
+use ipx_internet::{Internet, TraceRoom};
 use ipx_router::{Event, Port, Router};
 use ipx_wire::{Address, Network, Node, Service, Socket, write_sap};
 use std::alloc::Global;
@@ -58,7 +58,14 @@ const TO_ALL: [u8; 62] = [
     0, 0, 0, 0, 0, 0, 0, 0, 0, 0,
 ];
 
-type Measured = Internet<8, ROUTES, SERVICES>;
+type Simulated = Internet<8, ROUTES, SERVICES>;
+
+/// An internet, and the memory of its traces.
+#[derive(Drop)]
+struct Measured {
+    internet: Simulated,
+    room: TraceRoom,
+}
 
 /// What was measured: the fewest nanoseconds of each.
 #[derive(Clone, Copy)]
@@ -85,28 +92,32 @@ trait Played {
 
 impl Played for Measured {
     fn start_one(&mut self, router: usize) -> Option<()> {
-        self.event(router, Event::Start).ok().map(|_| ())
+        self.internet.event(router, Event::Start).ok().map(|_| ())
     }
 
     fn pass_one(&mut self, router: usize) -> Option<()> {
-        self.event(router, Event::Second).ok().map(|_| ())
+        self.internet.event(router, Event::Second).ok().map(|_| ())
     }
 
     fn bring(&mut self, router: usize, bytes: &[u8]) -> Option<()> {
-        self.event(router, Event::Packet { port: 0, bytes })
+        self.internet
+            .event(router, Event::Packet { port: 0, bytes })
             .ok()
             .map(|_| ())
     }
 
     fn settle_all(&mut self) -> Option<()> {
-        self.settle(LIMIT).ok().map(|_| ())
+        self.internet.settle(LIMIT).ok().map(|_| ())
     }
 
     fn count_receptions(&mut self, router: usize, bytes: &[u8]) -> Option<u64> {
-        match self.trace(router, 0, bytes, LIMIT) {
-            Ok(trace) => Some(trace.len() as u64),
-            Err(_) => None,
-        }
+        let traced = self
+            .internet
+            .trace_in(&mut self.room, router, 0, bytes, LIMIT);
+        let trace = traced.ok()?;
+        let count = trace.len() as u64;
+        self.room.keep(trace);
+        Some(count)
     }
 }
 
@@ -302,14 +313,17 @@ fn node(router: u32, place: usize) -> Node {
 }
 
 fn measured_internet(heap: Global) -> Option<Measured> {
-    let mut internet = Measured::new(heap);
+    let mut internet = Simulated::new(heap);
     for router in 0..ROUTERS {
         add_measured(heap, &mut internet, router)?;
     }
-    Some(internet)
+    Some(Measured {
+        internet,
+        room: TraceRoom::new(heap),
+    })
 }
 
-fn add_measured(heap: Global, internet: &mut Measured, router: u32) -> Option<()> {
+fn add_measured(heap: Global, internet: &mut Simulated, router: u32) -> Option<()> {
     let mut ports = Vec::new(heap);
     for (place, network) in networks(heap, router)?.iter().enumerate() {
         let port = Port::new(Network(*network), node(router, place), 1, 1500).ok()?;
@@ -345,7 +359,7 @@ fn plain_router(heap: Global, router: u32) -> Option<Plain> {
 fn end_alike(measured: &Measured, plain: &PlainInternet) -> bool {
     let mut is_alike = true;
     for number in 0..ROUTERS as usize {
-        is_alike &= match (measured.router(number), plain.router(number)) {
+        is_alike &= match (measured.internet.router(number), plain.router(number)) {
             (Some(one), Some(other)) => has_same_routes(one, other),
             _ => false,
         };

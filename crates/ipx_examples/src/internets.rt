@@ -1,7 +1,7 @@
 //! Several routers, and where a packet gets to.
 
 use anyhow::Result;
-use ipx_internet::{AddRefused, Internet, InternetFault, Settled, TraceFault};
+use ipx_internet::{AddRefused, Internet, InternetFault, Settled, TraceFault, TraceRoom};
 use ipx_router::{Event, Router};
 
 /// The internets of these examples.
@@ -61,5 +61,18 @@ pub fn trace(rt: &HostRuntime, internet: &Small, bytes: &[u8]) -> Result<()> {
         Err(fault) => println!(rt; "{fault}")?,
     }
     // prints router 1, port 0: forwarded
+    Ok(())
+}
+
+/// Traces in the same memory.
+pub fn trace_room(rt: &HostRuntime, internet: &Small, bytes: &[u8]) -> Result<()> {
+    let mut room = TraceRoom::new(rt.alloc());
+    for port in 0..2 {
+        let trace = internet.trace_in(&mut room, 0, port, bytes, 18)?;
+        println!(rt; "from port {port}: {} receptions", trace.len())?;
+        room.keep(trace);
+    }
+    // prints from port 0: 2 receptions
+    // prints from port 1: 2 receptions
     Ok(())
 }

@@ -195,7 +195,8 @@ fn settle(rt: &HostRuntime, internet: &mut Small, west: &[Port]) -> Result<()> {
     internets::settled(rt, internet)?;
     internets::add_refused(rt, internet, Router::new(west)?)?;
     internets::internet_fault(rt, internet)?;
-    internets::trace(rt, internet, &FAR)
+    internets::trace(rt, internet, &FAR)?;
+    internets::trace_room(rt, internet, &FAR)
 }
 
 /// Adds routers with these ports, and starts them.

@@ -53,5 +53,6 @@ pub mod Refused
 -- Traced
 pub mod Traced
 pub mod Listed
+pub mod TraceRoom
 -- nothing that a public contract says
 pub mod inside

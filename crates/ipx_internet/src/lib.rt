@@ -30,8 +30,10 @@ mod second;
 mod stations;
 mod trace;
 mod trace_iter;
+mod trace_room;
 
 pub use crate::fault::{AddRefused, InternetFault, TraceFault};
 pub use crate::internet::{Internet, Settled};
 pub use crate::trace::{Reception, Trace};
 pub use crate::trace_iter::TraceIter;
+pub use crate::trace_room::TraceRoom;

@@ -11,9 +11,9 @@ ghost use Rattle.ipx_internet.specs.declared.fault.TraceFault.TheVariants.{Memor
 
 use crate::fault::TraceFault;
 use crate::stations::{Station, Stations, network_of};
+use crate::trace_room::Lists;
 use ipx_router::{Outbox, Outcome, Router, Why};
 use ipx_wire::{Node, Packet};
-use std::alloc::Global;
 use std::marker::Model;
 
 /// A reception of a tree.
@@ -67,9 +67,9 @@ pub(crate) struct Lent<'a> {
 }
 
 impl<'a> Listing<'a> {
-    /// The first reception alone.
+    /// The first reception alone, in the memory of those lists.
     pub fn new(
-        alloc: Global,
+        lists: Lists,
         router: usize,
         port: u8,
         first: &'a [u8],
@@ -80,7 +80,11 @@ impl<'a> Listing<'a> {
         ensures few { OnOk result (1 ≤ limit) }
         ensures refused { IfErr result (IsCut limit 1) }
     {
-        let mut list = Vec::new(alloc);
+        let Lists {
+            store,
+            mut list,
+            outcomes,
+        } = lists;
         let listed = Listed {
             parent: None,
             router,
@@ -91,10 +95,31 @@ impl<'a> Listing<'a> {
         add(&mut list, listed, limit)?;
         Ok(Listing {
             first,
-            store: Vec::new(alloc),
+            store,
             list,
-            outcomes: Vec::new(alloc),
+            outcomes,
         })
+    }
+
+    /// The memory of what is listed, for another listing.
+    pub fn into_lists(self) -> Lists
+        ensures receptions { length self.entry.copies ≤ result.receptions }
+        ensures outcomes { length self.entry.outcomes ≤ result.outcomes }
+    {
+        let Listing {
+            mut store,
+            mut list,
+            mut outcomes,
+            ..
+        } = self;
+        store.clear();
+        list.clear();
+        outcomes.clear();
+        Lists {
+            store,
+            list,
+            outcomes,
+        }
     }
 
     /// How many receptions are listed.

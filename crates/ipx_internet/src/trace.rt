@@ -12,15 +12,16 @@ ghost use Rattle.ipx_internet.specs.Tree.{IsRouter, root, IsTree};
 ghost use Rattle.ipx_internet.specs.Weight.{weight};
 ghost use Rattle.ipx_internet.specs.declared.fault.TraceFault.TheVariants.{NoSuchPort, Limit, Memory};
 
-use crate::batch::proves_sized;
+use crate::batch::{Coming, proves_sized};
 use crate::fault::TraceFault;
 use crate::internet::Internet;
 use crate::listing::Listing;
 use crate::stations::Stations;
 use crate::trace_iter::TraceIter;
+use crate::trace_room::{Lists, TraceRoom};
 use ipx_router::{Outbox, Outcome, Router};
-use std::alloc::Global;
 use std::marker::Model;
+use std::mem::replace;
 
 /// A reception of a packet: a port of a router receives what the router of the parent sent on.
 ///
@@ -102,6 +103,14 @@ impl<'a> Trace<'a> {
     {
         TraceIter::of(self)
     }
+
+    /// The lists of the trace, without their items.
+    pub(crate) fn into_lists(self) -> Lists
+        ensures receptions { length self.entry ≤ result.receptions }
+        ensures outcomes { length self.entry ≤ result.outcomes }
+    {
+        self.listing.into_lists()
+    }
 }
 
 impl<const P: usize, const R: usize, const S: usize> Internet<P, R, S> {
@@ -124,18 +133,47 @@ impl<const P: usize, const R: usize, const S: usize> Internet<P, R, S> {
         ensures memory { IsErrOf result Memory → 0 < limit }
         ensures enough { weight (net_at self.now) (root (record { router = router; port = port }) bytes.entry.now) ≤ limit → IsErrOf result Limit → ⊥ }
     {
+        let mut room = TraceRoom::new(self.alloc);
+        self.trace_in(&mut room, router, port, bytes, limit)
+    }
+
+    /// The same in the memory of a room, as far as it goes. The trace takes that memory; [`TraceRoom::keep`] brings it back.
+    pub fn trace_in<'a>(
+        &self,
+        room: &mut TraceRoom,
+        router: usize,
+        port: u8,
+        bytes: &'a [u8],
+        limit: usize,
+    ) -> Result<Trace<'a>, TraceFault>
+        ensures is_tree { IfOk result (λ t. map (λ r. r.copy) t ≡ tree (routers_of self.now.routers) (root (record { router = router; port = port }) bytes.entry.now)) }
+        ensures whole { OnOk result (IsTree (routers_of self.now.routers) (root (record { router = router; port = port }) bytes.entry.now)
+            (tree (routers_of self.now.routers) (root (record { router = router; port = port }) bytes.entry.now))) }
+        ensures outcomes { IfOk result (λ t. AllByRecursion (λ r. r.outcome ≡ outcome_at (routers_of self.now.routers) r.copy) t) }
+        ensures few { IfOk result (λ t. length t ≤ limit) }
+        ensures bounded { IfOk result (λ t. length t ≤ weight (net_at self.now) (root (record { router = router; port = port }) bytes.entry.now)) }
+        ensures missing { IsErrOf result NoSuchPort ↔ (IsPlace (net_at self.now) (record { router = router; port = port }) → ⊥) }
+        ensures limit { IsErrOf result Limit → limit < length (tree (routers_of self.now.routers) (root (record { router = router; port = port }) bytes.entry.now)) }
+        ensures memory { IsErrOf result Memory → 0 < limit }
+        ensures enough { weight (net_at self.now) (root (record { router = router; port = port }) bytes.entry.now) ≤ limit → IsErrOf result Limit → ⊥ }
+    {
         if !self.has_place(router, port) {
             return Err(TraceFault::NoSuchPort);
         }
         self.len();
         proves_sized(&self.routers);
-        let listing = list_tree(
-            self.alloc,
-            &self.routers,
-            &self.stations,
+        let coming = Coming {
             router,
             port,
             bytes,
+        };
+        let lists = replace(&mut room.lists, Lists::new(self.alloc));
+        let listing = list_tree(
+            lists,
+            &mut room.outbox,
+            &self.routers,
+            &self.stations,
+            coming,
             limit,
         )?;
         Ok(Trace { listing })
@@ -169,37 +207,35 @@ fn is_place<const P: usize, const R: usize, const S: usize>(
 
 /// Lists the tree of a packet that comes to a port of one of some routers.
 fn list_tree<'a, const P: usize, const R: usize, const S: usize>(
-    alloc: Global,
+    lists: Lists,
+    outbox: &mut Outbox,
     routers: &Vec<Router<P, R, S>>,
     stations: &Stations,
-    router: usize,
-    port: u8,
-    bytes: &'a [u8],
+    coming: Coming<'a>,
     limit: usize,
 ) -> Result<Listing<'a>, TraceFault>
     requires internet { IsInternet (net_among routers.now.items) }
     requires nodes { NodesDiffer (net_among routers.now.items) }
     requires tables { AllByRecursion IsRouter (routers_of routers.now.items) }
     requires stationed { AreOf (net_among routers.now.items) stations.now.list }
-    requires place { IsPlace (net_among routers.now.items) (record { router = router; port = port }) }
-    ensures copies { IfOk result (λ l. l.copies ≡ tree (routers_of routers.now.items) (root (record { router = router; port = port }) bytes.entry.now)) }
+    requires place { IsPlace (net_among routers.now.items) (record { router = coming.router; port = coming.port }) }
+    ensures copies { IfOk result (λ l. l.copies ≡ tree (routers_of routers.now.items) (root (record { router = coming.entry.router; port = coming.entry.port }) coming.entry.bytes.now)) }
     ensures outcomes { IfOk result (λ l. l.outcomes ≡ map (outcome_at (routers_of routers.now.items))
-        (tree (routers_of routers.now.items) (root (record { router = router; port = port }) bytes.entry.now))) }
-    ensures whole { OnOk result (IsTree (routers_of routers.now.items) (root (record { router = router; port = port }) bytes.entry.now)
-        (tree (routers_of routers.now.items) (root (record { router = router; port = port }) bytes.entry.now))) }
+        (tree (routers_of routers.now.items) (root (record { router = coming.entry.router; port = coming.entry.port }) coming.entry.bytes.now))) }
+    ensures whole { OnOk result (IsTree (routers_of routers.now.items) (root (record { router = coming.entry.router; port = coming.entry.port }) coming.entry.bytes.now)
+        (tree (routers_of routers.now.items) (root (record { router = coming.entry.router; port = coming.entry.port }) coming.entry.bytes.now))) }
     ensures few { IfOk result (λ l. length l.copies ≤ limit) }
-    ensures bounded { IfOk result (λ l. length l.copies ≤ weight (net_among routers.now.items) (root (record { router = router; port = port }) bytes.entry.now)) }
-    ensures refused { IfErr result (IsCut limit (length (tree (routers_of routers.now.items) (root (record { router = router; port = port }) bytes.entry.now)))) }
-    ensures enough { IfErr result (IsCut limit (weight (net_among routers.now.items) (root (record { router = router; port = port }) bytes.entry.now))) }
+    ensures bounded { IfOk result (λ l. length l.copies ≤ weight (net_among routers.now.items) (root (record { router = coming.entry.router; port = coming.entry.port }) coming.entry.bytes.now)) }
+    ensures refused { IfErr result (IsCut limit (length (tree (routers_of routers.now.items) (root (record { router = coming.entry.router; port = coming.entry.port }) coming.entry.bytes.now)))) }
+    ensures enough { IfErr result (IsCut limit (weight (net_among routers.now.items) (root (record { router = coming.entry.router; port = coming.entry.port }) coming.entry.bytes.now))) }
 {
     crate::laws::trees();
     crate::laws::weights();
-    proves_bytes(bytes);
-    let mut listing = Listing::new(alloc, router, port, bytes, limit)?;
-    let mut outbox = Outbox::new(alloc);
+    proves_bytes(coming.bytes);
+    let mut listing = Listing::new(lists, coming.router, coming.port, coming.bytes, limit)?;
     while listing.mark() < listing.len() {
         let at = listing.get(listing.mark()).router;
-        listing = listing.go_on(&routers[at], stations, &mut outbox, limit)?;
+        listing = listing.go_on(&routers[at], stations, outbox, limit)?;
     }
     Ok(listing)
 }

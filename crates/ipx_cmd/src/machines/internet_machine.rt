@@ -24,6 +24,7 @@ use crate::making::internet::{ScriptInternet, internet_of};
 use crate::making::router::{MOST_ROUTES, MOST_SERVICES, port_of};
 use crate::player::Act;
 use crate::texts::internet_text::{happen, pass, settle, show_routes_of, show_services_of, trace};
+use ipx_internet::TraceRoom;
 use ipx_router::{Event, Port};
 use ipx_wire::Outlet;
 use std::alloc::Global;
@@ -39,6 +40,8 @@ pub(crate) struct InternetMachine {
     internet: Option<ScriptInternet>,
     /// For the bytes of the packet that comes in.
     buffer: Vec<u8>,
+    /// For the traces, one after the other.
+    room: TraceRoom,
 }
 
 impl Model for InternetMachine {
@@ -59,6 +62,7 @@ impl InternetMachine {
             named: Vec::new(alloc),
             internet: None,
             buffer: Vec::new(alloc),
+            room: TraceRoom::new(alloc),
         }
     }
 }
@@ -197,7 +201,7 @@ impl InternetMachine {
                 if let Err(fault) = check(internet, order) {
                     return Err(Halt::Line(fault));
                 }
-                match run(internet, &self.buffer, order, text, outlet) {
+                match run(internet, &mut self.room, &self.buffer, order, text, outlet) {
                     Ok(()) => Ok(()),
                     Err(fault) => Err(Halt::Run(fault)),
                 }
@@ -252,6 +256,7 @@ fn check_port(internet: &ScriptInternet, router: u8, port: u8) -> Result<(), Lin
 /// Acts on an order whose router and port are there.
 fn run<W: Write>(
     internet: &mut ScriptInternet,
+    room: &mut TraceRoom,
     buffer: &[u8],
     order: Order,
     text: &mut Vec<u8>,
@@ -291,7 +296,7 @@ fn run<W: Write>(
             router,
             port,
             limit,
-        } => trace(internet, router, port, limit, buffer, text, outlet),
+        } => trace(internet, room, router, port, limit, buffer, text, outlet),
         Order::Routes { router } => show_routes_of(internet, router, text, outlet),
         Order::Services { router } => show_services_of(internet, router, text, outlet),
     }

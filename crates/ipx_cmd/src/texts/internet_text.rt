@@ -22,7 +22,7 @@ use crate::texts::output::drop_line;
 use crate::texts::said::write_much;
 use crate::texts::table_text::{show_routes, show_services};
 use crate::texts::text::{put_decimal, put_word};
-use ipx_internet::{Reception, Settled, Trace, TraceFault};
+use ipx_internet::{Reception, Settled, Trace, TraceFault, TraceRoom};
 use ipx_router::{Event, Outcome};
 use ipx_wire::Outlet;
 use std::alloc::AllocError;
@@ -135,9 +135,10 @@ fn left_line(text: &mut Vec<u8>, count: usize) -> Result<(), AllocError>
     text.extend_from_slice(b"\n")
 }
 
-/// Adds the lines of a packet's receptions, or the one of a limit that is less.
+/// Adds the lines of a packet's receptions, or the one of a limit that is less. The room has the memory of the trace before.
 pub(crate) fn trace<W: Write>(
     internet: &ScriptInternet,
+    room: &mut TraceRoom,
     router: u8,
     port: u8,
     limit: u32,
@@ -150,8 +151,12 @@ pub(crate) fn trace<W: Write>(
     ensures says { (q : Queued) → StandsFor MOST_ROUTES MOST_SERVICES internet.now q → IsPlace (net_at internet.now) (record { router = router; port = port })
         → Says outlet.old outlet.new text.old.items text.new.items (trace_text limit (traced_all (net_at internet.now) q router port bytes.now)) result }
 {
-    match internet.trace(router as usize, port, bytes, limit as usize) {
-        Ok(trace) => write_trace(&trace, text, outlet),
+    match internet.trace_in(room, router as usize, port, bytes, limit as usize) {
+        Ok(trace) => {
+            let written = write_trace(&trace, text, outlet);
+            room.keep(trace);
+            written
+        }
         Err(TraceFault::Limit) => {
             text.extend_from_slice(b"limit\n")?;
             write_much(text, outlet)

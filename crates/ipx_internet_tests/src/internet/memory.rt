@@ -2,7 +2,7 @@
 
 use crate::internet::{FAR, Small, between, first_route, joined, line, looped, row};
 use crate::same::same;
-use ipx_internet::{InternetFault, Settled, Trace, TraceFault};
+use ipx_internet::{InternetFault, Settled, Trace, TraceFault, TraceRoom};
 use ipx_router::{Event, Outcome, Router, Why};
 use std::test::Fail;
 
@@ -56,6 +56,14 @@ fn traced(internet: &Small) -> Result<Trace<'static>, Fail> {
     }
 }
 
+/// The same in a room.
+fn traced_in(internet: &Small, room: &mut TraceRoom) -> Result<Trace<'static>, Fail> {
+    match internet.trace_in(room, 0, 0, &FAR, 17) {
+        Err(TraceFault::Memory) => Ok(internet.trace_in(room, 0, 0, &FAR, 17)?),
+        answer => Ok(answer?),
+    }
+}
+
 /// Why a router is refused whose second port is that of another one.
 fn refused(internet: &mut Small) -> Result<Option<InternetFault>, Fail> {
     let router = between((0x40, 5), (0x30, 4))?;
@@ -94,6 +102,12 @@ fn a_settling_without_memory_is_ended_by_the_next(rt: HostRuntime) -> Result<(),
 fn a_trace_without_memory_is_whole_when_it_is_made_again(rt: HostRuntime) -> Result<(), Fail> {
     let internet = looped(rt.alloc())?;
     let trace = traced(&internet)?;
+    same(&rt, (trace.len(), wrong_rows(&trace)), (17, 0));
+    Ok(())
+}
+
+/// How many receptions of the far packet aren't as they have to be.
+fn wrong_rows(trace: &Trace<'_>) -> usize {
     let mut wrong = 0usize;
     for k in 0..17usize {
         let outcome = if k < 16 {
@@ -102,10 +116,21 @@ fn a_trace_without_memory_is_whole_when_it_is_made_again(rt: HostRuntime) -> Res
             Outcome::Dropped(Why::TooManyRouters)
         };
         let wanted = (k.checked_sub(1), k % 2, u8::try_from(k).ok(), outcome);
-        if row(&trace, k) != Some(wanted) {
+        if row(trace, k) != Some(wanted) {
             wrong = wrong.wrapping_add(1);
         }
     }
-    same(&rt, (trace.len(), wrong), (17, 0));
+    wrong
+}
+
+/// The second trace is not made again, so it has to ask for no memory.
+#[test]
+fn a_trace_in_a_room_is_whole_without_memory_of_its_own(rt: HostRuntime) -> Result<(), Fail> {
+    let internet = looped(rt.alloc())?;
+    let mut room = TraceRoom::new(rt.alloc());
+    let first = traced_in(&internet, &mut room)?;
+    room.keep(first);
+    let second = internet.trace_in(&mut room, 0, 0, &FAR, 17)?;
+    same(&rt, (second.len(), wrong_rows(&second)), (17, 0));
     Ok(())
 }

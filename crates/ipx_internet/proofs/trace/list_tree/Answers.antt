@@ -12,7 +12,7 @@ returns-in_err-listing-clause-refused g c =
     let p = err_from_is_err_and c.from_residual.result c.from_residual.ensures.1 in
     let states = c.args.routers.now.items in
     let stations = c.args.stations.now.list in
-    let first : Copy = root (record { router = c.args.router; port = c.args.port }) c.args.bytes.now in
+    let first : Copy = root (record { router = c.args.coming.router; port = c.args.coming.port }) c.args.coming.bytes.now in
     let is : IsTree (routers_of states) first (tree (routers_of states) first) =
     is_tree states stations first c.trees.ensures.whole c.requires.internet c.requires.tables c.proves_bytes.ensures in
     rw (p.1, p.2) (cut_more c.args.limit 1 (length (tree (routers_of states) first)) _ (root_there states stations first is) c.in_err-listing.ensures.refused)
@@ -21,14 +21,14 @@ pub returns-in_err-listing-clause-enough : goal.returns-in_err-listing-clause-en
 returns-in_err-listing-clause-enough g c =
     let p = err_from_is_err_and c.from_residual.result c.from_residual.ensures.1 in
     let states = c.args.routers.now.items in
-    let first : Copy = root (record { router = c.args.router; port = c.args.port }) c.args.bytes.now in
+    let first : Copy = root (record { router = c.args.coming.router; port = c.args.coming.port }) c.args.coming.bytes.now in
     rw (p.1, p.2) (cut_first states c.args.stations.now.list first c.args.limit _ c.in_err-listing.ensures.refused)
 
 pub loop-listing-init : goal.loop-listing-init
 loop-listing-init g c =
     let states = c.args.routers.now.items in
     let stations = c.args.stations.now.list in
-    let first : Copy = root (record { router = c.args.router; port = c.args.port }) c.args.bytes.now in
+    let first : Copy = root (record { router = c.args.coming.router; port = c.args.coming.port }) c.args.coming.bytes.now in
     let is : IsTree (routers_of states) first (tree (routers_of states) first) =
     is_tree states stations first c.trees.ensures.whole c.requires.internet c.requires.tables c.proves_bytes.ensures in
     let made = c.in_ok-listing.ensures in
@@ -44,7 +44,7 @@ pub index-requires : goal.index-requires
 index-requires g c =
     let states = c.args.routers.now.items in
     let stations = c.args.stations.now.list in
-    let first : Copy = root (record { router = c.args.router; port = c.args.port }) c.args.bytes.now in
+    let first : Copy = root (record { router = c.args.coming.router; port = c.args.coming.port }) c.args.coming.bytes.now in
     let is : IsTree (routers_of states) first (tree (routers_of states) first) =
     is_tree states stations first c.trees.ensures.whole c.requires.internet c.requires.tables c.proves_bytes.ensures in
     let l = c.loop-listing.listing in
@@ -63,7 +63,7 @@ pub go_on-requires : goal.go_on-requires
 go_on-requires g c =
     let states = c.args.routers.now.items in
     let stations = c.args.stations.now.list in
-    let first : Copy = root (record { router = c.args.router; port = c.args.port }) c.args.bytes.now in
+    let first : Copy = root (record { router = c.args.coming.router; port = c.args.coming.port }) c.args.coming.bytes.now in
     let is : IsTree (routers_of states) first (tree (routers_of states) first) =
     is_tree states stations first c.trees.ensures.whole c.requires.internet c.requires.tables c.proves_bytes.ensures in
     let l = c.loop-listing.listing in
@@ -84,7 +84,7 @@ returns-in_err-listing-2-clause-refused g c =
     let p = err_from_is_err_and c.from_residual-in_err-listing-2.result c.from_residual-in_err-listing-2.ensures.1 in
     let states = c.args.routers.now.items in
     let stations = c.args.stations.now.list in
-    let first : Copy = root (record { router = c.args.router; port = c.args.port }) c.args.bytes.now in
+    let first : Copy = root (record { router = c.args.coming.router; port = c.args.coming.port }) c.args.coming.bytes.now in
     let is : IsTree (routers_of states) first (tree (routers_of states) first) =
     is_tree states stations first c.trees.ensures.whole c.requires.internet c.requires.tables c.proves_bytes.ensures in
     let l = c.loop-listing.listing in
@@ -104,7 +104,7 @@ returns-in_err-listing-2-clause-enough g c =
     let p = err_from_is_err_and c.from_residual-in_err-listing-2.result c.from_residual-in_err-listing-2.ensures.1 in
     let states = c.args.routers.now.items in
     let stations = c.args.stations.now.list in
-    let first : Copy = root (record { router = c.args.router; port = c.args.port }) c.args.bytes.now in
+    let first : Copy = root (record { router = c.args.coming.router; port = c.args.coming.port }) c.args.coming.bytes.now in
     let is : IsTree (routers_of states) first (tree (routers_of states) first) =
     is_tree states stations first c.trees.ensures.whole c.requires.internet c.requires.tables c.proves_bytes.ensures in
     let l = c.loop-listing.listing in
@@ -126,7 +126,7 @@ pub loop-listing-smaller : goal.loop-listing-smaller
 loop-listing-smaller g c =
     let states = c.args.routers.now.items in
     let stations = c.args.stations.now.list in
-    let first : Copy = root (record { router = c.args.router; port = c.args.port }) c.args.bytes.now in
+    let first : Copy = root (record { router = c.args.coming.router; port = c.args.coming.port }) c.args.coming.bytes.now in
     let is : IsTree (routers_of states) first (tree (routers_of states) first) =
     is_tree states stations first c.trees.ensures.whole c.requires.internet c.requires.tables c.proves_bytes.ensures in
     let l = c.loop-listing.listing in
@@ -147,7 +147,7 @@ pub loop-listing-preserved : goal.loop-listing-preserved
 loop-listing-preserved g c =
     let states = c.args.routers.now.items in
     let stations = c.args.stations.now.list in
-    let first : Copy = root (record { router = c.args.router; port = c.args.port }) c.args.bytes.now in
+    let first : Copy = root (record { router = c.args.coming.router; port = c.args.coming.port }) c.args.coming.bytes.now in
     let is : IsTree (routers_of states) first (tree (routers_of states) first) =
     is_tree states stations first c.trees.ensures.whole c.requires.internet c.requires.tables c.proves_bytes.ensures in
     let l = c.loop-listing.listing in
@@ -172,7 +172,7 @@ pub returns-clause-copies : goal.returns-clause-copies
 returns-clause-copies g c =
     let states = c.args.routers.now.items in
     let stations = c.args.stations.now.list in
-    let first : Copy = root (record { router = c.args.router; port = c.args.port }) c.args.bytes.now in
+    let first : Copy = root (record { router = c.args.coming.router; port = c.args.coming.port }) c.args.coming.bytes.now in
     let is : IsTree (routers_of states) first (tree (routers_of states) first) =
     is_tree states stations first c.trees.ensures.whole c.requires.internet c.requires.tables c.proves_bytes.ensures in
     let l = c.loop-listing.listing in
@@ -186,7 +186,7 @@ pub returns-clause-outcomes : goal.returns-clause-outcomes
 returns-clause-outcomes g c =
     let states = c.args.routers.now.items in
     let stations = c.args.stations.now.list in
-    let first : Copy = root (record { router = c.args.router; port = c.args.port }) c.args.bytes.now in
+    let first : Copy = root (record { router = c.args.coming.router; port = c.args.coming.port }) c.args.coming.bytes.now in
     let is : IsTree (routers_of states) first (tree (routers_of states) first) =
     is_tree states stations first c.trees.ensures.whole c.requires.internet c.requires.tables c.proves_bytes.ensures in
     let l = c.loop-listing.listing in
@@ -199,7 +199,7 @@ returns-clause-outcomes g c =
 pub returns-clause-whole : goal.returns-clause-whole
 returns-clause-whole g c =
     let states = c.args.routers.now.items in
-    let first : Copy = root (record { router = c.args.router; port = c.args.port }) c.args.bytes.now in
+    let first : Copy = root (record { router = c.args.coming.router; port = c.args.coming.port }) c.args.coming.bytes.now in
     is_tree states c.args.stations.now.list first c.trees.ensures.whole c.requires.internet c.requires.tables c.proves_bytes.ensures
 
 pub returns-clause-few : goal.returns-clause-few
@@ -207,5 +207,5 @@ returns-clause-few g c = c.loop-listing.invariant.few
 
 pub returns-clause-bounded : goal.returns-clause-bounded
 returns-clause-bounded g c =
-    let first : Copy = root (record { router = c.args.router; port = c.args.port }) c.args.bytes.now in
+    let first : Copy = root (record { router = c.args.coming.router; port = c.args.coming.port }) c.args.coming.bytes.now in
     no_more c.args.routers.now.items c.args.stations.now.list first c.loop-listing.listing c.loop-listing.invariant.bounded

@@ -8,9 +8,9 @@ use Rattle.ipx_internet.proofs.trace.list_tree.Given as goal
 
 abbrev pub invariant-loop-listing : goal.invariant-loop-listing
 invariant-loop-listing g l = record {
-  listed : IsListed (routers_of l.routers.items) (root (record { router = l.fn.router; port = l.fn.port }) l.fn.bytes) l.listing;
+  listed : IsListed (routers_of l.routers.items) (root (record { router = l.fn.coming.router; port = l.fn.coming.port }) l.fn.coming.bytes.now) l.listing;
   few : length l.listing.copies ≤ l.limit;
-  bounded : IsBounded (net_among l.routers.items) (root (record { router = l.fn.router; port = l.fn.port }) l.fn.bytes) (length l.listing.outcomes) l.listing.copies;
+  bounded : IsBounded (net_among l.routers.items) (root (record { router = l.fn.coming.router; port = l.fn.coming.port }) l.fn.coming.bytes.now) (length l.listing.outcomes) l.listing.copies;
 }
 
 abbrev pub decreases-loop-listing : goal.decreases-loop-listing

@@ -12,7 +12,7 @@ use Rattle.ipx_internet.specs.Tree.{Copy, IsRouter, IsTree, root}
 use Rattle.ipx_internet.specs.Weight.{weight}
 use Rattle.ipx_internet.specs.declared.fault.TraceFault.{TraceFault}
 use Rattle.ipx_internet.specs.declared.fault.TraceFault.TheVariants.{NoSuchPort, Limit, Memory}
-use Rattle.ipx_internet.proofs.internet.Internet.trace.Goals as goal
+use Rattle.ipx_internet.proofs.internet.Internet.trace_in.Goals as goal
 use Rattle.ipx_internet.proofs.trees.ListedOfStations.{some_state}
 use Rattle.ipx_internet.proofs.trees.OutcomeOfEachReception.{as_many, each_has_one, told_whole, told_each}
 

@@ -1,0 +1,87 @@
+//! Memory that one trace leaves to the next.
+ghost use Rattle.std.specs.Prelude.{◌≡◌, ◌≤◌, length};
+
+use crate::listing::Listed;
+use crate::trace::Trace;
+use ipx_router::{Outbox, Outcome};
+use std::alloc::Global;
+use std::marker::Model;
+
+/// Memory for traces: one that is no larger than the trace kept last asks for none.
+///
+/// ```
+/// let mut room = TraceRoom::new(rt.alloc());
+/// for port in 0..2 {
+///     let trace = internet.trace_in(&mut room, 0, port, bytes, 18)?;
+///     println!(rt; "from port {port}: {} receptions", trace.len())?;
+///     room.keep(trace);
+/// }
+/// // prints from port 0: 2 receptions
+/// // prints from port 1: 2 receptions
+/// ```
+#[derive(Debug, Drop)]
+pub struct TraceRoom {
+    pub(crate) lists: Lists,
+    pub(crate) outbox: Outbox,
+}
+
+impl Model for TraceRoom {
+    ghost use Rattle.ipx_internet.specs.TraceRoom.{Room};
+
+    ghost Value = { Room };
+
+    ghost view = { λ r. r.lists };
+}
+
+/// Lists without items.
+#[derive(Debug, Drop)]
+pub(crate) struct Lists {
+    /// For the bytes of packets that are sent on.
+    pub store: Vec<u8>,
+    pub list: Vec<Listed>,
+    pub outcomes: Vec<Outcome>,
+}
+
+impl Model for Lists {
+    ghost use Rattle.std.specs.Vec.{vec_capacity};
+    ghost use Rattle.ipx_internet.specs.TraceRoom.{Room, AreEmpty};
+
+    ghost Value = { Room };
+
+    ghost view = { λ l. record { receptions = vec_capacity l.list; outcomes = vec_capacity l.outcomes } };
+
+    ghost invariant = { λ l. AreEmpty l.store.items l.list.items l.outcomes.items };
+}
+
+impl TraceRoom {
+    /// A room without memory.
+    pub fn new(alloc: Global) -> TraceRoom
+        ensures { result ≡ record { receptions = 0; outcomes = 0 } }
+    {
+        TraceRoom {
+            lists: Lists::new(alloc),
+            outbox: Outbox::new(alloc),
+        }
+    }
+
+    /// Keeps the memory of a trace for the next one.
+    pub fn keep(&mut self, trace: Trace<'_>)
+        ensures receptions { length trace.entry ≤ self.new.receptions }
+        ensures outcomes { length trace.entry ≤ self.new.outcomes }
+    {
+        self.lists = trace.into_lists();
+    }
+}
+
+impl Lists {
+    /// Lists without memory.
+    pub fn new(alloc: Global) -> Lists
+        ensures { result ≡ record { receptions = 0; outcomes = 0 } }
+    {
+        Lists {
+            store: Vec::new(alloc),
+            list: Vec::new(alloc),
+            outcomes: Vec::new(alloc),
+        }
+    }
+}
