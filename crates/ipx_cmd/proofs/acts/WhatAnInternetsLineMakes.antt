@@ -16,7 +16,6 @@ use Rattle.ipx_cmd.specs.Line.{◌>>=◌, Stops}
 use Rattle.ipx_cmd.specs.Making.{named_port}
 use Rattle.ipx_cmd.specs.OrderLine.{order_meaning}
 use Rattle.ipx_cmd.specs.OrderMeaning.{OrderMeaning, NextRouter, next_port, order_says}
-use Rattle.ipx_cmd.specs.inside.Said.{Says}
 use Rattle.ipx_cmd.specs.WroteFront.{IsFaultOf}
 use Rattle.ipx_cmd.specs.declared.lines.command.NamedPort.{NamedPort}
 use Rattle.ipx_cmd.specs.declared.ended.RunFault.{RunFault}
@@ -287,16 +286,6 @@ ordered_leads m p old now net q r from to before after internet is same new ther
     }
 
 -- the run was given up in it
-pub ordered_halts : (m : InternetMachine) (old : Moment) (net : Internet) (q : Queued) (r : OrderMeaning) (from to : Output) (before after : List ℕ) (why : RunFault)
-    → m.internet ≡ Some old → IsStanding m (record { net = net; past = Some q }) → order_fault (net_at old) r ≡ None
-    → ((q : Queued) → StandsFor most_routes most_services old q → Says from to before after (order_text (net_at old) q r) (Err why)) → Halted (obeys net q r) from to before after (Run why)
-ordered_halts m old net q r from to before after why internet is there says =
-    let was : InternetStands net (Some old) (Some q) = subst (λ (x : Option Moment). InternetStands net x (Some q)) internet is.internet in
-    let here : order_fault net r ≡ None = subst (λ (n : Internet). order_fault n r ≡ None) was.0 there in
-    let led : obeys net q r ≡ Ok (record { net = net; past = Some (ordered net q r) }, order_text net q r) = rw (here, obeys) refl in
-    subst (λ (x : Led). Halted x from to before after (Run why)) (sym led)
-    (subst (λ (n : Internet). Says from to before after (order_text n q r) (Err why)) was.0 (says q was.1))
-
 -- what it names isn't there
 pub order_wrong : (m : InternetMachine) (old : Moment) (net : Internet) (q : Queued) (r : OrderMeaning) (o : Output) (text : List ℕ) (fault : LineFault) → m.internet ≡ Some old
     → IsStanding m (record { net = net; past = Some q }) → order_fault (net_at old) r ≡ Some fault → Halted (obeys net q r) o o text text (Line fault)
@@ -314,14 +303,6 @@ pub obey_leads : (m p : InternetMachine) (old now : Moment) (o : Order) (bytes :
 obey_leads m p old now o bytes from to before after internet same net new there kept stands says = λ of q is.
     subst (λ (b : List ℕ). Leads p (obeys of q (order_says b o)) from to before after) same
     (ordered_leads m p old now of q (order_says bytes o) from to before after internet is net new (there bytes) kept stands says)
-
-pub obey_halts : (m : InternetMachine) (old : Moment) (o : Order) (bytes : List ℕ) (from to : Output) (before after : List ℕ) (why : RunFault) → m.internet ≡ Some old
-    → bytes ≡ m.buffer → ((buffer : List ℕ) → order_fault (net_at old) (order_says buffer o) ≡ None)
-    → ((q : Queued) → StandsFor most_routes most_services old q → Says from to before after (order_text (net_at old) q (order_says bytes o)) (Err why))
-    → (net : Internet) (q : Queued) → IsStanding m (record { net = net; past = Some q }) → Halted (obeys net q (order_says m.buffer o)) from to before after (Run why)
-obey_halts m old o bytes from to before after why internet same there says = λ of q is.
-    subst (λ (b : List ℕ). Halted (obeys of q (order_says b o)) from to before after (Run why)) same
-    (ordered_halts m old of q (order_says bytes o) from to before after why internet is (there bytes) says)
 
 -- ---- how far the script has come
 

@@ -1,4 +1,4 @@
-use Rattle.std.proofs.Common.{ap, ◌≤◌, arith, length, List}
+use Rattle.std.proofs.Common.{ap, arith, length, List}
 use Rattle.ipx_internet.specs.Traced.{Traced}
 use Rattle.ipx_internet.proofs.trace.Trace.into_lists.Goals as goal
 use Rattle.ipx_internet.proofs.trees.OutcomeOfEachReception.{as_many}
