@@ -5,6 +5,7 @@ pub mod LawsOfTold
 pub mod NearestInOnePass
 pub mod NetworksAmongRoutes
 pub mod NextRouteTold
+pub mod NextServiceSent
 pub mod NextServiceTold
 pub mod SentOfTold
 pub mod ToldFitsFields

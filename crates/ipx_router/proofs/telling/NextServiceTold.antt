@@ -10,25 +10,25 @@ use Rattle.ipx_router.proofs.tables.ToldRises.{ascends-drop, services_rise}
 use Rattle.ipx_router.proofs.lists.PutInOrder.{sorted-rising}
 use Rattle.ipx_router.proofs.telling.FromTheFirstChosen.{from_chosen, same_chosen, first_chosen, takes_first, no_more}
 
+abbrev pub as_told : ℕ → List ServiceOffer → List Service
+as_told number offers = map (λ s. farther s.service) (filter (is_service_told number) offers)
+
+-- what rises is in its order
+pub in_order : (number : ℕ) (offers : List ServiceOffer) → ServicesAscend offers → told_services offers number ≡ as_told number offers
+in_order number offers ascend = sorted-rising name_before (as_told number offers) (services_rise number offers ascend)
+
 -- the services that are left from the first one on that is told
 module _ (number : ℕ) (services left : List ServiceOffer) (up : ServicesAscend services)
     (sought : left ≡ from_chosen (is_service_told number) services) where
   left_ascends : ServicesAscend left
   left_ascends = subst ServicesAscend (sym sought) (ascends-drop by_service (prefix_len (λ s. not (is_service_told number s)) services) services up)
 
-  abbrev as_told : List ServiceOffer → List Service
-  as_told offers = map (λ s. farther s.service) (filter (is_service_told number) offers)
-
-  same_told : as_told services ≡ as_told left
+  same_told : as_told number services ≡ as_told number left
   same_told = ap (map (λ s. farther s.service))
       (sym (same_chosen (is_service_told number) services) ∙ ap (filter (is_service_told number)) (sym sought))
 
-  -- what rises is in its order
-  in_order : (offers : List ServiceOffer) → ServicesAscend offers → told_services offers number ≡ as_told offers
-  in_order offers ascend = sorted-rising name_before (as_told offers) (services_rise number offers ascend)
-
   pub no_service : length left ≡ 0 → told_services services number ≡ []
-  no_service none = ap by_name (same_told ∙ ap as_told (no_more left none))
+  no_service none = ap by_name (same_told ∙ ap (as_told number) (no_more left none))
 
   module _ (offer : ServiceOffer) (others : List ServiceOffer) (first : left ≡ offer ∷ others) where
     pub others_ascend : ServicesAscend others
@@ -39,8 +39,8 @@ module _ (number : ℕ) (services left : List ServiceOffer) (up : ServicesAscend
 
     pub service_next : told_services services number ≡ farther offer.service ∷ told_services others number
     service_next =
-        in_order services up
+        in_order number services up
         ∙ same_told
-        ∙ ap as_told first
+        ∙ ap (as_told number) first
         ∙ ap (map (λ s. farther s.service)) (takes_first (is_service_told number) offer others is_told)
-        ∙ ap (λ (l : List Service). farther offer.service ∷ l) (sym (in_order others others_ascend))
+        ∙ ap (λ (l : List Service). farther offer.service ∷ l) (sym (in_order number others others_ascend))

@@ -1,11 +1,12 @@
 -- Which routes and services of all that are advertised are sent, and how.
-use Rattle.std.specs.Prelude.{ℕ, ◌==◌, ◌||◌, Bool, true, if◌then◌else◌, List, [], ◌∷◌, Option, None, Some}
+use Rattle.std.specs.Prelude.{ℕ, ◌==◌, ◌||◌, ◌&&◌, Bool, true, if◌then◌else◌, List, [], ◌∷◌, Option, None, Some}
 use Rattle.std.specs.List.{list_any}
 use Rattle.ipx_wire.specs.declared.rip.RipEntry.{RipEntry}
 use Rattle.ipx_wire.specs.declared.service.Service.{Service}
 use Rattle.ipx_router.specs.Numbers.{all_routes, every_service}
 use Rattle.ipx_router.specs.Sends.{is_nearer}
-use Rattle.ipx_router.specs.Told.{dead, dead_service, farther}
+use Rattle.ipx_router.specs.Told.{dead, dead_service, farther, is_service_told}
+use Rattle.ipx_router.specs.declared.service_offer.ServiceOffer.{ServiceOffer}
 use Rattle.ipx_router.specs.declared.advertising.selection.Selection.{Selection}
 use Rattle.ipx_router.specs.declared.advertising.selection.Selection.TheVariants.{All, Dead, Asked}
 use Rattle.ipx_router.specs.declared.advertising.selection.ServiceSelection.{ServiceSelection}
@@ -40,6 +41,10 @@ abbrev pub is_service_selected : ServiceSelection → Service → Bool
 is_service_selected AllServices s = true
 is_service_selected DeadServices s = true
 is_service_selected (OfKind kind) s = is_of_kind kind s
+
+-- of a service of a table: whether it is sent on the port
+abbrev pub is_service_sent : ℕ → ServiceSelection → ServiceOffer → Bool
+is_service_sent number selection offer = is_service_told number offer && is_service_selected selection offer.service
 
 abbrev pub service_sent : ServiceSelection → Service → Service
 service_sent AllServices s = farther s

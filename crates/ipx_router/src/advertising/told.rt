@@ -1,22 +1,18 @@
 //! What a port advertises goes from tables and ports straight into pages of the outbox: no list of all of it is made.
-ghost use Rattle.std.specs.Prelude.{◌≡◌, ℕ, ◌<◌, ◌≤◌, ◌^◌, [], ◌++◌, length, take, false};
+ghost use Rattle.std.specs.Prelude.{◌≡◌, ℕ, ◌<◌, ◌≤◌, [], ◌++◌, length, take, false};
 ghost use Rattle.std.specs.List.{AllByRecursion, flat_map};
-ghost use Rattle.ipx_wire.specs.WriteServices.{service_bytes};
 ghost use Rattle.ipx_router.specs.Facts.{offers};
 ghost use Rattle.ipx_router.specs.Numbers.{entries_a_page, services_a_page, most_ports};
 ghost use Rattle.ipx_router.specs.Outbox.{Fits, Appends};
 ghost use Rattle.ipx_router.specs.inside.Envelope.{entries_in, services_in};
 ghost use Rattle.ipx_router.specs.inside.Owed.{owed};
-ghost use Rattle.ipx_router.specs.inside.Putting.{PutsServices, packet_size};
 ghost use Rattle.ipx_router.specs.inside.Selection.{service_selected_by, selected_by};
 ghost use Rattle.ipx_router.specs.Told.{told, told_services};
 
 use crate::advertising::envelope::Envelope;
 use crate::advertising::item::Item;
-use crate::advertising::pages::{ENTRIES_A_PAGE, SERVICES_A_PAGE, SERVICES_AT};
-use crate::advertising::selection::{
-    Selection, ServiceSelection, hops_sent, is_service_selected, select,
-};
+use crate::advertising::pages::{ENTRIES_A_PAGE, SERVICES_A_PAGE};
+use crate::advertising::selection::{Selection, ServiceSelection, select};
 use crate::advertising::service_source::ServiceSource;
 use crate::advertising::told_routes::{ToldRoutes, list_direct};
 use crate::advertising::told_services::ToldServices;
@@ -27,8 +23,7 @@ use crate::route_offer::RouteOffer;
 use crate::service_offer::ServiceOffer;
 use arrayvec::ArrayVec;
 use ipx_table::Table;
-use ipx_wire::{RipEntry, SapEntry, Service, put_service};
-use std::slice::from_ref;
+use ipx_wire::RipEntry;
 
 /// Sends the routes that a port advertises, as they are selected, in an envelope of that port.
 pub(crate) fn send_routes<const R: usize>(
@@ -148,45 +143,6 @@ impl<'a> ServiceSource for Selected<'a> {
     ghost needs = { λ s. packet_size (flat_map (service_selected_by s.selection) s.services) };
 
     fn put(&mut self, out: &mut [u8]) -> usize {
-        put_selected(&mut self.services, self.selection, out)
+        self.services.put(self.selection, out)
     }
-}
-
-/// Writes the next services to send, each from the table to its place in a packet, and returns their number: fewer than a packet has at
-/// most only where none is left.
-fn put_selected(
-    services: &mut ToldServices<'_>,
-    selection: ServiceSelection,
-    out: &mut [u8],
-) -> usize
-    requires room { packet_size (flat_map (service_selected_by selection) services.old) ≤ length out.old }
-    ensures puts { PutsServices (flat_map (service_selected_by selection) services.old) (flat_map (service_selected_by selection) services.new) result out.old out.new }
-    ensures few { result ≤ services_a_page }
-    ensures last { result < services_a_page → flat_map (service_selected_by selection) services.new ≡ [] }
-{
-    let mut count = 0;
-    while count < SERVICES_A_PAGE {
-        let Some(offer) = services.next_offer() else {
-            return count;
-        };
-        if is_service_selected(selection, &offer.service) {
-            proves_size(&offer.service);
-            let place = SERVICES_AT + SapEntry::SIZE * count;
-            put_service(
-                out,
-                place,
-                &offer.service,
-                hops_sent(selection, &offer.service),
-            );
-            count += 1;
-        }
-    }
-    count
-}
-
-/// A service has 64 bytes in a packet.
-fn proves_size(service: &Service)
-    ensures { (hops : ℕ) → hops < 2 ^ 16 → length (service_bytes (record service.now { hops = hops })) ≡ 64 }
-{
-    ipx_wire::laws::in_range(from_ref(service));
 }

@@ -2,7 +2,7 @@ use Rattle.std.proofs.Common.{subst}
 use Rattle.std.specs.List.{AllByRecursion}
 use Rattle.ipx_wire.specs.WriteServices.{IsService}
 use Rattle.ipx_wire.proofs.Services.{length-service_bytes}
-use Rattle.ipx_router.proofs.advertising.told.proves_size.Goals as goal
+use Rattle.ipx_router.proofs.advertising.told_services.proves_size.Goals as goal
 
 pub returns : goal.returns
 returns c =
