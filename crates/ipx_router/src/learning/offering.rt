@@ -74,7 +74,8 @@ fn offer_route<const R: usize>(
 }
 
 /// Offers the entries of a response from that port and neighbour to the table, but for those without a name, and for the `first`
-/// ones, which were renewed. Puts down what they touch where the caller keeps it, so that it isn't copied.
+/// ones, which were renewed; the one behind these couldn't be, so that isn't tried again. Puts down what they touch where the caller
+/// keeps it, so that it isn't copied.
 #[inline(never)]
 pub(crate) fn offer_services<const S: usize>(
     table: &mut Table<ServiceOffer, S>,
@@ -93,11 +94,11 @@ pub(crate) fn offer_services<const S: usize>(
     ensures touches { Touches (λ s. (s.service.kind, s.service.name)) service_order (offers table.old.records) (offers table.new.records) touched.new.items }
 {
     for k in first..entries.len() {
-        take_entry(table, touched, number, node, entries, k);
+        take_entry(table, touched, number, node, entries, k, k > first);
     }
 }
 
-/// Renews the service of an entry, or offers the entry.
+/// Renews the service of an entry, if the table may have just this one, or offers the entry.
 fn take_entry<const S: usize>(
     table: &mut Table<ServiceOffer, S>,
     touched: &mut TouchedServices,
@@ -105,6 +106,7 @@ fn take_entry<const S: usize>(
     node: Node,
     entries: &SapEntries<'_>,
     k: usize,
+    may_be_known: bool,
 )
     requires within { k < length entries.now }
     requires room { length touched.old.items < most_services }
@@ -117,7 +119,7 @@ fn take_entry<const S: usize>(
         → Touches (λ s. (s.service.kind, s.service.name)) service_order before (offers table.new.records) touched.new.items }
     ensures few { length touched.new.items ≤ length touched.old.items + 1 }
 {
-    if renews(table, number, node, entries.bytes_from(k)) {
+    if may_be_known && renews(table, number, node, entries.bytes_from(k)) {
         return;
     }
     offer_service(table, touched, number, node, &entries.entry(k));
