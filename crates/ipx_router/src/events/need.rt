@@ -60,8 +60,9 @@ fn packets_of(ports: usize, routes: usize, services: usize, event: Event<'_>) ->
     ensures value { result ≡ most_packets ports routes services (happened event.entry) }
     ensures few { result < 2 ^ 20 }
 {
-    let of_routes = (routes + ports - 1).div_ceil(ENTRIES_A_PAGE);
-    let of_services = services.div_ceil(SERVICES_A_PAGE);
+    // (not by `div_ceil`, which asks for the remainder too, in each event)
+    let of_routes = (routes + ports - 1 + (ENTRIES_A_PAGE - 1)) / ENTRIES_A_PAGE;
+    let of_services = (services + (SERVICES_A_PAGE - 1)) / SERVICES_A_PAGE;
     match event {
         Event::Start => 3 * ports,
         Event::Stop | Event::Second => ports * (of_routes + of_services),
