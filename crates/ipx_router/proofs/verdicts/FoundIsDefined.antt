@@ -113,10 +113,10 @@ module _ (ports : List Port) (up : List ℕ) (routes : List RouteOffer) (number 
       → IsVerdict ports up routes true number bytes v
   verdict_of (Rip source rip) e is = (why_read routes ∙ e, said_heard _ e is.0 is.1, is.2)
   verdict_of (Sap source sap) e is = (why_read routes ∙ e, said_heard _ e is.0 is.1)
-  verdict_of (Goes q (Propagate networks)) e is =
+  verdict_of (Goes (Propagate networks) q) e is =
       let all = is.1.0 in
       rw is.0 (onward_of e (rw all refl), is.1)
-  verdict_of (Goes q (Forward out link)) e is =
+  verdict_of (Goes (Forward out link) q) e is =
       let parts = and_parts (not (is_propagated p.header)) (not (is_local (port_at ports number) p.header.destination.network)) is.1.0 in
       let beyond = not-true (is_local (port_at ports number) p.header.destination.network) parts.1 in
       let one = not-true (is_propagated p.header) parts.0 in

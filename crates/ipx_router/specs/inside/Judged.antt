@@ -26,7 +26,7 @@ IsVerdict ports up routes running number bytes (Rip source rip) =
     × (length rip.entries ≤ most_entries)
 IsVerdict ports up routes running number bytes (Sap source sap) =
     (why ports up routes running number bytes ≡ None) × (heard ports up running number bytes ≡ Some (HeardSap source sap))
-IsVerdict ports up routes running number bytes (Goes p onward) =
+IsVerdict ports up routes running number bytes (Goes onward p) =
     IsOnward ports up routes running number bytes p × GoesAs ports up routes (port_at ports number) p (Some onward)
 
 -- ---- a packet on a port
@@ -40,10 +40,10 @@ abbrev pub IsFound : List Port → List ℕ → List RouteOffer → Port → Par
 IsFound ports up routes port p (Rip source rip) =
     (is_near port p.header ≡ true) × (heard_in p ≡ Some (HeardRip source rip)) × (length rip.entries ≤ most_entries)
 IsFound ports up routes port p (Sap source sap) = (is_near port p.header ≡ true) × (heard_in p ≡ Some (HeardSap source sap))
-IsFound ports up routes port p (Goes q onward) = (q ≡ p) × GoesAs ports up routes port p (Some onward)
+IsFound ports up routes port p (Goes onward q) = (q ≡ p) × GoesAs ports up routes port p (Some onward)
 
 -- the same of the data of a near packet
 abbrev pub IsHearing : Parts → Verdict → Type 0
 IsHearing p (Rip source rip) = (heard_in p ≡ Some (HeardRip source rip)) × (length rip.entries ≤ most_entries)
 IsHearing p (Sap source sap) = heard_in p ≡ Some (HeardSap source sap)
-IsHearing p (Goes q onward) = ⊥
+IsHearing p (Goes onward q) = ⊥

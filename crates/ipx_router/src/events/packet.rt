@@ -53,7 +53,7 @@ impl<const P: usize, const R: usize, const S: usize> Router<P, R, S> {
                     Outcome::Answered
                 }
             },
-            Ok(Verdict::Goes { packet, onward }) => match onward {
+            Ok(Verdict::Goes { onward, packet }) => match onward {
                 Onward::Propagate(crossed) => {
                     self.propagate(port, bytes, &packet, &crossed, outbox);
                     Outcome::Propagated

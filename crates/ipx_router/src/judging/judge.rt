@@ -36,9 +36,10 @@ pub(crate) enum Verdict<'a> {
         sap: Sap<'a>,
     },
     /// A packet goes on to other networks.
+    // (the packet behind: in front, its place would be put together from the bytes that it shares with a source's)
     Goes {
-        packet: Packet<'a>,
         onward: Onward<'a>,
+        packet: Packet<'a>,
     },
 }
 
@@ -104,7 +105,7 @@ fn judge_on_port<'a, const R: usize>(
     ensures found { IfOk result (IsFound ports.now up.now (offers routes.now.records) port.now packet.entry) }
 {
     match check(ports, up, routes, port, &packet) {
-        Ok(Some(onward)) => Ok(Verdict::Goes { packet, onward }),
+        Ok(Some(onward)) => Ok(Verdict::Goes { onward, packet }),
         Ok(None) => judge_near(port, &packet),
         Err(why) => Err(why),
     }
