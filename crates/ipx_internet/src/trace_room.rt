@@ -7,7 +7,7 @@ use ipx_router::{Outbox, Outcome};
 use std::alloc::Global;
 use std::marker::Model;
 
-/// Memory for traces: one that is no larger than the trace kept last asks for none.
+/// Memory for traces. A trace in a room that is no larger than the one kept there last asks for no memory.
 ///
 /// ```
 /// let mut room = TraceRoom::new(rt.alloc());
