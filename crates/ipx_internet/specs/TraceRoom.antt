@@ -3,7 +3,7 @@ use Rattle.std.specs.Prelude.{◌≡◌, ℕ, List, []}
 use Rattle.ipx_router.specs.declared.outcome.Outcome.{Outcome}
 use Rattle.ipx_internet.specs.declared.listing.Listed.{Listed}
 
--- for how many receptions, and for what became of the packet at how many, it is
+-- for how many receptions, and for how many outcomes, it is large enough
 pub record Room : Type 0 where
   pub receptions : ℕ
   pub outcomes : ℕ

@@ -137,8 +137,8 @@ impl<const P: usize, const R: usize, const S: usize> Internet<P, R, S> {
         self.trace_in(&mut room, router, port, bytes, limit)
     }
 
-    /// The same in the memory of a room, as far as that goes. The trace takes it along; [`TraceRoom::keep`] brings it back. After a
-    /// refusal the room may have none.
+    /// The same in the memory of a room, which grows if it is too small. The trace takes that memory, and [`TraceRoom::keep`] brings
+    /// it back; it is lost if the trace is over its limit or out of memory.
     pub fn trace_in<'a>(
         &self,
         room: &mut TraceRoom,

@@ -7,7 +7,7 @@ use ipx_router::{Outbox, Outcome};
 use std::alloc::Global;
 use std::marker::Model;
 
-/// Memory for traces. A trace in a room that is no larger than the one kept there last asks for no memory.
+/// Memory that one trace leaves to the next. The same trace again asks for none: tested, not proved.
 ///
 /// ```
 /// let mut room = TraceRoom::new(rt.alloc());
@@ -33,7 +33,7 @@ impl Model for TraceRoom {
     ghost view = { λ r. r.lists };
 }
 
-/// Lists without items.
+/// The lists of a trace, emptied.
 #[derive(Debug, Drop)]
 pub(crate) struct Lists {
     /// For the bytes of packets that are sent on.
@@ -64,7 +64,7 @@ impl TraceRoom {
         }
     }
 
-    /// Keeps the memory of a trace for the next one.
+    /// Keeps the memory of a trace for the next one, in place of what was kept before.
     pub fn keep(&mut self, trace: Trace<'_>)
         ensures receptions { length trace.entry ≤ self.new.receptions }
         ensures outcomes { length trace.entry ≤ self.new.outcomes }

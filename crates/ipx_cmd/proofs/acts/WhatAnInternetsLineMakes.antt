@@ -285,7 +285,6 @@ ordered_leads m p old now net q r from to before after internet is same new ther
       added = subst (λ (n : Internet). Added from to before after (order_text n q r)) was.0 (says q was.1);
     }
 
--- the run was given up in it
 -- what it names isn't there
 pub order_wrong : (m : InternetMachine) (old : Moment) (net : Internet) (q : Queued) (r : OrderMeaning) (o : Output) (text : List ℕ) (fault : LineFault) → m.internet ≡ Some old
     → IsStanding m (record { net = net; past = Some q }) → order_fault (net_at old) r ≡ Some fault → Halted (obeys net q r) o o text text (Line fault)

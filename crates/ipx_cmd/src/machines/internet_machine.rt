@@ -40,7 +40,7 @@ pub(crate) struct InternetMachine {
     internet: Option<ScriptInternet>,
     /// For the bytes of the packet that comes in.
     buffer: Vec<u8>,
-    /// For the traces, one after the other.
+    /// The memory of the last trace, for the next one.
     room: TraceRoom,
 }
 

@@ -135,7 +135,8 @@ fn left_line(text: &mut Vec<u8>, count: usize) -> Result<(), AllocError>
     text.extend_from_slice(b"\n")
 }
 
-/// Adds the lines of a packet's receptions, or the one of a limit that is less. The room has the memory of the trace before.
+/// Adds the lines of a packet's receptions, or the one of a limit that is less. It uses the memory of the trace before, and leaves it to
+/// the next one, unless it is over its limit.
 pub(crate) fn trace<W: Write>(
     internet: &ScriptInternet,
     room: &mut TraceRoom,

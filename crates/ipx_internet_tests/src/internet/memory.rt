@@ -123,7 +123,7 @@ fn wrong_rows(trace: &Trace<'_>) -> usize {
     wrong
 }
 
-/// The second trace is not made again, so it has to ask for no memory.
+/// The second trace has to ask for no memory: if it is refused any, it is not made again, and the test fails.
 #[test]
 fn a_trace_in_a_room_is_whole_without_memory_of_its_own(rt: HostRuntime) -> Result<(), Fail> {
     let internet = looped(rt.alloc())?;
