@@ -36,7 +36,7 @@ sap_number (SapOperation operation) = 2
 sap_number NoServices = 3
 sap_number TooManyServices = 4
 
--- a hundred times the number of the check that failed, and what was wrong with the bytes
+-- a hundred times the number that the reason keeps, and what was wrong with the bytes
 abbrev pub why_number : Why → ℕ
 why_number NotRunning = 100
 why_number (Malformed fault) = 200 + packet_number fault

@@ -89,7 +89,7 @@ fn outcome_number(outcome: Outcome) -> u16
     }
 }
 
-/// A hundred times the number of the check that failed, and what was wrong with the bytes.
+/// A hundred times the number that the reason keeps, and what was wrong with the bytes.
 fn why_number(why: Why) -> u16
     ensures { result ≡ why_number why }
 {

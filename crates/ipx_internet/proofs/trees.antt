@@ -5,6 +5,7 @@ pub mod ListedIsTheTree
 pub mod ListedOfStations
 pub mod ListingUpToALimit
 pub mod LogStays
+pub mod MemoryOfATrace
 pub mod NextLevelIsBounded
 pub mod NoNetworkTwice
 pub mod NoTwoNameTheSame

@@ -6,10 +6,11 @@ use Rattle.ipx_router.specs.Relays.{Sent}
 use Rattle.ipx_router.specs.declared.outcome.Outcome.{Outcome}
 use Rattle.ipx_internet.specs.Internet.{IsPlace}
 use Rattle.ipx_internet.specs.inside.Stations.{place_of, hearers}
+use Rattle.ipx_internet.specs.TraceRoom.{Memory}
 use Rattle.ipx_internet.specs.Traced.{Traced, outcome_of, tree, outcome_at}
 use Rattle.ipx_internet.specs.Tree.{Router, Copy, net_of, sent_on, next_level}
 use Rattle.ipx_internet.specs.declared.fault.TraceFault.{TraceFault}
-use Rattle.ipx_internet.specs.declared.fault.TraceFault.TheVariants.{NoSuchPort, Limit, Memory}
+use Rattle.ipx_internet.specs.declared.fault.TraceFault.TheVariants.{NoSuchPort, Limit, Memory as NoMemory}
 use Rattle.ipx_internet.specs.declared.listing.Listed.{Listed}
 use Rattle.ipx_internet.specs.declared.listing.Parent.{Parent}
 use Rattle.ipx_internet.specs.declared.stations.Station.{Station}
@@ -49,10 +50,11 @@ module _ (stations : List Station) (ports : List Port) (parent : Parent) where
 
 -- ---- as its callers see it
 
--- the receptions that are listed, and what became of the packet at the first of them
+-- the receptions that are listed, what became of the packet at the first of them, and the memory that this takes
 pub record Listing : Type 0 where
   pub copies : List Copy
   pub outcomes : List Outcome
+  pub memory : Memory
 
 -- the reception at a place; behind the last, one of nothing
 abbrev pub copy_at : List Copy → ℕ → Copy
@@ -80,7 +82,7 @@ module _ (r : Router) (stations : List Station) where
 abbrev pub IsCut : ℕ → ℕ → TraceFault → Type 0
 IsCut limit count NoSuchPort = ⊥
 IsCut limit count Limit = limit < count
-IsCut limit count Memory = 0 < limit
+IsCut limit count NoMemory = 0 < limit
 
 -- what is listed begins the tree; some of it is done, and is what the rest was sent on by
 pub record IsListed (routers : List Router) (root : Copy) (l : Listing) : Type 0 where

@@ -12,6 +12,7 @@ use Rattle.ipx_router.specs.declared.outcome.Outcome.TheVariants.{Dropped}
 use Rattle.ipx_router.specs.declared.why.Why.TheVariants.{NotRunning, Malformed}
 use Rattle.ipx_internet.specs.Internet.{Internet, ports_of}
 use Rattle.ipx_internet.specs.Queue.{history_of}
+use Rattle.ipx_internet.specs.TraceRoom.{Memory}
 use Rattle.ipx_internet.specs.Tree.{Router, Copy, router_now, router_at, tree_to}
 use Rattle.ipx_internet.specs.declared.trace.Reception.{Reception}
 
@@ -19,6 +20,11 @@ use Rattle.ipx_internet.specs.declared.trace.Reception.{Reception}
 pub record Traced : Type 0 where
   pub copy : Copy
   pub outcome : Outcome
+
+-- a trace: its receptions, and the memory that they take
+pub record TracedTree : Type 0 where
+  pub receptions : List Traced
+  pub memory : Memory
 
 -- a reception as it is told
 abbrev pub traced : Reception → Traced

@@ -5,15 +5,16 @@ ghost use Rattle.std.specs.Option.{option_map};
 ghost use Rattle.std.specs.Slice.Iter.{iter_rest};
 ghost use Rattle.std.specs.Vec.{vec_len, vec_capacity};
 ghost use Rattle.ipx_router.specs.Happened.{happened};
-ghost use Rattle.ipx_router.specs.History.{IsOnPort};
+ghost use Rattle.ipx_router.specs.History.{IsOnPort, IsOfBytes};
 ghost use Rattle.ipx_router.specs.Outcomes.{outcome};
-ghost use Rattle.ipx_internet.specs.Internet.{IsInternet, NodesDiffer, IsPlace, ports_of};
+ghost use Rattle.ipx_internet.specs.Internet.{IsInternet, NodesDiffer, ports_of};
 ghost use Rattle.ipx_internet.specs.InternetWeight.{internet_weight};
 ghost use Rattle.ipx_internet.specs.Moment.{StandsFor, IsThere, SharesNode, net_at};
 ghost use Rattle.ipx_internet.specs.Passed.{HasHistories};
 ghost use Rattle.ipx_internet.specs.Queue.{Delivery, Queued, queued, history_of};
 ghost use Rattle.ipx_internet.specs.Refused.{IsNotAdded, IsNoEvent};
-ghost use Rattle.ipx_internet.specs.inside.Simulated.{AreRouters, IsComing, moment, net_among};
+ghost use Rattle.ipx_internet.specs.Rounds.{IsDelivery};
+ghost use Rattle.ipx_internet.specs.inside.Simulated.{AreRouters, moment, net_among};
 ghost use Rattle.ipx_internet.specs.Settled.{HasSettled, StopsShort, IsToldOf};
 ghost use Rattle.ipx_internet.specs.inside.Stations.{AreOf};
 ghost use Rattle.ipx_internet.specs.Traced.{routers_of};
@@ -145,7 +146,7 @@ impl<const P: usize, const R: usize, const S: usize> Internet<P, R, S> {
         ensures nodes { NodesDiffer (net_at self.now) }
         ensures tables { AllByRecursion IsRouter (routers_of self.now.routers) }
         ensures past { HasHistories R S self.now }
-        ensures waits { AllByRecursion (λ d. IsPlace (net_at self.now) d.to) self.now.queue }
+        ensures waits { AllByRecursion (IsDelivery (net_at self.now)) self.now.queue }
     {
         crate::laws::trees();
         self.routers.len()
@@ -240,7 +241,6 @@ impl<const P: usize, const R: usize, const S: usize> Internet<P, R, S> {
         proves_sized(&self.routers);
         self.done = turn(&mut self.front, self.done, &mut self.back);
         let coming = self.front.get(self.done);
-        proves_bytes(coming.bytes);
         let event = Event::Packet {
             port: coming.port,
             bytes: coming.bytes,
@@ -319,8 +319,8 @@ fn happen<const P: usize, const R: usize, const S: usize>(
     requires there { IsThere (moment routers.old.items []) number (happened event) }
     ensures routers { AreRouters R S routers.new.items stations.now.list }
     ensures net { net_among routers.new.items ≡ net_among routers.old.items }
-    ensures coming { AllByRecursion (IsComing (net_among routers.old.items)) back.old.deliveries
-        → AllByRecursion (IsComing (net_among routers.old.items)) back.new.deliveries }
+    ensures coming { AllByRecursion (IsDelivery (net_among routers.old.items)) back.old.deliveries
+        → AllByRecursion (IsDelivery (net_among routers.old.items)) back.new.deliveries }
     ensures stands { OnOk result ((before : List Delivery) (q : Queued) → StandsFor R S (moment routers.old.items (before ++ back.old.deliveries)) q
         → StandsFor R S (moment routers.new.items (before ++ back.new.deliveries)) (queued (net_among routers.old.items) R S q number (happened event.entry))) }
     ensures outcome { IfOk result (λ o. (before : List Delivery) (q : Queued) → StandsFor R S (moment routers.old.items before) q
@@ -328,9 +328,20 @@ fn happen<const P: usize, const R: usize, const S: usize>(
     ensures unchanged { OnErr result (routers.new.items ≡ routers.old.items) }
     ensures kept { OnErr result (back.new.deliveries ≡ back.old.deliveries) }
 {
+    ipx_router::laws::packets();
+    proves_of_bytes(&event);
     let router = &mut routers[number];
     back.make_room(router.need(&event), stations.most())?;
     Ok(back.happen(stations, number, router, event))
+}
+
+/// What comes on a port are bytes. It is for proofs, and does nothing.
+fn proves_of_bytes(event: &Event<'_>)
+    ensures { IsOfBytes (happened event.now) }
+{
+    if let Event::Packet { bytes, .. } = event {
+        proves_bytes(bytes);
+    }
 }
 
 /// Whether there is such a router, and the port that the event names, if it names one.

@@ -5,6 +5,7 @@ ghost use Rattle.ipx_router.specs.Facts.{offers};
 ghost use Rattle.ipx_router.specs.Relay.{relay_outcome, relay_sends};
 ghost use Rattle.ipx_internet.specs.Listed.{bytes_in, sent_bytes, IsIn, child, listed_from, copy_at, waits_next, children_by, GoesOn, IsCut};
 ghost use Rattle.ipx_internet.specs.inside.Stations.{hears};
+ghost use Rattle.ipx_internet.specs.TraceRoom.{IsNoLess, HoldsNoLess};
 ghost use Rattle.ipx_internet.specs.Traced.{router_of, outcome_of};
 ghost use Rattle.ipx_internet.specs.Tree.{root, sent_on};
 ghost use Rattle.ipx_internet.specs.declared.fault.TraceFault.TheVariants.{Memory as NoMemory};
@@ -48,11 +49,12 @@ pub(crate) struct Listing<'a> {
 
 impl<'a> Model for Listing<'a> {
     ghost use Rattle.std.specs.Prelude.{map};
+    ghost use Rattle.std.specs.Vec.{vec_capacity};
     ghost use Rattle.ipx_internet.specs.Listed.{Listing as Progress, copy_in, AreKept};
 
     ghost Value = { Progress };
 
-    ghost view = { λ l. record { copies = map (copy_in l.first.now l.store.items) l.list.items; outcomes = l.outcomes.items } };
+    ghost view = { λ l. record { copies = map (copy_in l.first.now l.store.items) l.list.items; outcomes = l.outcomes.items; memory = record { receptions = vec_capacity l.list; outcomes = vec_capacity l.outcomes; bytes = vec_capacity l.store } } };
 
     ghost invariant = { λ l. AreKept l.store.items l.list.items };
 }
@@ -77,6 +79,7 @@ impl<'a> Listing<'a> {
     ) -> Result<Listing<'a>, TraceFault>
         ensures copies { IfOk result (λ l. l.copies ≡ root (record { router = router; port = port }) first.entry.now ∷ []) }
         ensures outcomes { IfOk result (λ l. l.outcomes ≡ []) }
+        ensures memory { IfOk result (λ l. IsNoLess lists l.memory) }
         ensures few { OnOk result (1 ≤ limit) }
         ensures refused { IfErr result (IsCut limit 1) }
     {
@@ -103,6 +106,7 @@ impl<'a> Listing<'a> {
 
     /// The memory of what is listed, for another listing.
     pub fn into_lists(self) -> Lists
+        ensures memory { result ≡ self.entry.memory }
         ensures receptions { length self.entry.copies ≤ result.receptions }
         ensures outcomes { length self.entry.outcomes ≤ result.outcomes }
     {
@@ -171,6 +175,8 @@ impl<'a> Listing<'a> {
         requires few { length self.copies ≤ limit }
         requires port { (waits_next self).to.port < length router.now.ports }
         ensures goes_on { IfOk result (GoesOn (router_of router.now) stations.now.list self.entry) }
+        ensures memory { IfOk result (λ l. IsNoLess self.entry.memory l.memory) }
+        ensures outbox { HoldsNoLess outbox.old outbox.new }
         ensures few { IfOk result (λ l. length l.copies ≤ limit) }
         ensures refused { IfErr result (IsCut limit (length self.entry.copies
             + length (children_by (router_of router.now) stations.now.list (length self.entry.outcomes) (waits_next self.entry)))) }
@@ -224,6 +230,7 @@ fn relay<const P: usize, const R: usize, const S: usize>(
     ensures sent { OnOk result (outbox.new.sent ≡ outbox.old.sent ++ sent_on (router_of router.now) port bytes.now) }
     ensures outcome { IfOk result (λ o. o ≡ outcome_of (router_of router.now) port bytes.now) }
     ensures refused { IfErr result (λ fault. fault ≡ NoMemory) }
+    ensures room { HoldsNoLess outbox.old outbox.new }
 {
     match Packet::read(bytes) {
         Ok(packet) => relay_packet(router, port, &packet, outbox),
@@ -246,6 +253,7 @@ fn relay_packet<const P: usize, const R: usize, const S: usize>(
     ensures sent { OnOk result (outbox.new.sent ≡ outbox.old.sent ++ relay_sends router.now.ports router.now.up (offers router.now.routes) router.now.running port packet.now) }
     ensures outcome { IfOk result (λ o. o ≡ relay_outcome router.now.ports router.now.up (offers router.now.routes) router.now.running port packet.now) }
     ensures refused { IfErr result (λ fault. fault ≡ NoMemory) }
+    ensures room { HoldsNoLess outbox.old outbox.new }
 {
     match outbox.reserve(router.relay_need(packet)) {
         Ok(()) => Ok(router.relay(port, packet, outbox)),
@@ -269,6 +277,8 @@ fn list_children<const P: usize, const R: usize, const S: usize>(
     ensures few { OnOk result (length list.old.items ≤ limit → length list.new.items ≤ limit) }
     ensures refused { IfErr result (IsCut limit (length list.old.items
         + length (listed_from stations.now.list router.now.ports parent (length store.old.items) outbox.now.sent))) }
+    ensures list_capacity { vec_capacity list.old ≤ vec_capacity list.new }
+    ensures store_capacity { vec_capacity store.old ≤ vec_capacity store.new }
 {
     for packet in 0..outbox.len() {
         let sent = outbox.get(packet);
@@ -300,6 +310,7 @@ fn list_receivers(
     ensures listed { OnOk result (list.new.items ≡ list.old.items ++ map (child parent start size) (filter (hears parent.router link) stations.now)) }
     ensures few { OnOk result (length list.old.items ≤ limit → length list.new.items ≤ limit) }
     ensures refused { IfErr result (IsCut limit (length list.old.items + length (map (child parent start size) (filter (hears parent.router link) stations.now)))) }
+    ensures capacity { vec_capacity list.old ≤ vec_capacity list.new }
 {
     for station in stations {
         if station.hears(parent.router, link) {
@@ -328,6 +339,7 @@ fn add(list: &mut Vec<Listed>, listed: Listed, limit: usize) -> Result<(), Trace
     ensures few { OnOk result (length list.old.items < limit) }
     ensures refused { IfErr result (IsCut limit (length list.old.items + 1)) }
     ensures there { length list.old.items < limit → vec_len list.old < vec_capacity list.old → IsOk result }
+    ensures capacity { vec_capacity list.old ≤ vec_capacity list.new }
 {
     if list.len() >= limit {
         return Err(TraceFault::Limit);
@@ -343,6 +355,7 @@ fn keep(outcomes: &mut Vec<Outcome>, outcome: Outcome) -> Result<(), TraceFault>
     ensures kept { OnOk result (outcomes.new.items ≡ outcomes.old.items ++ outcome ∷ []) }
     ensures refused { IfErr result (λ fault. fault ≡ NoMemory) }
     ensures there { vec_len outcomes.old < vec_capacity outcomes.old → IsOk result }
+    ensures capacity { vec_capacity outcomes.old ≤ vec_capacity outcomes.new }
 {
     match outcomes.push(outcome) {
         Ok(()) => Ok(()),
@@ -355,6 +368,7 @@ fn append(store: &mut Vec<u8>, bytes: &[u8]) -> Result<(), TraceFault>
     ensures appended { OnOk result (store.new.items ≡ store.old.items ++ bytes.now) }
     ensures refused { IfErr result (λ fault. fault ≡ NoMemory) }
     ensures there { vec_len store.old + length bytes.now ≤ vec_capacity store.old → IsOk result }
+    ensures capacity { vec_capacity store.old ≤ vec_capacity store.new }
 {
     match store.extend_from_slice(bytes) {
         Ok(()) => Ok(()),

@@ -7,6 +7,7 @@ ghost use Rattle.ipx_internet.specs.Listed.{IsCut};
 ghost use Rattle.ipx_internet.specs.Moment.{net_at};
 ghost use Rattle.ipx_internet.specs.inside.Simulated.{net_among};
 ghost use Rattle.ipx_internet.specs.inside.Stations.{AreOf};
+ghost use Rattle.ipx_internet.specs.TraceRoom.{no_memory, IsNoLess, HoldsNoLess};
 ghost use Rattle.ipx_internet.specs.Traced.{traced, routers_of, tree, outcome_at};
 ghost use Rattle.ipx_internet.specs.Tree.{IsRouter, root, IsTree};
 ghost use Rattle.ipx_internet.specs.Weight.{weight};
@@ -56,13 +57,13 @@ pub struct Trace<'a> {
 }
 
 impl<'a> Model for Trace<'a> {
-    ghost use Rattle.std.specs.Prelude.{◌≡◌, List, length};
-    ghost use Rattle.ipx_internet.specs.Traced.{Traced};
+    ghost use Rattle.std.specs.Prelude.{◌≡◌, length};
+    ghost use Rattle.ipx_internet.specs.Traced.{TracedTree};
     ghost use Rattle.ipx_internet.specs.Listed.{told};
 
-    ghost Value = { List Traced };
+    ghost Value = { TracedTree };
 
-    ghost view = { λ t. told t.listing.copies t.listing.outcomes };
+    ghost view = { λ t. record { receptions = told t.listing.copies t.listing.outcomes; memory = t.listing.memory } };
 
     ghost invariant = { λ t. length t.listing.copies ≡ length t.listing.outcomes };
 }
@@ -70,22 +71,22 @@ impl<'a> Model for Trace<'a> {
 impl<'a> Trace<'a> {
     /// How many receptions there are.
     pub fn len(&self) -> usize
-        ensures { result ≡ length self.now }
+        ensures { result ≡ length self.now.receptions }
     {
         self.listing.len()
     }
 
     /// Whether there is no reception: never, since there is always the first one.
     pub fn is_empty(&self) -> bool
-        ensures { result ≡ (length self.now == 0) }
+        ensures { result ≡ (length self.now.receptions == 0) }
     {
         self.len() == 0
     }
 
     /// Reception number `k`, counted from 0.
     pub fn get(&self, k: usize) -> Reception<'_>
-        requires { k < length self.now }
-        ensures { slice_get self.now k ≡ Some (traced result) }
+        requires { k < length self.now.receptions }
+        ensures { slice_get self.now.receptions k ≡ Some (traced result) }
     {
         let lent = self.listing.get(k);
         Reception {
@@ -99,15 +100,16 @@ impl<'a> Trace<'a> {
 
     /// The receptions in their order.
     pub fn iter(&self) -> TraceIter<'_>
-        ensures { result ≡ self.now }
+        ensures { result ≡ self.now.receptions }
     {
         TraceIter::of(self)
     }
 
     /// The lists of the trace, without their items.
     pub(crate) fn into_lists(self) -> Lists
-        ensures receptions { length self.entry ≤ result.receptions }
-        ensures outcomes { length self.entry ≤ result.outcomes }
+        ensures memory { result ≡ self.entry.memory }
+        ensures receptions { length self.entry.receptions ≤ result.receptions }
+        ensures outcomes { length self.entry.receptions ≤ result.outcomes }
     {
         self.listing.into_lists()
     }
@@ -122,12 +124,12 @@ impl<const P: usize, const R: usize, const S: usize> Internet<P, R, S> {
         bytes: &'a [u8],
         limit: usize,
     ) -> Result<Trace<'a>, TraceFault>
-        ensures is_tree { IfOk result (λ t. map (λ r. r.copy) t ≡ tree (routers_of self.now.routers) (root (record { router = router; port = port }) bytes.entry.now)) }
+        ensures is_tree { IfOk result (λ t. map (λ r. r.copy) t.receptions ≡ tree (routers_of self.now.routers) (root (record { router = router; port = port }) bytes.entry.now)) }
         ensures whole { OnOk result (IsTree (routers_of self.now.routers) (root (record { router = router; port = port }) bytes.entry.now)
             (tree (routers_of self.now.routers) (root (record { router = router; port = port }) bytes.entry.now))) }
-        ensures outcomes { IfOk result (λ t. AllByRecursion (λ r. r.outcome ≡ outcome_at (routers_of self.now.routers) r.copy) t) }
-        ensures few { IfOk result (λ t. length t ≤ limit) }
-        ensures bounded { IfOk result (λ t. length t ≤ weight (net_at self.now) (root (record { router = router; port = port }) bytes.entry.now)) }
+        ensures outcomes { IfOk result (λ t. AllByRecursion (λ r. r.outcome ≡ outcome_at (routers_of self.now.routers) r.copy) t.receptions) }
+        ensures few { IfOk result (λ t. length t.receptions ≤ limit) }
+        ensures bounded { IfOk result (λ t. length t.receptions ≤ weight (net_at self.now) (root (record { router = router; port = port }) bytes.entry.now)) }
         ensures missing { IsErrOf result NoSuchPort ↔ (IsPlace (net_at self.now) (record { router = router; port = port }) → ⊥) }
         ensures limit { IsErrOf result Limit → limit < length (tree (routers_of self.now.routers) (root (record { router = router; port = port }) bytes.entry.now)) }
         ensures memory { IsErrOf result Memory → 0 < limit }
@@ -138,7 +140,7 @@ impl<const P: usize, const R: usize, const S: usize> Internet<P, R, S> {
     }
 
     /// The same in the memory of a room, which grows if it is too small. The trace takes that memory, and [`TraceRoom::keep`] brings
-    /// it back; it is lost if the trace is over its limit or out of memory.
+    /// it back; it is lost if the trace is over its limit or out of memory. The outbox stays in the room, and never becomes smaller.
     pub fn trace_in<'a>(
         &self,
         room: &mut TraceRoom,
@@ -147,16 +149,20 @@ impl<const P: usize, const R: usize, const S: usize> Internet<P, R, S> {
         bytes: &'a [u8],
         limit: usize,
     ) -> Result<Trace<'a>, TraceFault>
-        ensures is_tree { IfOk result (λ t. map (λ r. r.copy) t ≡ tree (routers_of self.now.routers) (root (record { router = router; port = port }) bytes.entry.now)) }
+        ensures is_tree { IfOk result (λ t. map (λ r. r.copy) t.receptions ≡ tree (routers_of self.now.routers) (root (record { router = router; port = port }) bytes.entry.now)) }
         ensures whole { OnOk result (IsTree (routers_of self.now.routers) (root (record { router = router; port = port }) bytes.entry.now)
             (tree (routers_of self.now.routers) (root (record { router = router; port = port }) bytes.entry.now))) }
-        ensures outcomes { IfOk result (λ t. AllByRecursion (λ r. r.outcome ≡ outcome_at (routers_of self.now.routers) r.copy) t) }
-        ensures few { IfOk result (λ t. length t ≤ limit) }
-        ensures bounded { IfOk result (λ t. length t ≤ weight (net_at self.now) (root (record { router = router; port = port }) bytes.entry.now)) }
+        ensures outcomes { IfOk result (λ t. AllByRecursion (λ r. r.outcome ≡ outcome_at (routers_of self.now.routers) r.copy) t.receptions) }
+        ensures few { IfOk result (λ t. length t.receptions ≤ limit) }
+        ensures bounded { IfOk result (λ t. length t.receptions ≤ weight (net_at self.now) (root (record { router = router; port = port }) bytes.entry.now)) }
         ensures missing { IsErrOf result NoSuchPort ↔ (IsPlace (net_at self.now) (record { router = router; port = port }) → ⊥) }
         ensures limit { IsErrOf result Limit → limit < length (tree (routers_of self.now.routers) (root (record { router = router; port = port }) bytes.entry.now)) }
         ensures memory { IsErrOf result Memory → 0 < limit }
         ensures enough { weight (net_at self.now) (root (record { router = router; port = port }) bytes.entry.now) ≤ limit → IsErrOf result Limit → ⊥ }
+        ensures grown { IfOk result (λ t. IsNoLess room.old.lists t.memory) }
+        ensures taken { (IsErrOf result NoSuchPort → ⊥) → room.new.lists ≡ no_memory }
+        ensures untouched { IsErrOf result NoSuchPort → room.new ≡ room.old }
+        ensures outbox { HoldsNoLess room.old.outbox room.new.outbox }
     {
         if !self.has_place(router, port) {
             return Err(TraceFault::NoSuchPort);
@@ -225,6 +231,8 @@ fn list_tree<'a, const P: usize, const R: usize, const S: usize>(
         (tree (routers_of routers.now.items) (root (record { router = coming.entry.router; port = coming.entry.port }) coming.entry.bytes.now))) }
     ensures whole { OnOk result (IsTree (routers_of routers.now.items) (root (record { router = coming.entry.router; port = coming.entry.port }) coming.entry.bytes.now)
         (tree (routers_of routers.now.items) (root (record { router = coming.entry.router; port = coming.entry.port }) coming.entry.bytes.now))) }
+    ensures memory { IfOk result (λ l. IsNoLess lists l.memory) }
+    ensures outbox { HoldsNoLess outbox.old outbox.new }
     ensures few { IfOk result (λ l. length l.copies ≤ limit) }
     ensures bounded { IfOk result (λ l. length l.copies ≤ weight (net_among routers.now.items) (root (record { router = coming.entry.router; port = coming.entry.port }) coming.entry.bytes.now)) }
     ensures refused { IfErr result (IsCut limit (length (tree (routers_of routers.now.items) (root (record { router = coming.entry.router; port = coming.entry.port }) coming.entry.bytes.now)))) }

@@ -20,13 +20,13 @@ impl<'a> Model for TraceIter<'a> {
 
     ghost Value = { List Traced };
 
-    ghost view = { λ t. drop t.given t.trace.now };
+    ghost view = { λ t. drop t.given t.trace.now.receptions };
 }
 
 impl<'a> TraceIter<'a> {
     /// All receptions of that trace.
     pub(crate) fn of(trace: &'a Trace<'a>) -> TraceIter<'a>
-        ensures { result ≡ trace.entry.now }
+        ensures { result ≡ trace.entry.now.receptions }
     {
         TraceIter { trace, given: 0 }
     }
@@ -57,7 +57,7 @@ impl<'a> IntoIterator for &'a Trace<'a> {
 
     type IntoIter = TraceIter<'a>;
 
-    ghost into_iter_gives = { λ trace receptions. receptions ≡ trace.now };
+    ghost into_iter_gives = { λ trace receptions. receptions ≡ trace.now.receptions };
 
     fn into_iter(self) -> TraceIter<'a> {
         self.iter()

@@ -1,5 +1,6 @@
 //! Memory that one trace leaves to the next.
 ghost use Rattle.std.specs.Prelude.{◌≡◌, ◌≤◌, length};
+ghost use Rattle.ipx_internet.specs.TraceRoom.{no_memory};
 
 use crate::listing::Listed;
 use crate::trace::Trace;
@@ -30,7 +31,7 @@ impl Model for TraceRoom {
 
     ghost Value = { Room };
 
-    ghost view = { λ r. r.lists };
+    ghost view = { λ r. record { lists = r.lists; outbox = r.outbox } };
 }
 
 /// The lists of a trace, emptied.
@@ -44,11 +45,11 @@ pub(crate) struct Lists {
 
 impl Model for Lists {
     ghost use Rattle.std.specs.Vec.{vec_capacity};
-    ghost use Rattle.ipx_internet.specs.TraceRoom.{Room, AreEmpty};
+    ghost use Rattle.ipx_internet.specs.TraceRoom.{Memory, AreEmpty};
 
-    ghost Value = { Room };
+    ghost Value = { Memory };
 
-    ghost view = { λ l. record { receptions = vec_capacity l.list; outcomes = vec_capacity l.outcomes } };
+    ghost view = { λ l. record { receptions = vec_capacity l.list; outcomes = vec_capacity l.outcomes; bytes = vec_capacity l.store } };
 
     ghost invariant = { λ l. AreEmpty l.store.items l.list.items l.outcomes.items };
 }
@@ -56,7 +57,8 @@ impl Model for Lists {
 impl TraceRoom {
     /// A room without memory.
     pub fn new(alloc: Global) -> TraceRoom
-        ensures { result ≡ record { receptions = 0; outcomes = 0 } }
+        ensures lists { result.lists ≡ no_memory }
+        ensures outbox { result.outbox.memory ≡ record { packets = 0; bytes = 0 } }
     {
         TraceRoom {
             lists: Lists::new(alloc),
@@ -66,8 +68,10 @@ impl TraceRoom {
 
     /// Keeps the memory of a trace for the next one, in place of what was kept before.
     pub fn keep(&mut self, trace: Trace<'_>)
-        ensures receptions { length trace.entry ≤ self.new.receptions }
-        ensures outcomes { length trace.entry ≤ self.new.outcomes }
+        ensures lists { self.new.lists ≡ trace.entry.memory }
+        ensures outbox { self.new.outbox ≡ self.old.outbox }
+        ensures receptions { length trace.entry.receptions ≤ self.new.lists.receptions }
+        ensures outcomes { length trace.entry.receptions ≤ self.new.lists.outcomes }
     {
         self.lists = trace.into_lists();
     }
@@ -76,7 +80,7 @@ impl TraceRoom {
 impl Lists {
     /// Lists without memory.
     pub fn new(alloc: Global) -> Lists
-        ensures { result ≡ record { receptions = 0; outcomes = 0 } }
+        ensures { result ≡ no_memory }
     {
         Lists {
             store: Vec::new(alloc),

@@ -1,1 +1,2 @@
+pub mod RoundsInMemory
 pub mod TablesInMemory

@@ -1,15 +1,18 @@
 //! Two routers that share a network, for 49 minutes: then the tables in memory have the routes of the least ways.
 //!
-//! That is the contract of `become_right` (`src/right.rt`). Its proof rests on the public calls of `Internet` and on its laws alone, so it
-//! shows how to cite them. What the contract asks for is seen by reading of this internet, and isn't proved here: it has two routers, each
-//! port costs one tick, a table has room for 50 routes, and nothing waits, which `main` sees from what `settle` answers.
+//! That is the contract of `become_right` (`src/right.rt`). Before it, `come_to_rest` (`src/rest.rt`) delivers what waits after the routers'
+//! starts, until nothing waits. Their proofs rest on the public calls of `Internet` and on its laws alone, so they show how to cite them.
+//! What `become_right` asks for beyond that is seen by reading of this internet, and isn't proved here: it has two routers, each port costs
+//! one tick, and a table has room for 50 routes.
 #![tactic(auto)]
 
+mod rest;
 mod right;
 
+use crate::rest::come_to_rest;
 use crate::right::become_right;
 use anyhow::Result;
-use ipx_internet::{Internet, Settled};
+use ipx_internet::Internet;
 use ipx_router::{Event, Port, PortFault, Router};
 use ipx_wire::{Network, Node};
 
@@ -24,11 +27,8 @@ fn main(rt: HostRuntime) -> Result<()> {
     let second = internet.add(east).map_err(|refused| refused.fault)?;
     internet.event(first, Event::Start)?;
     internet.event(second, Event::Start)?;
-    let is_quiet = internet.settle(LIMIT)? == Settled::Quiet;
-    println!(rt;
-        "right: {}",
-        is_quiet && become_right(&mut internet, LIMIT)?
-    )?;
+    come_to_rest(&mut internet)?;
+    println!(rt; "right: {}", become_right(&mut internet, LIMIT)?)?;
     for router in internet.iter() {
         for route in router.iter_routes() {
             let offer = route.offer;

@@ -174,7 +174,7 @@ fn write_trace<W: Write>(
 ) -> Result<(), RunFault>
     requires { outlet.old.failed ≡ false }
     ensures fine { OnOk result (outlet.new.failed ≡ false) }
-    ensures says { Says outlet.old outlet.new text.old.items text.new.items (copies_text 0 trace.now) result }
+    ensures says { Says outlet.old outlet.new text.old.items text.new.items (copies_text 0 trace.now.receptions) result }
 {
     for number in 0..trace.len() {
         if let Err(fault) = write_reception(number, trace.get(number), text, outlet) {

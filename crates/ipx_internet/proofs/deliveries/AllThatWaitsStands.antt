@@ -6,7 +6,8 @@ use Rattle.ipx_router.specs.Stands.{State}
 use Rattle.ipx_internet.specs.Internet.{Internet}
 use Rattle.ipx_internet.specs.Moment.{Moment, StandsFor, net_at}
 use Rattle.ipx_internet.specs.Queue.{Delivery, Queued, queued}
-use Rattle.ipx_internet.specs.inside.Simulated.{IsComing, moment, net_among}
+use Rattle.ipx_internet.specs.Rounds.{IsDelivery}
+use Rattle.ipx_internet.specs.inside.Simulated.{moment, net_among}
 use Rattle.ipx_internet.proofs.lists.EachElement.{all-append}
 
 module _ {X : Type 0} (P : X → Type 0) where
@@ -19,11 +20,11 @@ module _ {X : Type 0} (P : X → Type 0) where
   all_behind (x ∷ xs) ys all = all_behind xs ys all.1
 
 -- what waited still comes to a port that there is, where what was added does
-pub still_coming : (net new_net : Internet) (front back new_back : List Delivery) → new_net ≡ net → AllByRecursion (IsComing net) (front ++ back)
-    → (AllByRecursion (IsComing net) back → AllByRecursion (IsComing net) new_back) → AllByRecursion (IsComing new_net) (front ++ new_back)
+pub still_coming : (net new_net : Internet) (front back new_back : List Delivery) → new_net ≡ net → AllByRecursion (IsDelivery net) (front ++ back)
+    → (AllByRecursion (IsDelivery net) back → AllByRecursion (IsDelivery net) new_back) → AllByRecursion (IsDelivery new_net) (front ++ new_back)
 still_coming net new_net front back new_back same all added =
-    subst (λ n. AllByRecursion (IsComing n) (front ++ new_back)) (sym same)
-    (all-append (IsComing net) front new_back (all_front (IsComing net) front back all) (added (all_behind (IsComing net) front back all)))
+    subst (λ n. AllByRecursion (IsDelivery n) (front ++ new_back)) (sym same)
+    (all-append (IsDelivery net) front new_back (all_front (IsDelivery net) front back all) (added (all_behind (IsDelivery net) front back all)))
 
 -- what the routers stand for after an event, over all that waits
 pub stands_then : (most_routes most_services : ℕ) (routers new_routers : List State) (front back new_back : List Delivery) (old : Moment)

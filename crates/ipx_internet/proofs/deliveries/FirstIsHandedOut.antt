@@ -3,12 +3,14 @@ use Rattle.std.proofs.Common.{◌≡◌, refl, sym, ap, ◌∙◌, subst, ℕ, z
 use Rattle.std.specs.List.{AllByRecursion}
 use Rattle.std.proofs.lemmas.List.{drop_more, length-map}
 use Rattle.std.proofs.lemmas.Option.{slice_get_within, get_or_from_slice_get}
+use Rattle.ipx_wire.specs.Piece.{IsBytes}
 use Rattle.ipx_router.specs.History.{Packet}
 use Rattle.ipx_router.specs.Stands.{State}
 use Rattle.ipx_internet.specs.Internet.{Internet, IsPlace, ports_of}
 use Rattle.ipx_internet.specs.Moment.{Moment, StandsFor, IsThere, net_at}
 use Rattle.ipx_internet.specs.Queue.{Delivery, Queued, queued, settled_one}
-use Rattle.ipx_internet.specs.inside.Simulated.{moment, net_among, IsComing, AreRouters, IsSimulated}
+use Rattle.ipx_internet.specs.Rounds.{IsDelivery}
+use Rattle.ipx_internet.specs.inside.Simulated.{moment, net_among, AreRouters, IsSimulated}
 use Rattle.ipx_internet.specs.declared.stations.Station.{Station}
 use Rattle.ipx_internet.proofs.deliveries.AllThatWaitsStands.{all_front, all_behind}
 use Rattle.ipx_internet.proofs.lists.EachElement.{all-append}
@@ -30,10 +32,10 @@ within_net (ports ∷ net) zero port less = omega arith
 within_net (ports ∷ net) (suc router) port less = let rest = within_net net router port less in omega (arith, rest)
 
 -- where something waits, there is a router
-pub some_router : (routers : List State) (queue : List Delivery) → AllByRecursion (IsComing (net_among routers)) queue → 0 < length queue → 0 < length routers
+pub some_router : (routers : List State) (queue : List Delivery) → AllByRecursion (IsDelivery (net_among routers)) queue → 0 < length queue → 0 < length routers
 some_router routers [] coming waits = absurd (omega (arith, waits))
 some_router routers (d ∷ queue) coming waits =
-    let less = within_net (net_among routers) d.to.router d.to.port coming.0 in
+    let less = within_net (net_among routers) d.to.router d.to.port coming.0.place in
     let size = length-map routers (λ (s : State). s.ports) in
     omega (arith, less, size)
 
@@ -50,16 +52,20 @@ module _ (most_routes most_services : ℕ) (routers : List State) (front back : 
   first = ap (λ ds. ds ++ back) (first_left front done d got)
 
   -- its router has the port
-  pub it_is_there : AllByRecursion (IsComing net) (drop done front ++ back) → (bytes : List ℕ) → IsThere (moment routers []) d.to.router (Packet d.to.port bytes)
+  pub it_is_there : AllByRecursion (IsDelivery net) (drop done front ++ back) → (bytes : List ℕ) → IsThere (moment routers []) d.to.router (Packet d.to.port bytes)
   it_is_there coming bytes =
-      let place : IsPlace net d.to = (subst (λ ds. AllByRecursion (IsComing net) ds) first coming).0 in
+      let place : IsPlace net d.to = (subst (λ ds. AllByRecursion (IsDelivery net) ds) first coming).0.place in
       let less = within_net net d.to.router d.to.port place in
       let size = length-map routers (λ (s : State). s.ports) in
       (omega (arith, less, size), place)
 
-  -- what is left names places that there are
-  pub left_coming : AllByRecursion (IsComing net) (drop done front ++ back) → AllByRecursion (IsComing net) rest
-  left_coming coming = all_front (IsComing net) rest back (subst (λ ds. AllByRecursion (IsComing net) ds) first coming).1
+  -- and it is bytes
+  pub it_is_bytes : AllByRecursion (IsDelivery net) (drop done front ++ back) → IsBytes d.bytes
+  it_is_bytes coming = (subst (λ ds. AllByRecursion (IsDelivery net) ds) first coming).0.bytes
+
+  -- so is what is left
+  pub left_coming : AllByRecursion (IsDelivery net) (drop done front ++ back) → AllByRecursion (IsDelivery net) rest
+  left_coming coming = all_front (IsDelivery net) rest back (subst (λ ds. AllByRecursion (IsDelivery net) ds) first coming).1
 
   -- what is settled by it
   next_is : (q : Queued) → q.queue ≡ drop done front ++ back → settled_one net most_routes most_services q
@@ -80,20 +86,20 @@ module _ (most_routes most_services : ℕ) (routers : List State) (front back : 
 
 module _ (most_routes most_services : ℕ) (routers after : List State) (list : List Station) (front back later : List Delivery) (done : ℕ) where
   pub still_simulated : AreRouters most_routes most_services after list → net_among after ≡ net_among routers
-      → AllByRecursion (IsComing (net_among routers)) (drop done front)
-      → AllByRecursion (IsComing (net_among routers)) later → done ≤ length front → IsSimulated most_routes most_services after list front done later
+      → AllByRecursion (IsDelivery (net_among routers)) (drop done front)
+      → AllByRecursion (IsDelivery (net_among routers)) later → done ≤ length front → IsSimulated most_routes most_services after list front done later
   still_simulated are same coming more within = record {
     sound = are;
-    coming = subst (λ (n : Internet). AllByRecursion (IsComing n) (drop done front ++ later)) (sym same)
-        (all-append (IsComing (net_among routers)) (drop done front) later coming more);
+    coming = subst (λ (n : Internet). AllByRecursion (IsDelivery n) (drop done front ++ later)) (sym same)
+        (all-append (IsDelivery (net_among routers)) (drop done front) later coming more);
     within = within;
   }
 
-pub coming_front : (net : Internet) (front back : List Delivery) → AllByRecursion (IsComing net) (front ++ back) → AllByRecursion (IsComing net) front
-coming_front net front back all = all_front (IsComing net) front back all
+pub coming_front : (net : Internet) (front back : List Delivery) → AllByRecursion (IsDelivery net) (front ++ back) → AllByRecursion (IsDelivery net) front
+coming_front net front back all = all_front (IsDelivery net) front back all
 
-pub coming_behind : (net : Internet) (front back : List Delivery) → AllByRecursion (IsComing net) (front ++ back) → AllByRecursion (IsComing net) back
-coming_behind net front back all = all_behind (IsComing net) front back all
+pub coming_behind : (net : Internet) (front back : List Delivery) → AllByRecursion (IsDelivery net) (front ++ back) → AllByRecursion (IsDelivery net) back
+coming_behind net front back all = all_behind (IsDelivery net) front back all
 
 pub at_error : {T E : Type 0} {X : Type 0} (r : Result T E) → X → OnErr r X
 at_error (Ok x) holds = tt

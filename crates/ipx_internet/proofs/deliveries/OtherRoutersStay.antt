@@ -5,7 +5,8 @@ use Rattle.std.specs.Option.{option_map}
 use Rattle.std.proofs.Math.Seq.{map-set_same}
 use Rattle.std.proofs.lemmas.Bool.{cases_eq}
 use Rattle.std.proofs.lemmas.Option.{slice_get-map, slice_get_within, slice_get-get_or, get_or_from_slice_get}
-use Rattle.ipx_router.specs.History.{Event, History}
+use Rattle.ipx_wire.specs.Piece.{IsBytes}
+use Rattle.ipx_router.specs.History.{Event, History, IsOnPort, IsOfBytes}
 use Rattle.ipx_router.specs.Outcomes.{outcome}
 use Rattle.ipx_router.specs.Port.{Port}
 use Rattle.ipx_router.specs.Relays.{Sent}
@@ -18,10 +19,11 @@ use Rattle.ipx_internet.specs.Delivery.{receives, delivered}
 use Rattle.ipx_internet.specs.Internet.{Internet, Place, IsInternet, NodesDiffer, IsPlace, ports_of}
 use Rattle.ipx_internet.specs.Moment.{StandsFor}
 use Rattle.ipx_internet.specs.Queue.{Delivery, Queued, deliveries_of, history_of, queued}
-use Rattle.ipx_internet.specs.inside.Simulated.{moment, net_among, IsComing, AreRouters}
+use Rattle.ipx_internet.specs.Rounds.{IsDelivery}
+use Rattle.ipx_internet.specs.inside.Simulated.{moment, net_among, AreRouters}
 use Rattle.ipx_internet.specs.inside.Stations.{AreOf, place_of, hearers}
 use Rattle.ipx_internet.specs.declared.stations.Station.{Station}
-use Rattle.ipx_internet.proofs.lists.EachElement.{all_at, all-append, all-map, all-flat_map, all_of}
+use Rattle.ipx_internet.proofs.lists.EachElement.{all_at, all-append, all-map, all-flat_map}
 use Rattle.ipx_internet.proofs.places.EachPortOnce.{delivered_within}
 use Rattle.ipx_internet.proofs.places.StationsThatHear.{heard_at}
 
@@ -69,15 +71,17 @@ heard_is net list of ports number is s =
     ap (λ (ps : List Port). heard list ps number s) (sym is) ∙ at_places s (hearers list (ports_of net number) number s)
     ∙ ap (λ ps. map (λ to. record { to = to; bytes = s.bytes }) ps) (heard_at net list of (record { router = number; port = s.port }) s.link)
 
--- the ports that receive packets are there
-pub are_coming : (net : Internet) (number : ℕ) (sents : List Sent) → AllByRecursion (IsComing net) (flat_map (deliveries_of net number) sents)
-are_coming net number sents =
-    all-flat_map (λ s. Unit) (IsComing net) (deliveries_of net number)
-    (λ s yes.
+-- the ports that receive packets are there, and what they receive are bytes
+pub are_coming : (net : Internet) (number : ℕ) (sents : List Sent) → AllByRecursion (λ s. IsBytes s.bytes) sents
+    → AllByRecursion (IsDelivery net) (flat_map (deliveries_of net number) sents)
+are_coming net number sents bytes =
+    all-flat_map (λ s. IsBytes s.bytes) (IsDelivery net) (deliveries_of net number)
+    (λ s are_bytes.
     let from : Place = record { router = number; port = s.port } in
-    all-map (λ to. IsPlace net to × (receives net from s.link to ≡ true)) (IsComing net) (λ to. record { to = to; bytes = s.bytes }) (λ to within. within.0)
+    all-map (λ to. IsPlace net to × (receives net from s.link to ≡ true)) (IsDelivery net) (λ to. record { to = to; bytes = s.bytes })
+    (λ to within. record { place = within.0; bytes = are_bytes })
     (delivered net from s.link) (delivered_within net from s.link))
-    sents (all_of (λ s. Unit) (λ s. tt) sents)
+    sents bytes
 
 -- ---- one event
 
@@ -125,11 +129,19 @@ module _ (most_routes most_services : ℕ) (routers : List State) (number : ℕ)
         (sends s.ports most_routes most_services h event))
         ∙ ap (λ (ps : List Port). old ++ flat_map (deliveries_of net number) (sends ps most_routes most_services h event)) (sym (its_ports routers number s there))
 
-    pub coming_after : HasPast most_routes most_services s → AllByRecursion (IsComing net) old → AllByRecursion (IsComing net) later
-    coming_after past coming =
-        subst (λ ds. AllByRecursion (IsComing net) ds) (sym (by_ports past.past past.stands))
-        (all-append (IsComing net) old (flat_map (deliveries_of net number) (sends (ports_of net number) most_routes most_services past.past event)) coming
-        (are_coming net number (sends (ports_of net number) most_routes most_services past.past event)))
+    -- it is of bytes, if what routers send for events of bytes is
+    pub coming_after : ((h : History) → AllByRecursion (IsOnPort (ports_of net number)) (h ++ event ∷ []) → AllByRecursion IsOfBytes (h ++ event ∷ [])
+        → AllByRecursion (λ t. IsBytes t.bytes) (sends (ports_of net number) most_routes most_services h event))
+        → IsOnPort (ports_of net number) event → IsOfBytes event
+        → HasPast most_routes most_services s → AllByRecursion (IsDelivery net) old → AllByRecursion (IsDelivery net) later
+    coming_after law on of_bytes past coming =
+        let h = past.past in
+        let ports = ports_of net number in
+        let sent = sends ports most_routes most_services h event in
+        let on_ports = subst (λ (ps : List Port). AllByRecursion (IsOnPort ps) h) (sym (its_ports routers number s there)) past.on_ports in
+        let bytes = law h (all-append (IsOnPort ports) h (event ∷ []) on_ports (on, tt)) (all-append IsOfBytes h (event ∷ []) past.of_bytes (of_bytes, tt)) in
+        subst (λ ds. AllByRecursion (IsDelivery net) ds) (sym (by_ports h past.stands))
+        (all-append (IsDelivery net) old (flat_map (deliveries_of net number) sent) coming (are_coming net number sent bytes))
 
     pub stands_after : ((h : History) → RouterStandsFor most_routes most_services s h → RouterStandsFor most_routes most_services new (h ++ event ∷ []))
         → (before : List Delivery) (q : Queued) → StandsFor most_routes most_services (moment routers (before ++ old)) q

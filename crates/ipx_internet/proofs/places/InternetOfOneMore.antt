@@ -9,7 +9,8 @@ use Rattle.ipx_router.specs.Stands.{State}
 use Rattle.ipx_internet.specs.Internet.{Internet, Place, IsInternet, NodesDiffer, IsPlace, ports_of, port_of, network_of}
 use Rattle.ipx_internet.specs.Moment.{SharesNode}
 use Rattle.ipx_internet.specs.Queue.{Delivery}
-use Rattle.ipx_internet.specs.inside.Simulated.{net_among, IsComing, IsSimulated}
+use Rattle.ipx_internet.specs.Rounds.{IsDelivery}
+use Rattle.ipx_internet.specs.inside.Simulated.{net_among, IsSimulated}
 use Rattle.ipx_internet.specs.inside.Stations.{AreOf}
 use Rattle.ipx_internet.specs.declared.stations.Station.{Station}
 use Rattle.ipx_internet.proofs.deliveries.FirstIsHandedOut.{within_net}
@@ -105,7 +106,7 @@ wider_simulated most_routes most_services routers r list new front done back is 
         pasts = all-append (HasPast most_routes most_services) routers (r ∷ []) is.sound.pasts (past, tt);
         stationed = subst (λ (n : Internet). AreOf n new) more of;
       };
-      coming = subst (λ (n : Internet). AllByRecursion (IsComing n) (drop done front ++ back)) more
-          (all_then (IsComing net) (IsComing (net ++ r.ports ∷ [])) (λ d there. still_place net r.ports d.to there) (drop done front ++ back) is.coming);
+      coming = subst (λ (n : Internet). AllByRecursion (IsDelivery n) (drop done front ++ back)) more
+          (all_then (IsDelivery net) (IsDelivery (net ++ r.ports ∷ [])) (λ d is_one. record { place = still_place net r.ports d.to is_one.place; bytes = is_one.bytes }) (drop done front ++ back) is.coming);
       within = is.within;
     }

@@ -203,7 +203,7 @@ module _ (routers : List Router) where
     -- what is listed with the next children is no longer than the tree
     pub more_no_longer : length l.copies + length more ≤ length (tree routers root)
     more_no_longer =
-        let new : Listing = record { copies = l.copies ++ more; outcomes = l.outcomes ++ outcome_at routers c ∷ [] } in
+        let new : Listing = record { copies = l.copies ++ more; outcomes = l.outcomes ++ outcome_at routers c ∷ []; memory = l.memory } in
         let short = no_longer root new (goes_on new refl refl) in
         let both = length-append l.copies more in
         omega (arith, short, both)

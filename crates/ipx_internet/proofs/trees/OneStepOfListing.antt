@@ -6,6 +6,7 @@ use Rattle.ipx_router.specs.Relays.{Sent}
 use Rattle.ipx_router.specs.declared.outcome.Outcome.{Outcome}
 use Rattle.ipx_internet.specs.Listed.{bytes_in, copy_in, IsIn, AreKept, sent_bytes, child, listed_from, Listing, copy_at, waits_next, receivers_by, children_by, GoesOn, IsCut}
 use Rattle.ipx_internet.specs.inside.Stations.{place_of, hearers}
+use Rattle.ipx_internet.specs.TraceRoom.{Memory}
 use Rattle.ipx_internet.specs.Traced.{outcome_of}
 use Rattle.ipx_internet.specs.Tree.{Router, Copy, sent_on}
 use Rattle.ipx_internet.specs.declared.fault.TraceFault.{TraceFault}
@@ -144,10 +145,11 @@ module _ (first store : List ℕ) (list : List Listed) (at : Listed) (number : �
 -- ---- the same as its callers see it
 
 module _ (first store : List ℕ) (list : List Listed) (outcomes : List Outcome) (at : Listed) (number : ℕ) (r : Router) (stations : List Station)
-    (old : Listing) (view : record { copies = map (copy_in first store) list; outcomes = outcomes } ≡ old) (done : number ≡ length outcomes)
+    {memory : Memory} (old : Listing) (view : record { copies = map (copy_in first store) list; outcomes = outcomes; memory = memory } ≡ old)
+    (done : number ≡ length outcomes)
     (is : at ≡ slice_index_or list number at) where
   abbrev shown : Listing
-  shown = record { copies = map (copy_in first store) list; outcomes = outcomes }
+  shown = record { copies = map (copy_in first store) list; outcomes = outcomes; memory = memory }
 
   abbrev it : Copy
   it = kept_as first store list at number r stations
@@ -204,8 +206,8 @@ module _ (first store : List ℕ) (list : List Listed) (outcomes : List Outcome)
             let d = few (omega (arith, a, b, here)) in
             omega (arith, c, d)
 
-        pub went_on : (outcomes2 : List Outcome) (o : Outcome) → outcomes2 ≡ outcomes ++ o ∷ [] → o ≡ outcome_of r at.port (bytes_in first store at)
-            → GoesOn r stations old (record { copies = map (copy_in first store2) list2; outcomes = outcomes2 })
+        pub went_on : {memory2 : Memory} (outcomes2 : List Outcome) (o : Outcome) → outcomes2 ≡ outcomes ++ o ∷ [] → o ≡ outcome_of r at.port (bytes_in first store at)
+            → GoesOn r stations old (record { copies = map (copy_in first store2) list2; outcomes = outcomes2; memory = memory2 })
         went_on outcomes2 o more became = record {
           copies =
               ap (λ (ls : List Listed). map (copy_in first store2) ls) listed

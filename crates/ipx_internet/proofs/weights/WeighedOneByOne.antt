@@ -15,7 +15,7 @@ use Rattle.ipx_router.specs.Why.{is_for_rip, is_for_sap}
 use Rattle.ipx_internet.specs.Internet.{Internet}
 use Rattle.ipx_internet.specs.InternetWeight.{most_hearers, message_weight, said_weight, delivery_weight, records_at, internet_weight}
 use Rattle.ipx_internet.specs.Moment.{Moment, net_at}
-use Rattle.ipx_internet.specs.inside.Simulated.{IsComing}
+use Rattle.ipx_internet.specs.Rounds.{IsDelivery}
 use Rattle.ipx_internet.specs.inside.Scales.{saturated}
 use Rattle.ipx_internet.proofs.deliveries.FirstIsHandedOut.{first_left, some_router}
 use Rattle.ipx_internet.proofs.deliveries.SettledOneByOne.{none_of}
@@ -59,7 +59,7 @@ sap_said net routes services p sap plain other for_sap read = rw (plain, other, 
 
 -- ---- an internet without routers
 
-pub nothing_weighs : (most_routes most_services : ℕ) (m : Moment) → m.routers ≡ [] → AllByRecursion (IsComing (net_at m)) m.queue
+pub nothing_weighs : (most_routes most_services : ℕ) (m : Moment) → m.routers ≡ [] → AllByRecursion (IsDelivery (net_at m)) m.queue
     → internet_weight most_routes most_services m ≡ 0
 nothing_weighs most_routes most_services m none coming = elim (cases_lt 0 (length m.queue)) [
   | inl waits ↦

@@ -3,9 +3,10 @@ use Rattle.std.specs.Prelude.{ℕ, ◌≤◌, List, [], ◌++◌, length, drop}
 use Rattle.std.specs.List.{AllByRecursion}
 use Rattle.ipx_router.specs.RouterOf.{HasPast}
 use Rattle.ipx_router.specs.Stands.{State}
-use Rattle.ipx_internet.specs.Internet.{Internet, IsInternet, NodesDiffer, IsPlace}
+use Rattle.ipx_internet.specs.Internet.{Internet, IsInternet, NodesDiffer}
 use Rattle.ipx_internet.specs.Moment.{Moment, net_at}
 use Rattle.ipx_internet.specs.Queue.{Delivery}
+use Rattle.ipx_internet.specs.Rounds.{IsDelivery}
 use Rattle.ipx_internet.specs.inside.Stations.{AreOf}
 use Rattle.ipx_internet.specs.declared.stations.Station.{Station}
 
@@ -17,10 +18,6 @@ moment routers queue = record { routers = routers; queue = queue }
 abbrev pub net_among : List State → Internet
 net_among routers = net_at (moment routers [])
 
--- bytes on the way to a port that there is
-abbrev pub IsComing : Internet → Delivery → Type 0
-IsComing net d = IsPlace net d.to
-
 -- routers that make an internet, each with a past, and the stations of their ports
 pub record AreRouters (most_routes most_services : ℕ) (routers : List State) (stations : List Station) : Type 0 where
   pub internet : IsInternet (net_among routers)
@@ -31,5 +28,5 @@ pub record AreRouters (most_routes most_services : ℕ) (routers : List State) (
 -- the same with deliveries that wait: those of one batch that weren't handed out yet, and those of another
 pub record IsSimulated (most_routes most_services : ℕ) (routers : List State) (stations : List Station) (front : List Delivery) (done : ℕ) (back : List Delivery) : Type 0 where
   pub sound : AreRouters most_routes most_services routers stations
-  pub coming : AllByRecursion (IsComing (net_among routers)) (drop done front ++ back)
+  pub coming : AllByRecursion (IsDelivery (net_among routers)) (drop done front ++ back)
   pub within : done ≤ length front

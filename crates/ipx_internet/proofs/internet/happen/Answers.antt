@@ -8,13 +8,16 @@ use Rattle.ipx_router.specs.RouterOf.{HasPast}
 use Rattle.ipx_router.specs.Sends.{sends}
 use Rattle.ipx_internet.specs.Batches.{heard}
 use Rattle.std.specs.List.{AllByRecursion}
-use Rattle.ipx_internet.specs.inside.Simulated.{net_among, AreRouters, IsComing}
+use Rattle.ipx_internet.specs.Rounds.{IsDelivery}
+use Rattle.ipx_internet.specs.inside.Simulated.{net_among, AreRouters}
 use Rattle.ipx_router.specs.Stands.{State}
+use Rattle.ipx_internet.specs.Internet.{ports_of}
 use Rattle.ipx_internet.specs.Queue.{Delivery}
 use Rattle.ipx_table.proofs.Pairs.{set-same}
 use Rattle.ipx_internet.proofs.deliveries.FirstIsHandedOut.{at_error}
 use Rattle.ipx_internet.proofs.deliveries.OtherRoutersStay.{all_got, got_at, its_ports, same_net, routers_after, coming_after, stands_after, outcome_after}
 use Rattle.ipx_internet.proofs.internet.happen.Goals as goal
+use Rattle.ipx_internet.proofs.places.OneReceiverOfANode.{ports_at}
 
 -- what is written back where nothing changed
 unchanged : {X : Type 0} (xs : List X) (k : ℕ) (x : X) → k < length xs → x ≡ get_or xs k x → set xs k x ≡ xs
@@ -64,6 +67,9 @@ returns-clause-coming g c coming =
     c.requires.routers.stationed c.args.back.now.deliveries c.happen.new.self.deliveries
     (λ h stands. c.happen.ensures.deliveries h stands
     ∙ ap (λ (ds : List Delivery). ds ++ flat_map (heard list s.ports c.args.number) (sends s.ports g.row.R g.row.S h event)) c.make_room.ensures.deliveries)
+    (λ h on of_bytes. c.packets.ensures.bytes (ports_of (net_among routers) c.args.number) g.row.R g.row.S h event
+    (ports_at (net_among routers) c.requires.routers.internet c.args.number) on of_bytes)
+    c.requires.there.1 c.proves_of_bytes.ensures
     (all_got (λ r. HasPast g.row.R g.row.S r) routers c.args.number s c.requires.routers.pasts there) coming
 
 pub returns-clause-stands : goal.returns-clause-stands
@@ -110,7 +116,7 @@ returns-in_err-make_room-clause-net g c = ap net_among (unchanged c.args.routers
 
 pub returns-in_err-make_room-clause-coming : goal.returns-in_err-make_room-clause-coming
 returns-in_err-make_room-clause-coming g c =
-    λ coming. subst (λ (ds : List Delivery). AllByRecursion (IsComing (net_among c.args.routers.now.items)) ds) (sym c.make_room.ensures.deliveries) coming
+    λ coming. subst (λ (ds : List Delivery). AllByRecursion (IsDelivery (net_among c.args.routers.now.items)) ds) (sym c.make_room.ensures.deliveries) coming
 
 pub returns-in_err-make_room-clause-kept : goal.returns-in_err-make_room-clause-kept
 returns-in_err-make_room-clause-kept g c = at_error c.from_residual.result c.make_room.ensures.deliveries

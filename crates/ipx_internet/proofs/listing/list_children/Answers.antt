@@ -63,6 +63,14 @@ loop-packet-preserved g c =
           (goes_on c.args.limit first c.loop-packet.list.items all piece rest c.list_receivers.new.list.items fills c.in_ok-list_receivers.ensures.listed
           c.in_ok-list_receivers.ensures.few);
       joins = packet_joins _ c.loop-packet.store.items next sents k s c.get-sent.ensures is c.loop-packet.invariant.joins;
+      list_capacity =
+          let before = c.loop-packet.invariant.list_capacity in
+          let more = c.list_receivers.ensures.capacity in
+          omega (arith, before, more);
+      store_capacity =
+          let before = c.loop-packet.invariant.store_capacity in
+          let more = c.append.ensures.capacity in
+          omega (arith, before, more);
     }
 
 pub returns-in_err-append-clause-refused : goal.returns-in_err-append-clause-refused
@@ -76,7 +84,7 @@ network_of-requires g c = first_of (assumption c.well_formed, search c.well_form
 pub loop-packet-init : goal.loop-packet-init
 loop-packet-init g c =
     let all = listed_from c.args.stations.now.list c.args.router.now.ports c.args.parent (length c.args.store.now.items) c.args.outbox.now.sent in
-    record { fills = begins c.args.limit c.args.list.now.items c.args.list.now.items all; joins = refl }
+    record { fills = begins c.args.limit c.args.list.now.items c.args.list.now.items all; joins = refl; list_capacity = omega arith; store_capacity = omega arith }
 
 pub get-sent-requires : goal.get-sent-requires
 get-sent-requires g c =

@@ -6,6 +6,7 @@ use Rattle.ipx_internet.specs.Tree.{Copy, root, IsTree}
 use Rattle.ipx_internet.proofs.trace.list_tree.Goals as goal
 use Rattle.ipx_internet.proofs.trees.ListedOfStations.{is_tree, root_there, begins, router_there, port_there, goes_on, one_more, cut, ends, fewer_left, begins_bounded, cut_first, no_more, stays_bounded, cut_bounded}
 use Rattle.ipx_internet.proofs.trees.ListingUpToALimit.{cut_more}
+use Rattle.ipx_internet.proofs.trees.MemoryOfATrace.{holds, then_holds, then_no_less}
 
 pub returns-in_err-listing-clause-refused : goal.returns-in_err-listing-clause-refused
 returns-in_err-listing-clause-refused g c =
@@ -38,6 +39,8 @@ loop-listing-init g c =
       listed = begins states stations first c.requires.stationed is c.in_ok-listing.listing made.copies made.outcomes c.requires.place;
       few = omega (arith, one, some);
       bounded = begins_bounded states stations first c.in_ok-listing.listing made.copies made.outcomes c.proves_bytes.ensures c.requires.place;
+      memory = made.memory;
+      outbox = holds c.args.outbox.now;
     }
 
 pub index-requires : goal.index-requires
@@ -166,6 +169,8 @@ loop-listing-preserved g c =
       bounded = stays_bounded states stations first c.requires.stationed is l listed waits state read c.weights.ensures.goes_on
           c.requires.internet c.requires.nodes c.requires.tables
           c.loop-listing.invariant.bounded c.in_ok-listing-2.listing c.in_ok-listing-2.ensures.goes_on;
+      memory = then_no_less c.args.lists c.loop-listing.listing.memory c.in_ok-listing-2.listing.memory c.loop-listing.invariant.memory c.in_ok-listing-2.ensures.memory;
+      outbox = then_holds c.args.outbox.now c.loop-listing.outbox c.go_on.new.outbox c.loop-listing.invariant.outbox c.go_on.ensures.outbox;
     }
 
 pub returns-clause-copies : goal.returns-clause-copies
@@ -209,3 +214,16 @@ pub returns-clause-bounded : goal.returns-clause-bounded
 returns-clause-bounded g c =
     let first : Copy = root (record { router = c.args.coming.router; port = c.args.coming.port }) c.args.coming.bytes.now in
     no_more c.args.routers.now.items c.args.stations.now.list first c.loop-listing.listing c.loop-listing.invariant.bounded
+
+pub returns-clause-memory : goal.returns-clause-memory
+returns-clause-memory g c = c.loop-listing.invariant.memory
+
+pub returns-clause-outbox : goal.returns-clause-outbox
+returns-clause-outbox g c = c.loop-listing.invariant.outbox
+
+pub returns-in_err-listing-clause-outbox : goal.returns-in_err-listing-clause-outbox
+returns-in_err-listing-clause-outbox g c = holds c.args.outbox.now
+
+pub returns-in_err-listing-2-clause-outbox : goal.returns-in_err-listing-2-clause-outbox
+returns-in_err-listing-2-clause-outbox g c =
+    then_holds c.args.outbox.now c.loop-listing.outbox c.go_on.new.outbox c.loop-listing.invariant.outbox c.go_on.ensures.outbox

@@ -18,4 +18,4 @@ returns-in_ok-extend_from_slice-in-Err-Limit-clause-says g c = λ q stands there
 pub returns-in-Ok-clause-says : goal.returns-in-Ok-clause-says
 returns-in-Ok-clause-says g c = λ q stands there.
     traced_says c.args.internet.now q c.args.router c.args.port c.args.limit c.args.bytes.now c.args.outlet.now c.write_trace-written.new.outlet c.args.text.now.items
-    c.write_trace-written.new.text.items stands c.in-Ok.trace c.write_trace-written.result c.in-Ok.ensures.is_tree c.in-Ok.ensures.outcomes c.in-Ok.ensures.few c.write_trace-written.ensures.says
+    c.write_trace-written.new.text.items stands c.in-Ok.trace.receptions c.write_trace-written.result c.in-Ok.ensures.is_tree c.in-Ok.ensures.outcomes c.in-Ok.ensures.few c.write_trace-written.ensures.says

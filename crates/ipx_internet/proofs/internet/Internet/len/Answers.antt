@@ -1,8 +1,9 @@
 use Rattle.std.proofs.Common.{subst, drop, ◌++◌}
 use Rattle.std.specs.List.{AllByRecursion}
-use Rattle.ipx_internet.specs.Internet.{IsInternet, NodesDiffer, IsPlace}
+use Rattle.ipx_internet.specs.Internet.{IsInternet, NodesDiffer}
 use Rattle.ipx_internet.specs.Moment.{Moment, net_at}
 use Rattle.ipx_internet.specs.Passed.{HasHistories}
+use Rattle.ipx_internet.specs.Rounds.{IsDelivery}
 use Rattle.ipx_internet.specs.Traced.{routers_of}
 use Rattle.ipx_internet.specs.Tree.{IsRouter}
 use Rattle.ipx_internet.proofs.deliveries.HistoriesOfRouters.{have_histories}
@@ -28,4 +29,4 @@ returns-clause-past g c =
     }) c.self.invariant.sound.pasts)
 
 pub returns-clause-waits : goal.returns-clause-waits
-returns-clause-waits g c = subst (λ (m : Moment). AllByRecursion (λ d. IsPlace (net_at m) d.to) m.queue) c.self.view_is c.self.invariant.coming
+returns-clause-waits g c = subst (λ (m : Moment). AllByRecursion (IsDelivery (net_at m)) m.queue) c.self.view_is c.self.invariant.coming

@@ -3,9 +3,10 @@ use Rattle.std.proofs.lemmas.Result.{err_from_is_err_and, IfOk-from_err}
 use Rattle.ipx_internet.specs.Batches.{delivery_of}
 use Rattle.ipx_router.specs.RouterOf.{HasPast}
 use Rattle.ipx_internet.specs.Moment.{Moment, net_at}
-use Rattle.ipx_internet.specs.inside.Simulated.{moment, net_among, IsComing}
+use Rattle.ipx_internet.specs.Rounds.{IsDelivery}
+use Rattle.ipx_internet.specs.inside.Simulated.{moment, net_among}
 use Rattle.std.specs.List.{AllByRecursion}
-use Rattle.ipx_internet.proofs.deliveries.FirstIsHandedOut.{first, some_router, it_is_there, left_coming, coming_front, coming_behind, settled_next, still_simulated, at_error, at_moment}
+use Rattle.ipx_internet.proofs.deliveries.FirstIsHandedOut.{first, some_router, it_is_there, it_is_bytes, left_coming, coming_front, coming_behind, settled_next, still_simulated, at_error, at_moment}
 use Rattle.ipx_internet.proofs.internet.Internet.settle_one.Goals as goal
 use Rattle.ipx_internet.proofs.weights.WeightOfHistories.{falls_at}
 
@@ -15,7 +16,7 @@ proves_sized-requires g c = subst (λ xs. 0 < length xs) (sym c.deref.ensures.va
 
 pub happen-requires : goal.happen-requires
 happen-requires g c =
-    let coming = subst (λ ds. AllByRecursion (IsComing (net_among c.self.inside.routers.items)) ds) (sym c.turn-self-inside.ensures.queue)
+    let coming = subst (λ ds. AllByRecursion (IsDelivery (net_among c.self.inside.routers.items)) ds) (sym c.turn-self-inside.ensures.queue)
     c.self.invariant.coming in (
       c.proves_sized.ensures,
       (
@@ -28,7 +29,7 @@ happen-requires g c =
 
 pub invariant_of-self : goal.invariant_of-self
 invariant_of-self g c =
-    let coming = subst (λ ds. AllByRecursion (IsComing (net_among c.self.inside.routers.items)) ds) (sym c.turn-self-inside.ensures.queue) c.self.invariant.coming in
+    let coming = subst (λ ds. AllByRecursion (IsDelivery (net_among c.self.inside.routers.items)) ds) (sym c.turn-self-inside.ensures.queue) c.self.invariant.coming in
     let there = c.turn-self-inside.ensures.there in
     let front = drop c.turn-self-inside.result c.turn-self-inside.new.front.deliveries in
     let net = net_among c.self.inside.routers.items in
@@ -47,7 +48,7 @@ returns-in_err-happen-clause-unchanged g c =
 
 pub invariant_of-self-2 : goal.invariant_of-self-2
 invariant_of-self-2 g c =
-    let coming = subst (λ ds. AllByRecursion (IsComing (net_among c.self.inside.routers.items)) ds) (sym c.turn-self-inside.ensures.queue) c.self.invariant.coming in
+    let coming = subst (λ ds. AllByRecursion (IsDelivery (net_among c.self.inside.routers.items)) ds) (sym c.turn-self-inside.ensures.queue) c.self.invariant.coming in
     let there = c.turn-self-inside.ensures.there in
     let front = drop c.turn-self-inside.result c.turn-self-inside.new.front.deliveries in
     let net = net_among c.self.inside.routers.items in
@@ -79,7 +80,7 @@ returns-clause-lighter g c =
     let d = delivery_of c.get-coming.result in
     let left = drop done front ++ back in
     let was : moment routers left ≡ c.args.self.now = ap (λ ds. moment routers ds) c.turn-self-inside.ensures.queue ∙ c.self.view_is in
-    let coming = subst (λ ds. AllByRecursion (IsComing net) ds) (sym c.turn-self-inside.ensures.queue) c.self.invariant.coming in
+    let coming = subst (λ ds. AllByRecursion (IsDelivery net) ds) (sym c.turn-self-inside.ensures.queue) c.self.invariant.coming in
     let place = it_is_there g.row.R g.row.S routers front back done d c.get-coming.ensures coming d.bytes in
     falls_at g.row.R g.row.S net
     (λ histories first queue are is. c.weighs.ensures.falls net g.row.R g.row.S histories first queue c.self.invariant.sound.internet c.self.invariant.sound.nodes are is)
@@ -92,7 +93,7 @@ returns-clause-lighter g c =
     c.happen.new.routers.items c.happen.new.back.deliveries c.in_ok-happen.ensures.stands))
     d (drop (done + 1) front ++ back)
     (ap (λ (m : Moment). m.queue) (sym was) ∙ first g.row.R g.row.S routers front back done d c.get-coming.ensures)
-    (record { place = place.1; bytes = c.proves_bytes.ensures })
+    (record { place = place.1; bytes = it_is_bytes g.row.R g.row.S routers front back done d c.get-coming.ensures coming })
 
 pub returns-in_err-happen-clause-net : goal.returns-in_err-happen-clause-net
 returns-in_err-happen-clause-net g c = c.happen.ensures.net ∙ ap net_at c.self.view_is

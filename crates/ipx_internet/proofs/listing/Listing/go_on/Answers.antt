@@ -1,11 +1,14 @@
 use Rattle.std.proofs.Common.{ap, is_err, ◌≡◌, ◌<◌, ◌≤◌, ◌+◌, ◌∙◌, sym, refl, subst, ℕ, List, ◌++◌, arith, length}
 use Rattle.std.proofs.lemmas.List.{length-map}
 use Rattle.std.proofs.lemmas.Result.{err_from_is_err_and, IfOk-from_err}
+use Rattle.std.specs.Vec.{vec_capacity}
 use Rattle.ipx_router.specs.Relays.{Sent}
 use Rattle.ipx_internet.specs.Listed.{IsIn, Listing, copy_in, bytes_in, sent_bytes, listed_from}
+use Rattle.ipx_internet.specs.TraceRoom.{Memory, IsNoLess}
 use Rattle.ipx_internet.specs.Traced.{router_of, outcome_of}
 use Rattle.ipx_internet.specs.Tree.{sent_on}
 use Rattle.ipx_internet.proofs.listing.Listing.go_on.Goals as goal
+use Rattle.ipx_internet.proofs.trees.MemoryOfATrace.{then_holds, holds_cleared}
 use Rattle.ipx_internet.proofs.trees.ListingUpToALimit.{cut_more, no_memory}
 use Rattle.ipx_internet.proofs.trees.OneStepOfListing.{news, after, port_is, there_is, cut, kept_all, few_all, went_on}
 
@@ -208,3 +211,45 @@ index-at-requires g c =
     let counted = c.len-number.ensures in
     let waits = c.requires.waits in
     omega (arith, copies, outcomes, size, all, done, counted, waits)
+
+pub returns-clause-memory : goal.returns-clause-memory
+returns-clause-memory g c =
+    let was = ap (λ (l : Listing). l.memory) c.self.view_is in
+    subst (λ (m : Memory). IsNoLess m (record {
+      receptions = vec_capacity c.list_children.new.list;
+      outcomes = vec_capacity c.keep.new.outcomes;
+      bytes = vec_capacity c.list_children.new.store;
+    })) was
+    (record {
+      receptions = c.list_children.ensures.list_capacity;
+      outcomes = c.keep.ensures.capacity;
+      bytes = c.list_children.ensures.store_capacity;
+    })
+
+pub returns-clause-outbox : goal.returns-clause-outbox
+returns-clause-outbox g c = then_holds c.args.outbox.now c.clear.new.self c.relay.new.outbox
+    (holds_cleared c.args.outbox.now c.clear.new.self c.clear.ensures.room) c.relay.ensures.room
+
+pub returns-in_err-outcome-clause-outbox : goal.returns-in_err-outcome-clause-outbox
+returns-in_err-outcome-clause-outbox g c = then_holds c.args.outbox.now c.clear.new.self c.relay.new.outbox
+    (holds_cleared c.args.outbox.now c.clear.new.self c.clear.ensures.room) c.relay.ensures.room
+
+pub returns-in_err-list_children-clause-outbox : goal.returns-in_err-list_children-clause-outbox
+returns-in_err-list_children-clause-outbox g c = then_holds c.args.outbox.now c.clear.new.self c.relay.new.outbox
+    (holds_cleared c.args.outbox.now c.clear.new.self c.clear.ensures.room) c.relay.ensures.room
+
+pub returns-in_err-keep-clause-outbox : goal.returns-in_err-keep-clause-outbox
+returns-in_err-keep-clause-outbox g c = then_holds c.args.outbox.now c.clear.new.self c.relay.new.outbox
+    (holds_cleared c.args.outbox.now c.clear.new.self c.clear.ensures.room) c.relay.ensures.room
+
+pub returns-in_err-outcome-clause-memory : goal.returns-in_err-outcome-clause-memory
+returns-in_err-outcome-clause-memory g c =
+    IfOk-from_err c.from_residual.result _ (ap (λ r. is_err r) (err_from_is_err_and c.from_residual.result c.from_residual.ensures.1).1)
+
+pub returns-in_err-list_children-clause-memory : goal.returns-in_err-list_children-clause-memory
+returns-in_err-list_children-clause-memory g c =
+    IfOk-from_err c.from_residual-in_err-list_children.result _ (ap (λ r. is_err r) (err_from_is_err_and c.from_residual-in_err-list_children.result c.from_residual-in_err-list_children.ensures.1).1)
+
+pub returns-in_err-keep-clause-memory : goal.returns-in_err-keep-clause-memory
+returns-in_err-keep-clause-memory g c =
+    IfOk-from_err c.from_residual-in_err-keep.result _ (ap (λ r. is_err r) (err_from_is_err_and c.from_residual-in_err-keep.result c.from_residual-in_err-keep.ensures.1).1)

@@ -6,7 +6,7 @@ use Rattle.ipx_internet.proofs.trace_iter.TraceIterIterator.next.Goals as goal
 
 pub returns-clause-steps : goal.returns-clause-steps
 returns-clause-steps c =
-    let all = c.self.inside.trace.now in
+    let all = c.self.inside.trace.now.receptions in
     let given = c.self.inside.given in
     let first = traced c.get-reception.result in
     sym c.self.view_is
