@@ -1,9 +1,11 @@
 #include "cable.h"
 
 #include <errno.h>
+#include <string.h>
 
 #include "card.h"
 #include "clock.h"
+#include "fault.h"
 #include "pc.h"
 #include "sockets.h"
 
@@ -22,7 +24,7 @@ static bool is_connection(const cable *it)
 static const char *open_interface(cable *it)
 {
     const network_setting *set = it->set;
-    it->fd = interface_open(set->name, set->kind, &it->index, it->card);
+    it->fd = interface_open(set->name, it->kinds, &it->index, it->card);
     if (it->fd < 0)
         return errno == EPROTOTYPE ? "it isn't Ethernet" : "can't open the interface";
     if (!set->is_of_several || interface_hears_all(it->fd, it->index))
@@ -92,6 +94,7 @@ static bool is_not_there_yet(int fault)
 const char *cable_open(cable *it, const network_setting *set)
 {
     it->set = set;
+    it->kinds = kind_bits(set->kind);
     it->fd = it->listener = -1;
     stream_clear(&it->stream);
     remote_begin(&it->remote, set);
@@ -115,6 +118,12 @@ const char *cable_words(const cable *it, const network_setting *set, char words[
     return link_words(&taken, words);
 }
 
+void cable_hears(cable *it, unsigned kinds)
+{
+    if (it->kinds != kinds && (it->fd < 0 || interface_hears_kinds(it->fd, kinds)))
+        it->kinds = kinds;
+}
+
 void cable_close(cable *it)
 {
     close_any(&it->fd);
@@ -122,10 +131,18 @@ void cable_close(cable *it)
     remote_end(&it->remote);
 }
 
+/* (what waits for a look the system would tell again and again meanwhile) */
+static bool looks_later(const cable *it)
+{
+    return pc_is_held_up(it) || (it->starved != 0 && clock_now() - it->starved < PC_LOOKS);
+}
+
 size_t cable_waits(const cable *it, watch list[2])
 {
     size_t count = 0;
     bool is_under_way = is_connection(it) && (!it->stream.is_connected || it->stream.out > 0);
+    if (looks_later(it))
+        return 0;
     if (it->fd >= 0)
         list[count++] = (watch){.fd = it->fd, .sends = is_under_way};
     if (it->listener >= 0 && pc_may_come(it))
@@ -140,7 +157,12 @@ bool cable_is_new(const cable *it)
 
 bool cable_has_more(const cable *it)
 {
-    return it->stream.is_connected && stream_has_frame(&it->stream);
+    return it->is_settled && stream_has_frame(&it->stream);
+}
+
+int cable_patience(const cable *it, int left)
+{
+    return looks_later(it) && left > PC_LOOKS ? PC_LOOKS : left;
 }
 
 bool cable_was_lost(cable *it)
@@ -180,6 +202,24 @@ static void follow_name(cable *it)
     it->tried = 0;
 }
 
+/* Whether a link by datagrams takes whatever address of the machine leads to the other end. */
+static bool is_at_any_address(const network_setting *set)
+{
+    static const address ANY = {.port = 0};
+    return set->type == LINK_QEMU_UDP && memcmp(set->local.host, ANY.host, sizeof ANY.host) == 0 &&
+           memcmp(set->local.six, ANY.six, sizeof ANY.six) == 0;
+}
+
+/* Where that address isn't the machine's any more, as where it was given another one, the link is opened again, by the one there is now. */
+static void follow_own_address(cable *it)
+{
+    if (it->fd < 0 || !is_at_any_address(it->set) || datagram_has_address(it->fd))
+        return;
+    it->was_lost = true;
+    close_any(&it->fd);
+    it->tried = 0;
+}
+
 /* Opens what was not there, once a second. Returns whether it is there now. */
 static bool opens_now(cable *it)
 {
@@ -195,25 +235,39 @@ static bool opens_now(cable *it)
     return lacks == NULL;
 }
 
-/* Whether a card is up; else what it lacks. */
+/* Whether a card is up; else what it lacks. Where the system can't say it, all is as it was. */
 static bool card_is_up(cable *it, card_state state)
 {
-    static const char *const LACKS[] = {
-        [CARD_ABSENT] = "it isn't there", [CARD_OFF] = "it is switched off", [CARD_UNPLUGGED] = "no carrier"};
+    static const char *const LACKS[] = {[CARD_ABSENT] = "it isn't there", [CARD_OTHER] = "it isn't Ethernet",
+        [CARD_OFF] = "it is switched off", [CARD_UNPLUGGED] = "no carrier"};
+    if (state == CARD_UNKNOWN)
+        return it->lacks == NULL;
     it->fault = 0;
     it->lacks = state == CARD_UP ? NULL : LACKS[state];
     return state == CARD_UP;
 }
 
-/* One that was taken away and is there again has another number, and perhaps another address. */
+/* Hears the interface of a number, which has the link's name now. */
+static bool hears_again(cable *it, unsigned index)
+{
+    it->index = 0;
+    if (!interface_again(it->fd, index) || (it->set->is_of_several && !interface_hears_all(it->fd, index)))
+        return false;
+    it->index = index;
+    return true;
+}
+
+/* One that was taken away and is there again has another number, or isn't heard by the same, and has perhaps another address. */
 static bool interface_is_up(cable *it)
 {
     unsigned index;
     card_state state = interface_state(it->set->name, &index, it->card);
-    if (state != CARD_ABSENT && index != it->index && interface_again(it->fd, it->set->kind, index) &&
-        (!it->set->is_of_several || interface_hears_all(it->fd, index)))
-        it->index = index;
-    return card_is_up(it, index == it->index ? state : CARD_ABSENT);
+    bool is_there = state != CARD_UNKNOWN && state != CARD_ABSENT && state != CARD_OTHER;
+    if (!is_there || (index == it->index && interface_is_heard(it->fd, index)) || hears_again(it, index))
+        return card_is_up(it, state);
+    it->fault = errno;
+    it->lacks = "can't open the interface";
+    return false;
 }
 
 /* One that was taken away is opened again, where it is there or may be made. */
@@ -222,7 +276,7 @@ static bool tap_is_up(cable *it)
     unsigned index;
     uint8_t of_host[6];
     card_state state = interface_state(it->set->name, &index, of_host);
-    if (index == it->index)
+    if (state == CARD_UNKNOWN || index == it->index)
         return card_is_up(it, state);
     close_any(&it->fd);
     it->tried = 0;
@@ -232,6 +286,7 @@ static bool tap_is_up(cable *it)
 bool cable_is_up(cable *it)
 {
     follow_name(it);
+    follow_own_address(it);
     if (!opens_now(it))
         return false;
     switch (it->set->type) {
@@ -251,12 +306,12 @@ bool cable_is_up(cable *it)
 
 static ssize_t receive_stream(cable *it, uint8_t *bytes, size_t room)
 {
-    if (!it->stream.is_connected) {
+    if (!it->is_settled) {
         errno = EAGAIN;
         return -1;
     }
     ssize_t length = stream_receive(&it->stream, it->fd, bytes, room);
-    if (length < 0 && errno != EAGAIN && errno != EINTR)
+    if (length < 0 && !may_pass(errno))
         pc_goes(it);
     return length;
 }
@@ -275,6 +330,9 @@ static bool receive_frame(cable *it, arrivals *in)
 bool cable_receive(cable *it, arrivals *in)
 {
     bool has_come = is_connection(it) || it->set->type == LINK_TAP ? receive_frame(it, in) : datagrams_receive(it->fd, in);
+    int fault = errno;
+    it->starved = !has_come && is_for_want_of_room(fault) ? clock_now() : 0;
+    errno = fault;
     it->has_heard = it->has_heard || has_come;
     return has_come;
 }

@@ -19,15 +19,19 @@ typedef struct cable {
     bool was_lost;              /* a connection was, since one looked */
     uint64_t tried;             /* milliseconds of the clock when it was opened, or a connection begun, last */
     unsigned index;             /* of the TAP or the interface */
+    unsigned kinds;             /* of frames that an interface's socket lets pass, of each the bit 1 << kind */
     address local;              /* where the socket is, with the port that it took */
     address peer;               /* who is connected */
     remote remote;              /* where what goes out goes */
+    uint64_t starved;           /* milliseconds of the clock when the system had no room for what is to be received, or 0 */
     bool has_heard;             /* something came from there since one looked, */
     uint64_t heard;             /* and milliseconds of the clock when one last saw so */
     uint64_t refused;           /* how many came in while somebody was */
     uint64_t told;              /* milliseconds of the clock when that was told last */
     bool is_settled;            /* the machine that is connected has said a frame, or has stayed */
-    uint64_t taken;             /* milliseconds of the clock when it came in, or when none could be taken; 0 before */
+    uint64_t taken;             /* milliseconds of the clock when it came in, */
+    uint64_t settled;           /* when one was settled last, or 0, */
+    uint64_t rested;            /* and when none could be taken, or 0 */
     uint64_t not_taken;         /* how often none could be, since the system has no room for a connection */
     bool is_not_taken_told;     /* and whether that was told */
     uint8_t card[6];            /* the interface's own address; zeros while it isn't known */
@@ -39,6 +43,9 @@ typedef struct cable {
  * words what went wrong; then errno has the reason. */
 const char *cable_open(cable *it, const network_setting *set);
 
+/* Which kinds of frames the socket of an interface is to hear, now and when it is opened; anything else hears all frames. */
+void cable_hears(cable *it, unsigned kinds);
+
 void cable_close(cable *it);
 
 /* Whether a machine is connected of which it isn't known yet whether it stays: one looks, then, as soon as something comes. */
@@ -47,8 +54,10 @@ bool cable_is_new(const cable *it);
 /* What it waits for: at most two. Returns how many. */
 size_t cable_waits(const cable *it, watch list[2]);
 
-/* Whether something has come that isn't waited for. */
+/* Whether something has come that isn't waited for; and milliseconds, at most those that are left, until one is to look again at what one
+ * doesn't wait for: a machine of which it isn't known yet whether it stays, or what the system had no room to give. */
 bool cable_has_more(const cable *it);
+int cable_patience(const cable *it, int left);
 
 /* The next frames or datagrams. Returns false where there is none now. */
 bool cable_receive(cable *it, arrivals *in);

@@ -18,24 +18,33 @@ int tap_open(const char *name, unsigned *index);
 ssize_t tap_receive(int fd, uint8_t *frame, size_t room);
 bool tap_send(int fd, const uint8_t *frame, size_t length);
 
-/* A socket that hears the frames of a kind, or of any, on an interface, and is used as one of datagrams; tells the interface's number and
- * its own address. Returns it, or -1: errno is EPROTOTYPE where the interface isn't one of Ethernet. */
-int interface_open(const char *name, uint8_t kind, unsigned *index, uint8_t card[6]);
+/* A socket that hears the frames of some kinds on an interface, of each the bit 1 << kind, and is used as one of datagrams; tells the
+ * interface's number and its own address. Returns it, or -1: errno is EPROTOTYPE where the interface isn't one of Ethernet. */
+int interface_open(const char *name, unsigned kinds, unsigned *index, uint8_t card[6]);
+
+/* Lets a socket of an interface hear other kinds from now on. Returns whether it does. */
+bool interface_hears_kinds(int fd, unsigned kinds);
 
 /* Lets a socket of an interface hear the frames for other nodes too. Returns whether it does. */
 bool interface_hears_all(int fd, unsigned index);
 
 /* Lets a socket hear the interface that has the name now. */
-bool interface_again(int fd, uint8_t kind, unsigned index);
+bool interface_again(int fd, unsigned index);
+
+/* Whether a socket hears the interface of that number: not one that was taken away, also where it is there again by the same number. */
+bool interface_is_heard(int fd, unsigned index);
 
 typedef enum {
+    CARD_UNKNOWN,   /* the system can't say it now */
     CARD_ABSENT,
+    CARD_OTHER,     /* it isn't Ethernet */
     CARD_OFF,       /* it is switched off */
     CARD_UNPLUGGED, /* it has no carrier */
     CARD_UP,
 } card_state;
 
-/* How the interface is that has a name now. Tells its number, or 0 where there is none; and its own address, where it is there. */
+/* How the interface is that has a name now. Tells its number, or 0 where there is none or it isn't known; and its own address, where it is
+ * there and Ethernet. */
 card_state interface_state(const char *name, unsigned *index, uint8_t card[6]);
 
 #endif

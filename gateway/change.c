@@ -5,82 +5,14 @@
 
 #include "events.h"
 #include "links.h"
-#include "node.h"
 #include "note.h"
 #include "output.h"
+#include "plan.h"
 #include "readmit.h"
 #include "segment.h"
+#include "status.h"
 #include "system.h"
 #include "words.h"
-
-/* ---- What differs ---- */
-
-/* Whether two lines say the same link, so that it stays open. */
-static bool has_same_link(const network_setting *a, const network_setting *b)
-{
-    return a->type == b->type && a->kind == b->kind && strcmp(a->name, b->name) == 0 && strcmp(a->host, b->host) == 0 &&
-           same_address(&a->local, &b->local) && same_address(&a->remote, &b->remote);
-}
-
-static bool has_same_node(const network_setting *a, const network_setting *b)
-{
-    return a->has_node == b->has_node && memcmp(a->node, b->node, sizeof a->node) == 0;
-}
-
-/* Whether the port of the router is the same. Of a tunnel it has another node than of anything else. */
-static bool has_same_port(const network_setting *a, const network_setting *b)
-{
-    return a->network == b->network && a->cost == b->cost && a->longest == b->longest && a->routes == b->routes &&
-           a->services == b->services && has_same_node(a, b) && a->is_of_several == b->is_of_several &&
-           (a->is_of_several || (a->type == LINK_DOSBOX) == (b->type == LINK_DOSBOX));
-}
-
-static bool same_ranges(const ranges *a, const ranges *b)
-{
-    size_t k = 0;
-    while (k < a->count && k < b->count && a->list[k].bits == b->list[k].bits &&
-           memcmp(a->list[k].host, b->list[k].host, sizeof a->list[k].host) == 0)
-        k++;
-    return k == a->count && k == b->count;
-}
-
-/* Whether the same may be clients, within the same limits. */
-static bool has_same_clients(const network_setting *a, const network_setting *b)
-{
-    return a->clients == b->clients && a->per_address == b->per_address && a->rate == b->rate && a->share == b->share &&
-           a->household == b->household && a->kilobits == b->kilobits && a->strangers == b->strangers &&
-           same_ranges(&a->allowed, &b->allowed) && same_ranges(&a->trusted, &b->trusted);
-}
-
-static bool has_same_sockets(const network_setting *a, const network_setting *b)
-{
-    return a->socket_count == b->socket_count && memcmp(a->sockets, b->sockets, a->socket_count * sizeof *a->sockets) == 0;
-}
-
-/* The first link of a port that there is. */
-static const network_setting *first_link(const settings *set, size_t number)
-{
-    size_t k = 0;
-    while (set->networks[k].port != number)
-        k++;
-    return &set->networks[k];
-}
-
-/* Whether the router can stay: it has the same ports, in the same order. */
-static bool has_same_ports(gateway *it, const settings *set)
-{
-    size_t k = 0;
-    while (k < it->port_count && k < set->ports && has_same_port(first_of(it, &it->ports[k])->set, first_link(set, k)))
-        k++;
-    return k == it->port_count && k == set->ports;
-}
-
-/* Whether two lines say the same network; of one of several links also the same link, and the node that tunnel and segment know. */
-static bool is_same(const network_setting *a, const network_setting *b)
-{
-    return a->network == b->network && a->is_of_several == b->is_of_several &&
-           (!a->is_of_several || (has_same_link(a, b) && has_same_node(a, b)));
-}
 
 bool has_changed(const changed *it)
 {
@@ -88,6 +20,9 @@ bool has_changed(const changed *it)
 }
 
 /* ---- What stays ---- */
+
+/* The change that is made. */
+static plan next;
 
 /* The gateway as it was, while it is made what it is to be. */
 static struct {
@@ -111,37 +46,57 @@ static void keep_before(gateway *it)
     it->count = it->cable_count = 0;
 }
 
-/* A network as it was, or NULL. */
-static network *network_before(const network_setting *set)
+/* A network on a link as it was, or NULL. */
+static network *network_before(size_t number)
 {
-    for (size_t k = 0; k < before.count; k++)
-        if (is_same(before.networks[k].set, set))
-            return &before.networks[k];
-    return NULL;
+    return next.was[number] != NOBODY ? &before.networks[next.was[number]] : NULL;
 }
 
 /* A cable that stays goes to its new place, once for all networks that it carries. */
-static cable *move_cable(gateway *it, const network *was, const network_setting *set)
+static cable *move_cable(gateway *it, const cable *was, const network_setting *set)
 {
-    cable **moved = &before.moved[was->cable - before.cables];
+    cable **moved = &before.moved[was - before.cables];
     if (*moved == NULL) {
         *moved = &it->cables[it->cable_count++];
-        **moved = *was->cable;
+        **moved = *was;
         (*moved)->set = set;
     }
     return *moved;
 }
 
-/* Each network that stays, with what it has counted and its clients; its cable too, where the link is the same. */
+/* Whether a link is as it was. (on an interface of several links its socket hears the frames for others too) */
+static bool is_as_before(const network *was, const network_setting *set)
+{
+    return was != NULL && has_same_link(was->set, set) &&
+           (set->type != LINK_INTERFACE || was->set->is_of_several == set->is_of_several);
+}
+
+/* The cable at a link's place until now, or NULL. It stays for whatever network and in whatever kind of frames: else a TAP would leave its
+ * bridge, and a PC would be cut off that connects only once. (each network of an interface has a socket of its own, which nobody misses) */
+static cable *cable_before(const network *was, const network_setting *set)
+{
+    if (is_as_before(was, set))
+        return was->cable;
+    for (size_t k = 0; k < before.cable_count; k++)
+        if (set->type != LINK_INTERFACE && same_link(before.cables[k].set, set))
+            return &before.cables[k];
+    return NULL;
+}
+
+/* Each network that stays, with what it has counted and its clients; and each cable whose place a link has still. */
 static void move_networks(gateway *it, const settings *set)
 {
     for (size_t k = 0; k < set->count; k++) {
-        network *on = &it->networks[it->count++], *was = network_before(&set->networks[k]);
+        network *on = &it->networks[it->count++], *was = network_before(k);
         if (was != NULL)
             *on = *was;
         on->segment = NULL;
         on->set = &set->networks[k];
-        on->cable = was != NULL && has_same_link(was->set, on->set) ? move_cable(it, was, on->set) : NULL;
+        if (on->loop.is_shut)
+            on->lacks = on->loop.why; /* (which has moved, too) */
+        const cable *stays = cable_before(was, on->set);
+        on->cable = stays != NULL ? move_cable(it, stays, on->set) : NULL;
+        memcpy(on->node, next.ports[on->set->port].node, sizeof on->node);
     }
 }
 
@@ -170,12 +125,11 @@ static cable *new_cable(gateway *it, const network_setting *set, changed *what)
     return made;
 }
 
-/* A network whose link is another one: who was there isn't any more. */
+/* A network whose link is another one. */
 static void begin_link(gateway *it, network *on, const network *was, changed *what)
 {
-    on->cable = new_cable(it, on->set, what);
-    if (what->is_new_router || on->set->is_of_several)
-        node_choose(on->set, on->cable, on->node); /* (which the clients' tunnel has to know) */
+    if (on->cable == NULL)
+        on->cable = new_cable(it, on->set, what);
     on->lacks = NULL;
     if (was == NULL)
         what->added++;
@@ -184,40 +138,70 @@ static void begin_link(gateway *it, network *on, const network *was, changed *wh
     on->is_up = false;
 }
 
-/* The router hears which of its ports are down now. */
-static void take_ports(gateway *it, const changed *what)
-{
-    gateway_take_ports(it);
-    for (size_t k = 0; !what->is_new_router && k < it->port_count; k++)
-        if (!it->ports[k].is_up && ipxr_is_up(&it->router, (uint8_t)k) == 1)
-            ipxr_port_down(&it->router, (uint8_t)k);
-}
-
 static void begin_links(gateway *it, changed *what)
 {
     for (size_t k = 0; k < it->count; k++)
-        if (it->networks[k].cable == NULL)
-            begin_link(it, &it->networks[k], network_before(it->networks[k].set), what);
+        if (!is_as_before(network_before(k), it->networks[k].set))
+            begin_link(it, &it->networks[k], network_before(k), what);
+}
+
+/* ---- The router and segments ---- */
+
+/* The new router takes the place of the one that took leave. */
+static void take_router(gateway *it)
+{
+    static const ipxr NONE = IPXR_NONE;
+    if (!next.is_new_router)
+        return;
+    ipxr_free(&it->router);
+    it->router = next.router;
+    next.router = NONE;
+}
+
+/* The router hears which of its ports are down now. (where it has no memory for it the port's first link is up until the next look, which
+ * tells it) */
+static void take_ports(gateway *it)
+{
+    gateway_take_ports(it);
+    for (size_t k = 0; k < it->port_count; k++)
+        if (!it->ports[k].is_up && ipxr_is_up(&it->router, (uint8_t)k) == 1)
+            it->ports[k].is_up = first_of(it, &it->ports[k])->is_up = ipxr_port_down(&it->router, (uint8_t)k) < 0;
+}
+
+static void take_segments(gateway *it)
+{
+    for (size_t k = 0; k < it->port_count; k++) {
+        port *at = &it->ports[k];
+        at->segment = next.segments[k];
+        if (first_of(it, at)->set->is_of_several)
+            segment_begin(it, at);
+    }
 }
 
 /* ---- Clients ---- */
 
-/* The tunnel of a network: its clients stay as far as they may and can. At another port nobody finds it who was there. */
-static void change_tunnel(gateway *it, network *on, const network *was, changed *what)
+/* Whether nobody finds a tunnel who was there: it is at another port, or at whatever port is free then. */
+static bool is_elsewhere(const network_setting *was, const network_setting *is)
 {
+    return is->type != LINK_DOSBOX || is->local.port != was->local.port || (is->local.port == 0 && !has_same_link(was, is));
+}
+
+/* The tunnel of a network: its clients stay as far as they may and can. */
+static void change_tunnel(gateway *it, size_t number, changed *what)
+{
+    network *on = &it->networks[number];
+    const network *was = network_before(number);
     bool is_tunnel = on->set->type == LINK_DOSBOX, was_tunnel = was != NULL && was->set->type == LINK_DOSBOX;
-    if (was_tunnel && (!is_tunnel || on->set->local.port != was->set->local.port))
+    if (was_tunnel && is_elsewhere(was->set, on->set))
         tunnel_end(on);
     throttle_set(&on->throttle, on->set); /* (what may be advertised at once follows the shares) */
-    if (!is_tunnel) {
-        what->clients += was != NULL && !was_tunnel && was->set->rate != on->set->rate;
-        return;
-    }
-    if (was_tunnel && has_same_clients(was->set, on->set) && has_same_link(was->set, on->set))
-        return;
-    what->clients += was_tunnel && !has_same_clients(was->set, on->set);
-    if (tunnel_again(it, on) < 0)
-        complain("ipxr-gateway: line %zu: no memory for other clients", on->set->line);
+    memset(&on->queues, 0, sizeof on->queues); /* (they are as long as packets took by the limits until now) */
+    if (is_tunnel && was_tunnel)
+        what->clients += !has_same_clients(was->set, on->set);
+    else if (was != NULL && !is_tunnel && !was_tunnel)
+        what->clients += was->set->rate != on->set->rate || was->set->share != on->set->share;
+    if (next.has_tunnel[number])
+        tunnel_again(it, on, &next.tunnels[number]);
 }
 
 static void change_tunnels(gateway *it, const settings *set, changed *what)
@@ -225,22 +209,13 @@ static void change_tunnels(gateway *it, const settings *set, changed *what)
     speakers_forget();
     line_set(set);
     for (size_t k = 0; k < it->count; k++) {
-        network *on = &it->networks[k];
-        const network *was = network_before(on->set);
-        change_tunnel(it, on, was, what);
-        what->sockets += was != NULL && !has_same_sockets(was->set, on->set);
+        const network *was = network_before(k);
+        change_tunnel(it, k, what);
+        what->sockets += was != NULL && !has_same_sockets(was->set, it->networks[k].set);
     }
 }
 
 /* ---- All of it ---- */
-
-static bool stays(const settings *set, const network_setting *one)
-{
-    for (size_t k = 0; k < set->count; k++)
-        if (is_same(&set->networks[k], one))
-            return true;
-    return false;
-}
 
 static void tell_removed(const network *on)
 {
@@ -250,11 +225,11 @@ static void tell_removed(const network *on)
 }
 
 /* Takes leave of networks that there are no more. */
-static void remove_networks(gateway *it, const settings *set, changed *what)
+static void remove_networks(gateway *it, changed *what)
 {
     for (size_t k = 0; k < it->count; k++) {
         network *on = &it->networks[k];
-        if (stays(set, on->set))
+        if (next.becomes[k] != NOBODY)
             continue;
         if (on->set->type == LINK_DOSBOX)
             tunnel_end(on);
@@ -263,26 +238,40 @@ static void remove_networks(gateway *it, const settings *set, changed *what)
     }
 }
 
-/* (a router that takes leave says so by the links that it had; what waits goes out by them too) */
+/* A router that doesn't stay takes leave, by the links that it had; what waits goes out by them too. Returns false where it has no memory
+ * for that. */
+static bool takes_leave(gateway *it)
+{
+    if (next.is_new_router && ipxr_stop(&it->router) < 0)
+        return false;
+    if (status_is_followed())
+        events_second(it); /* (of what is forgotten it is told by which network it was known) */
+    gateway_send_all(it);
+    gateway_flush(it);
+    return true;
+}
+
 changed gateway_change(gateway *it, const settings *set)
 {
-    changed what = {.is_new_router = !has_same_ports(it, set)};
-    if (what.is_new_router) {
-        ipxr_stop(&it->router);
-        gateway_send_all(it);
+    if (!plan_make(&next, it, set))
+        return (changed){.is_refused = true};
+    if (!takes_leave(it)) {
+        plan_drop(&next);
+        return (changed){.is_refused = true};
     }
-    gateway_flush(it);
-    remove_networks(it, set, &what);
+    changed what = {.is_new_router = next.is_new_router};
+    remove_networks(it, &what);
     for (size_t k = 0; k < it->port_count; k++)
         segment_close(&it->ports[k]);
     keep_before(it);
     move_networks(it, set);
     close_cables();
     begin_links(it, &what);
-    take_ports(it, &what);
+    take_router(it);
+    take_ports(it);
     change_tunnels(it, set, &what);
-    if (gateway_open_segments(it) < 0)
-        complain("ipxr-gateway: no memory for networks of several links");
+    take_segments(it);
+    loops_change(it);
     for (size_t k = 0; k < it->count; k++)
         what.is_new_router = what.is_new_router || has_new_address(&it->networks[k]);
     gateway_renew(it);

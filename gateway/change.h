@@ -12,10 +12,11 @@ typedef struct changed {
     size_t sockets;        /* networks that extend other sockets */
     size_t faults;         /* links that couldn't be opened, and are tried again each second */
     bool is_new_router;    /* the router was made anew */
+    bool is_refused;       /* there was no memory for it: all is as it was */
 } changed;
 
 /* Changes to these settings, which stay the caller's. Links that are the same stay open, and the router stays where its ports are the
- * same. */
+ * same. Where memory is refused nothing changes, and the gateway has the settings that it had. */
 changed gateway_change(gateway *it, const settings *set);
 
 /* Whether anything has changed. */

@@ -30,6 +30,7 @@ static const char *const WORDS_OF[REASONS] = {
     [TOO_MANY_QUESTIONS] = "too many questions",
     [TOO_MANY_ADVERTISEMENTS] = "too many advertisements",
     [TOO_MANY_ANSWERS] = "too many answers",
+    [FOR_FAR_ROUTERS] = "for far routers",
     [TOO_MUCH_FOR_ROUTER] = "too much for the router",
 };
 

@@ -4,6 +4,8 @@
 
 #include <stdint.h>
 
+#include "ipxr.h"
+
 /* Why the gateway lets go of a packet before the router hears it, or behind the router. */
 typedef enum {
     TOO_LONG,      /* longer than what the link carries */
@@ -30,12 +32,13 @@ typedef enum {
     TOO_MANY_QUESTIONS,  /* a question to the router, of one that asked too many */
     TOO_MANY_ADVERTISEMENTS, /* what a router tells, of an address that told too much */
     TOO_MANY_ANSWERS,    /* an answer of the gateway to a client that was answered too often */
+    FOR_FAR_ROUTERS, /* what a client says to routers of another network */
     TOO_MUCH_FOR_ROUTER, /* all else that the router would hear, of an address that said too much */
     REASONS,
 } reason;
 
-/* The numbers of the router's reasons: hundreds, and the rest. */
-enum { MOST_HUNDREDS = 19, MOST_REST = 5 };
+/* The numbers of the router's reasons, as the library's header has them: hundreds, and the rest. */
+enum { MOST_HUNDREDS = IPXR_LAST_DROP / 100 + 1, MOST_REST = 10 };
 
 typedef struct counts {
     uint64_t in;  /* packets that came, by the link */

@@ -3,10 +3,14 @@
 #include <inttypes.h>
 
 #include "capture.h"
+#include "clock.h"
 #include "extend.h"
 #include "ipx.h"
 #include "note.h"
 #include "segment.h"
+
+/* Milliseconds from one line about somebody who speaks another kind of frames to the next. */
+enum { BETWEEN = 60000 };
 
 /* ---- Sending ---- */
 
@@ -29,7 +33,7 @@ typedef struct frames {
 /* The kinds of frames in which a packet goes to a node, or to all, as bits; and how many they are. */
 static unsigned kinds_to(const network *on, const uint8_t *node)
 {
-    return on->set->kind == ANY_KIND ? kinds_for(&on->kinds, node) : 1u << on->set->kind;
+    return on->set->kind == ANY_KIND ? kinds_for(&on->kinds, node) : kind_bits(on->set->kind);
 }
 
 static uint32_t count_of(unsigned kinds)
@@ -44,7 +48,7 @@ static frames put(network *on, const uint8_t *from, const uint8_t *node, const u
 {
     frames count = {0};
     unsigned kinds = kinds_to(on, node);
-    for (uint8_t kind = IPXR_FRAME_ETHERNET2; kind <= IPXR_FRAME_SNAP; kind++) {
+    for (uint8_t kind = IPXR_FRAME_ETHERNET2; kind < ANY_KIND; kind++) {
         if ((kinds & 1u << kind) == 0)
             continue;
         if (put_in(on, kind, from, node, packet, length))
@@ -197,6 +201,32 @@ static bool is_of_its_kind(network *on, uint8_t kind, const uint8_t *frame, cons
     return true;
 }
 
+/* Whether other networks have their kinds of frames on the same link. */
+static bool is_shared(const gateway *it, const network *on)
+{
+    for (size_t k = 0; k < it->count; k++)
+        if (&it->networks[k] != on && it->networks[k].of_link == on->of_link)
+            return true;
+    return false;
+}
+
+/* Somebody speaks a kind of frames that no network has there. Once a minute it is told, with the words for the configuration: else old
+ * computers whose kind is the wrong one would seem to be silent. */
+static void lose_other_kind(gateway *it, network *on, uint8_t kind, const uint8_t *node)
+{
+    char who[WORDS], link[LINK_ROOM];
+    network_setting other = *on->set;
+    uint64_t now = clock_now();
+    gateway_lose(on, OTHER_KIND);
+    if (on->kind_told != 0 && now - on->kind_told < BETWEEN)
+        return;
+    on->kind_told = now;
+    other.kind = kind;
+    event("network %08" PRIX32 " speaks %s, and node %s speaks %s there: write '%s'%s", on->set->network, kind_word(on->set->kind),
+          node_words(node, who), kind_word(kind), cable_words(on->cable, &other, link),
+          is_shared(it, on) ? " for one more network" : ", or auto");
+}
+
 void ether_hear(gateway *it, cable *on, const uint8_t *frame, size_t length)
 {
     bool is_there = false;
@@ -209,7 +239,7 @@ void ether_hear(gateway *it, cable *on, const uint8_t *frame, size_t length)
     if (kind == IPXR_NO_FRAME)
         gateway_lose(at, NO_IPX);
     else if (!is_there)
-        gateway_lose(at, OTHER_KIND);
+        lose_other_kind(it, at, kind, frame + NODE);
     else if (length > IPXR_LONGEST_FRAME)
         gateway_lose(at, TOO_LONG);
     else if (same_node(frame + NODE, at->node))

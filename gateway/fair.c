@@ -1,66 +1,93 @@
 #include "fair.h"
 
-#include <string.h>
-
 /* A queue may be so many times as long as what is left of the room of all: one alone has two thirds of it. */
-enum { OF_WHAT_IS_LEFT = 2, HALF = 2 };
+enum { OF_WHAT_IS_LEFT = 2 };
 
 fair_limit fair_limit_of(uint32_t count, fair_room packets, fair_room longest, uint32_t pieces)
 {
-    uint64_t between = SECOND_NS / count, step = (between * packets.room + FAIR_STEPS - 1) / FAIR_STEPS;
-    return (fair_limit){.between = between, .step = step, .room = step * FAIR_STEPS, .kept = between * packets.kept,
-        .piece = between / pieces, .room_of_pieces = between * longest.room, .kept_of_pieces = between * longest.kept};
+    uint64_t between = SECOND_NS / count;
+    return (fair_limit){.between = between, .room = between * packets.room, .kept = between * packets.kept, .piece = between / pieces,
+        .room_of_pieces = between * longest.room, .kept_of_pieces = between * longest.kept};
 }
 
-static size_t step_at(const fair *it, uint64_t end)
+/* ---- The list of queues that aren't empty ---- */
+
+static size_t above(size_t place)
 {
-    return (size_t)((end + it->step - 1) / it->step % FAIR_STEPS);
+    return (place - 1) / 2;
 }
 
-/* All queues are empty. (each was to be served up to less than all steps from here) */
-static void empty(fair *it, uint64_t step)
+static uint64_t end_at(const fair *it, size_t place)
 {
-    it->served += FAIR_STEPS * it->step + step;
-    it->step = step;
-    it->next = (it->served / step + 1) * step;
-    it->waiting = 0;
-    memset(it->ends, 0, sizeof it->ends);
+    return it->until[it->list[place]];
 }
 
-/* Those that are empty at the end of a step wait no more. */
-static void end_step(fair *it)
+static void put(fair *it, size_t place, size_t number)
 {
-    size_t at = step_at(it, it->next);
-    it->waiting -= it->ends[at];
-    it->ends[at] = 0;
-    it->served = it->next;
-    it->next += it->step;
+    it->list[place] = (uint8_t)number;
+    it->places[number] = (uint8_t)place;
 }
 
-/* Queues are served up to now, as far as any wait: one that is empty waits up to the end of its step, so none is served too fast. */
-static void serve(const fair_limit *of, fair *it)
+/* Puts a queue at a place or further in front, as early as it is empty. */
+static void put_before(fair *it, size_t place, size_t number)
 {
-    uint64_t passed = limit_clock() - it->looked, needed;
-    it->looked += passed;
-    if (it->step != of->step || (limit_ahead(&it->used) == 0 && it->waiting > 0))
-        empty(it, of->step);
-    while (it->waiting > 0 && passed >= (needed = (it->next - it->served) * it->waiting)) {
-        passed -= needed;
-        end_step(it);
+    for (; place > 0 && end_at(it, above(place)) > it->until[number]; place = above(place))
+        put(it, place, it->list[above(place)]);
+    put(it, place, number);
+}
+
+/* The one of the two places below that is empty first; `waiting` or more where there is none. */
+static size_t below(const fair *it, size_t place)
+{
+    size_t first = 2 * place + 1, second = first + 1;
+    return second < it->waiting && end_at(it, second) < end_at(it, first) ? second : first;
+}
+
+/* Puts a queue at a place or further behind, as late as it is empty. */
+static void put_behind(fair *it, size_t place, size_t number)
+{
+    size_t next = below(it, place);
+    for (; next < it->waiting && end_at(it, next) < it->until[number]; next = below(it, place)) {
+        put(it, place, it->list[next]);
+        place = next;
     }
-    if (it->waiting > 0)
-        it->served += passed / it->waiting;
+    put(it, place, number);
 }
+
+/* The first is empty. */
+static void take_first(fair *it)
+{
+    size_t last = it->list[--it->waiting];
+    if (it->waiting > 0)
+        put_behind(it, 0, last);
+}
+
+/* ---- Time ---- */
+
+/* Queues are served up to now, as far as any wait. (what doesn't divide evenly among them they are served the next time. Where none waits
+ * nothing is used: that is so by itself, unless the clock was set back) */
+static void serve(fair *it)
+{
+    uint64_t now = limit_clock(), passed = now - it->looked, needed;
+    while (it->waiting > 0 && passed >= (needed = (end_at(it, 0) - it->served) * it->waiting)) {
+        passed -= needed;
+        it->served = end_at(it, 0);
+        take_first(it);
+    }
+    it->looked = now;
+    if (it->waiting == 0) {
+        it->used = it->pieces = 0;
+        return;
+    }
+    it->served += passed / it->waiting;
+    it->looked -= passed % it->waiting;
+}
+
+/* ---- Room ---- */
 
 static uint64_t length_of(const fair *it, size_t number)
 {
     return it->until[number] > it->served ? it->until[number] - it->served : 0;
-}
-
-/* Whether the steps are enough for one more packet behind a queue of a length. */
-static bool has_steps(const fair_limit *of, uint64_t length)
-{
-    return length + of->between + of->step <= of->room;
 }
 
 static uint64_t least(uint64_t a, uint64_t b)
@@ -90,27 +117,21 @@ static uint64_t most_of(const fair_limit *of, const fair *it, uint32_t pieces)
     return part > OF_WHAT_IS_LEFT * free ? part : OF_WHAT_IS_LEFT * free;
 }
 
-fullness fair_look(const fair_limit *of, fair *it, size_t number, uint32_t pieces)
+bool fair_has_room(const fair_limit *of, fair *it, size_t number, uint32_t pieces)
 {
-    serve(of, it);
+    serve(it);
     uint64_t length = length_of(it, number);
-    if (length == 0)
-        return QUEUE_LITTLE;
-    uint64_t most = most_of(of, it, pieces);
-    if (length >= most || !has_steps(of, length))
-        return QUEUE_FULL;
-    return HALF * length < most ? QUEUE_LITTLE : QUEUE_HALF;
+    return length == 0 || length < most_of(of, it, pieces);
 }
 
-void fair_add(const fair_limit *of, fair *it, size_t number, uint32_t pieces)
+void fair_add(const fair_limit *of, fair *it, size_t number, uint32_t pieces, uint32_t packets)
 {
-    uint64_t end = it->served + length_of(it, number) + of->between;
-    if (it->until[number] > it->next - it->step)
-        it->ends[step_at(it, it->until[number])]--;
+    uint64_t length = length_of(it, number);
+    it->until[number] = it->served + length + packets * of->between;
+    if (length > 0)
+        put_behind(it, it->places[number], number);
     else
-        it->waiting++;
-    it->ends[step_at(it, end)]++;
-    it->until[number] = end;
-    limit_move(&it->used, of->between);
-    limit_move(&it->pieces, of->piece * pieces);
+        put_before(it, it->waiting++, number);
+    limit_move(&it->used, packets * of->between);
+    limit_move(&it->pieces, packets * of->piece * pieces);
 }

@@ -13,8 +13,16 @@
 #include "status.h"
 #include "tunnel.h"
 
-/* Frames and datagrams of one cable, after which the next has its turn. */
-enum { MOST_AT_ONCE = 64 };
+/* Frames and datagrams of one cable, after which the next has its turn; and how many turns what waits is heard before seconds that are late:
+ * as many as a cable takes of which the system keeps all that it may. */
+enum { MOST_AT_ONCE = 64, MOST_TURNS_FIRST = 512 };
+
+/* Seconds of a record, up to the one in which it ends, and those from one time that a neighbour says it to the next, where he is late. */
+enum { RECORD_LASTS = 180, SAID_AGAIN = 61 };
+
+/* How many of the seconds that are late the router hears of. A record that was heard a minute before the gateway stood still, and of which
+ * nothing came since, is said again a minute after; it is there until then. */
+enum { MOST_LATE_SECONDS = RECORD_LASTS - 1 - 2 * SAID_AGAIN };
 
 /* ---- Packets ---- */
 
@@ -166,14 +174,15 @@ static size_t receive_next(gateway *it, cable *at)
     return 0;
 }
 
-/* What came on a cable, as far as it is its turn. */
-static void receive(gateway *it, cable *at)
+/* What came on a cable, as far as it is its turn. Returns whether there may be more. */
+static bool receive(gateway *it, cable *at)
 {
     size_t heard = 0, next = 1;
     while (next > 0 && heard < MOST_AT_ONCE && at->fd >= 0) {
         next = receive_next(it, at);
         heard += next;
     }
+    return heard >= MOST_AT_ONCE;
 }
 
 /* One second for tunnels, segments and kinds of frames, however many have passed: who could not be asked meanwhile isn't put out. */
@@ -193,20 +202,42 @@ static void let_tunnels_pass(gateway *it, uint64_t passed)
     loops_second(it);
 }
 
-/* Each second that passed since the last turn, late ones too. */
-static void let_seconds_pass(gateway *it)
+/* The seconds since the start that the router hasn't heard of. */
+static uint64_t seconds_due(const gateway *it)
 {
     uint64_t passed = (clock_now() - it->began) / 1000;
-    if (it->told >= passed)
+    return passed > it->told ? passed - it->told : 0;
+}
+
+/* The router hears of the seconds up to one. (where it has no memory for it, it is given the same second again with the next) */
+static void let_router_pass(gateway *it, uint64_t passed)
+{
+    it->refused = 0;
+    while (it->told < passed && it->refused == 0) {
+        if (ipxr_second(&it->router) < 0) {
+            it->refused = passed;
+        } else {
+            it->told++;
+            gateway_send_all(it);
+        }
+    }
+}
+
+/* Each second that passed since the last turn; late ones too, as far as they leave the router what its neighbours say still. The others have
+ * passed for nobody. (links, the status socket and the capture are looked at once, whatever has passed) */
+static void let_seconds_pass(gateway *it)
+{
+    uint64_t due = seconds_due(it), passed = it->told + due;
+    if (due == 0 || passed == it->refused)
         return;
+    if (passed - it->looked > MOST_LATE_SECONDS) /* (a router that has no memory for them may be behind by as many) */
+        event("the gateway stood still for %" PRIu64 " s", passed - it->looked);
+    if (due > MOST_LATE_SECONDS)
+        it->told = passed - MOST_LATE_SECONDS;
     links_look_at_all(it);
     gateway_renew(it);
     let_tunnels_pass(it, passed);
-    for (; it->told < passed; it->told++) {
-        if (ipxr_second(&it->router) < 0)
-            break; /* (no memory: the second is given again) */
-        gateway_send_all(it);
-    }
+    let_router_pass(it, passed);
     status_second(it);
     capture_flush();
 }
@@ -214,11 +245,13 @@ static void let_seconds_pass(gateway *it)
 /* Milliseconds to the next second, or until a client is to be pinged; none where something is there already. */
 static int patience(const gateway *it)
 {
-    uint64_t next = it->began + (it->told + 1) * 1000, now = clock_now();
+    uint64_t looked = it->told > it->refused ? it->told : it->refused, next = it->began + (looked + 1) * 1000, now = clock_now();
     int left = now < next ? (int)(next - now) : 0;
-    for (size_t k = 0; k < it->cable_count; k++)
+    for (size_t k = 0; k < it->cable_count; k++) {
         if (cable_has_more(&it->cables[k]))
             return 0;
+        left = cable_patience(&it->cables[k], left);
+    }
     for (size_t k = 0; k < it->count; k++)
         left = asks_patience(&it->networks[k].asks, pings_patience(&it->networks[k].pings, left));
     return left;
@@ -231,8 +264,8 @@ static void send_pings(gateway *it)
         tunnel_ping(&it->networks[k]);
 }
 
-/* Hears a cable, of which `list` tells what is there. */
-static void attend(gateway *it, cable *at, const watch *list, size_t count)
+/* Hears a cable, of which `list` tells what is there. Returns whether there may be more. */
+static bool attend(gateway *it, cable *at, const watch *list, size_t count)
 {
     bool has_changed = false, has_come = cable_has_more(at);
     for (size_t k = 0; k < count; k++) {
@@ -242,24 +275,33 @@ static void attend(gateway *it, cable *at, const watch *list, size_t count)
     }
     if (has_changed || cable_is_new(at))
         links_look(it, at);
-    if (has_come)
-        receive(it, at);
+    return has_come && receive(it, at);
 }
 
-void gateway_turn(gateway *it, bool waits)
+/* Waits so many milliseconds until something comes, and hears it: of each cable as far as it is its turn. Returns whether there may be more. */
+static bool hear(gateway *it, int milliseconds)
 {
     watch list[MOST_WATCHED];
     size_t first[MOST_LINKS + 1] = {0};
     for (size_t k = 0; k < it->cable_count; k++)
         first[k + 1] = first[k] + cable_waits(&it->cables[k], list + first[k]);
     size_t of_cables = first[it->cable_count], of_status = status_waits(list + of_cables);
-    bool is_known = watch_all(list, of_cables + of_status, waits ? patience(it) : 0);
+    bool is_known = watch_all(list, of_cables + of_status, milliseconds), is_more = !is_known;
     limits_look_at_clock();
-    if (is_known) {
-        for (size_t k = 0; k < it->cable_count; k++)
-            attend(it, &it->cables[k], list + first[k], first[k + 1] - first[k]);
+    for (size_t k = 0; is_known && k < it->cable_count; k++)
+        is_more = attend(it, &it->cables[k], list + first[k], first[k + 1] - first[k]) || is_more;
+    if (is_known)
         status_attend(it, list + of_cables, of_status);
-    }
+    return is_more;
+}
+
+/* (where the gateway stood still, as on a machine with too much else to do, what came meanwhile is heard before the seconds that passed: a
+ * neighbour who spoke isn't taken for one who was silent. While the machine sleeps the clock stands still, and nothing is late) */
+void gateway_turn(gateway *it, bool waits)
+{
+    (void)hear(it, waits ? patience(it) : 0);
+    for (int k = 0; seconds_due(it) > 1 && k < MOST_TURNS_FIRST && hear(it, 0); k++)
+        ;
     let_seconds_pass(it);
     send_pings(it);
     gateway_flush(it);

@@ -45,7 +45,8 @@ typedef struct network {
     ipxr_segment *segment; /* of its network's links, where it is one of several; */
     uint8_t link;          /* and its number there */
     loop loop;             /* whether it is one cable with another of them */
-    kinds kinds;           /* of frames, which its stations use, where they may use any */
+    kinds kinds;           /* of frames, which its stations use, where they may use any; */
+    uint64_t kind_told;    /* and where not, when one that used another was told last, or 0 */
 } network;
 
 /* A port of the router: a network with its links. */
@@ -65,7 +66,8 @@ typedef struct gateway {
     cable cables[MOST_LINKS];
     size_t cable_count;
     uint64_t began; /* milliseconds of the clock at the start */
-    uint64_t told;  /* seconds that the router has heard of since */
+    uint64_t told;  /* seconds since that have passed for the router: it has heard of them, or they were too many at once */
+    uint64_t refused; /* the second since then in which it had no memory for one, or 0 */
     uint8_t key[SIPHASH_KEY]; /* of the cookies */
     uint64_t seconds; /* that the tunnels have heard of */
     uint64_t looked;  /* the second since the start in which they heard of the last */
@@ -113,10 +115,8 @@ void gateway_send(gateway *it, port *to, const uint8_t *node, const uint8_t *pac
 /* Puts a packet of a station's, or of the router's, on a link of its network, to a node there or to all; the same of its bytes. */
 void gateway_put(network *on, const uint8_t *from, const uint8_t *node, const uint8_t *packet, size_t length);
 
-/* Takes the ports from the list of networks on links; and makes the segments of those that have several. Returns 0, or the library's
- * fault. */
+/* Takes the ports from the list of networks on links. */
 void gateway_take_ports(gateway *it);
-int32_t gateway_open_segments(gateway *it);
 
 /* The port of a network, the first link of a port, and the first network of a cable. */
 port *port_of(gateway *it, const network *on);

@@ -115,12 +115,10 @@ bool kinds_has(const kinds *it, uint8_t kind)
 /* Those that were heard lately; all, where none was. */
 static unsigned in_use(const kinds *it)
 {
-    unsigned all = 0, heard = 0;
-    for (uint8_t kind = IPXR_FRAME_ETHERNET2; kind < ANY_KIND; kind++) {
-        all |= 1u << kind;
+    unsigned heard = 0;
+    for (uint8_t kind = IPXR_FRAME_ETHERNET2; kind < ANY_KIND; kind++)
         heard |= kinds_has(it, kind) ? 1u << kind : 0;
-    }
-    return heard != 0 ? heard : all;
+    return heard != 0 ? heard : ALL_KINDS;
 }
 
 unsigned kinds_for(const kinds *it, const uint8_t node[6])

@@ -11,10 +11,17 @@
 #include "siphash.h"
 
 enum {
-    ANY_KIND = IPXR_FRAME_SNAP + 1, /* of such a link, where others have the number of their one kind */
-    KIND_BUCKETS = 64,              /* a station stands in the bucket of its node's hash, */
-    IN_BUCKET = 8,                  /* one of so many */
+    ANY_KIND = IPXR_FRAME_KINDS + 1, /* of such a link, where others have the number of their one kind */
+    KIND_BUCKETS = 64,               /* a station stands in the bucket of its node's hash, */
+    IN_BUCKET = 8,                   /* one of so many */
+    ALL_KINDS = (1 << ANY_KIND) - 2, /* of each kind the bit 1 << kind */
 };
+
+/* The bits of the kinds that a link of a kind, or of any, speaks. */
+static inline unsigned kind_bits(uint8_t kind)
+{
+    return kind == ANY_KIND ? ALL_KINDS : 1u << kind;
+}
 
 /* A station, and the kind of frames that it uses. */
 typedef struct kind_of_station {

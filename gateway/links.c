@@ -61,6 +61,8 @@ static bool port_follows(gateway *it, const network *on, bool is_up)
 
 static void look_at(gateway *it, network *on, bool is_up)
 {
+    if (!on->is_up && !is_up)
+        (void)port_follows(it, on, false); /* (the router may have had no memory for it before) */
     if (on->is_up == is_up || (is_up && has_new_address(on)))
         return; /* (a card that isn't known yet comes up with its own address, gateway_renew) */
     if (!port_follows(it, on, is_up))

@@ -81,17 +81,41 @@ void loop_ask(gateway *it, network *on)
 
 /* ---- Shutting ---- */
 
+/* Why a link is shut that is one cable with another. */
+static void why_with(const network *with, char why[LOOP_WORDS])
+{
+    char link[LINK_ROOM];
+    snprintf(why, LOOP_WORDS, "it is one cable with %s", cable_words(with->cable, with->set, link));
+}
+
 /* A link is one cable with an earlier one. */
 static void shut(gateway *it, network *on, const network *with)
 {
-    char link[LINK_ROOM];
     bool was_shut = on->loop.is_shut;
     on->loop.is_shut = true;
     on->loop.quiet = 0;
     if (was_shut)
         return;
-    snprintf(on->loop.why, sizeof on->loop.why, "it is one cable with %s", cable_words(with->cable, with->set, link));
+    why_with(with, on->loop.why);
     links_look(it, on->cable);
+}
+
+/* Whether the link with which one is one cable is still before it. */
+static bool stays_shut(gateway *it, const network *on)
+{
+    char why[LOOP_WORDS];
+    for (const network *other = first_of(it, port_of(it, on)); other < on; other++) {
+        why_with(other, why);
+        if (is_cable(other) && strcmp(why, on->loop.why) == 0)
+            return true;
+    }
+    return false;
+}
+
+void loops_change(gateway *it)
+{
+    for (network *on = it->networks; on < it->networks + it->count; on++)
+        on->loop.is_shut = on->loop.is_shut && stays_shut(it, on);
 }
 
 static bool is_own(const gateway *it, const network *on, const uint8_t *packet)

@@ -19,6 +19,10 @@ typedef struct loop {
 struct gateway;
 struct network;
 
+/* The links of networks are others now, or in another order: one that was shut is looked at anew, where no link before it is still the one
+ * with which it is one cable. */
+void loops_change(struct gateway *it);
+
 /* A second has passed. */
 void loops_second(struct gateway *it);
 

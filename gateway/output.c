@@ -12,7 +12,8 @@ enum {
     ROOM = 1 << 20,  /* bytes of lines: a report with full tables is half of it */
     PIECE = 4096,    /* bytes that are written at once */
     MOST_LINE = 1024,
-    PATIENCE = 2000, /* milliseconds without a byte that is read, after which the end waits no more */
+    PATIENCE = 2000, /* milliseconds without a byte that is read, after which the end waits no more; */
+    MOST = 20000,    /* and in all, also for somebody who reads a little at a time */
     REST = 5,        /* milliseconds from one look to the next */
 };
 
@@ -157,28 +158,28 @@ bool output_begin_capture(FILE *file)
     return outlets[CAPTURE].is_captured;
 }
 
-/* Waits until nothing is left, and no longer than somebody reads. */
-static void wait_for(writer which)
+/* Waits until nothing is left: no longer than somebody reads, and so many milliseconds at most. Returns how many of them are left. */
+static int wait_for(writer which, int most)
 {
     outlet *it = &outlets[which];
     size_t before = 0;
-    for (int rested = 0; rested < PATIENCE; rested += REST) {
+    for (int rested = 0; rested < PATIENCE && most > 0; rested += REST, most -= REST) {
         writer_lock(which);
         size_t left = it->is_refused ? 0 : it->under_way + it->count + (it->dropped > 0);
         writer_unlock(which);
         if (left == 0)
-            return;
+            break;
         if (left != before)
             rested = 0;
         before = left;
         writer_rest(REST);
     }
+    return most;
 }
 
 void output_end(void)
 {
-    wait_for(OUTPUT);
-    wait_for(COMPLAINTS);
+    int most = wait_for(COMPLAINTS, wait_for(OUTPUT, MOST));
     if (outlets[CAPTURE].is_captured)
-        wait_for(CAPTURE);
+        (void)wait_for(CAPTURE, most);
 }

@@ -1,6 +1,10 @@
 /* QEMU connects once, when it starts. So a PC that is connected stays, and whoever else comes in is refused at once: another PC, or
  * somebody who looks for open ports. A PC has gone where its connection is closed or fails, where it says what isn't frames, and where its
- * machine hasn't acknowledged anything for a minute (sockets.h). */
+ * machine hasn't acknowledged anything for a minute (sockets.h).
+ *
+ * While there is none, those who come in are looked at in their order. Who goes again, or says what isn't frames, gives way to the next at
+ * once, however many there are; who says a frame, or stays for a second, is the PC. At most one a second is, since each is told to all
+ * networks. */
 #include "pc.h"
 
 #include <errno.h>
@@ -12,13 +16,30 @@
 #include "system.h"
 #include "words.h"
 
-/* Milliseconds from one call, from one who comes in, or from one line about those who are refused, to the next; and those that a machine
- * stays, or says something in, before others are told of it. */
+/* Milliseconds from one call, from one machine of which others are told, or from one line about those who are refused, to the next; those
+ * that a machine stays, or says something in, before others are told of it; and for which nobody is taken where the system has no room. */
 enum { BETWEEN = 1000 };
+
+/* Milliseconds that an address has to answer a call: after them its turn is over, since a system goes on trying for minutes. */
+enum { ANSWERS = 5000 };
+
+/* Those who wait of whom so many come in, or are refused, until others have their turn. */
+enum { MOST_AT_ONCE = 32 };
+
+/* Whether a second has passed since then; 0 is never. */
+static bool is_long_ago(uint64_t then)
+{
+    return then == 0 || clock_now() - then >= BETWEEN;
+}
 
 bool pc_may_come(const cable *it)
 {
-    return it->taken == 0 || clock_now() - it->taken >= BETWEEN;
+    return (!it->stream.is_connected || it->is_settled) && is_long_ago(it->rested);
+}
+
+bool pc_is_held_up(const cable *it)
+{
+    return it->stream.is_connected && !it->is_settled && stream_has_frame(&it->stream);
 }
 
 void pc_goes(cable *it)
@@ -58,12 +79,12 @@ static bool is_out_of_reach(cable *it)
     return it->stream.is_connected && (connection_is_dead(it->fd) || !stream_push(&it->stream, it->fd));
 }
 
-/* Waits for a second, since the system has no room for one more connection, which it would tell at once, again and again. */
+/* Waits for a second, since the system has no room for one more connection. */
 static void rest(cable *it)
 {
     char link[LINK_ROOM];
     int why = errno;
-    it->taken = clock_now();
+    it->rested = clock_now();
     it->not_taken++;
     if (it->is_not_taken_told)
         return;
@@ -73,42 +94,70 @@ static void rest(cable *it)
     event("nobody can come in at %s now: %s", link, fault_words());
 }
 
-static void take_or_refuse(cable *it)
+/* Takes the next who waits, or refuses him where there is a PC. Returns whether there may be another. */
+static bool takes_next(cable *it)
 {
     address from;
-    if (has_more(it) || !pc_may_come(it))
-        return;
     int fd = listener_take(it->listener, &from);
     if (fd < 0) {
-        if (is_for_want_of_room(errno))
+        bool may_be_another = is_of_nobody(errno) && errno != EAGAIN;
+        if (!is_of_nobody(errno))
             rest(it);
-        return;
+        return may_be_another;
     }
     it->is_not_taken_told = false;
     if (it->stream.is_connected) {
         refuse(it, fd, &from);
-        return;
+        return true;
     }
     it->fd = fd;
     it->peer = from;
     it->taken = clock_now();
     it->stream.is_connected = true;
+    return true;
 }
 
-/* Whether others are to be told of a machine: it has said a whole frame, or has stayed. One that has gone is forgotten. */
+/* Whether others are to be told of a machine: it has said a whole frame, or has stayed. One that has gone is forgotten, also with frames
+ * that it said. */
 static bool settles(cable *it)
 {
     if (it->is_settled || !it->stream.is_connected)
         return it->is_settled;
-    if (it->listener >= 0 && !stream_looks(&it->stream, it->fd)) {
+    if (it->listener >= 0 && (!stream_looks(&it->stream, it->fd) || connection_has_ended(it->fd))) {
         pc_goes(it);
         return false;
     }
-    it->is_settled = it->listener < 0 || stream_has_frame(&it->stream) || clock_now() - it->taken >= BETWEEN;
+    bool has_shown = stream_has_frame(&it->stream) || is_long_ago(it->taken);
+    it->is_settled = it->listener < 0 || (has_shown && is_long_ago(it->settled));
+    if (it->is_settled)
+        it->settled = clock_now();
     return it->is_settled;
 }
 
-/* Calls the PC, or looks what became of the call. Where nobody listens, the system may connect a socket with itself. */
+/* Those who wait come in, one by one. Beside a PC what it said last is heard before the next is refused, and that it went: then the next
+ * is taken. Returns whether a PC is there. */
+static bool let_in(cable *it)
+{
+    bool is_there = settles(it);
+    for (int k = 0; k < MOST_AT_ONCE && pc_may_come(it) && !has_more(it) && takes_next(it); k++)
+        is_there = settles(it);
+    return is_there;
+}
+
+/* Whether a call has come about: above 0 where it has, below where it never will, and then errno tells why. Where nobody listens, the
+ * system may connect a socket with itself. */
+static int state_of_call(cable *it)
+{
+    int state = it->fd < 0 ? -1 : connection_state(it->fd);
+    bool is_own = state > 0 && connection_is_own(it->fd), is_silent = state == 0 && clock_now() - it->tried >= ANSWERS;
+    if (!is_own && !is_silent)
+        return state;
+    connection_drop(&it->fd);
+    errno = is_own ? ECONNREFUSED : ETIMEDOUT;
+    return -1;
+}
+
+/* Calls the PC, or looks what became of the call. */
 static void call(cable *it)
 {
     uint64_t now = clock_now();
@@ -124,17 +173,13 @@ static void call(cable *it)
         it->peer = it->remote.at;
         it->tried = now;
     }
-    int state = it->fd < 0 ? -1 : connection_state(it->fd);
-    if (state > 0 && connection_is_own(it->fd)) {
-        connection_drop(&it->fd);
-        errno = ECONNREFUSED;
-        state = -1;
-    }
+    int state = state_of_call(it);
     if (state < 0) {
         it->lacks = "can't connect";
         it->fault = errno;
         close_any(&it->fd);
-        remote_fails(&it->remote);
+        if (!is_for_want_of_room(it->fault)) /* (which is no fault of that address) */
+            remote_fails(&it->remote);
     }
     it->stream.is_connected = state > 0;
 }
@@ -145,8 +190,8 @@ bool pc_is_up(cable *it)
     if (is_out_of_reach(it) && !has_more(it))
         pc_goes(it);
     if (it->listener >= 0)
-        take_or_refuse(it);
-    else if (!it->stream.is_connected)
+        return let_in(it);
+    if (!it->stream.is_connected)
         call(it);
     return settles(it);
 }

@@ -17,7 +17,7 @@ typedef struct probe {
     ipxr_address from;  /* and from where */
     int count, answered;
     bool is_awaited;    /* the answer to the last one */
-    uint64_t began;     /* microseconds of the clock when that was sent */
+    uint64_t began;     /* nanoseconds of the clock when that was sent */
 } probe;
 
 struct viewer;

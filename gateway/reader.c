@@ -3,33 +3,56 @@
 #include <stdarg.h>
 #include <string.h>
 
-/* Writes a word. Bytes that a terminal doesn't show, as the mark that some editors put in front of a text, are shown by number. */
-static void show_word(FILE *file, const char *word)
+/* Bytes of a word that are shown: who wrote a longer one knows it by these; and of their text, with the 0 behind. */
+enum { MOST_SHOWN = 100, SHOWN_ROOM = 4 * MOST_SHOWN + sizeof ".." };
+
+/* The text of a word, or of how it begins. Bytes that a terminal doesn't show are there by number. */
+static const char *shown_word(const char *word, char text[SHOWN_ROOM])
 {
-    for (const unsigned char *at = (const unsigned char *)word; *at != '\0'; at++)
-        if (*at > ' ' && *at < 127)
-            fputc(*at, file);
-        else
-            fprintf(file, "\\x%02X", *at);
+    size_t shown = 0;
+    char *to = text;
+    for (; word[shown] != '\0' && shown < MOST_SHOWN; shown++) {
+        unsigned char byte = (unsigned char)word[shown];
+        to += sprintf(to, byte > ' ' && byte < 127 ? "%c" : "\\x%02X", byte);
+    }
+    strcpy(to, word[shown] != '\0' ? ".." : "");
+    return text;
 }
 
 bool reader_fault(reader *r, const char *word, const char *format, ...)
 {
+    char shown[SHOWN_ROOM];
     va_list rest;
     va_start(rest, format);
     fprintf(r->complaints, "%s:%zu: ", r->name, r->line);
-    if (word != NULL) {
-        fputc('\'', r->complaints);
-        show_word(r->complaints, word);
-        fputs("': ", r->complaints);
-    } else {
+    if (word != NULL)
+        fprintf(r->complaints, "'%s': ", shown_word(word, shown));
+    else
         fputs("the line ends: ", r->complaints);
-    }
     vfprintf(r->complaints, format, rest);
     fputc('\n', r->complaints);
     va_end(rest);
     r->faults++;
     return false;
+}
+
+/* Whether a text is of two bytes a character: by its mark, or since one of its first two bytes is 0. */
+static bool is_utf_16(const unsigned char *text, size_t length)
+{
+    return length > 1 && ((text[0] == 0xFF && text[1] == 0xFE) || (text[0] == 0xFE && text[1] == 0xFF) || (text[0] == 0) != (text[1] == 0));
+}
+
+char *reader_begin(reader *r, char *line, size_t *length)
+{
+    static const char MARK[] = "\xEF\xBB\xBF";
+    size_t mark = strncmp(line, MARK, sizeof MARK - 1) == 0 ? sizeof MARK - 1 : 0;
+    if (is_utf_16((const unsigned char *)line, *length)) {
+        fprintf(r->complaints, "%s: expected UTF-8 or plain text, this is UTF-16: save it as UTF-8\n", r->name);
+        r->faults++;
+        return NULL;
+    }
+    *length -= mark;
+    return line + mark;
 }
 
 const char *reader_word(reader *r)

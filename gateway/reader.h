@@ -27,6 +27,10 @@ typedef struct reader {
     settings *into;
 } reader;
 
+/* How the first line of a file begins, behind the mark of UTF-8 that some editors write there. Returns NULL where the file is UTF-16, which
+ * is told: nothing of it can be read. */
+char *reader_begin(reader *r, char *line, size_t *length);
+
 /* Cuts a line into its words, up to a #. Returns false where there are too many, which is told. */
 bool reader_cut(reader *r, char *line);
 

@@ -74,21 +74,13 @@ static void take_tunnel(network *on, const network *from)
     on->pings = from->pings;
 }
 
-int32_t tunnel_again(gateway *it, network *on)
+void tunnel_again(const gateway *it, network *on, const network *made)
 {
-    static const network NONE = {.tunnel = IPXR_TUNNEL_NONE};
     network old = *on;
-    take_tunnel(on, &NONE);
-    int32_t made = tunnel_open(it, on);
-    if (made < 0) {
-        tunnel_close(on);
-        take_tunnel(on, &old);
-        return made;
-    }
+    take_tunnel(on, made);
     keep_clients(it, on, &old);
     keep_newcomers(on, &old.strangers);
     tunnel_close(&old);
-    return 0;
 }
 
 void tunnel_end(network *on)

@@ -4,9 +4,9 @@
 
 #include "gateway.h"
 
-/* Makes the tunnel of a network as its settings say now. Clients who may not stay, or for whom there is no room any more, leave; the others
- * stay in their order, as if they had just answered. Returns 0, or the library's fault: then all is as it was. */
-int32_t tunnel_again(gateway *it, network *on);
+/* A network takes the tunnel that was made for its settings of now, which nobody else has any more. Clients who may not stay, or for whom
+ * there is no room any more, leave; the others stay in their order, as if they had just answered. (none of this takes memory) */
+void tunnel_again(const gateway *it, network *on, const network *made);
 
 /* All clients leave, and the tunnel ends. */
 void tunnel_end(network *on);

@@ -64,7 +64,8 @@ static void sum_up(const changed *what, char words[SUMMARY_ROOM])
              "%zu with other clients, %zu with other sockets%s", name, what->added, what->removed, what->reopened, what->clients, what->sockets, router);
 }
 
-/* Reads and changes. Returns whether the file was right; tells what was done, or, in text that the caller frees, what is wrong. */
+/* Reads and changes. Returns whether that was done, and tells what; else what is wrong, in text that the caller frees, or NULL where there
+ * was no memory. */
 static bool try_reload(gateway *it, char words[SUMMARY_ROOM], size_t *faults, char **text)
 {
     settings *set = free_room(it);
@@ -72,19 +73,37 @@ static bool try_reload(gateway *it, char words[SUMMARY_ROOM], size_t *faults, ch
     if (read_anew(set, text) > 0)
         return false;
     changed what = gateway_change(it, set);
+    if (what.is_refused) {
+        free(*text);
+        *text = NULL;
+        return false;
+    }
     *faults = what.faults;
     sum_up(&what, words);
     event("%s", words);
     return true;
 }
 
+static const char REFUSED[] = "out of memory: nothing changed";
+
+/* Complains of what is wrong, and frees it. */
+static void complain_of(char *text)
+{
+    if (text != NULL)
+        complain_lines(text);
+    else
+        complain("%s: %s", name, REFUSED);
+    free(text);
+}
+
 void reload(gateway *it)
 {
     char words[SUMMARY_ROOM], *text;
     size_t faults = 0;
-    if (!try_reload(it, words, &faults, &text) && text != NULL)
-        complain_lines(text);
-    free(text);
+    if (try_reload(it, words, &faults, &text))
+        free(text);
+    else
+        complain_of(text);
 }
 
 void reload_for(gateway *it, viewer *v)
@@ -98,10 +117,12 @@ void reload_for(gateway *it, viewer *v)
         if (faults > 0)
             viewer_say(v, "%zu %s be opened, which is tried again each second", faults, faults == 1 ? "link can't" : "links can't");
         viewer_end(v, faults == 0);
-    } else {
-        viewer_complain_of(v, text != NULL ? text : "out of memory\n");
-        if (text != NULL)
-            complain_lines(text);
+        free(text);
+        return;
     }
-    free(text);
+    if (text != NULL)
+        viewer_complain_of(v, text);
+    else
+        viewer_complain(v, "%s: %s", name, REFUSED);
+    complain_of(text);
 }

@@ -5,8 +5,9 @@
 
 #include "clock.h"
 
-/* Milliseconds from one question for a name to the next. */
-enum { MINUTE = 60000 };
+/* Milliseconds from one question for a name to the next; and questions that may be under way: one for each link, and as many that a reload
+ * has left to their threads. (where nobody answers each has a thread and a file for long, and reloads would use up both) */
+enum { MINUTE = 60000, MOST_UNDER_WAY = 2 * MOST_LINKS };
 
 const char REMOTE_UNKNOWN[] = "no address of that name is known yet";
 
@@ -20,6 +21,25 @@ typedef struct question {
     answers found;
 } question;
 
+static size_t under_way; /* looked at by one at a time, too */
+
+/* One more question is under way. Returns false where there are too many. */
+static bool takes_place(void)
+{
+    resolver_lock();
+    bool has_place = under_way < MOST_UNDER_WAY;
+    under_way += has_place;
+    resolver_unlock();
+    return has_place;
+}
+
+static void give_place(void)
+{
+    resolver_lock();
+    under_way--;
+    resolver_unlock();
+}
+
 static void run(void *at)
 {
     question *it = at;
@@ -32,6 +52,7 @@ static void run(void *at)
     resolver_unlock();
     if (is_left)
         free(it);
+    give_place();
 }
 
 /* Datagrams go from an address to one of the same kind. */
@@ -42,16 +63,28 @@ static wanted wanted_by(const network_setting *set)
     return set->local.is_six ? ADDRESS_OF_IPV6 : ADDRESS_OF_IPV4;
 }
 
-/* (where there is no memory or no thread it is asked again with the next look) */
-static void ask(remote *it, const network_setting *set)
+/* The question for a setting's name, that is under way; or NULL. */
+static question *begin(const network_setting *set)
 {
     question *made = calloc(1, sizeof *made);
     if (made == NULL)
-        return;
+        return NULL;
     strcpy(made->host, set->host);
     made->which = wanted_by(set);
-    if (!resolver_begin(run, made)) {
-        free(made);
+    if (resolver_begin(run, made))
+        return made;
+    free(made);
+    return NULL;
+}
+
+/* (where there is no memory, no thread or no place it is asked again with the next look) */
+static void ask(remote *it, const network_setting *set)
+{
+    if (!takes_place())
+        return;
+    question *made = begin(set);
+    if (made == NULL) {
+        give_place();
         return;
     }
     it->question = made;

@@ -18,7 +18,7 @@ typedef enum {
     DROPPED_PINGS,      /* pings of its own */
     DROPPED_QUESTIONS,  /* questions to the router */
     DROPPED_ADVERTISEMENTS, /* what it told as a router */
-    DROPPED_FOR_ROUTER, /* all else that the router would hear */
+    DROPPED_FOR_ROUTER, /* all else that the router would hear, and what routers of other networks would */
     DROPPED_ANSWERS,    /* of the gateway, to its registrations and pings */
     DROPS,
 } drop;

@@ -13,32 +13,34 @@ enum { STATIONS = 512 };
 /* ---- Beginning and end ---- */
 
 /* The most stations of a link that are known: of a tunnel as many as it has clients. */
-static uint16_t share_of(const network *on)
+static uint16_t share_of(const network_setting *link)
 {
-    return on->set->type == LINK_DOSBOX ? on->set->clients : STATIONS;
+    return link->type == LINK_DOSBOX ? link->clients : STATIONS;
 }
 
-static uint16_t capacity_of(gateway *it, const port *at)
+static uint16_t capacity_of(const network_setting *links, size_t count)
 {
     size_t sum = 0;
-    for (size_t k = 0; k < at->count; k++)
-        sum += share_of(first_of(it, at) + k);
+    for (size_t k = 0; k < count; k++)
+        sum += share_of(&links[k]);
     return (uint16_t)(sum < IPXR_MOST_STATIONS ? sum : IPXR_MOST_STATIONS);
 }
 
-int32_t segment_open(gateway *it, port *at)
+int32_t segment_make(ipxr_segment *made, const network_setting *links, size_t count, const uint8_t node[NODE])
+{
+    ipxr_segment_setting set = {.network = links->network, .links = (uint8_t)count, .capacity = capacity_of(links, count)};
+    memcpy(set.node, node, NODE);
+    return ipxr_segment_make(made, &set);
+}
+
+void segment_begin(gateway *it, port *at)
 {
     network *first = first_of(it, at);
-    ipxr_segment_setting set = {.network = first->set->network, .links = (uint8_t)at->count, .capacity = capacity_of(it, at)};
-    memcpy(set.node, first->node, NODE);
-    int32_t made = ipxr_segment_make(&at->segment, &set);
-    memset(&at->twins, 0, sizeof at->twins);
-    for (size_t k = 0; made >= 0 && k < at->count; k++) {
+    for (size_t k = 0; k < at->count; k++) {
         first[k].segment = &at->segment;
         first[k].link = (uint8_t)k;
         segment_change(first + k);
     }
-    return made;
 }
 
 void segment_close(port *at)
@@ -51,7 +53,7 @@ void segment_close(port *at)
 void segment_change(network *on)
 {
     bool is_tunnel = on->set->type == LINK_DOSBOX;
-    ipxr_link to = {.kind = !on->is_up ? IPXR_LINK_DOWN : is_tunnel ? IPXR_LINK_SURE : IPXR_LINK_CABLE, .share = share_of(on)};
+    ipxr_link to = {.kind = !on->is_up ? IPXR_LINK_DOWN : is_tunnel ? IPXR_LINK_SURE : IPXR_LINK_CABLE, .share = share_of(on->set)};
     ipxr_client client;
     if (on->segment == NULL)
         return;

@@ -4,9 +4,13 @@
 
 #include "gateway.h"
 
-/* Makes the segment of a network of several links, with those that are up and their clients. Returns 0, or the library's fault. */
-int32_t segment_open(gateway *it, port *at);
+/* Makes the segment of a network of several links, which stand one behind the other, with the gateway's node there. Returns 0, or the
+ * library's fault. */
+int32_t segment_make(ipxr_segment *made, const network_setting *links, size_t count, const uint8_t node[6]);
 void segment_close(port *at);
+
+/* The links of a port, which has its segment, join that as they are: those that are up, with their clients. */
+void segment_begin(gateway *it, port *at);
 
 /* A link went up or down. */
 void segment_change(network *on);

@@ -46,6 +46,10 @@ static const struct {
     const char *word;
     uint16_t longest;
 } KINDS[] = {{"", 1424}, {"ethernet2", 1500}, {"raw", 1500}, {"llc", 1497}, {"snap", 1492}, {"auto", 1492}};
+
+/* (one more kind of the library needs its word) */
+typedef char has_word_for_each_kind[sizeof KINDS / sizeof *KINDS == ANY_KIND + 1 ? 1 : -1];
+
 #define KIND_WORDS "raw, ethernet2, llc, snap or auto"
 
 const char *kind_word(uint8_t kind)
@@ -345,6 +349,11 @@ static void end_network(reader *r)
     r->has_links_below = false;
 }
 
+static bool has_room_for_link(reader *r)
+{
+    return r->into->count < MOST_LINKS || reader_fault(r, r->words[0], "expected at most %d links", MOST_LINKS);
+}
+
 static void read_network_line(reader *r)
 {
     network_setting it = {.line = r->line, .network_line = r->line, .port = (uint8_t)r->into->ports};
@@ -357,6 +366,8 @@ static void read_network_line(reader *r)
     if (!read_network(r, &it) || !read_cost_and_longest(r, &it) || !read_shares(r, &it))
         return;
     it.is_of_several = has_no_link(r);
+    if (!it.is_of_several && !has_room_for_link(r))
+        return;
     if (!(it.is_of_several ? read_node(r, &it) : read_whole_link(r, &it) && read_node_on_link(r, &it)) || !reader_ends(r))
         return;
     r->has_links_below = it.is_of_several;
@@ -392,9 +403,7 @@ static void read_link_line(reader *r)
         reader_fault(r, r->words[0], "expected below the line of a network that names no link itself");
     else if (r->into->count - r->first == IPXR_MOST_LINKS)
         reader_fault(r, r->words[0], "expected at most %d links of a network", IPXR_MOST_LINKS);
-    else if (r->into->count == MOST_LINKS)
-        reader_fault(r, r->words[0], "expected at most %d links", MOST_LINKS);
-    else if (read_whole_link(r, &it) && reader_ends(r)) {
+    else if (has_room_for_link(r) && read_whole_link(r, &it) && reader_ends(r)) {
         r->into->networks[r->into->count++] = it;
         agree_on_shares(r);
         r->is_below_wrong = false;
@@ -419,15 +428,19 @@ static void read_line(reader *r, char *line)
 /* Reads all lines; returns false where memory or the file fails. */
 static bool read_lines(reader *r, FILE *file)
 {
-    char *line = NULL;
-    size_t room = 0;
-    ssize_t length;
-    while (errno = 0, (length = line_read(&line, &room, file)) >= 0) {
+    char *line = NULL, *text = NULL;
+    size_t room = 0, length;
+    ssize_t whole;
+    while (errno = 0, (whole = line_read(&line, &room, file)) >= 0) {
         r->line++;
-        if (strlen(line) != (size_t)length)
-            reader_fault(r, line, "expected text, there is a byte 0 behind it");
+        length = (size_t)whole;
+        text = r->line == 1 ? reader_begin(r, line, &length) : line;
+        if (text == NULL)
+            break;
+        if (strlen(text) != length)
+            reader_fault(r, text, "expected text, there is a byte 0 behind it");
         else
-            read_line(r, line);
+            read_line(r, text);
     }
     free(line);
     return !ferror(file) && errno == 0;
@@ -438,11 +451,13 @@ size_t settings_read(settings *it, FILE *file, const char *name, FILE *complaint
     reader r = {.name = name, .complaints = complaints, .into = it};
     memset(it, 0, sizeof *it);
     bool is_read = read_lines(&r, file);
-    end_network(&r);
-    if (!is_read) {
+    if (is_read)
+        end_network(&r);
+    else {
         fprintf(complaints, "%s: can't be read: %s\n", name, fault_words());
         r.faults++;
-    } else if (r.faults == 0 && it->count == 0) {
+    }
+    if (r.faults == 0 && it->count == 0) {
         fprintf(complaints, "%s: expected a line that begins with network\n", name);
         r.faults++;
     }

@@ -49,7 +49,7 @@ void sheet_word(sheet *s, const uint8_t *bytes, size_t count)
 
 static bool is_last(const column *at)
 {
-    return at[1].key == NULL;
+    return at->key == NULL || at[1].key == NULL;
 }
 
 /* Fills up a column that was begun at a place of the text. */
@@ -86,11 +86,13 @@ void record_end(sheet *s)
     sheet_put(s, s->form == AS_JSON ? "}" : "\n");
 }
 
-/* Begins a field. Returns where it begins. */
+/* Begins a field. Returns where it begins. (one too many has no column: what it is called shows that) */
 static size_t begin(sheet *s)
 {
     if (s->form == AS_JSON)
-        sheet_put(s, "%s\"%s\": ", s->is_first ? "" : ", ", s->next->key);
+        sheet_put(s, "%s\"%s\": ", s->is_first ? "" : ", ", s->next->key != NULL ? s->next->key : "?");
+    else if (s->next->key == NULL)
+        sheet_put(s, " ");
     s->is_first = false;
     return s->count;
 }
@@ -99,7 +101,7 @@ static void end(sheet *s, size_t begun)
 {
     if (s->form == AS_COLUMNS)
         pad(s, s->next, begun);
-    s->next++;
+    s->next += s->next->key != NULL;
 }
 
 /* A field of bytes, in quotes where it is JSON. */

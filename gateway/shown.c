@@ -64,7 +64,7 @@ static const char *kinds_on(const network *on, char words[KINDS_ROOM])
 static bool next_link(gateway *it, cursor *at, sheet *s)
 {
     char link[LINK_ROOM], lack[LACK_ROOM], kinds[KINDS_ROOM];
-    if (at->network == it->count)
+    if (at->network >= it->count)
         return false;
     const network *on = &it->networks[at->network++];
     record_begin(s, LINK_COLUMNS);

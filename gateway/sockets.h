@@ -14,6 +14,9 @@
  * Returns the socket, or -1. */
 int datagram_open(address *local, const address *remote);
 
+/* Whether the address that the system chose for a socket with a remote one is the machine's still; also where that can't be said. */
+bool datagram_has_address(int fd);
+
 /* The next datagrams of a socket, or the next frames of an interface's. Returns false where there is none; with ECONNREFUSED where
  * somebody said, as anybody can, that nobody hears what the socket sent. */
 bool datagrams_receive(int fd, arrivals *in);
@@ -47,8 +50,9 @@ bool connection_is_own(int fd);
 /* Whether the other end has not acknowledged for a minute what was sent to it, and the system would go on trying. */
 bool connection_is_dead(int fd);
 
-/* Whether something has come that wasn't received yet, or that it was closed. */
+/* Whether something has come that wasn't received yet, or that it was closed; and whether it was closed or failed, whatever came before. */
 bool connection_has_more(int fd);
+bool connection_has_ended(int fd);
 
 /* What has come on a connection, or 0 where the other end has closed it; as much as it takes of what is to go. Returns how many bytes,
  * or -1. */

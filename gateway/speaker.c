@@ -63,6 +63,40 @@ static void be_quiet(speaker *it)
     it->queue = 0;
 }
 
+static household *new_household(uint64_t between)
+{
+    household *it = malloc(sizeof *it);
+    if (it == NULL)
+        return NULL;
+    memset(it, 0, sizeof *it);
+    it->between = between;
+    return it;
+}
+
+/* (where there is no memory networks with different limits share one) */
+household *speaker_household(speaker *it, uint64_t between)
+{
+    household *at = &it->first;
+    if (at->between == 0)
+        at->between = between;
+    while (at->between != between && at->next != NULL)
+        at = at->next;
+    if (at->between == between)
+        return at;
+    at->next = new_household(between);
+    return at->next != NULL ? at->next : at;
+}
+
+static void forget_household(household *it)
+{
+    household *next;
+    for (household *at = it->next; at != NULL; at = next) {
+        next = at->next;
+        free(at);
+    }
+    memset(it, 0, sizeof *it);
+}
+
 void speaker_leave(speaker *it)
 {
     speaker **at = &speakers;
@@ -70,6 +104,7 @@ void speaker_leave(speaker *it)
         return;
     line_end(&it->line);
     be_quiet(it);
+    forget_household(&it->first);
     if (it == &spare)
         return;
     while (*at != it)
@@ -94,8 +129,8 @@ void speakers_second(void)
 
 static void forget(speaker *it)
 {
-    memset(&it->received, 0, sizeof it->received);
-    it->among = it->asked = it->answered = it->handed = it->advertised = 0;
+    forget_household(&it->first);
+    it->asked = it->answered = it->handed = it->advertised = 0;
 }
 
 void speakers_forget(void)

@@ -14,14 +14,21 @@
  * another kind; all behind these are of addresses that speak. Where more speak than there are numbers, some have the same one. */
 enum { OF_ROUTER, OF_PINGS, OF_NETWORKS, OF_ADDRESSES = 16 };
 
+/* What all clients of an address receive on networks with one limit for that. */
+typedef struct household {
+    uint64_t between; /* nanoseconds that a packet takes there; 0 where nobody has received any */
+    fair received;    /* of each other who speaks to them; */
+    meter among;      /* and of each other */
+    struct household *next;
+} household;
+
 /* An address that clients have, and what they said together. Or a network that isn't of DOSBox'. */
 typedef struct speaker {
     uint8_t host[4];
     size_t clients;
     size_t queue;     /* the number of its queue, or 0 where an address doesn't speak; */
     unsigned quiet;   /* and seconds since it did */
-    fair received;    /* by all its clients, of each other who speaks to them; */
-    meter among;      /* and of each other */
+    household first;  /* what all its clients receive; of other limits in a list behind it */
     meter asked;      /* of the router */
     meter answered;   /* by the gateway */
     meter handed;     /* to the router */
@@ -39,6 +46,9 @@ void speaker_leave(speaker *it);
 /* An address speaks, or a network of another kind with a number. Returns the number of its queue. */
 size_t speaker_speaks(speaker *it);
 void speaker_be_network(speaker *it, size_t number);
+
+/* What an address receives on networks where a packet takes so many nanoseconds of that. */
+household *speaker_household(speaker *it, uint64_t between);
 
 /* A second passes for all addresses. */
 void speakers_second(void);

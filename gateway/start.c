@@ -58,10 +58,29 @@ static network *first_on_link(gateway *it, network *on)
     return first;
 }
 
-void gateway_take_ports(gateway *it)
+/* The kinds of frames that a network's own socket hears on an interface: its own. The first one there also hears those that no network has,
+ * since it tells that somebody speaks them. */
+static unsigned kinds_for_socket(const gateway *it, const network *on)
+{
+    unsigned others = 0;
+    for (size_t k = 0; k < it->count; k++)
+        if (&it->networks[k] != on && it->networks[k].of_link == on->of_link)
+            others |= kind_bits(it->networks[k].set->kind);
+    return on->of_link == &on->queues ? ALL_KINDS & ~others : kind_bits(on->set->kind);
+}
+
+static void take_links(gateway *it)
 {
     for (size_t k = 0; k < it->count; k++)
         it->networks[k].of_link = &first_on_link(it, &it->networks[k])->queues;
+    for (size_t k = 0; k < it->count; k++)
+        if (it->networks[k].set->type == LINK_INTERFACE)
+            cable_hears(it->networks[k].cable, kinds_for_socket(it, &it->networks[k]));
+}
+
+void gateway_take_ports(gateway *it)
+{
+    take_links(it);
     it->port_count = 0;
     for (size_t k = 0; k < it->count; k++) {
         port *at = &it->ports[it->networks[k].set->port];
@@ -82,13 +101,7 @@ static int32_t make(gateway *it)
     ipxr_port ports[IPXR_MOST_PORTS] = {{0}};
     for (size_t k = 0; k < it->port_count; k++) {
         const network *first = first_of(it, &it->ports[k]);
-        const network_setting *set = first->set;
-        ports[k].network = set->network;
-        node_choose(set, first->cable, ports[k].node);
-        ports[k].cost = set->cost;
-        ports[k].longest = set->longest;
-        ports[k].routes = set->routes;
-        ports[k].services = set->services;
+        ports[k] = node_port(first->set, first->cable->card);
     }
     int32_t made = ipxr_make(&it->router, ports, it->port_count);
     for (size_t k = 0; made >= 0 && k < it->count; k++)
@@ -120,12 +133,19 @@ static int32_t open_tunnels(gateway *it)
     return made;
 }
 
-int32_t gateway_open_segments(gateway *it)
+/* Makes the segments of networks of several links. Returns 0, or the library's fault. */
+static int32_t open_segments(gateway *it)
 {
     int32_t made = 0;
-    for (size_t k = 0; made >= 0 && k < it->port_count; k++)
-        if (first_of(it, &it->ports[k])->set->is_of_several)
-            made = segment_open(it, &it->ports[k]);
+    for (size_t k = 0; made >= 0 && k < it->port_count; k++) {
+        port *at = &it->ports[k];
+        const network *first = first_of(it, at);
+        if (!first->set->is_of_several)
+            continue;
+        made = segment_make(&at->segment, first->set, at->count, first->node);
+        if (made >= 0)
+            segment_begin(it, at);
+    }
     return made;
 }
 
@@ -141,7 +161,7 @@ bool gateway_start(gateway *it)
     if (made >= 0)
         made = open_tunnels(it);
     if (made >= 0)
-        made = gateway_open_segments(it);
+        made = open_segments(it);
     if (made < 0) {
         complain("ipxr-gateway: %s", answer_words(made, words));
         return false;
@@ -186,8 +206,8 @@ void gateway_renew(gateway *it)
     if (make(it) < 0)
         return; /* (no memory: it is tried again with the next second) */
     for (size_t k = 0; k < it->port_count; k++)
-        if (!it->ports[k].is_up && ipxr_port_down(&it->router, (uint8_t)k) < 0)
-            it->ports[k].is_up = first_of(it, &it->ports[k])->is_up = true; /* (and the next look tells the router) */
+        if (!it->ports[k].is_up)
+            it->ports[k].is_up = ipxr_port_down(&it->router, (uint8_t)k) < 0; /* (then the next look tells the router) */
     gateway_send_all(it);
     links_look_at_all(it);
 }

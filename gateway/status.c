@@ -135,7 +135,7 @@ static viewer *place_for_one(void)
 static void rest(int fault)
 {
     bool is_told = the.rests;
-    the.rests = is_for_want_of_room(fault);
+    the.rests = fault != 0 && !is_of_nobody(fault);
     the.rests_since = clock_now();
     errno = fault;
     if (the.rests && !is_told)

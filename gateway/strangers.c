@@ -11,8 +11,8 @@ enum { PART_OF_ONE = 8, PART_AT_ONCE = 2 };
 /* Bytes of a place that are its address. */
 enum { HOST = 4 };
 
-/* How many at once, in seconds of what goes to all. */
-enum { BURST = 2 };
+/* How many at once, in seconds of what goes to all; and to one address at least as many as a registration takes, its answer and a ping. */
+enum { BURST = 2, LEAST_OF_ONE = 2 };
 
 /* The turns of a second, from a registration on, in which one is pinged again, and once more, so that more than one second and three have
  * passed; and places of the list for one address. */
@@ -30,14 +30,15 @@ bool strangers_make(strangers *it, uint32_t rate, const uint8_t key[SIPHASH_KEY]
     if (it->has_no_limit)
         return true;
     it->all = limit_of(rate, 1, BURST * rate);
-    it->one = limit_of(rate, PART_OF_ONE, BURST * rate / PART_AT_ONCE);
+    uint32_t of_one = BURST * rate / PART_AT_ONCE;
+    it->one = limit_of(rate, PART_OF_ONE, of_one > LEAST_OF_ONE ? of_one : LEAST_OF_ONE);
     return true;
 }
 
 void strangers_free(strangers *it)
 {
     free(it->hosts);
-    it->hosts = NULL;
+    memset(it, 0, sizeof *it);
 }
 
 /* What an address has been sent. (with a hash that can be told beforehand somebody would choose an address that has a newcomer's) */

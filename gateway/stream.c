@@ -3,6 +3,7 @@
 #include <errno.h>
 #include <string.h>
 
+#include "fault.h"
 #include "ipx.h"
 #include "sockets.h"
 
@@ -14,15 +15,15 @@ void stream_clear(stream *it)
     it->taken = it->in = it->out = 0;
 }
 
-/* Bytes of the frame that came next, with its length in front; 0 where not even that has come. */
-static size_t size_of_next(const stream *it)
+/* Bytes of the frame that came next, with its length in front, which may be any; 0 where not even that has come. */
+static uint64_t size_of_next(const stream *it)
 {
-    return it->in - it->taken < FRONT ? 0 : FRONT + (size_t)get32(it->coming + it->taken);
+    return it->in - it->taken < FRONT ? 0 : FRONT + (uint64_t)get32(it->coming + it->taken);
 }
 
 bool stream_has_frame(const stream *it)
 {
-    size_t size = size_of_next(it);
+    uint64_t size = size_of_next(it);
     return size != 0 && it->in - it->taken >= size;
 }
 
@@ -50,20 +51,16 @@ bool stream_looks(stream *it, int fd)
             return false;
         }
         if (!fill(it, fd))
-            return errno == EAGAIN || errno == EINTR;
+            return may_pass(errno);
     }
     return true;
 }
 
 ssize_t stream_receive(stream *it, int fd, uint8_t *frame, size_t room)
 {
-    if (!stream_looks(it, fd))
+    if (!stream_looks(it, fd) || !stream_has_frame(it))
         return -1;
-    if (!stream_has_frame(it)) {
-        errno = EAGAIN;
-        return -1;
-    }
-    size_t size = size_of_next(it);
+    size_t size = (size_t)size_of_next(it);
     memcpy(frame, it->coming + it->taken + FRONT, size - FRONT < room ? size - FRONT : room);
     it->taken += size;
     return (ssize_t)(size - FRONT);
@@ -74,7 +71,7 @@ bool stream_push(stream *it, int fd)
     while (it->out > 0) {
         ssize_t count = connection_send(fd, it->going, it->out);
         if (count < 0)
-            return errno == EAGAIN || errno == EINTR || errno == ENOBUFS;
+            return may_pass(errno);
         it->out -= (size_t)count;
         memmove(it->going, it->going + count, it->out);
     }

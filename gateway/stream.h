@@ -26,7 +26,8 @@ bool stream_looks(stream *it, int fd);
 /* Whether a whole frame has come that wasn't taken yet. */
 bool stream_has_frame(const stream *it);
 
-/* The next frame's length, its first bytes copied; -1 where there is none yet, and errno is EAGAIN unless the connection is lost. */
+/* The next frame's length, its first bytes copied; -1 where there is none yet, and errno is what may_pass (fault.h) unless the connection is
+ * lost. */
 ssize_t stream_receive(stream *it, int fd, uint8_t *frame, size_t room);
 
 /* Takes a frame to be sent, or none of it where there is no room. */

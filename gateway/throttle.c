@@ -30,8 +30,8 @@ enum { ADVERTISEMENTS = 4, ADVERTISEMENTS_AT_ONCE = 32, LINK_ADVERTISEMENTS = 10
 enum { ROUTES_IN_PACKET = 50, SERVICES_IN_PACKET = 7 };
 
 /* So many times a second, and no fewer, what an address' limit is at once of one who speaks alone. There is half as much room again for all
- * together, and half of it is kept. They never take so many times that. */
-enum { HOUSEHOLD_PART = 8, HOUSEHOLD_AT_ONCE = 2 * (LEAST_AT_ONCE + LEAST_KEPT), HALVES = 3, HOUSEHOLD_MOST = 2 };
+ * together, and half of it is kept. */
+enum { HOUSEHOLD_PART = 8, HOUSEHOLD_AT_ONCE = 2 * (LEAST_AT_ONCE + LEAST_KEPT), HALVES = 3 };
 
 /* Answers to pings may use so much of the burst that an address hands to the router. Answers of the gateway to what a client says to it. */
 enum { BURST_WITH_PINGS = BURST / 2, ANSWERS = 2, ANSWERS_AT_ONCE = 8 };
@@ -259,19 +259,17 @@ speaker *throttle_brought(const uint8_t *packet)
     return memcmp(packet + AT_FROM_NODE, brought.source, sizeof brought.source) == 0 ? brought.from : NULL;
 }
 
-/* Whether an address has room for a copy for one of its clients; it is counted then. (where its clients are on networks with different
- * limits the queues begin anew with each, and what they take together is the limit) */
+/* Whether an address has room for a copy for one of its clients; it is counted then. */
 static bool household_receives(const throttle *it, member *to, size_t queue)
 {
     if (!it->has_household || to->is_trusted)
         return true;
+    household *all = speaker_household(to->speaks, it->household.between);
     if (queue >= OF_ADDRESSES && queue == to->speaks->queue)
-        return limit_lets(&it->among_household, &to->speaks->among, 1);
-    fair *received = &to->speaks->received;
-    bool has_room = fair_look(&it->household, received, queue, 1) != QUEUE_FULL &&
-                    limit_ahead(&received->used) <= HOUSEHOLD_MOST * (it->household.room + it->household.kept);
+        return limit_lets(&it->among_household, &all->among, 1);
+    bool has_room = fair_has_room(&it->household, &all->received, queue, 1);
     if (has_room)
-        fair_add(&it->household, received, queue, 1);
+        fair_add(&it->household, &all->received, queue, 1, 1);
     return has_room;
 }
 
@@ -280,25 +278,25 @@ reason throttle_receives(const throttle *it, member *to, size_t queue, size_t le
     if (it->is_off || to == NULL)
         return REASONS;
     uint32_t count = pieces(length);
-    fullness is = fair_look(&it->received, to->queues, queue, count);
-    if (is == QUEUE_FULL && queue != OF_ROUTER)
+    bool has_room = fair_has_room(&it->received, to->queues, queue, count);
+    if (!has_room && queue != OF_ROUTER)
         return TOO_MUCH_FOR_CLIENT;
     /* (what its address has no room for counts too: else the queue of who floods would be empty each time) */
-    if (is != QUEUE_FULL)
-        fair_add(&it->received, to->queues, queue, count);
+    if (has_room)
+        fair_add(&it->received, to->queues, queue, count, 1);
     return household_receives(it, to, queue) ? REASONS : TOO_MUCH_FOR_ADDRESS;
 }
 
-/* (networks of another kind have no clients) */
+/* (networks of another kind have no clients. A packet goes out in all of its frames or in none, so nobody hears less for the kind that he
+ * uses: where its queue has room for the first, those behind it are owed, and the queue has room again once they are served) */
 reason throttle_carries(const throttle *it, fair *queues, const uint8_t *packet, size_t length, uint32_t frames)
 {
     speaker *from = throttle_brought(packet);
     if (it->is_off || from == NULL || from->clients == 0)
         return REASONS;
     size_t queue = throttle_queue(from, packet);
-    if (fair_look(&it->received, queues, queue, pieces(length)) != QUEUE_FULL) {
-        for (; frames > 0; frames--)
-            fair_add(&it->received, queues, queue, pieces(length));
+    if (fair_has_room(&it->received, queues, queue, pieces(length))) {
+        fair_add(&it->received, queues, queue, pieces(length), frames);
         return REASONS;
     }
     if (brought.copies != NULL)

@@ -309,11 +309,28 @@ static bool carry_over(gateway *it, network *on, member *from, const uint8_t *pa
     return what.links > 0;
 }
 
+/* Whether it is for routers of another network. Where it names no network as its source, they would take it for a neighbour's, and learn
+ * beyond what this network may advertise; nobody else than routers says such a thing, which they say to their own networks. */
+static bool is_for_far_routers(const network *on, const uint8_t *packet)
+{
+    uint16_t socket = get16(packet + AT_TO_SOCKET);
+    return (socket == IPXR_RIP_SOCKET || socket == IPXR_SAP_SOCKET) && !is_for_here(on, packet);
+}
+
+/* Why what a client said is dropped before anybody gets it; REASONS where it isn't. */
+static reason why_not_said(network *on, member *from, const uint8_t *packet)
+{
+    if (!is_for_far_routers(on, packet))
+        return throttle_lets_say(&on->throttle, from, packet);
+    from->dropped[DROPPED_FOR_ROUTER]++;
+    return FOR_FAR_ROUTERS;
+}
+
 /* Sends what a client said before the router, which sends too, hears it. */
 static void carry(gateway *it, network *on, member *from, const uint8_t *packet, size_t length)
 {
     bool is_heard = ipxr_tunnel_is_heard(&on->tunnel) == 1;
-    reason why = throttle_lets_say(&on->throttle, from, packet);
+    reason why = why_not_said(on, from, packet);
     if (why != REASONS) {
         gateway_lose(on, why);
         return;

@@ -20,8 +20,11 @@ typedef struct watch {
     bool has_changed; /* and that isn't only something to be received */
 } watch;
 
-/* Waits until something comes, somebody gives an order, or so many milliseconds have passed. Returns false where it isn't known
- * what has come. */
+/* Where the system can't wait, milliseconds until one looks everywhere. */
+enum { MOMENT = 10 };
+
+/* Waits until something comes, somebody gives an order, or so many milliseconds have passed. Returns false where it isn't known what has
+ * come, as there is an order. Where the system can't wait, it returns after a moment, and something may have come everywhere. */
 bool watch_all(watch *list, size_t count, int milliseconds);
 
 #endif

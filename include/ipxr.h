@@ -89,8 +89,9 @@ extern "C" {
 #define IPXR_ALREADY_DOWN 10    /* the port was down; nothing was done */
 #define IPXR_ALREADY_UP 11      /* the port was up; nothing was done */
 
-/* ---- Why an event was dropped: nothing was done, nothing is sent. The hundreds are the number of the check in
- * docs/ROUTER.md, the rest says what was wrong with the bytes. ---- */
+/* ---- Why an event was dropped: nothing was done, nothing is sent. Each reason has a hundred of its own, which it keeps: a new
+ * one gets the next that is free, wherever its check stands among those of docs/ROUTER.md, so that numbers don't tell the order of
+ * the checks. The rest, 0 to 9, says what was wrong with the bytes. ---- */
 
 #define IPXR_DROPPED(answer) ((answer) >= 100)
 
@@ -120,6 +121,7 @@ extern "C" {
 #define IPXR_NO_ROUTE 1600            /* for a network to which there is no route */
 #define IPXR_TOO_LONG 1700            /* to be forwarded, and longer than the outgoing port allows */
 #define IPXR_DOWN_PORT 1800           /* came on a port that is down */
+#define IPXR_LAST_DROP IPXR_DOWN_PORT /* no drop of this version has a higher number */
 
 /* ---- Faults: below 0. The call did nothing. ---- */
 
@@ -299,6 +301,7 @@ IPXR_CALL int32_t ipxr_service(ipxr *router, size_t index, ipxr_service_record *
 #define IPXR_FRAME_RAW 2       /* behind a length: Novell's own kind, for packets without a checksum (FFFFh there) */
 #define IPXR_FRAME_LLC 3       /* behind a length and the 802.2 header E0 E0 03 */
 #define IPXR_FRAME_SNAP 4      /* behind a length and the 802.2 header AA AA 03 00 00 00 81 37 */
+#define IPXR_FRAME_KINDS 4     /* how many kinds there are: their numbers are 1 to this one, which a new kind raises */
 
 /* Bytes of the shortest and of the longest frame that is written, without the checksum that a card adds. */
 #define IPXR_SHORTEST_FRAME 60

@@ -44,20 +44,26 @@ static int closed(int fd)
     return -1;
 }
 
-int local_connect(const char *path)
+/* Connects to a path by a socket of some type. Returns it, or -1. */
+static int connected(const char *path, int type)
 {
     struct sockaddr_un at;
-    int fd = named(path, &at) ? socket(AF_UNIX, SOCK_STREAM, 0) : -1;
+    int fd = named(path, &at) ? socket(AF_UNIX, type, 0) : -1;
     if (fd < 0 || connect(fd, (const struct sockaddr *)&at, sizeof at) == 0)
         return fd;
     return closed(fd);
 }
 
-/* Removes a socket at which nobody listens any more. */
+int local_connect(const char *path)
+{
+    return connected(path, SOCK_STREAM);
+}
+
+/* Removes a socket at which nobody listens any more. (it doesn't wait for one who listens, and takes nobody) */
 static void remove_left(const char *path)
 {
     struct stat found;
-    int fd = local_connect(path);
+    int fd = connected(path, SOCK_STREAM | SOCK_NONBLOCK);
     if (fd < 0 && errno == ECONNREFUSED && lstat(path, &found) == 0 && S_ISSOCK(found.st_mode))
         unlink(path);
     close_any(&fd);

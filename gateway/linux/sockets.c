@@ -15,7 +15,7 @@
 #include <unistd.h>
 
 /* Bytes that the system keeps: of what has come, while the gateway sends to many; and of what it sends, as to machines that are gone. */
-enum { KEPT = 8 << 20, KEPT_SENT = 8 << 20, MOST_WAITING = 4 };
+enum { KEPT = 8 << 20, KEPT_SENT = 8 << 20, MOST_WAITING = 128 };
 
 /* What goes to strangers may hold one part in so many of what the system keeps of what is sent. */
 enum { STRANGERS_PART = 4 };
@@ -172,6 +172,21 @@ int datagram_open(address *local, const address *remote)
     return kept_if(is_bound(fd, local) && (remote == NULL || is_connected(fd, remote)), fd);
 }
 
+/* (a socket for another port at that address tells it) */
+bool datagram_has_address(int fd)
+{
+    any_address at = {.six = {.sin6_family = AF_INET}};
+    socklen_t size = sizeof at;
+    if (getsockname(fd, &at.one, &size) != 0)
+        return true;
+    address own = of_any(&at);
+    own.port = 0;
+    int other = unwaiting(socket(family_of(&own), SOCK_DGRAM, 0));
+    bool is_gone = other >= 0 && !is_bound(other, &own) && errno == EADDRNOTAVAIL;
+    close_any(&other);
+    return !is_gone;
+}
+
 int listener_open(address *local)
 {
     int yes = 1;
@@ -256,6 +271,12 @@ bool connection_has_more(int fd)
     return recv(fd, &byte, sizeof byte, MSG_PEEK) >= 0 || errno != EAGAIN;
 }
 
+bool connection_has_ended(int fd)
+{
+    struct pollfd at = {fd, POLLRDHUP, 0};
+    return poll(&at, 1, 0) > 0;
+}
+
 /* ---- Sending and receiving ---- */
 
 /* Datagrams as the system takes them: each with its place, and with its bytes in one piece. */
@@ -283,13 +304,17 @@ static batch *rooms_of(arrivals *in)
     return &rooms;
 }
 
-/* Whether a call on a socket for datagrams has done nothing but to tell what ICMP said of an earlier one. Anybody can send that. */
+/* Whether a call on a socket for datagrams has done nothing but to tell what ICMP said of an earlier one, for IPv4 or IPv6: such as that it
+ * was too long, or that somebody on its way forbids it. Anybody can send that. */
 static bool tells_complaint(ssize_t answer)
 {
     if (answer >= 0)
         return false;
     switch (errno) {
     case ECONNREFUSED:
+    case EACCES:
+    case EMSGSIZE:
+    case EOPNOTSUPP:
     case ENOPROTOOPT:
     case ENETUNREACH:
     case EHOSTUNREACH:

@@ -37,13 +37,20 @@ bool tap_send(int fd, const uint8_t *frame, size_t length)
     return refused() == 0;
 }
 
-int interface_open(const char *name, uint8_t kind, unsigned *index, uint8_t card[6])
+int interface_open(const char *name, unsigned kinds, unsigned *index, uint8_t card[6])
 {
     (void)name;
-    (void)kind;
+    (void)kinds;
     (void)index;
     (void)card;
     return refused();
+}
+
+bool interface_hears_kinds(int fd, unsigned kinds)
+{
+    (void)fd;
+    (void)kinds;
+    return refused() == 0;
 }
 
 bool interface_hears_all(int fd, unsigned index)
@@ -53,10 +60,16 @@ bool interface_hears_all(int fd, unsigned index)
     return refused() == 0;
 }
 
-bool interface_again(int fd, uint8_t kind, unsigned index)
+bool interface_again(int fd, unsigned index)
 {
     (void)fd;
-    (void)kind;
+    (void)index;
+    return refused() == 0;
+}
+
+bool interface_is_heard(int fd, unsigned index)
+{
+    (void)fd;
     (void)index;
     return refused() == 0;
 }

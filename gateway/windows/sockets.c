@@ -9,7 +9,7 @@
 #include <mswsock.h>
 
 /* Bytes that the system keeps for the gateway, while it sends to many. */
-enum { KEPT = 1 << 20, MOST_WAITING = 4 };
+enum { KEPT = 1 << 20, MOST_WAITING = 128 };
 
 /* Milliseconds of silence, after which a connection is asked whether it is there; and each until it is asked again, which Windows does ten
  * times. Together a minute. */
@@ -157,6 +157,21 @@ int datagram_open(address *local, const address *remote)
     return kept_if(is_bound(fd, local) && (remote == NULL || is_connected(fd, remote)), fd);
 }
 
+/* (a socket for another port at that address tells it) */
+bool datagram_has_address(int fd)
+{
+    any_address at = {.six = {.sin6_family = AF_INET}};
+    int size = sizeof at;
+    if (getsockname((SOCKET)fd, &at.one, &size) != 0)
+        return true;
+    address own = of_any(&at);
+    own.port = 0;
+    int other = unwaiting(socket(family_of(&own), SOCK_DGRAM, 0));
+    bool is_gone = other >= 0 && !is_bound(other, &own) && errno == EADDRNOTAVAIL;
+    close_any(&other);
+    return !is_gone;
+}
+
 int listener_open(address *local)
 {
     int fd = unwaiting(socket(family_of(local), SOCK_STREAM, 0));
@@ -241,6 +256,12 @@ bool connection_has_more(int fd)
 {
     char byte;
     return recv((SOCKET)fd, &byte, sizeof byte, MSG_PEEK) >= 0 || WSAGetLastError() != WSAEWOULDBLOCK;
+}
+
+bool connection_has_ended(int fd)
+{
+    WSAPOLLFD at = {.fd = (SOCKET)fd, .events = POLLRDNORM};
+    return WSAPoll(&at, 1, 0) > 0 && (at.revents & (POLLHUP | POLLERR)) != 0;
 }
 
 /* ---- Sending and receiving ---- */

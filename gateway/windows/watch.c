@@ -34,12 +34,23 @@ static bool waits(sets *it, int milliseconds)
     return true;
 }
 
+/* (Winsock tells no order by a fault) */
+static bool may_have_come_everywhere(watch *list, size_t count, int milliseconds)
+{
+    Sleep((DWORD)(milliseconds < MOMENT ? milliseconds : MOMENT));
+    for (size_t k = 0; k < count; k++) {
+        list[k].has_come = true;
+        list[k].has_changed = false;
+    }
+    return true;
+}
+
 bool watch_all(watch *list, size_t count, int milliseconds)
 {
     sets all;
     fill(&all, list, count);
     if (!waits(&all, milliseconds))
-        return false;
+        return may_have_come_everywhere(list, count, milliseconds);
     if (bell_socket() != INVALID_SOCKET && FD_ISSET(bell_socket(), &all.receive))
         bell_hush();
     for (size_t k = 0; k < count; k++) {
