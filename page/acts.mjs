@@ -1,6 +1,8 @@
 // What is built by hand: each act makes lines of a script, and says where they go. The script stays the truth.
 import { padded } from "./bytes.mjs";
-import { bytesTyped, digits, offerOf, packetOf, Wrong } from "./words.mjs";
+import { arriving, hostNode, portNetwork, portNetworks, unjoined } from "./refused.mjs";
+import { digits, Wrong } from "./typed.mjs";
+import { offerOf, packetOf } from "./words.mjs";
 
 export const MOST_PORTS = 8;
 const [MOST_ROUTERS, MOST_SECONDS] = [32, 86400];
@@ -8,11 +10,9 @@ const SETTLE = "settle 1000000";
 const LIMIT = 1000;
 const ALL = "all";
 
-const network = (typed) => digits("network", typed, 4);
-
-// A node that no port of that network has: of router 2, port 0 it is 000000000301.
+// A node that no port or host of that network has: of router 2, port 0 it is 000000000301.
 export function freeNode(script, router, port, net) {
-    const there = script.routers.flatMap((it) => it.ports).filter((it) => padded(it.network, 8) === net);
+    const there = [...script.routers.flatMap((it) => it.ports), ...script.hosts].filter((it) => padded(it.network, 8) === net);
     const taken = new Set(there.map((it) => padded(it.node, 12)));
     let it = (router + 1) * 256 + port + 1;
     while (taken.has(padded(it.toString(16), 12))) it += 0x10000;
@@ -105,7 +105,7 @@ export const ACTS = {
         isFixed: true, label: "+ Router", title: "Add a router",
         fields: () => [{ name: "networks", label: "On networks", value: "", hint: "such as 10 20" }],
         lines(script, { networks: typed }) {
-            const nets = [...new Set(typed.trim().split(/[\s,]+/).filter((it) => it).map((it) => digits("networks", it, 4)))];
+            const nets = portNetworks("networks", typed);
             if (!nets.length || nets.length > MOST_PORTS) throw new Wrong("networks", `1 to ${MOST_PORTS} networks`);
             if (script.routers.length >= MOST_ROUTERS) throw new Wrong("networks", `there are ${MOST_ROUTERS} routers already`);
             const number = script.routers.length;
@@ -120,7 +120,8 @@ export const ACTS = {
         lines(script, it) {
             const router = script.routers[+it.router];
             if (router.ports.length >= MOST_PORTS) throw new Wrong("router", `it has ${MOST_PORTS} ports already`);
-            return { fixed: router.last + 1, lines: [portLine(script, +it.router, router.ports.length, network(it.network))] };
+            const network = unjoined("network", router, portNetwork("network", it.network));
+            return { fixed: router.last + 1, lines: [portLine(script, +it.router, router.ports.length, network)] };
         },
     },
     host: {
@@ -128,7 +129,10 @@ export const ACTS = {
         fields: (script, chosen) => [
             { name: "network", label: "On network", choices: networks(script), value: chosenFirst("network", chosen) },
             { name: "node", label: "Node", value: freshNode(script) }],
-        lines: (script, it) => ({ fixed: behindHosts(script), lines: [`# host ${padded(it.network, 8)}.${digits("node", it.node, 6)}`] }),
+        lines(script, it) {
+            const node = hostNode("node", script, it.network, it.node);
+            return { fixed: behindHosts(script), lines: [`# host ${padded(it.network, 8)}.${node}`] };
+        },
     },
     start: {
         label: "Start", title: "Start routers", needs: routers,
@@ -196,7 +200,7 @@ export const ACTS = {
         fields: (script, chosen, packet) => [
             { name: "link", label: "By port", choices: ports(script), value: chosenPort(chosen) },
             { name: "hex", label: "Bytes", value: packet, hint: "those of the pane Packet" }],
-        lines: (_, it) => ({ now: [`in ${it.link} ${bytesTyped("hex", it.hex) || "-"}`, SETTLE] }),
+        lines: (_, it) => ({ now: [`in ${it.link} ${arriving("hex", it.hex)}`, SETTLE] }),
     },
 };
 

@@ -2,12 +2,13 @@
 import { base64Of, fromBase64 } from "./bytes.mjs";
 
 // Longer texts make no link that could be sent around.
-const LONGEST = 24000;
+export const LONGEST = 24000;
+
+export const lengthOf = (text) => new TextEncoder().encode(text).length;
 
 export function written(pane, text) {
-    const bytes = new TextEncoder().encode(text);
-    if (!text) return `#${pane}`;
-    return bytes.length > LONGEST ? `#${pane}=` : `#${pane}=${base64Of(bytes)}`;
+    if (!text || lengthOf(text) > LONGEST) return `#${pane}`;
+    return `#${pane}=${base64Of(new TextEncoder().encode(text))}`;
 }
 
 // The pane and the text of an address; of one that nobody could have written, nothing.

@@ -1,10 +1,12 @@
 // An opened capture: the text of `ipxr decode`, in which the records are found again, and the bytes of each.
 import { hexOf } from "./bytes.mjs";
+import { Filter } from "./filter.mjs";
 import { conversations } from "./conversations.mjs";
 import { Places } from "./pcap.mjs";
 import { classic, isPcapng } from "./pcapng.mjs";
 import { recordOf } from "./records.mjs";
 import { Unanswered } from "./unanswered.mjs";
+import { wrongFile } from "./wrong_file.mjs";
 
 const BEGIN = "record ";
 
@@ -23,49 +25,32 @@ function starts(text) {
     return { found, fault: isFault ? text.slice(last).trim() : "" };
 }
 
-// Whether a record is what a filter asks for; an empty word asks for nothing.
-function fits(text, { address, type, socket, word }) {
-    if (word && !text.toUpperCase().includes(word)) return false;
-    if (!address && !type && !socket) return true;
-    const head = text.slice(0, text.indexOf("\n")).split(" ");
-    if (head.length !== 11) return false;
-    const ends = [head[3], head[4]];
-    if (type && head[8] !== type) return false;
-    if (socket && !ends.some((it) => it.endsWith(`.${socket}`))) return false;
-    return !address || ends.some((it) => it.includes(address));
-}
-
-// What is typed into a filter, as it stands in the text.
-function asked({ address = "", type = "", socket = "", word = "" }) {
-    const clean = (it) => it.trim().toUpperCase();
-    return { address: clean(address), type: clean(type), socket: socket.trim() && clean(socket).padStart(4, "0"), word: clean(word) };
-}
-
 class Capture {
     constructor(bytes, done, skipped) {
         this.text = new TextDecoder().decode(done.text);
         Object.assign(this, { status: done.status, error: done.error, took: done.took, skipped, places: new Places(bytes) });
         const { found, fault } = starts(this.text);
-        Object.assign(this, { starts: found, fault, count: Math.max(found.length - 1, 0) });
+        Object.assign(this, { starts: found, fault, why: wrongFile(bytes, fault), count: Math.max(found.length - 1, 0) });
         this.unanswered = new Unanswered(this.count, (place) => this.textAt(place), (place) => this.time(place));
         this.choose({});
     }
 
     // What the page is told when it is opened.
     told() {
-        return { count: this.count, fault: this.fault, status: this.status, error: this.error, took: this.took, skipped: this.skipped };
+        const { count, fault, why, status, error, took, skipped } = this;
+        return { count, fault, why, status, error, took, skipped };
     }
 
     textAt(place) {
         return this.text.slice(this.starts[place], this.starts[place + 1]);
     }
 
-    choose(filter) {
-        const wanted = asked(filter);
-        this.isAll = !Object.values(wanted).some((it) => it);
+    choose(typed) {
+        const filter = new Filter(typed);
+        this.isAll = filter.isEmpty;
         this.chosen = [];
-        if (!this.isAll) {
-            for (let k = 0; k < this.count; k++) if (fits(this.textAt(k), wanted)) this.chosen.push(k);
+        for (let k = 0; !this.isAll && k < this.count; k++) {
+            if (filter.fits(this.textAt(k), (it) => this.unanswered.silence(k, it))) this.chosen.push(k);
         }
         return this.length();
     }

@@ -1,8 +1,8 @@
 // Who spoke with whom, how often and how much.
 import { EVERYONE } from "./bytes.mjs";
 
-// As many are listed.
-const MOST = 200;
+// As many are listed, those with most packets.
+export const MOST = 200;
 
 const partyOf = (address) => address.slice(0, address.lastIndexOf("."));
 
@@ -44,7 +44,8 @@ function together(all) {
     return [...found.values()];
 }
 
-// The conversations of some records, those with most packets first. `textOf` gives the text of a record by its number.
+// The conversations of some records, those with most packets first, and how many there are in all. `textOf` gives the text of a record by
+// its number.
 export function conversations(count, textOf) {
     const found = new Map();
     for (let k = 0; k < count; k++) {
@@ -60,5 +61,6 @@ export function conversations(count, textOf) {
         it.bytes += +head[10];
         it[from === a ? "forth" : "back"]++;
     }
-    return together([...found.values()]).sort((one, other) => other.packets - one.packets).slice(0, MOST);
+    const all = together([...found.values()]).sort((one, other) => other.packets - one.packets);
+    return { list: all.slice(0, MOST), count: all.length };
 }

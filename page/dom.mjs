@@ -1,4 +1,5 @@
 // Elements of the page. Whatever comes from a file, a script or a link is put there as text alone: nothing here reads HTML.
+import { roving } from "./roving.mjs";
 import { tree } from "./drawing.mjs";
 
 // A large drawing becomes smaller to fit, but not so small that it can't be read: then it is moved.
@@ -45,8 +46,9 @@ function wide(line) {
     return it;
 }
 
-// The elements of a drawing. `choose` is told the key of what is clicked, or chosen by a key.
-export function svgOf(drawing, choose) {
+// The elements of a drawing, in which the thing of a key is chosen, and one may have the focus. `choose` is told the key of what is
+// clicked, or chosen by a key.
+function svgOf(drawing, choose, key, focused) {
     const it = svg(tree(drawing, palette(++drawings)));
     it.querySelector("title").remove(); // (it would be shown wherever one points)
     for (const side of ["width", "height"]) it.style.setProperty(`min-${side}`, `${Math.round(it.getAttribute(side) * LEAST)}px`);
@@ -60,7 +62,15 @@ export function svgOf(drawing, choose) {
         event.preventDefault();
         choose?.(chosen(event) ?? "");
     });
+    roving(it, key, focused);
     return it;
+}
+
+// Puts a drawing where one may be already; what had the focus there has it again.
+export function draw(place, drawing, choose, key = "") {
+    const focused = place.contains(document.activeElement) ? document.activeElement.dataset.key : undefined;
+    place.replaceChildren(svgOf(drawing, choose, key, focused));
+    if (focused) place.querySelector(`[data-key="${CSS.escape(focused)}"]`)?.focus({ preventScroll: true });
 }
 
 // A drawing that is wider than its place is moved there: to where it was, or so that its middle is seen, as a ladder's router.

@@ -1,5 +1,5 @@
 // Drawings: shapes in the order in which they are put there, and the room that they take. Colours are names; who shows a drawing says what
-// each looks like. A drawing becomes a tree of SVG, and that the text of a file, or elements of a page (svg_element.mjs).
+// each looks like. A drawing becomes a tree of SVG, and that the text of a file, or elements of a page (dom.mjs).
 
 const SIZE = 13;
 const ARROW = "M0,1 L10,5 L0,9 z";
@@ -14,8 +14,14 @@ export const PAPER = {
     changed: "#b8860b",
 };
 
-// About how wide a word is.
-export const widthOf = (text, size = SIZE) => text.length * size * 0.58;
+// About how wide a word is: letters that are as wide as high count as two, and marks on letters as none.
+const WIDE = /[\p{Script=Han}\p{Script=Hiragana}\p{Script=Katakana}\p{Script=Hangul}\p{Extended_Pictographic}]/gu;
+const MARK = /\p{M}/gu;
+export function widthOf(text, size = SIZE) {
+    const isPlain = /^[ -~]*$/.test(text);
+    const count = isPlain ? text.length : [...text.replace(MARK, "").replace(WIDE, "00")].length;
+    return count * size * 0.58;
+}
 
 const number = (it) => String(Math.round(it * 10) / 10);
 
@@ -86,8 +92,8 @@ const ELEMENTS = {
         ...(it.bold && { "font-weight": "600" }),
         ...(it.halo && { stroke: palette.paper, "stroke-width": 4, "stroke-linejoin": "round", "paint-order": "stroke" }),
     }, [it.text]],
-    // (in a file nothing can be chosen)
-    thing: (it, palette) => ["g", { ...(palette !== PAPER && { tabindex: "0", role: "button" }), "aria-label": it.label,
+    // (in a file nothing can be chosen; of a page roving.mjs says which of the things is Tab's)
+    thing: (it, palette) => ["g", { ...(palette !== PAPER && { tabindex: "-1", role: "button" }), "aria-label": it.label,
         "data-key": it.key },
         it.shapes.map((inner) => element(inner, palette))],
     group: (it, palette) => ["g", { transform: `translate(${number(it.x)} ${number(it.y)})` },

@@ -4,17 +4,16 @@ import { made } from "./dom.mjs";
 const PAUSE = 250;
 
 export class Editor {
-    // `changed` is told when the text has been typed or put there.
-    constructor(label, changed) {
+    // `changed` is told when somebody has typed and rests; `stepped` when a key asks for the version before (-1) or behind (1).
+    constructor(label, changed, stepped) {
         this.numbers = made("pre", { class: "numbers", "aria-hidden": "true" });
         this.mark = made("div", { class: "mark", hidden: true });
         this.area = made("textarea", {
             class: "text", spellcheck: "false", autocapitalize: "off", autocomplete: "off", wrap: "off", "aria-label": label,
-            oninput: () => this.typed(), onscroll: () => this.scrolled(),
+            oninput: () => this.typed(), onscroll: () => this.scrolled(), onkeydown: (event) => this.key(event),
         });
         this.element = made("div", { class: "editor" }, this.numbers, made("div", { class: "sheet" }, this.mark, this.area));
-        this.changed = changed;
-        this.line = -1;
+        Object.assign(this, { changed, stepped, line: -1 });
     }
 
     get text() {
@@ -22,7 +21,10 @@ export class Editor {
     }
 
     set text(it) {
+        clearTimeout(this.timer);
+        const at = this.area.selectionStart;
         this.area.value = it;
+        if (document.activeElement === this.area) this.area.setSelectionRange(at, at);
         this.number();
     }
 
@@ -38,6 +40,15 @@ export class Editor {
         this.number();
         clearTimeout(this.timer);
         this.timer = setTimeout(() => this.changed(), PAUSE);
+    }
+
+    // The browser's own undo knows nothing of the texts that were put here.
+    key(event) {
+        const isUndo = event.key.toLowerCase() === "z" && !event.shiftKey;
+        const isRedo = event.key.toLowerCase() === (event.shiftKey ? "z" : "y");
+        if (!(event.ctrlKey || event.metaKey) || event.altKey || !(isUndo || isRedo)) return;
+        event.preventDefault();
+        this.stepped(isUndo ? -1 : 1);
     }
 
     get height() {

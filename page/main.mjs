@@ -1,8 +1,9 @@
 // The page: its panes, of which one is shown, and the program that they share.
 import { ACTS } from "./acts.mjs";
-import { find, made, tell } from "./dom.mjs";
+import { find, tell } from "./dom.mjs";
 import { read, written } from "./address.mjs";
 import { CapturePane } from "./pane_capture.mjs";
+import { copied } from "./copying.mjs";
 import { fromBase64 } from "./bytes.mjs";
 import { InternetPane } from "./pane_internet.mjs";
 import { isOfInternet } from "./script.mjs";
@@ -47,6 +48,7 @@ class Page {
         }
         find("nav").addEventListener("keydown", (event) => this.key(event));
         find("#stop").addEventListener("click", () => this.stop());
+        find("#copy").addEventListener("click", () => this.copy());
         this.takeFiles();
         window.addEventListener("hashchange", () => this.follow());
         this.follow();
@@ -136,6 +138,12 @@ class Page {
         }
     }
 
+    // Copies the address, where all that is shown stands in it; else says what hinders it.
+    async copy() {
+        this.write();
+        tell(...(await copied(location.href, this.shown, this.textNow())));
+    }
+
     follow() {
         if (location.hash && location.hash === this.last) return;
         const wanted = read(location.hash);
@@ -172,17 +180,3 @@ Library.load(fromBase64(textOf("library").trim())).then(
     () => (window.page = new Page()),
     (why) => tell(`the library isn't loaded: ${why.message}`, true),
 );
-find("#copy").addEventListener("click", async () => {
-    const text = location.href;
-    try {
-        await navigator.clipboard.writeText(text);
-        tell("the link is copied");
-    } catch {
-        const box = made("textarea", { ".value": text });
-        document.body.append(box);
-        box.select();
-        document.execCommand("copy");
-        box.remove();
-        tell("the link is copied");
-    }
-});

@@ -7,6 +7,8 @@ import { EVERYONE, short } from "./bytes.mjs";
 // More than this isn't followed: runs of a router, packets, seconds.
 const [MOST_RUNS, MOST_PACKETS, MOST_SECONDS] = [2500, 6000, 8000];
 
+const DIFFERS = "from here on the page counts other packets than ipxr";
+
 // One router: the lines that it was told, and the answers to those that it has played.
 class Played {
     constructor(ports, play) {
@@ -67,7 +69,7 @@ class Traffic {
     settle(limit) {
         const moved = [];
         this.catchUp();
-        while (moved.length < limit && this.queue.length && !this.isTooMuch) {
+        while (moved.length < limit && this.queue.length && !this.excess) {
             const batch = this.queue.splice(0, limit - moved.length);
             moved.push(...batch);
             this.packets += batch.length;
@@ -77,8 +79,11 @@ class Traffic {
         return moved;
     }
 
-    get isTooMuch() {
-        return this.runs > MOST_RUNS || this.packets > MOST_PACKETS || this.seconds > MOST_SECONDS;
+    // What there was more of than is followed, in words, or nothing.
+    get excess() {
+        if (this.packets > MOST_PACKETS) return `the page follows the first ${MOST_PACKETS} deliveries of a run`;
+        if (this.seconds > MOST_SECONDS) return `the page follows the first ${MOST_SECONDS} seconds of a run`;
+        return this.runs > MOST_RUNS ? `the page plays single routers ${MOST_RUNS} times at most` : "";
     }
 
     command([command, ...words]) {
@@ -87,26 +92,27 @@ class Traffic {
         if (command === "in") this.event(+words[0], `in ${words[1]} ${words[2]}`);
         if (command !== "second") return;
         this.seconds += +words[0];
-        if (this.isTooMuch) return;
+        if (this.excess) return;
         for (let k = 0; k < +words[0]; k++) this.routers.forEach((_, router) => this.event(router, "second 1"));
     }
 }
 
 const leftOf = (said) => (said?.[0] === "quiet" ? 0 : +(/^left (\d+)$/.exec(said?.[0] ?? "")?.[1] ?? -1));
 
-// The packets that each settle of a script hands out, by its line. `said` are the answers of `ipxr internet` to each line; `play` plays a
-// text to `ipxr replay`.
+// The packets that each settle of a script hands out, by its line; and why there are none of later ones, if some were left out. `said` are
+// the answers of `ipxr internet` to each line; `play` plays a text to `ipxr replay`.
 export function moves(script, said, play) {
     const traffic = new Traffic(script, play);
     for (const { line, words } of script.acts) {
-        if (traffic.isTooMuch || (said[line] ?? []).some((it) => it.startsWith("line "))) break;
+        if (traffic.excess || (said[line] ?? []).some((it) => it.startsWith("line "))) break;
         if (words[0] !== "settle") {
             traffic.command(words);
             continue;
         }
         const moved = traffic.settle(+words[1]);
-        if (traffic.isTooMuch || leftOf(said[line]) !== traffic.queue.length) break;
+        if (traffic.excess) break;
+        if (leftOf(said[line]) !== traffic.queue.length) return { moved: traffic.moved, why: DIFFERS };
         traffic.moved.set(line, moved);
     }
-    return traffic.moved;
+    return { moved: traffic.moved, why: traffic.excess };
 }

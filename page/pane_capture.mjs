@@ -1,7 +1,7 @@
 // The pane Capture: the packets of a file, which are filtered; the chosen one field by field; a ladder and totals of those that are shown.
 import { drawLadder, ofRecords } from "./ladder.mjs";
 import { frameFields } from "./fields.mjs";
-import { centred, made, save, svgOf } from "./dom.mjs";
+import { centred, draw, made, save } from "./dom.mjs";
 import { bytesView } from "./bytes_view.mjs";
 import { EVERYONE, fromBase64, short } from "./bytes.mjs";
 import { jsonOf } from "./json.mjs";
@@ -11,6 +11,8 @@ import { Stopped } from "./program.mjs";
 import { svgText } from "./drawing.mjs";
 import { VirtualList } from "./virtual_list.mjs";
 
+// The heads of the table of conversations; arrows have words for who doesn't see them.
+const HEADS = [["Between"], ["Packets"], ["Bytes"], ["→", "packets there"], ["←", "packets back"]];
 // As many packets are in a ladder.
 const MOST_ROWS = 200;
 const TYPES = [["", "any type"], ["1", "1 RIP"], ["4", "4 SAP or data"], ["17", "17 NCP"], ["20", "20 NetBIOS"], ["5", "5 SPX"],
@@ -100,7 +102,8 @@ export class CapturePane {
             this.form.reset();
             await this.refresh(told.count);
             if (round !== this.round) return;
-            const faults = [told.fault, told.error.trim(), ...told.skipped.map((it) => `skipped ${it}`)].filter((it) => it);
+            const fault = told.why ? `${told.fault} (${told.why})` : told.fault;
+            const faults = [fault, told.error.trim(), ...told.skipped.map((it) => `skipped ${it}`)].filter((it) => it);
             this.tell([`${name}: ${told.count} records`, ...faults].join(" · "), Boolean(told.fault || told.error));
         } catch (why) {
             if (why instanceof Stopped) throw why;
@@ -152,7 +155,7 @@ export class CapturePane {
         this.drawing = drawLadder(this.ladder, key);
         const { scrollLeft } = this.picture;
         if (!this.drawing) this.picture.replaceChildren(made("p", { class: "none" }, "no packets"));
-        else this.picture.replaceChildren(svgOf(this.drawing, (chosen) => chosen && this.pick(+chosen.split(" ")[1])));
+        else draw(this.picture, this.drawing, (chosen) => chosen && this.pick(+chosen.split(" ")[1]), key);
         if (this.ladderNote) this.picture.prepend(made("p", { class: "none" }, this.ladderNote));
         if (this.drawing) centred(this.picture, this.drawing, scrollLeft);
     }
@@ -162,15 +165,16 @@ export class CapturePane {
         if (this.totalsOpen.open) this.drawTotals(await this.program.ask("totals"));
     }
 
-    drawTotals(found) {
+    drawTotals({ list, count }) {
         const name = (it) => `${short(it.split(".")[0])}.${isAll(it) ? "all" : short(it.split(".")[1])}`;
         const button = (it) => made("button", {
             type: "button", class: "link", title: "filter by this address", onclick: () => this.only(isAll(it.a) ? it.b : it.a, it.joined),
         }, `${name(it.a)} ↔ ${name(it.b)}`);
-        const rows = found.map((it) => made("tr", {}, [button(it), it.packets, it.bytes, it.forth, it.back].map((cell) => (
+        const rows = list.map((it) => made("tr", {}, [button(it), it.packets, it.bytes, it.forth, it.back].map((cell) => (
             made("td", {}, cell instanceof Node ? cell : String(cell))))));
-        const heads = ["Between", "Packets", "Bytes", "→", "←"].map((it) => made("th", { scope: "col" }, it));
-        this.totals.replaceChildren(made("table", {}, made("thead", {}, made("tr", {}, heads)), made("tbody", {}, rows)));
+        const heads = HEADS.map(([head, label]) => made("th", { scope: "col", "aria-label": label }, head));
+        const note = count > list.length ? made("p", { class: "none" }, `the ${list.length} with most packets, of ${count}`) : "";
+        this.totals.replaceChildren(note, made("table", {}, made("thead", {}, made("tr", {}, heads)), made("tbody", {}, rows)));
     }
 
     // A node that was also told without its network is looked for by its node alone.

@@ -1,6 +1,6 @@
 // The pane Internet: the map of a script of `ipxr internet`, the tables of the router that is chosen, and acts that write lines.
 import { drawMoments, mapAt } from "./side_by_side.mjs";
-import { isNarrow, made, svgOf } from "./dom.mjs";
+import { draw, isNarrow, made } from "./dom.mjs";
 import { droppedBy, receptions, sentences, waysIn, waysOf } from "./traces.mjs";
 import { captureOf } from "./pcap.mjs";
 import { answers, isChanged } from "./timeline.mjs";
@@ -53,7 +53,6 @@ export class InternetPane extends ScriptPane {
 
     draw(step, found, moved = null) {
         Object.assign(this, { last: [step, found, moved] });
-        const focused = this.picture.contains(document.activeElement) ? document.activeElement.dataset.key : null;
         if (!this.found) {
             this.drawing = null;
             this.picture.replaceChildren(made("p", { class: "none" }, "Choose an example, or add a router."));
@@ -61,9 +60,9 @@ export class InternetPane extends ScriptPane {
             return;
         }
         this.drawing = this.beside.checked ? drawMoments(this.script, this.steps) : this.mapOf(step, found, moved);
-        if (this.drawing) this.picture.replaceChildren(svgOf(this.drawing, (key) => this.choose(key)));
+        const chosen = this.beside.checked ? `moment ${this.at}` : this.chosen;
+        if (this.drawing) draw(this.picture, this.drawing, (key) => this.choose(key), chosen);
         else this.picture.replaceChildren(made("p", { class: "none" }, "No port goes down here, and no router stops."));
-        if (focused) this.picture.querySelector(`[data-key="${CSS.escape(focused)}"]`)?.focus();
         this.drawTables(step, found);
         if (receptions(step.said).length) this.said.textContent = sentences(step, this.script).map((it) => it.text).join("\n");
         if (moved) this.said.textContent = [...step.said, ...moved.sentences].join("\n");
@@ -85,8 +84,11 @@ export class InternetPane extends ScriptPane {
             this.moved = this.aside.ask("moves", { text: this.shown.text });
         }
         try {
-            const packets = (await this.moved).get(step.line);
-            if (!packets?.length || this.steps[this.at] !== step) return;
+            const { moved: all, why } = await this.moved;
+            const packets = all.get(step.line);
+            if (this.steps[this.at] !== step) return;
+            if (!packets && why) this.said.textContent = [...step.said, `(no deliveries are shown: ${why})`].join("\n");
+            if (!packets?.length) return;
             const read = await this.aside.run("decode", captureOf(packets.slice(0, MOST_TOLD)));
             const labels = recordsOf(read.text).records;
             const moved = { packets, kinds: labels.map((it) => it.kind), sentences: this.told(packets, labels) };

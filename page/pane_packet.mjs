@@ -1,12 +1,13 @@
 // The pane Packet: words to bytes and back. The bytes are written by the library's proved writers (words.mjs), and read back by the
 // program's proved reader: a capture is made with the packet in it, and `ipxr decode` says what the packet is.
-import { DEFAULTS, KINDS, packetOf, valuesOf, Wrong } from "./words.mjs";
+import { DEFAULTS, KINDS, packetOf, valuesOf } from "./words.mjs";
 import { faultOf, packetFields } from "./fields.mjs";
 import { bytesView } from "./bytes_view.mjs";
 import { captureOf } from "./pcap.mjs";
 import { isHex } from "./bytes.mjs";
 import { made } from "./dom.mjs";
 import { recordsOf } from "./records.mjs";
+import { Wrong } from "./typed.mjs";
 
 const ENDS = [["to", "To", true], ["from", "From", true]];
 // Each field of some kind: its label, and whether it has many lines or choices.
@@ -26,7 +27,7 @@ export class PacketPane {
         Object.assign(this, { program, changed: page.changed, round: 0 });
         this.kind = made("select", { name: "kind", onchange: () => this.kindChosen() },
             Object.entries(KINDS).map(([word, it]) => made("option", { value: word }, it.label)));
-        this.fault = made("p", { class: "fault", role: "alert" });
+        this.fault = made("p", { class: "fault", role: "alert", id: "packet-fault" });
         this.hex = made("textarea", {
             class: "hexline", rows: 5, spellcheck: "false", autocapitalize: "off", "aria-label": "the packet in hexadecimal",
             oninput: () => this.typedHex(),
@@ -82,17 +83,26 @@ export class PacketPane {
 
     typedWords() {
         const values = Object.fromEntries([...this.inputs].map(([name, it]) => [name, it.value]));
-        for (const it of this.inputs.values()) it.removeAttribute("aria-invalid");
+        this.showFault(null);
         try {
             this.hex.value = packetOf(this.kind.value, values);
-            this.fault.textContent = "";
         } catch (why) {
             if (!(why instanceof Wrong)) throw why;
-            this.inputs.get(why.field)?.setAttribute("aria-invalid", "true");
-            this.fault.textContent = why.message;
+            this.showFault(why);
             return;
         }
         this.readBack();
+    }
+
+    // What is wrong stands below its field; or nothing is wrong.
+    showFault(why) {
+        for (const it of this.inputs.values()) for (const name of ["aria-invalid", "aria-describedby"]) it.removeAttribute(name);
+        this.fault.textContent = why?.message ?? "";
+        const input = this.inputs.get(why?.field);
+        if (!input) return;
+        input.closest("label").after(this.fault);
+        input.setAttribute("aria-invalid", "true");
+        input.setAttribute("aria-describedby", this.fault.id);
     }
 
     // ---- Bytes to words ----
@@ -104,7 +114,7 @@ export class PacketPane {
         this.kind.value = kind;
         this.fill(values);
         this.showKind();
-        this.fault.textContent = "";
+        this.showFault(null);
     }
 
     digits() {

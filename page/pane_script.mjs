@@ -1,5 +1,5 @@
 // What the panes Internet and Router have in common: an editor with a menu of examples, and a slider through the commands of a run.
-import { answers, asking, finer, isChanged, steps, tables, withoutIdle } from "./timeline.mjs";
+import { answers, asking, finer, isChanged, MOST_APART, steps, tables, withoutIdle } from "./timeline.mjs";
 import { recordsOf, shown } from "./records.mjs";
 import { made, save } from "./dom.mjs";
 import { captureOf } from "./pcap.mjs";
@@ -10,13 +10,14 @@ import { explained } from "./reasons.mjs";
 import { LEGENDS, legendButton } from "./legend.mjs";
 import { openForm } from "./form.mjs";
 import { parsed } from "./script.mjs";
+import { seeLines } from "./refused.mjs";
 import { Stopped } from "./program.mjs";
 import { svgText } from "./drawing.mjs";
+import { Versions } from "./versions.mjs";
 import { wrongLine } from "./wrong_line.mjs";
 
 // A script with more commands than this isn't split into seconds and deliveries.
 const MOST_FINE = 2000;
-const UNDOS = 100;
 const CAUSES = new Set(["start", "stop", "down", "up", "in"]);
 const EMPTY = "";
 
@@ -27,9 +28,9 @@ export class ScriptPane {
     // `kind` says the verb, the end of a file's name, the examples and the acts, and gives the bytes of the pane Packet;
     // `page` is told what is said below the heading, and when the text has changed.
     constructor(program, kind, page) {
-        Object.assign(this, { program, kind, changed: page.changed, tell: page.tell, at: 0, steps: [], undone: [], round: 0, chosen: "" });
+        Object.assign(this, { program, kind, changed: page.changed, tell: page.tell, at: 0, steps: [], round: 0, chosen: "" });
         this.remembered = new Map();
-        this.editor = new Editor(`script of ${kind.verb}`, () => this.play());
+        this.editor = new Editor(`script of ${kind.verb}`, () => this.typed(), (by) => this.turn(by));
         this.slider = made("input", { type: "range", min: 0, max: 0, value: 0, "aria-label": "time",
             oninput: () => this.show(+this.slider.value) });
         this.moment = made("output", { class: "moment" });
@@ -49,12 +50,13 @@ export class ScriptPane {
             made("option", { value: "" }, "Examples"), names.map((it) => made("option", { value: it }, it)));
         const file = made("input", { type: "file", hidden: true,
             onchange: () => this.opened(file.files[0]).then(() => (file.value = "")) });
-        this.undo = this.button("Undo", () => this.back(), "undo the last act");
-        this.undo.disabled = true;
+        this.undo = this.button("Undo", () => this.turn(-1), "take back the last change");
+        this.redo = this.button("Redo", () => this.turn(1), "make it again");
+        for (const it of [this.undo, this.redo]) it.disabled = true;
         this.about = made("p", { class: "none about" });
         const bar = made("div", { class: "bar" }, this.menu, this.button("New", () => this.replace(EMPTY)),
             this.button("Open", () => file.click()),
-            this.button("Save", () => save(`script.${this.kind.end}`, this.editor.text)), this.undo, file);
+            this.button("Save", () => save(`script.${this.kind.end}`, this.editor.text)), this.undo, this.redo, file);
         const all = made("details", { class: "all", ontoggle: () => this.showAll() }, made("summary", {}, "All that ipxr writes"),
             (this.all = made("pre", { class: "said", tabindex: "0" })));
         this.allOpen = all;
@@ -80,7 +82,8 @@ export class ScriptPane {
     }
 
     // Asks what an act needs to know, and writes its lines into the script.
-    act(it) {
+    async act(it) {
+        if (this.script?.text !== this.editor.text) await this.play();
         const { script } = this;
         const step = this.steps[this.at];
         if (!script || (it.needs && !it.needs(script, step.state).length)) {
@@ -91,7 +94,9 @@ export class ScriptPane {
         const kept = (it.remembers && this.remembered.get(it)) || {};
         const fields = it.fields(script, this.chosen, this.kind.packet(), step.state);
         openForm(it.title, fields.map((one) => ({ ...one, value: one.picked ?? kept[one.name] ?? one.value })), (values) => {
-            const next = edited(script, before, it.lines(script, values, step.state));
+            const lines = it.lines(script, values, step.state);
+            const next = edited(script, before, lines);
+            seeLines(next.text, script.isInternet, next.line, (lines.lines ?? lines.now).length);
             const more = next.text.split("\n").length - script.lines.length;
             this.remembered.set(it, values);
             this.replace(next.text, next.isNow ? next.line : before < 0 ? before : before + more);
@@ -117,17 +122,39 @@ export class ScriptPane {
 
     // Puts another text into the editor; what was there can be had back.
     replace(text, line) {
-        if (this.editor.text) this.undone.push(this.editor.text);
-        if (this.undone.length > UNDOS) this.undone.shift();
-        this.undo.disabled = !this.undone.length;
+        this.noteTyped();
+        if (this.versions) this.versions.put(text);
+        else this.versions = new Versions(text);
         this.editor.text = text;
         return this.play(line ?? -2);
     }
 
-    back() {
-        if (this.undone.length) this.editor.text = this.undone.pop();
-        this.undo.disabled = !this.undone.length;
+    // What was typed is a version, too.
+    noteTyped() {
+        this.versions?.type(this.editor.text);
+    }
+
+    typed() {
+        this.versions ??= new Versions(EMPTY);
+        this.noteTyped();
         return this.play();
+    }
+
+    // The version before the one that is shown, or behind it.
+    turn(by) {
+        this.noteTyped();
+        if (!this.versions) return undefined;
+        this.editor.text = by < 0 ? this.versions.back() : this.versions.on();
+        return this.play();
+    }
+
+    // Where there is nothing more to take back, or to have again, the focus goes to the other button.
+    showVersions() {
+        const focused = document.activeElement;
+        this.undo.disabled = !this.versions?.hasPast;
+        this.redo.disabled = !this.versions?.hasFuture;
+        if (focused === this.undo && focused.disabled) this.redo.focus();
+        if (focused === this.redo && focused.disabled) this.undo.focus();
     }
 
     // ---- A run ----
@@ -136,6 +163,7 @@ export class ScriptPane {
     async play(line) {
         const round = ++this.round;
         this.name();
+        this.showVersions();
         const isInternet = this.kind.verb === "internet";
         const script = parsed(this.editor.text, isInternet);
         const wanted = line ?? this.steps[this.at]?.line ?? -1;
@@ -159,18 +187,23 @@ export class ScriptPane {
     // The steps; fine ones where they are asked for.
     async refined(script, done) {
         const said = answers(done.text, done.ends, script.lines.length);
-        const isFine = this.fine.checked && script.acts.length <= MOST_FINE && done.status === 0;
-        if (!isFine) return this.coarse(script, said);
+        const isShort = script.acts.length <= MOST_FINE;
+        const note = this.fine.checked && !isShort ? `slow motion is for scripts of at most ${MOST_FINE} commands` : "";
+        if (!this.fine.checked || !isShort || done.status !== 0) {
+            const told = await this.coarse(script, said);
+            return { ...told, note: note || told.note };
+        }
         const first = finer(script);
         const tried = await this.program.run(this.kind.verb, first.text, true);
         const fine = withoutIdle(first, answers(tried.text, tried.ends, first.origins.length));
         const again = await this.program.run(this.kind.verb, fine.text, true);
         const shown = Object.assign(parsed(fine.text, script.isInternet), { hosts: script.hosts });
-        return { shown, origins: fine.origins, steps: steps(shown, answers(again.text, again.ends, shown.lines.length)) };
+        return { shown, origins: fine.origins, steps: steps(shown, answers(again.text, again.ends, shown.lines.length)),
+            note: first.isWhole ? "" : `slow motion leaves more than ${MOST_APART} seconds of a line together` };
     }
 
     coarse(script, said) {
-        return { shown: script, origins: null, steps: steps(script, said) };
+        return { shown: script, origins: null, steps: steps(script, said), note: "" };
     }
 
     lineOf(step) {
@@ -184,7 +217,7 @@ export class ScriptPane {
         this.plan();
         this.show(this.done.status === 2 && wrong ? this.steps.length - 1 : Math.max(found, 0));
         if (wrong) this.tell(`${wrong[0]}${this.expected(+wrong[1])}`, true);
-        else this.tell(this.done.status ? this.done.error.trim() : "", Boolean(this.done.status));
+        else this.tell(this.done.status ? this.done.error.trim() : this.note, Boolean(this.done.status));
         if (wrong) this.editor.show(+wrong[1] - 1, true);
         this.showAll();
     }

@@ -5,7 +5,8 @@ const [HEADER, RECORD] = [24, 16];
 const [MICRO, NANO] = [0xa1b2c3d4, 0xa1b23c4d];
 const ETHERNET = 1;
 const IPX_TYPE = 0x8137;
-const MOST_KEPT = 262144;
+// A record keeps no more bytes.
+export const MOST_KEPT = 262144;
 const [SOURCE, PACKET] = [44, 60];
 const [MACS, NODE] = [12, 6];
 

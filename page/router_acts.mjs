@@ -1,6 +1,8 @@
 // What is built by hand for one router, as acts.mjs does it for an internet: the same forms, and lines of `ipxr replay`.
 import { chosenFirst, freeNode, MOST_PORTS, timePassed } from "./acts.mjs";
-import { bytesTyped, digits, offerOf, packetOf, Wrong } from "./words.mjs";
+import { arriving, portNetwork, unjoined } from "./refused.mjs";
+import { digits, Wrong } from "./typed.mjs";
+import { offerOf, packetOf } from "./words.mjs";
 
 const ports = (script) => script.routers[0].ports.map((it, k) => [String(k), `port ${k}, net ${it.network}`]);
 const port = (label) => (script, chosen) => ({ name: "port", label, choices: ports(script), value: chosenFirst("port", chosen) });
@@ -24,7 +26,7 @@ export const ROUTER_ACTS = {
         lines(script, it) {
             const { ports: there, last } = script.routers[0];
             if (there.length >= MOST_PORTS) throw new Wrong("network", `there are ${MOST_PORTS} ports already`);
-            const network = digits("network", it.network, 4);
+            const network = unjoined("network", script.routers[0], portNetwork("network", it.network));
             return { fixed: there.length ? last + 1 : 0, lines: [`port ${network} ${freeNode(script, 0, there.length, network)} 1 576`] };
         },
     },
@@ -65,6 +67,6 @@ export const ROUTER_ACTS = {
         label: "Bytes", title: "Let any bytes arrive", needs: ports,
         fields: (script, chosen, packet) => [here(script, chosen),
             { name: "hex", label: "Bytes", value: packet, hint: "those of the pane Packet" }],
-        lines: (_, it) => ({ now: [`in ${it.port} ${bytesTyped("hex", it.hex) || "-"}`] }),
+        lines: (_, it) => ({ now: [`in ${it.port} ${arriving("hex", it.hex)}`] }),
     },
 };

@@ -3,7 +3,12 @@
 import { EVERYONE, short } from "./bytes.mjs";
 
 const [DESTINATION, SOURCE, PACKET] = [12, 36, 60];
-const NAMED = /\b(\w+) \(router (\d+)\)/g;
+// A name of a router: a word of letters and digits of any language, in which a few hyphens, apostrophes or full stops may stand, or
+// whatever stands between quotation marks.
+const LETTERS = "[\\p{L}\\p{M}\\p{N}_]+";
+const NAMED = new RegExp(`(?:"([^"\\n]+)"|(?<![\\p{L}\\p{M}\\p{N}_])(${LETTERS}(?:[-'’.]${LETTERS}){0,3})) \\(router (\\d+)\\)`, "gu");
+// A longer one would make a box of the map too wide.
+const LONGEST_NAME = 24;
 const HOST = /^#\s*host ([0-9A-Fa-f]{1,8})\.([0-9A-Fa-f]{1,12})\b( \(forged\))?/;
 
 const wordsOf = (line) => (line.startsWith("#") ? [] : line.trim().split(/[ \t]+/).filter((it) => it));
@@ -30,10 +35,16 @@ function routersOf(lines, isInternet) {
     return routers;
 }
 
+function cut(name) {
+    const letters = [...name];
+    return letters.length > LONGEST_NAME ? `${letters.slice(0, LONGEST_NAME - 1).join("")}…` : name;
+}
+
+// Names routers by comments such as `Zürich (router 0)` or `"New York" (router 1)`.
 function nameAll(routers, lines, isInternet) {
-    const comments = lines.filter((it) => it.text.startsWith("#")).map((it) => it.text).join(" ");
-    const named = new Map([...comments.matchAll(NAMED)].map(([, name, number]) => [+number, name]));
-    routers.forEach((it, k) => (it.name = named.get(k) ?? (isInternet ? `R${k}` : "router")));
+    const comments = lines.filter((it) => it.text.startsWith("#")).map((it) => it.text).join("\n");
+    const named = new Map([...comments.matchAll(NAMED)].map(([, quoted, word, number]) => [+number, cut((quoted ?? word).trim())]));
+    routers.forEach((it, k) => (it.name = named.get(k) || (isInternet ? `R${k}` : "router")));
 }
 
 // Whose address stands in the digits of a packet.

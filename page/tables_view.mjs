@@ -11,7 +11,8 @@ const row = (mark, cells) => made("tr", { class: mark || false }, cells.map((it)
 function table(caption, heads, rows) {
     if (!rows.length) return made("p", { class: "none" }, `no ${caption}`);
     return made("table", {}, made("caption", {}, caption),
-        made("thead", {}, made("tr", {}, [...heads, ""].map((it) => made("th", { scope: "col" }, it)))), made("tbody", {}, rows));
+        made("thead", {}, made("tr", {}, heads.map((it) => made("th", { scope: "col" }, it)),
+            made("th", { scope: "col", "aria-label": "what became of it" }))), made("tbody", {}, rows));
 }
 
 // The tables of a router; `nameOf` says whose a neighbour's node is, `networkOf` which network a port is on.

@@ -111,25 +111,27 @@ export const isChanged = (table) => [...table.routes, ...table.services].some((i
 
 // ---- Finer steps ----
 
-// As many single deliveries of one settle are shown as this.
-const MOST = 300;
+// As many single deliveries of one settle are shown as this; and as many seconds of a line at most are told apart.
+export const MOST_APART = 300;
 
-// The same script in single seconds and single deliveries: text, and for each line the line of the script that it is of.
+// The same script in single seconds and single deliveries: text, for each line the line of the script that it is of, and whether no line
+// has too many seconds for that.
 export function finer(script) {
     const text = [];
     const origins = [];
     const add = (line, origin) => (text.push(line), origins.push(origin));
     script.lines.forEach(({ text: line, words }, k) => {
         const [command, count] = words;
-        const times = Math.min(+count || 0, MOST);
-        if (command === "second" && times > 1 && /^\d{1,7}$/.test(count) && +count <= MOST) {
+        const times = Math.min(+count || 0, MOST_APART);
+        if (command === "second" && times > 1 && /^\d{1,7}$/.test(count) && +count <= MOST_APART) {
             for (let n = 0; n < times; n++) add("second 1", k);
         } else if (command === "settle" && times > 1 && /^\d{1,7}$/.test(count)) {
             for (let n = 0; n < times; n++) add("settle 1", k);
             if (+count > times) add(`settle ${+count - times}`, k);
         } else add(line, k);
     });
-    return { text: text.join("\n"), origins };
+    const isWhole = !script.acts.some(({ words }) => words[0] === "second" && +words[1] > MOST_APART);
+    return { text: text.join("\n"), origins, isWhole };
 }
 
 // A script in which each second counts by itself where something is sent in it; nothing where there are none but single ones.

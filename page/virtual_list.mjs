@@ -1,8 +1,11 @@
-// A list of very many rows, of which only those in sight are there.
+// A list of very many rows, of which only those in sight are there. To screen readers it is a grid with heads of columns and a chosen row,
+// and one stop for Tab.
 import { isNarrow, made } from "./dom.mjs";
 
 // How high a row is, as in style.css: in a narrow window it has two lines.
 const [ROW, TWO_LINES, MORE] = [24, 40, 12];
+// The rows of heads, which screen readers count.
+const HEADS = 1;
 // Browsers refuse higher elements; a longer list is scrolled in larger steps.
 const HIGHEST = 8000000;
 
@@ -11,11 +14,14 @@ export class VirtualList {
     constructor({ label, heads, rowsAt, cells, chosen }) {
         Object.assign(this, { rowsAt, cells, chosen, count: 0, current: -1, round: 0 });
         this.space = made("div", { class: "space" });
-        this.rows = made("div", { class: "rows" });
-        this.scroller = made("div", { class: "scroller", tabindex: "0", role: "grid", "aria-label": label, onscroll: () => this.draw(),
-            onkeydown: (event) => this.key(event) }, this.space, this.rows);
-        this.element = made("div", { class: "list" },
-            made("div", { class: "row heads", "aria-hidden": "true" }, heads.map((it) => made("span", {}, it))), this.scroller);
+        this.rows = made("div", { class: "rows", role: "rowgroup" });
+        this.scroller = made("div", { class: "scroller", tabindex: "-1", role: "presentation", onscroll: () => this.draw() },
+            this.space, this.rows);
+        const head = made("div", { class: "row heads", role: "row", "aria-rowindex": 1 },
+            heads.map((it) => made("span", { role: "columnheader" }, it)));
+        this.element = made("div", { class: "list", tabindex: "0", role: "grid", "aria-label": label, "aria-colcount": heads.length,
+            onkeydown: (event) => this.key(event) }, head, this.scroller);
+        this.name = `row-of-${label}`;
         new ResizeObserver(() => this.draw()).observe(this.scroller);
     }
 
@@ -37,7 +43,7 @@ export class VirtualList {
         this.count = count;
         this.current = -1;
         this.space.style.height = `${this.high}px`;
-        this.scroller.setAttribute("aria-rowcount", count);
+        this.element.setAttribute("aria-rowcount", count + HEADS);
         this.scroller.scrollTop = 0;
         return this.draw();
     }
@@ -50,12 +56,20 @@ export class VirtualList {
         const found = first < last ? await this.rowsAt(first, last).catch(() => []) : [];
         if (round !== this.round) return;
         this.rows.replaceChildren(...found.map((it, k) => this.row(it, first + k)));
+        const isThere = this.current >= first && this.current < first + found.length;
+        if (isThere) this.element.setAttribute("aria-activedescendant", this.nameOf(this.current));
+        else this.element.removeAttribute("aria-activedescendant");
         this.rows.style.transform = `translateY(${this.scroller.scrollTop - (top - first * this.rowHigh)}px)`;
+    }
+
+    nameOf(number) {
+        return `${this.name}-${number + 1}`;
     }
 
     row(it, number) {
         const isChosen = number === this.current;
-        return made("div", { class: `row ${it.kind ?? ""}`, role: "row", "aria-rowindex": number + 1, "aria-selected": String(isChosen),
+        return made("div", { class: `row ${it.kind ?? ""}`, role: "row", id: this.nameOf(number), "aria-rowindex": number + 1 + HEADS,
+            "aria-selected": String(isChosen),
             onclick: () => this.choose(number, it) }, this.cells(it).map((text) => made("span", { role: "gridcell" }, text)));
     }
 

@@ -1,6 +1,7 @@
 // Words to the bytes of a packet, and back. The bytes are written by the library's proved writers; here the fields are read that were
 // typed. What was written, the program's proved reader says, which reads it back (pane_packet.mjs).
-import { bytesOf, EVERYONE, hexOf, isHex, padded } from "./bytes.mjs";
+import { bytesOf, EVERYONE, hexOf } from "./bytes.mjs";
+import { bytesTyped, decimal, digits, Wrong } from "./typed.mjs";
 import { IpxrError, Rip, words as faultWords, writePacket, writeQuery, writeRip, writeSap } from "./ipxr.mjs";
 
 const HEADER = 30;
@@ -8,39 +9,11 @@ const [RIP, SAP, NETBIOS, OTHER] = ["0453", "0452", "0455", "4003"];
 const [CROSSED_ROOM, PROPAGATED] = [8, 20];
 const NO_DISTANCE = 0xffff;
 
-// A field that can't be written: its name, and why.
-export class Wrong extends Error {
-    constructor(field, why) {
-        super(why);
-        this.field = field;
-    }
-}
-
-// The digits of a number as it was typed in hexadecimal, as wide as its place.
-export function digits(field, typed, bytes) {
-    const it = String(typed).trim();
-    if (!/^[0-9A-Fa-f]+$/.test(it) || it.length > 2 * bytes) throw new Wrong(field, `hexadecimal, at most ${2 * bytes} digits`);
-    return padded(it, 2 * bytes);
-}
-
 const number = (field, typed, bytes) => parseInt(digits(field, typed, bytes), 16);
 const node = (field, typed) => bytesOf(digits(field, typed, 6));
 
-function decimal(field, typed, bytes) {
-    const most = 256 ** bytes - 1;
-    if (!/^\s*\d+\s*$/.test(typed) || +typed > most) throw new Wrong(field, `a number, at most ${most}`);
-    return +typed;
-}
-
 const lines = (text) => text.split("\n").map((it) => it.trim()).filter((it) => it);
 const words = (text) => text.trim().split(/\s+/).filter((it) => it);
-
-// Bytes that were typed, as a script has them.
-export function bytesTyped(field, text) {
-    const it = text.replace(/\s+/g, "");
-    if (!isHex(it)) throw new Wrong(field, "an even number of hexadecimal digits");
-    return it.toUpperCase();
-}
 
 // ---- What each kind has besides its ends ----
 

@@ -49,6 +49,20 @@ def kept():
         yield os.path.basename(file), "decode", case.typed, case.answered, case.status
 
 
+def coded(content_of):
+    return base64.b64encode(content_of).decode()
+
+
+def many():
+    """A capture of 210 packets, each between two others."""
+    whole = content(f"{TOP}/examples/nearest-server.pcap")[:24]
+    for number in range(210):
+        frame = bytes.fromhex("FFFFFFFFFFFF0000000000018137FFFF001E0004") + bytes.fromhex("00000010FFFFFFFFFFFF4003")
+        frame += struct.pack(">IHIH", 0x10, 0, number + 1, 0x4003)
+        whole += struct.pack("<IIII", number, 0, len(frame), len(frame)) + frame
+    return whole
+
+
 def batches():
     """The kept cases as the page takes them, in lists that aren't too long for a driver."""
     batch, size = [], 0

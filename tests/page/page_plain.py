@@ -83,6 +83,21 @@ def closes(b):
     b.run("document.querySelector('dialog').close()")
 
 
+def refuses(b, values):
+    """What the form says of values that it doesn't take, beside the last of them; which then is again as it was."""
+    field = f"dialog [name={[*values][-1]}]"
+    before = b.run("return document.querySelector(given[0]).value", field)
+    for name, value in values.items():
+        b.run("document.querySelector(given[0]).value = given[1]", f"dialog [name={name}]", value)
+    b.click("dialog button.main")
+    beside = b.run("const it = document.querySelector(given[0]); const fault = it.closest('label').nextElementSibling;"
+                   "return [fault.className, fault.textContent, it.getAttribute('aria-invalid'), it === document.activeElement,"
+                   "it.getAttribute('aria-describedby') === fault.id, document.querySelectorAll('[aria-invalid]').length]", field)
+    same([beside[0], *beside[2:]], ["fault", "true", True, True, 1], f"beside {field}")
+    b.run("document.querySelector(given[0]).value = given[1]", field, before)
+    return beside[1]
+
+
 def forged(b, _):
     """Internet: behind a forged response the tables that it changed are marked, its arrow comes from a host that is called forged"""
     opened(b)
@@ -90,14 +105,8 @@ def forged(b, _):
     script(b, "internet", FALSE.split("in 0 1")[0])
     step(b, "internet", -1)
     opens(b, "forge")
-    wrong = {"network": ("XY", "It offers network"), "hops": ("many", "Hops"), "ticks": ("-1", "Ticks"),
-        "node": ("!", "In the name of node")}
-    for field, (value, name) in wrong.items():
-        before = b.run("const it = document.querySelector(given[0]); const was = it.value; it.value = given[1]; return was",
-                       f"dialog [name={field}]", value)
-        b.click("dialog button.main")
-        want(text(b, "dialog .fault").startswith(f"{name}: "), f"the field that is wrong: {text(b, 'dialog .fault')}")
-        b.run("document.querySelector(given[0]).value = given[1]", f"dialog [name={field}]", before)
+    for field, value in {"network": "XY", "hops": "many", "ticks": "-1", "node": "!"}.items():
+        refuses(b, {field: value})
     closes(b)
     act(b, "forge", {"link": "0 1", "node": "EE", "network": "2", "hops": "1", "ticks": "0"})
     want("· settle" in text(b, "#pane-internet .moment"), "the step behind the act")

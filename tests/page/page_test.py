@@ -4,9 +4,11 @@ import tempfile
 
 import browsers
 import page_checks
+import page_edits
 import page_file
 import page_inputs
 import page_plain
+import page_readers
 from page_file import TOP
 
 PICTURES = f"{TOP}/build/page"
@@ -55,7 +57,8 @@ def rounds():
         if lacks():
             print(f"left out: the page in {name} (no {lacks()})")
             continue
-        yield name, open_it, [*page_checks.EVERYWHERE, *page_plain.PLAIN, *([*page_plain.NARROW, pictures] if name == "chromium" else [])]
+        narrow = [*page_plain.NARROW, *page_readers.SMALL, pictures] if name == "chromium" else []
+        yield name, open_it, [*page_checks.EVERYWHERE, *page_plain.PLAIN, *page_edits.EDITS, *page_readers.READERS, *narrow]
         if name == "chromium":
             flags = [f"--js-flags=--wasm-max-mem-pages={FEW_PAGES}"]
             yield "chromium with little memory", lambda it: browsers.chromium(it, flags), [no_memory]
