@@ -15,11 +15,11 @@ WEB = {"build/web/libipxr.wasm": "make web", "build/ipxr.html": "make page"}
 PLACES = {"build/web/libipxr.wasm": "examples/embed/web/libipxr.wasm", "build/ipxr.html": "ipxr.html"}
 # With what of the page tools/picture draws, and reads captures.
 DRAWING = "drawing hops internet_map ladder layout moments reasons records script side_by_side timeline traces".split()
-READING = "bytes capture conversations pcap pcapng unanswered".split()
+READING = "bytes capture conversations filter pcap pcapng unanswered wrong_file".split()
 MODULES = [f"page/{it}.mjs" for it in [*DRAWING, *READING, "wrong_line"]]
 # What writes packets for scripts, beside the module over the library, which lies among the examples.
 WRITING = ["packet", "packet.mjs", "packet_data.mjs", "packet_scripts.mjs", "packet_words.mjs"]
-OTHERS = ["explain", "explain.mjs", "json", "pcap.py", "picture", "picture.mjs", "program.mjs", "to-pcap"]
+OTHERS = "explain explain.mjs files.mjs json output_lines.py pcap.py picture picture.mjs program.mjs to-pcap".split()
 TOOLS = [f"tools/{it}" for it in [*WRITING, *OTHERS]] + MODULES
 LINK = re.compile(r"(?<!!)\[([^]]*)\]\(([^)#\s]+)(#[^)]*)?\)")
 

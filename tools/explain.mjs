@@ -1,7 +1,6 @@
 // Explains the first wrong line of a script, with the page's module.
-import { readFileSync } from "node:fs";
+import { contentOf, explained, Fault, watchOutput } from "./files.mjs";
 import { isOfInternet } from "../page/script.mjs";
-import { wrongLine } from "../page/wrong_line.mjs";
 
 const HELP = `tools/explain says which line of a script is wrong, and what was expected there:
 
@@ -28,32 +27,31 @@ function verbOf(file, content) {
 
 // Explains one file, and returns its status.
 function explain(verb, file) {
-    const content = readFileSync(file);
-    const found = wrongLine(content, (verb ?? verbOf(file, content)) === "internet");
+    const content = contentOf(file);
+    const found = explained(content, (verb ?? verbOf(file, content)) === "internet");
     const told = found ? `${found.line}: ${found.text} (line ${found.line}: ${found.fault})` : " no line is wrong";
     process.stdout.write(`${file}:${told}\n`);
     return found ? WRONG : RIGHT;
 }
 
 function main(words) {
-    if (words.join() === "--help") {
+    if (words.includes("--help")) {
         process.stdout.write(HELP);
         return RIGHT;
     }
     const { verb, files } = asked(words);
-    if (!files.length || files[0].startsWith("--")) {
+    if (!files.length || files.some((it) => it.startsWith("-"))) {
         process.stderr.write(`${USAGE}\n`);
         return MISUSED;
     }
     return Math.max(...files.map((it) => explain(verb, it)));
 }
 
-// Who reads may have had enough.
-process.stdout.on("error", (why) => process.exit(why.code === "EPIPE" ? RIGHT : UNREAD));
+watchOutput("tools/explain");
 try {
     process.exitCode = main(process.argv.slice(2));
 } catch (why) {
-    if (!why.code) throw why;
+    if (!(why instanceof Fault)) throw why;
     process.stderr.write(`tools/explain: ${why.message}\n`);
     process.exitCode = UNREAD;
 }

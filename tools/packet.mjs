@@ -1,7 +1,7 @@
 // Words to the digits of a packet in a script, and back.
-import { commented, filled, scriptOf } from "./packet_scripts.mjs";
+import { commented, filled, ofScript } from "./packet_scripts.mjs";
 import { checkedDigits, digitsOf, load, wordsOfAll } from "./packet_words.mjs";
-import { Fault } from "./program.mjs";
+import { Fault, watchOutput } from "./files.mjs";
 
 const HELP = `tools/packet turns words into the digits that a script has for a packet, and digits into words:
 
@@ -10,9 +10,9 @@ const HELP = `tools/packet turns words into the digits that a script has for a p
     tools/packet fill SCRIPT                                     prints the script with the digits of each packet that a comment tells
     tools/packet comment SCRIPT                                  prints the script with such a comment above each packet
 
-It needs Node; the library as WebAssembly (make page or make web builds it), whose proved writers write the bytes; and to show and comment
-the program ipxr (make run), which reads them. Behind the kind of a packet stands who sends it, NETWORK.NODE or NETWORK.NODE.SOCKET, and
-then in any order:
+It needs Node; the library as WebAssembly ('make web' builds it, 'make run' doesn't), whose proved writers write the bytes; and to show and
+comment the program ipxr (make run), which reads them. Behind the kind of a packet stands who sends it, NETWORK.NODE or
+NETWORK.NODE.SOCKET, and then in any order:
 
     rip request           network=NET                  each network that is asked for; without one, for all of them
     rip response          network=NET hops=N ticks=N   each route
@@ -35,21 +35,20 @@ whose commands follow.
 const USAGE = "usage: tools/packet KIND WORDS.., or show DIGITS, or fill SCRIPT, or comment SCRIPT, or --help";
 const ACTS = {
     show: ([digits]) => `${wordsOfAll([checkedDigits(digits)])[0].join(" ")}\n`,
-    fill: ([file]) => filled(...scriptOf(file)),
-    comment: ([file]) => commented(...scriptOf(file)),
+    fill: ([file]) => ofScript(file, filled),
+    comment: ([file]) => ofScript(file, commented),
 };
 
 async function main(words) {
     const [act, ...more] = words;
-    if (words.join() === "--help") return process.stdout.write(HELP);
-    if (!words.length || act.startsWith("--") || (Object.hasOwn(ACTS, act) && more.length !== 1)) throw new Fault(USAGE);
+    if (words.includes("--help")) return process.stdout.write(HELP);
+    if (!words.length || act.startsWith("-") || (Object.hasOwn(ACTS, act) && more.length !== 1)) throw new Fault(USAGE);
     await load();
     if (Object.hasOwn(ACTS, act)) return process.stdout.write(Buffer.from(ACTS[act](more), "latin1"));
     return process.stdout.write(`${digitsOf(words) || "-"}\n`);
 }
 
-// Who reads may have had enough.
-process.stdout.on("error", (why) => process.exit(why.code === "EPIPE" ? 0 : 1));
+watchOutput("tools/packet");
 try {
     await main(process.argv.slice(2));
 } catch (why) {

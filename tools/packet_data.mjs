@@ -1,8 +1,8 @@
 // Bytes in words: hexadecimal digits, pieces of which may be repeated. 00x47 is 47 zeros; 0002,[0030,00x3]x2 is 0002, and twice 0030 and
 // three zeros.
-import { Fault } from "./program.mjs";
+import { Fault } from "./files.mjs";
 
-const MOST_BYTES = 65535;
+const [MOST_BYTES, MOST_BRACKETS] = [65535, 100];
 const SHOWN = 16;
 const [SHORTEST_SAVING, LONGEST_PIECE] = [12, 64];
 
@@ -10,7 +10,7 @@ const [SHORTEST_SAVING, LONGEST_PIECE] = [12, 64];
 
 class Reader {
     constructor(name, text) {
-        Object.assign(this, { name, text, at: 0 });
+        Object.assign(this, { name, text, at: 0, brackets: 0 });
     }
 
     fail() {
@@ -25,21 +25,41 @@ class Reader {
         return found;
     }
 
+    // Refuses too many bytes before they are made: a short word could tell more than memory has.
+    see(bytes) {
+        if (bytes > MOST_BYTES) throw new Fault(`${this.name}: expected at most ${MOST_BYTES} bytes`);
+    }
+
     list() {
         let found = this.piece();
-        while (this.took(/^,/)) found += this.piece();
+        while (this.took(/^,/)) {
+            found += this.piece();
+            this.see(found.length / 2);
+        }
         return found;
     }
 
     piece() {
-        const one = this.took(/^\[/) ? this.inner() : (this.took(/^(?:[0-9A-Fa-f]{2})+/) ?? this.fail())[0].toUpperCase();
+        const one = this.took(/^\[/) ? this.inner() : this.digits();
         const times = this.took(/^x(\d{1,5})/);
-        if (times && (one.length / 2) * times[1] > MOST_BYTES) throw new Fault(`${this.name}: expected at most ${MOST_BYTES} bytes`);
+        this.see((one.length / 2) * (times?.[1] ?? 1));
         return times ? one.repeat(+times[1]) : one;
     }
 
+    // (a pattern of two digits, repeated, would need room for each of many)
+    digits() {
+        const [found] = this.took(/^[0-9A-Fa-f]+/) ?? this.fail();
+        if (found.length % 2) {
+            this.at--;
+            this.fail();
+        }
+        return found.toUpperCase();
+    }
+
     inner() {
+        if (++this.brackets > MOST_BRACKETS) throw new Fault(`${this.name}: expected at most ${MOST_BRACKETS} brackets in one another`);
         const found = this.list();
+        this.brackets--;
         return this.took(/^\]/) ? found : this.fail();
     }
 }
@@ -50,7 +70,6 @@ export function dataOf(name, word) {
     const reader = new Reader(name, word);
     const found = reader.list();
     if (reader.at < word.length) reader.fail();
-    if (found.length > 2 * MOST_BYTES) throw new Fault(`${name}: expected at most ${MOST_BYTES} bytes`);
     return found;
 }
 

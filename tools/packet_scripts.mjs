@@ -1,8 +1,7 @@
 // The packets of scripts, with their words in comments: `# packet WORDS` stands above the command whose packet they tell. Prose and a colon
 // may stand before it, and | between the words of several packets, whose commands follow.
-import { readFileSync } from "node:fs";
+import { contentOf, Fault, seeScript } from "./files.mjs";
 import { isOfInternet } from "../page/script.mjs";
-import { Fault } from "./program.mjs";
 import { checkedDigits, digitsOf, wordsOfAll } from "./packet_words.mjs";
 
 const TOLD = /^#(?: .*:)? packet (.+)$/;
@@ -12,7 +11,7 @@ const COUNTS = [{ in: 3 }, { in: 4, trace: 5 }];
 
 // A script's text, which keeps each of its bytes, and whether it is one of an internet.
 export function scriptOf(file) {
-    const text = readFileSync(file).toString("latin1");
+    const text = contentOf(file).toString("latin1");
     return [text, file.endsWith(".internet") || (!file.endsWith(".script") && isOfInternet(text))];
 }
 
@@ -64,6 +63,15 @@ export function commented(text, isInternet) {
     const found = wordsOfAll(lacking.map((it) => inLine(it.number, () => checkedDigits(digitsIn(it.line)))));
     const above = new Map(lacking.map((it, k) => [it.number, `# packet ${found[k].join(" ")}${it.line.endsWith("\r") ? "\r" : ""}`]));
     return lines.flatMap((it) => (above.has(it.number) ? [above.get(it.number), it.line] : [it.line])).join("\n");
+}
+
+// What an act makes of a file that is a script, or has packets as a part of one has.
+export function ofScript(file, act) {
+    const [text, isInternet] = scriptOf(file);
+    const made = act(text, isInternet);
+    const hasPackets = [...told(text.split("\n"), isInternet)].some((it) => it.isPacket);
+    if (!hasPackets) seeScript(file, Buffer.from(text, "latin1"), isInternet);
+    return made;
 }
 
 // The packets of a script, with the line and, where they are told, the words of each.

@@ -8,7 +8,8 @@ import { IpxrError, Rip, Router, words as faultWords, writePacket, writeQuery, w
 import { captureOf } from "../page/pcap.mjs";
 import { recordsOf } from "../page/records.mjs";
 import { dataOf, dataWords } from "./packet_data.mjs";
-import { Fault, run } from "./program.mjs";
+import { Fault } from "./files.mjs";
+import { run } from "./program.mjs";
 
 const TOP = fileURLToPath(new URL("..", import.meta.url));
 // Where the library is built, and where archives of a release have it.
@@ -28,7 +29,9 @@ const NO_BYTES = "-";
 // Loads the library, before anything else is asked.
 export async function load() {
     const found = LIBRARIES.map((it) => `${TOP}${it}`).find((it) => existsSync(it));
-    if (!found) throw new Fault(`${LIBRARIES[0]} isn't there: make page, or make web`);
+    const isArchive = !existsSync(`${TOP}Makefile`);
+    const how = isArchive ? "this archive was packed without it" : "'make web' proves and builds it in some minutes, with a C compiler";
+    if (!found) throw new Fault(`the library as WebAssembly (libipxr.wasm) is missing: ${how}`);
     await Router.load(found);
 }
 

@@ -1,8 +1,9 @@
 // Draws a script or a capture as SVG, with the page's modules.
-import { readdirSync, readFileSync, writeFileSync } from "node:fs";
+import { writeFileSync } from "node:fs";
 import { basename } from "node:path";
 import { fileURLToPath } from "node:url";
-import { Fault, played, run } from "./program.mjs";
+import { contentOf, Fault, isCapture, isText, namesIn, seeScript, watchOutput } from "./files.mjs";
+import { played, run } from "./program.mjs";
 import { drawLadder, ofRecords, ofSteps, packetsOf } from "../page/ladder.mjs";
 import { drawMoments, mapAt } from "../page/side_by_side.mjs";
 import { sentences } from "../page/traces.mjs";
@@ -26,15 +27,16 @@ const HELP = `tools/picture draws a script or a capture as SVG to standard outpu
     tools/picture --kept [FOLDER]               draws the pictures of the stories in examples, or in another folder
     tools/picture --bench                       measures how long pictures of long scripts take
 
-A file of another name is taken for what it holds. The program ipxr says what happens: the one that the variable IPXR names; else the built
-one, that of the archive in which this lies, or the system's. docs/PICTURES.md shows pictures of each kind.
+A capture may have any name; another file is taken for a script if its name doesn't end as above. A script is drawn up to its first wrong
+line. If that stands before the first line that acts, the file is no script, and is refused with the line and what was expected there.
+
+The program ipxr says what happens: the one that the variable IPXR names; else the built one, that of the archive in which this lies, or
+the system's. docs/PICTURES.md shows pictures of each kind.
 `;
 const USAGE = "usage: tools/picture [--after LINE | --trace N | --steps] FILE, or --kept [FOLDER], or --help";
 // Which trace of a story its second picture shows; a story that isn't named has none.
 const SHOWN_TRACES = { ring: 4, "counting-up": 2, forged: 5, "second-wait": 2, "first-packet": 1 };
 const KIND = /\.(internet|script|pcap)$/;
-// How captures begin that are read.
-const MAGICS = ["d4c3b2a1", "a1b2c3d4", "4d3cb2a1", "a1b23c4d", "0a0d0d0a"];
 const EXAMPLES = fileURLToPath(new URL("../examples", import.meta.url));
 
 // ---- Maps ----
@@ -86,29 +88,33 @@ function ladderOf({ script, said }) {
     return drawLadder(ofSteps(all, script.routers[0].ports.map((it) => it.network), labels));
 }
 
-function captureLadder(content) {
+function captureLadder(file, content) {
+    if (isText(content)) throw new Fault(`${file}: this is text, and its name that of a capture: scripts end in .script or .internet`);
     const capture = openCapture(new Uint8Array(content), (bytes) => {
         const { text, ...done } = run("decode", bytes);
         return { ...done, text: Buffer.from(text, "latin1") };
     });
+    if (!capture.count && capture.fault) throw new Fault(`${file}: ${capture.why || `this is no capture that is read (${capture.fault})`}`);
     return drawLadder(ofRecords(capture.ladder(capture.count)));
 }
 
 // ---- Files ----
 
 function kindOf(name, content) {
+    if (isCapture(content)) return "pcap";
     const named = KIND.exec(name);
     if (named) return named[1];
-    if (MAGICS.includes(content.subarray(0, 4).toString("hex"))) return "pcap";
     return isOfInternet(content.toString("utf8")) ? "internet" : "script";
 }
 
 function drawingOf(file, how) {
-    const content = readFileSync(file);
+    const content = contentOf(file);
+    if (!content.length) throw new Fault(`${file} is empty: expected a script or a capture`);
     const kind = kindOf(file, content);
+    if (kind !== "pcap") seeScript(file, content, kind === "internet");
     if (kind === "internet") return mapOf(file, played(content.toString("utf8"), true), how);
     if (how.word) throw new Fault(`${file} is no script of an internet: ${how.word} is for those`);
-    const drawing = kind === "script" ? ladderOf(played(content.toString("utf8"), false)) : captureLadder(content);
+    const drawing = kind === "script" ? ladderOf(played(content.toString("utf8"), false)) : captureLadder(file, content);
     if (!drawing) throw new Fault(`${file} has no packet to draw`);
     return drawing;
 }
@@ -120,9 +126,11 @@ function picture(file, how = {}) {
 
 // The pictures of a folder's stories: of internets those of before and after where something fails, and the traces that are named above.
 function writeKept(folder) {
-    for (const file of readdirSync(folder).filter((it) => KIND.test(it)).sort()) {
+    const files = namesIn(folder).filter((it) => KIND.test(it)).sort();
+    if (!files.length) throw new Fault(`${folder} has no script and no capture`);
+    for (const file of files) {
         const name = file.replace(KIND, "");
-        const content = readFileSync(`${folder}/${file}`, "utf8");
+        const content = contentOf(`${folder}/${file}`).toString("utf8");
         const fails = file.endsWith(".internet") && /^(down|stop) /m.test(content);
         writeFileSync(`${folder}/${name}.svg`, picture(`${folder}/${file}`, fails ? { word: "--steps" } : {}));
         const number = SHOWN_TRACES[name];
@@ -170,20 +178,19 @@ function asked(words) {
         return { file: more[1], how: { word, number: +more[0] } };
     }
     if (word === "--steps" && more.length === 1) return { file: more[0], how: { word } };
-    return words.length === 1 && !word.startsWith("--") ? { file: word, how: {} } : null;
+    return words.length === 1 && !word.startsWith("-") ? { file: word, how: {} } : null;
 }
 
 function main(words) {
-    if (words.join() === "--help") return process.stdout.write(HELP);
-    if (words[0] === "--kept" && words.length < 3) return writeKept(words[1] ?? EXAMPLES);
+    if (words.includes("--help")) return process.stdout.write(HELP);
+    if (words[0] === "--kept" && words.length < 3 && !words[1]?.startsWith("-")) return writeKept(words[1] ?? EXAMPLES);
     if (words.join() === "--bench") return bench();
     const found = asked(words);
     if (!found) throw new Fault(USAGE);
     return process.stdout.write(picture(found.file, found.how));
 }
 
-// Who reads may have had enough.
-process.stdout.on("error", (why) => process.exit(why.code === "EPIPE" ? 0 : 1));
+watchOutput("tools/picture");
 try {
     main(process.argv.slice(2));
 } catch (why) {

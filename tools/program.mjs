@@ -6,6 +6,7 @@ import { existsSync } from "node:fs";
 import { fileURLToPath } from "node:url";
 import { spawnSync } from "node:child_process";
 import { together, toldApart } from "../page/timeline.mjs";
+import { Fault } from "./files.mjs";
 import { parsed } from "../page/script.mjs";
 
 const TOP = fileURLToPath(new URL("..", import.meta.url));
@@ -14,19 +15,23 @@ const PLACES = ["crates/ipxr/out/ipxr", "bin/ipxr", "ipxr.exe", "ipxr"];
 const MOST_BYTES = 2 ** 31 - 1;
 const [DONE, WRONG_LINE] = [0, 2];
 
-// A fault that is told in a line.
-export class Fault extends Error {}
-
 // The program that the variable IPXR names; else the one that was built, that of the archive in which this lies, or the system's.
 function program() {
     return process.env.IPXR || PLACES.map((it) => `${TOP}${it}`).find((it) => existsSync(it)) || "ipxr";
 }
 
-// The text of a run on an input, and its status.
+// What is said where the program can't be run.
+const REFUSALS = { ENOENT: "isn't there: 'make run' builds ipxr", EACCES: "isn't a program that may be run" };
+
+// The text of a run on an input, and its status. (A program that ends at a wrong line leaves what stands behind it unread.)
 export function run(verb, input) {
     const done = spawnSync(program(), [verb], { input, maxBuffer: MOST_BYTES });
-    if (done.error) throw new Fault(done.error.code === "ENOENT" ? `${program()} isn't there: make run` : done.error.message);
-    return { text: done.stdout.toString("latin1"), error: done.stderr.toString("latin1"), status: done.status };
+    const { code, message } = done.error ?? {};
+    if (code && (code !== "EPIPE" || done.status === null)) throw new Fault(REFUSALS[code] ? `${program()} ${REFUSALS[code]}` : message);
+    const error = done.stderr.toString("latin1");
+    const isUsual = [DONE, WRONG_LINE].includes(done.status);
+    if (!isUsual) throw new Fault(error.trim().split("\n").pop() || `ipxr ended with ${done.status ?? done.signal}`);
+    return { text: done.stdout.toString("latin1"), error, status: done.status };
 }
 
 // ---- Marks ----
@@ -93,7 +98,6 @@ class RouterAnswers {
 function answersOf(script) {
     const { text, origins } = marked(script);
     const done = run(script.isInternet ? "internet" : "replay", text);
-    if (![DONE, WRONG_LINE].includes(done.status)) throw new Fault(done.error.trim() || `ipxr ended with ${done.status}`);
     const lines = done.text.split("\n").slice(0, -1);
     const reader = script.isInternet ? new InternetAnswers(lines) : new RouterAnswers(lines);
     const said = script.lines.map(() => []);

@@ -7,7 +7,7 @@ import os
 import sys
 import time
 
-from attacks import QUIET, TWO, Playground, figures
+from attacks import TWO, Playground, figures
 from lab import EVERYONE, TUNNEL, Clock, Counts, address, left_out, packet, played_anew, socket_of, until
 from limits import CHAT, are_answering, come
 from players import Player, Slow

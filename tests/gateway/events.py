@@ -76,6 +76,9 @@ def come_and_go():
         assert (service["type"], service["name"], service["node"], service["socket"]) == ("0640", "SE\"RVER\x1b", node, "0451")
         advertise(a, routes=[(0x77, 3, 4)])
         assert follower.told(event="route changes")["hops"] == 3
+        advertise(a, routes=[(0x77, 3, 5)])
+        told = follower.told(event="route changes")
+        assert (told["hops"], told["ticks"]) == (3, 5), "the ticks alone are others"
         advertise(a, routes=[(0x77, UNREACHABLE, 4)])
         assert follower.told(event="route goes")["network"] == "00000077"
 

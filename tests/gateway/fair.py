@@ -1,15 +1,19 @@
-"""What a client receives where others say more than it reads: each address that speaks has its part. By a clock that the test sets.
+"""What a client receives where others say more than it reads: each address that speaks has its part. By a clock that the test sets; and by
+the system's, what a cable with several kinds of frames receives for a while.
 
 It runs in networks of its own (spaces.py).
 """
 import os
+import re
 import sys
+import time
 
-from attacks import OTHER_PORT, QUIET, Playground, figures, named
-from lab import EVERYONE, Clock, Counts, address, left_out, packet
+from attacks import OTHER_PORT, QUIET, Playground, during, figures, named, none
+from frames import Packets, unframed
+from lab import EVERYONE, GAME, Clock, Counts, address, left_out, packet, played_anew
 from limits import AT_ONCE, BURST, CHAT, HOUSEHOLD, LONGEST, RATE, RECEIVED, SHARE, TWO, chatter, come
-from players import NUMBERED
-from spaces import GATEWAY, INSIDE, tried_inside
+from players import NETWORK, NUMBERED, Player
+from spaces import GATEWAY, INSIDE, Field, host, ip, tried_inside
 from systems import SYSTEM
 
 LASTS, WHOLE = 2, 0.95  # seconds by that clock, and the least of a part that somebody has of it
@@ -20,6 +24,14 @@ LONGEST_AT_ONCE, ALL_LONG_AT_ONCE = 32, 64  # of the longest packets that a clie
 WORDS = 20  # packets at once of one who speaks beside another
 ALONE = 100  # short packets at once of one who speaks alone
 HOUSE_AT_ONCE = 500  # packets that all clients of an address receive at once of one who speaks alone
+CARDS = (("g2", "t2"), ("g3", "t3"))  # of the gateway's, each with the one at the other end of its cable
+GAMES, SIXTH = 5, 80  # players of 35 packets a second, and how many a sixth says: in four kinds of frames more than a link receives
+LONG, AFTER, SLICE = 12, 2, 2  # seconds that they play, and more without the sixth; and after how many it is looked who was heard
+ON_CABLE = bytes.fromhex("020000000CC3")
+# (one card has the players' network, and to that of the other what they say is extended)
+EXTENDS = f"extend {GAME:X}\n"
+ALL_KINDS = (f"network {NETWORK:X} 1 1424\nlink dosbox 0.0.0.0:{GATEWAY[1]}\nlink interface {CARDS[0][0]} auto\n{EXTENDS}"
+             f"network 20 1 1424 interface {CARDS[1][0]} auto\n{EXTENDS}")
 
 
 def say_up_to(player, count):
@@ -144,6 +156,77 @@ def each_has_its_part_of_an_address():
             assert sum(came) == (heard or said * len(household)), came
 
 
+def dropped(gate):
+    """How much links with frames didn't receive."""
+    return sum(map(int, re.findall(r"too much for a link: (\d+)", gate.report().partition("report after ")[2])))
+
+
+class OnCable(Player):
+    """A PC at the far end of a card's cable, which hears raw frames and says nothing."""
+
+    def __init__(self, card):
+        super().__init__(host(0), GATEWAY)
+        self.udp.close()
+        self.udp = Packets(card, "raw").socket
+        self.node, self.network = ON_CABLE, NETWORK
+
+    def send(self, bytes_):
+        """(nobody is to learn what kind it uses: so all kinds go on)"""
+
+    def hear(self, bytes_):
+        found = unframed("raw", bytes_)
+        if found is not None:
+            super().hear(found)
+
+
+def cabled():
+    """A field whose gateway has two more cards."""
+    field = Field()
+    for near, far in CARDS:
+        ip("link", "add", far, "type", "veth", "peer", "name", near)
+        ip("link", "set", near, "netns", str(field.gate.holder.pid))
+        field.gate.ip("link", "set", near, "up")
+        ip("link", "set", far, "up")
+    return field
+
+
+class Kinds:
+    """Five players and a sixth, and PCs at the ends of cables with four kinds of frames, which hear the five all the time."""
+
+    def __init__(self, it):
+        self.it, self.sixth = it, Player(it.free[0], GATEWAY, 1 / SIXTH)
+        self.pcs = [OnCable(far) for _, far in CARDS]
+        it.party.put_in("sixth", self.sixth)
+        for pc in self.pcs:
+            it.party.put_in("on a cable", pc)
+        it.party.enter()
+
+    def slice(self, speaks):
+        """They play for a while. Returns what is wrong with what the five's packets became."""
+        lasts = during(SLICE)
+        self.sixth.due = time.monotonic()
+        self.it.party.begin_again(100)
+        fault = self.it.play(lambda: lasts() and (not speaks or self.sixth.speak(time.monotonic()) or True))
+        figures(f"of the sixth the PCs heard {[len(it.heard.get(self.sixth.node, ())) for it in self.pcs]} of {self.sixth.said}")
+        return fault
+
+    def play(self, seconds, after=AFTER):
+        """They play for so many seconds, and for some more without the sixth, who says one more word in the end."""
+        faults = [self.slice(True) for _ in range(0, seconds, SLICE)] + [self.slice(False) for _ in range(0, after, SLICE)]
+        self.sixth.say(NUMBERED, 0)
+        came = self.it.party.until(lambda: all(self.sixth.node in it.heard for it in self.pcs), QUIET)
+        none(*faults, "" if came else "the sixth isn't heard in the end")
+
+
+@played_anew
+def cables_of_four_kinds():
+    """For 12 s five players say 35 packets a second and a sixth 80: PCs on cables with four kinds of frames, one on their network and one
+    on another to which that is extended, hear the five all the time."""
+    with Playground(ALL_KINDS, numbers=(0, 0, GAMES), more=1, begins=False, field=cabled()) as it:
+        Kinds(it).play(LONG)
+        assert dropped(it.gate) > 0, it.gate.report()
+
+
 TESTS = [
     named("by a clock, two addresses: eight clients of one say 280 a second, the other 800", parts, 1, 800, [280]),
     named("by a clock, 16 addresses say 200 a second each, one of 40 a second loses nothing", parts, 16, 200, [40]),
@@ -155,6 +238,7 @@ TESTS = [
     long_packets_at_once,
     one_part_on_two_networks,
     each_has_its_part_of_an_address,
+    cables_of_four_kinds,
 ]
 
 

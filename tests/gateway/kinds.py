@@ -8,7 +8,7 @@ import sys
 
 from frames import KINDS, Packets, Station, Udp, frame, unframed
 from lab import (EVERYONE, GAME, LIMIT, Client, Clock, Counts, Gateway, address, comes_next, free_ports, fresh, is_routers, left_out,
-                 packet, reaches, reaches_again, tunnels)
+                 packet, reaches, reaches_again, tunnels, until)
 from links import both_ways, connected, places_joined
 from segments import NUMBER, Cable, calls, can, hears, hears_all_frames, pair, tells
 from spaces import INSIDE, ip, tried_inside
@@ -301,7 +301,149 @@ def kinds_are_shown():
         assert "\n  kinds: raw,llc\n" in gate.report()
 
 
+WRONG, MINUTE = "another kind of frame", 60
+
+
+def told_as_wrong(gate, number):
+    """The lines about kinds of frames that no network has on the link of one."""
+    return [it for it in gate.lines if f"network {number:08X} speaks " in it]
+
+
+def says_in(say, gate, number, kind, sender):
+    """A station says something to a network in a kind."""
+    say(frame(kind, EVERYONE, sender, packet(address(number, EVERYONE, GAME), address(number, sender, GAME), fresh())))
+
+
+def others_are_told(gate, clock, number, link, own, say):
+    """What comes in its own kind is heard. Each other one is told with its sender and what to write, once a minute, and all of it counted."""
+    until(lambda: clock.let_pass(1) or f"network {number:08X} up" in gate.report(), "the link is up")
+    says_in(say, gate, number, own, node(1))
+    gate.until_counted(number, "drop OtherSocket", 1)
+    assert not told_as_wrong(gate, number) and gate.counted(number, WRONG) == 0, own
+    for count, kind in enumerate((it for it in KINDS if it != own), 1):
+        for k in (2, 3):
+            says_in(say, gate, number, kind, node(k))
+        gate.until_counted(number, WRONG, 2 * count)
+        lines = told_as_wrong(gate, number)
+        assert len(lines) == count, (own, kind, lines)
+        assert lines[-1].endswith(f"network {number:08X} speaks {own}, and node {node(2).hex().upper()} speaks {kind} there: "
+                                  f"write '{link} {kind}', or auto"), lines
+        clock.let_pass(MINUTE)
+    report = gate.report()
+    counted = {what: gate.counted(number, what, report) for what in ("in", "no IPX", "drop OtherSocket")}
+    # (Linux itself says something on a TAP)
+    assert counted["in"] - counted["no IPX"] == 7 and counted["drop OtherSocket"] == 1, (own, counted)
+
+
+def wrong_kinds_are_told():
+    """Each kind on a link of each other kind is told, with the words for the configuration, and so is counted what is lost."""
+    clock = Clock()
+    wires = [Udp() for _ in KINDS]
+    text = "".join(f"network {CABLE + k:X} 1 1492 qemu-udp 0 {wire.port} {kind}\n" for k, (kind, wire) in enumerate(zip(KINDS, wires)))
+    with Watched(text, program=SYSTEM.fast, environment=clock.environment()) as gate:
+        for k, (kind, wire) in enumerate(zip(KINDS, wires)):
+            wire.to = gate.ports[CABLE + k]
+            link = f"qemu-udp 127.0.0.1:{wire.to} 127.0.0.1:{wire.port}"
+            others_are_told(gate, clock, CABLE + k, link, kind, wire.send)
+        shown = {(it["network"], it["count"]): it["number"] for it in gate.shown("counts")}
+        assert all(shown[f"{CABLE + k:08X}", f"lost: {WRONG}"] == 6 for k in range(len(KINDS))), shown
+
+
 # ---- In a network of the test's own ----
+
+
+def wrong_kinds_on(device, far, prepare):
+    """The same on a card or a TAP: its word and name, and the name of the cable's other end."""
+    clock = Clock()
+    for kind in KINDS:
+        prepare()
+        link = f"{device} {'k0' if device == 'interface' else far}"
+        with Gateway(f"network {CABLE:X} 1 1490 {link} {kind}\n", program=SYSTEM.fast, environment=clock.environment()) as gate:
+            others_are_told(gate, clock, CABLE, link, kind, Packets(far, kind).send)
+        if device == "interface":
+            ip("link", "del", "k0")
+
+
+def wrong_kinds_on_a_card():
+    """Each kind on a card of each other kind is told once a minute."""
+    wrong_kinds_on("interface", "k1", lambda: pair("k0", "k1"))
+
+
+def wrong_kinds_on_a_tap():
+    """Each kind on a TAP of each other kind is told once a minute."""
+    wrong_kinds_on("tap", "kinds0", lambda: None)
+
+
+def several_networks_on_a_card():
+    """Networks with a kind each on one card hear their own alone; what none has is told and counted once, whoever is added or removed."""
+    line = "network {:X} 1 1490 interface k0 {}\n"
+    text = tunnels(1) + line.format(CABLE, "raw") + line.format(CABLE + 1, "llc")
+    with Gateway(text) as gate:
+        pair("k0", "k1")
+        gate.until(f"network {CABLE + 1:08X} up")
+        wire = Packets("k1", "raw")
+        for number, kind in ((CABLE, "raw"), (CABLE + 1, "llc"), (CABLE, "snap")):
+            says_in(wire.send, gate, number, kind, node(1))
+        gate.until_counted(CABLE, WRONG, 1)
+        assert [gate.counted(number, "in") for number in (CABLE, CABLE + 1)] == [2, 1]
+        (told,) = told_as_wrong(gate, CABLE)
+        assert told.endswith("write 'interface k0 snap' for one more network"), told
+        read_anew(gate, line.format(CABLE + 1, "llc"), line.format(CABLE + 1, "llc") + line.format(CABLE + 2, "snap"))
+        for number, kind in ((CABLE + 2, "snap"), (CABLE, "raw")):
+            says_in(wire.send, gate, number, kind, node(1))
+        gate.until_counted(CABLE, "in", 3)
+        assert gate.counted(CABLE + 2, "in") == 1 and gate.counted(CABLE, WRONG) == 1
+        read_anew(gate, line.format(CABLE, "raw"), "")
+        for number, kind in ((CABLE, "raw"), (CABLE + 1, "llc")):
+            says_in(wire.send, gate, number, kind, node(1))
+        gate.until_counted(CABLE + 1, WRONG, 1)
+        assert [gate.counted(number, "in") for number in (CABLE + 1, CABLE + 2)] == [3, 1]
+    ip("link", "del", "k0")
+
+
+# What is on cables beside IPX: IP, ARP, IPv6, a spanning tree, Cisco's discovery, AppleTalk.
+OTHERS = [b"\x08\x00", b"\x08\x06", b"\x86\xdd", b"\x00\x26\x42\x42\x03", b"\x00\x30\xaa\xaa\x03\x00\x00\x0c\x20\x00",
+          b"\x00\x30\xaa\xaa\x03\x08\x00\x07\x80\x9b"]
+
+
+def others_wake_nobody():
+    """On a card of any kind, or of one, other protocols aren't counted; nor do they wake the gateway."""
+    for kind in (*KINDS, "auto"):
+        pair("k0", "k1")
+        with Gateway(tunnels(1) + f"network {CABLE:X} 1 1490 interface k0 {kind}\n") as gate:
+            gate.until(f"network {CABLE:08X} up")
+            spoken = KINDS[0] if kind == "auto" else kind
+            far, host = Client(gate.ports[0x10]), Station(Packets("k1", spoken), spoken, CABLE, node(1), gate.nodes[CABLE])
+            before, slept = gate.counted(CABLE, "in"), sleeps(gate)
+            for k in range(MADE_UP):
+                host.wire.send((EVERYONE + node(2) + OTHERS[k % len(OTHERS)]).ljust(60 + k % 1000, b"\xff"))
+            slept = sleeps(gate) - slept
+            assert comes_next(host, far)
+            assert gate.counted(CABLE, "in") == before + 1 and gate.counted(CABLE, "no IPX") == 0, kind
+            assert slept < MADE_UP / 20, f"{kind}: it woke {slept} times"
+        ip("link", "del", "k0")
+
+
+def sleeps(gate):
+    """How often the gateway has waited."""
+    with open(f"/proc/{gate.run.process()}/status", encoding="ascii") as it:
+        return int(re.search(r"(?m)^voluntary_ctxt_switches:\s+(\d+)", it.read())[1])
+
+
+def tagged():
+    """What has the tag of another VLAN isn't heard; a tag that only says how urgent a frame is stands in nobody's way."""
+    for kind in ("ethernet2", "auto"):
+        pair("k0", "k1")
+        with Gateway(tunnels(1) + f"network {CABLE:X} 1 1490 interface k0 {kind}\n") as gate:
+            gate.until(f"network {CABLE:08X} up")
+            far, own = Client(gate.ports[0x10]), gate.nodes[CABLE]
+            wire = Packets("k1", "ethernet2")
+            for tag, data in ((b"\x00\x05", b"of another"), (b"\xe0\x00", b"urgent")):
+                inside = packet(far.at(), address(CABLE, node(1), GAME), data)
+                wire.send((own + node(1) + b"\x81\x00" + tag + b"\x81\x37" + inside).ljust(60, b"\0"))
+            assert far.hear()[30:] == b"urgent", kind
+        ip("link", "del", "k0")
+
 
 
 def old_pcs_on_a_card():
@@ -400,11 +542,14 @@ def inside():
         counts.run(old_pcs_on_a_card)
         counts.run(two_on_a_cable)
         counts.run(each_option_fails)
+        for test in (wrong_kinds_on_a_card, several_networks_on_a_card, others_wake_nobody, tagged):
+            counts.run(test)
     else:
         left_out("cards of any kind", "none can be made")
     if os.path.exists("/dev/net/tun") and counts.passed > 0:
         if hears_all_frames():
             counts.run(cards_and_taps)
+        counts.run(wrong_kinds_on_a_tap)
         if can(lambda: ip("link", "add", "brk", "type", "bridge")):
             ip("link", "del", "brk")
             counts.run(a_bridge_behind_its_back)
@@ -416,7 +561,7 @@ def inside():
 
 
 TESTS = (each_in_its_kind, all_in_what_was_heard, made_up_nodes, another_machine, two_gateways, on_one_network)
-OF_LINUX = (kinds_are_shown, read_while_it_runs, a_station_changes_its_kind, kinds_age)
+OF_LINUX = (kinds_are_shown, wrong_kinds_are_told, read_while_it_runs, a_station_changes_its_kind, kinds_age)
 
 
 def main():

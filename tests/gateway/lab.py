@@ -428,7 +428,7 @@ def played_anew(test):
         for left in reversed(range(PLAYS)):
             try:
                 return test(*words, **how)
-            except AssertionError:
+            except (AssertionError, ConnectionError):
                 if left == 0:
                     raise
     return plays

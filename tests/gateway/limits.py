@@ -6,14 +6,13 @@ itself. Each receiver's count shows that it gets no more than its limit, and one
 import multiprocessing
 import os
 import re
-import socket
 import struct
 import sys
 import time
 
 from attacks import LONG_SHARES, OTHER_PORT, QUIET, TUNNEL_LINE, Playground, during, figures, fill, flood, named, none
-from lab import EVERYONE, GAME, LIMIT, SAP, Clock, Counts, address, left_out, packet, played_anew, rip_response, until
-from players import FAST, NETWORK, NUMBERED, Party, Player, Slow
+from lab import EVERYONE, GAME, LIMIT, RIP, SAP, Clock, Counts, address, left_out, packet, played_anew, rip_response, until
+from players import FAST, NETWORK, Party, Player, Slow
 from spaces import GATEWAY, INSIDE, STRANGERS, build_flood, host, tried_inside
 from systems import SYSTEM
 
@@ -421,6 +420,19 @@ def questions_of_an_address():
             assert it.gate.counted(0x20, "too many answers") == unanswered, it.gate.report()
 
 
+def questions_of_a_client(to, data):
+    """A client asks the router 20 times: it is heard four times, and once a second later."""
+    with Playground(TWO, numbers=(0, 0, 0), more=1, clock=Clock()) as it:
+        (player,) = come(it, it.free, PORTS.values())
+        lost = 0
+        for passed, heard in (0, QUESTIONS_AT_ONCE), (1, 1):
+            it.let_pass(passed)
+            for _ in range(5 * QUESTIONS_AT_ONCE):
+                player.send(packet(address(player.network, EVERYONE, to), player.at(CHAT), data, kind=0))
+            lost += 5 * QUESTIONS_AT_ONCE - heard
+            assert it.gate.counted(NETWORK, "too many questions") == lost, it.gate.report()
+
+
 def advertise_in_turns(it, router, count):
     """A route comes and goes, so many times."""
     for k in range(count):
@@ -442,61 +454,6 @@ def a_route_that_comes_and_goes():
         report, lost = it.gate.report(), 200 - heard + ADVERTISED
         assert it.gate.counted(NETWORK, "too many advertisements", report) == lost, report
         assert f"dropped: {lost} advertisements" in report and f"{router.node.hex().upper()}, answered" in report, report
-
-
-# ---- What ICMP says in others' names ----
-
-PORT_UNREACHABLE, FRAGMENTATION_NEEDED = 3, 4
-WORDS = 20  # of a player, each with a complaint
-
-
-def complaint(code, about, to, size=0):
-    """What somebody says of a datagram from a place to another: the bytes of ICMP."""
-    datagram = struct.pack(">BBHHHBBH4s4s", 0x45, 0, 1028, 1, 0x4000, 64, 17, 0, *map(socket.inet_aton, (about[0], to[0])))
-    datagram += struct.pack(">HHHH", about[1], to[1], 1008, 0)
-    whole = struct.pack(">BBHHH", 3, code, 0, 0, size) + datagram
-    words = struct.unpack(f">{len(whole) // 2}H", whole)
-    total = sum(words)
-    total = (total & 0xFFFF) + (total >> 16)
-    return whole[:2] + struct.pack(">H", ~((total & 0xFFFF) + (total >> 16)) & 0xFFFF) + whole[4:]
-
-
-def icmp():
-    return socket.socket(socket.AF_INET, socket.SOCK_RAW, socket.IPPROTO_ICMP)
-
-
-def pieces():
-    """Pieces of datagrams that have come to the test's own network."""
-    with open("/proc/net/snmp", encoding="ascii") as it:
-        names, numbers = (line.split() for line in it if line.startswith("Ip: "))
-    return int(dict(zip(names, numbers))["ReasmReqds"])
-
-
-def a_forged_complaint():
-    """Nobody makes the gateway cut what it sends by a forged word of a router that it is too long."""
-    with Playground() as it, icmp() as raw:
-        before = pieces()
-        for player in it.party.all:
-            raw.sendto(complaint(FRAGMENTATION_NEEDED, GATEWAY, player.udp.getsockname(), 576), (GATEWAY[0], 0))
-        it.party.begin_again(1000)
-        none(it.play(during(1)), "" if pieces() == before else f"{pieces() - before} pieces came")
-
-
-def a_port_that_is_there():
-    """Nobody makes the gateway lose a frame for QEMU by a forged word that nobody is at its port."""
-    at, to = (GATEWAY[0], OTHER_PORT), (host(0), OTHER_PORT)
-    text = f"{TUNNEL_LINE}extend 4003\nnetwork 20 1 1490 qemu-udp {at[0]}:{at[1]} {to[0]}:{to[1]} raw\nextend 4003\n"
-    with Playground(text, numbers=(0, 1, 1)) as it, icmp() as raw, socket.socket(socket.AF_INET, socket.SOCK_DGRAM) as card:
-        card.bind(to)
-        card.settimeout(LIMIT)
-        for number in range(WORDS):
-            word = struct.pack(">6sI", NUMBERED, number)
-            # (it finds what the player says and the complaint at once, and hears the player first)
-            with it.gate.run.halted():
-                it.party.all[0].say(NUMBERED, number)
-                raw.sendto(complaint(PORT_UNREACHABLE, at, to), (GATEWAY[0], 0))
-            until(lambda: word in card.recv(2048), f"word {number}")
-        assert it.gate.counted(0x20, "not sent") == 0, it.gate.report()
 
 
 TESTS = [
@@ -526,9 +483,10 @@ TESTS = [
     what_an_address_receives,
     answers_to_pings_come_last,
     questions_of_an_address,
+    named("a client asks the router 20 times by RIP's requests", questions_of_a_client, RIP, struct.pack(">HIHH", 1, 0xFFFFFFFF, 16, 1)),
+    named("the same by SAP's queries", questions_of_a_client, SAP, struct.pack(">HH", 1, 4)),
+    named("the same by SAP's queries for the nearest", questions_of_a_client, SAP, struct.pack(">HH", 3, 4)),
     a_route_that_comes_and_goes,
-    a_forged_complaint,
-    a_port_that_is_there,
 ]
 
 

@@ -7,6 +7,8 @@ import select
 import socket
 import struct
 import termios
+import threading
+import time
 
 from frames import KINDS, Station, Tcp, Udp, frame
 from lab import (EVERYONE, GAME, LIMIT, Client, Counts, Gateway, address, comes_next, free_ports, is_routers, left_out, packet, played_anew,
@@ -16,6 +18,8 @@ from systems import SYSTEM, Windows
 STATION = bytes.fromhex("020000000AA1")
 RESETS = 30
 SOON = 0.05  # seconds in which a connection comes about, where there is room for it
+KNOCKS = 50  # connections a second
+WITHIN = 5  # seconds in which a PC is there, whoever else knocks
 
 
 def listening(port=0):
@@ -180,6 +184,69 @@ def nobody_hears_of_it():
         assert [" is up: " in line for line in told] == [False, True], told
 
 
+class Knocks(threading.Thread):
+    """Somebody who connects again and again, says something, and goes after some seconds."""
+
+    def __init__(self, port, said, lasts):
+        super().__init__(daemon=True)
+        self.port, self.said, self.lasts = port, said, lasts
+        self.there, self.count, self.is_over = [], 0, threading.Event()
+
+    def run(self):
+        while not self.is_over.wait(1 / KNOCKS):
+            now = time.monotonic()
+            for connection, _ in (it for it in self.there if it[1] <= now):
+                connection.close()
+            self.there = [it for it in self.there if it[1] > now]
+            self.there.append((self.knock(), now + self.lasts))
+            self.count += 1
+
+    def knock(self):
+        connection = socket.socket()
+        connection.setblocking(False)
+        connection.connect_ex(("127.0.0.1", self.port))
+        try:
+            if self.said and select.select([], [connection], [], SOON)[1]:
+                connection.send(self.said)
+        except OSError:
+            pass  # (it is refused)
+        return connection
+
+    def __enter__(self):
+        self.start()
+        until(lambda: self.count >= KNOCKS, "knocks")
+        return self
+
+    def __exit__(self, *_):
+        self.is_over.set()
+        self.join()
+        for connection, _ in self.there:
+            connection.close()
+
+
+def comes_among(said, lasts):
+    """A PC comes while somebody knocks."""
+    with Gateway(tunnels(1) + "network 20 1 1490 qemu-tcp listen 0 raw\n") as gate:
+        far = Client(gate.ports[0x10])
+        with Knocks(gate.ports[0x20], said, lasts) as other:
+            began = time.monotonic()
+            station, _ = connected(gate, 0x20, "raw")
+            took = time.monotonic() - began
+            assert took < WITHIN, f"it took {took:.1f} s"
+            until(lambda: other.count >= 3 * KNOCKS, "more knocks")
+            assert reaches(far, station) and reaches(station, far)
+        assert gate.counted(0x20, "refused") > 0
+
+
+@played_anew
+def others_knock():
+    """While somebody else connects fifty times a second and goes again, at once or later, with or without a word, a PC that comes is there
+    within seconds, and stays."""
+    said = frame("raw", EVERYONE, STATION, packet(address(0, EVERYONE, GAME), address(0, STATION, GAME), b"I am here"))
+    for words, lasts in ((b"", 0), (b"", 0.5), (b"GET / HTTP/1.0\r\n\r\n", 0.5), (len(said).to_bytes(4, "big") + said, 0)):
+        comes_among(words, lasts)
+
+
 def no_room_for_a_connection():
     """Where the system has no room for one more connection, the gateway says so once, tries again each second, and takes it then."""
     with Gateway(tunnels(1) + "network 20 1 1490 qemu-tcp listen 0 raw\n") as gate:
@@ -269,6 +336,27 @@ def nobody_listens_yet():
         assert Station(Tcp(connection), "llc", 0x20, STATION, gate.nodes[0x20]).hear(is_routers)
 
 
+def nobody_answers():
+    """A call that nobody answers, not even to refuse it, ends after five seconds, and another one is made then."""
+    with socket.socket() as silent:
+        silent.bind(("127.0.0.1", 0))
+        silent.listen(0)
+        place = silent.getsockname()
+        # (who has no room for another connection answers nothing)
+        others = [socket.socket() for _ in range(2)]
+        for it in others:
+            it.setblocking(False)
+            it.connect_ex(place)
+        with Gateway(f"network 20 1 1490 qemu-tcp connect {place[1]} llc\n") as gate:
+            assert gate.told("can't connect").endswith(": can't connect: Connection timed out")
+            for it in others:
+                silent.accept()[0].close()
+                it.close()
+            silent.settimeout(LIMIT)
+            connection, _ = silent.accept()
+            assert Station(Tcp(connection), "llc", 0x20, STATION, gate.nodes[0x20]).hear(is_routers)
+
+
 def an_address_comes_later():
     """An address that the machine doesn't have is waited for, which is told; the other networks are routed meanwhile."""
     text = "".join(f"network {n} 1 1424 {it}\n" for n, it in ((40, "dosbox 192.0.2.1:2130"), (50, "qemu-tcp listen 192.0.2.1:5003 raw")))
@@ -326,8 +414,9 @@ def nobody_listens():
 
 def main():
     counts = Counts()
-    for test in (datagrams, two_networks_on_a_link, long_frames, a_connection_comes, one_pc_at_a_time, nobody_hears_of_it,
-                 a_connection_is_reset, a_stream, a_connection_goes, nobody_listens_yet, an_address_comes_later, two_gateways, extended):
+    for test in (datagrams, two_networks_on_a_link, long_frames, a_connection_comes, one_pc_at_a_time, nobody_hears_of_it, others_knock,
+                 a_connection_is_reset, a_stream, a_connection_goes, nobody_listens_yet, nobody_answers, an_address_comes_later,
+                 two_gateways, extended):
         counts.run(test)
     if SYSTEM is Windows:
         left_out("whether what is sent to nobody is counted", "Windows doesn't tell it, though Wine does")

@@ -1,7 +1,9 @@
 """Names of machines in place of addresses: in a network of the test's own, with names that the test gives out."""
 import contextlib
+import errno
 import ipaddress
 import os
+import select
 import socket
 import struct
 import subprocess
@@ -9,11 +11,13 @@ import sys
 import tempfile
 
 from frames import Station, Tcp, Udp
-from lab import LIMIT, Client, Clock, Counts, Gateway, comes_next, is_routers, left_out, reaches, tunnels, until
+from lab import AGAIN, LIMIT, Client, Clock, Counts, Gateway, left_out, reaches, tunnels, until
 from links import STATION, both_ways
+from reloading import Changed
 from six import has_six
 from spaces import INSIDE, ip, tried_inside
 from systems import SYSTEM, Windows
+from troubles import Trouble
 from words import asked
 
 UNKNOWN = "no address of that name is known yet"
@@ -24,6 +28,8 @@ NAME = "house.test"
 A, AAAA = 1, 28  # the kinds of addresses of IPv4 and of IPv6 in a question
 MINUTE, SILENT = 61, 91  # seconds after which a name is asked for again: where nobody is, and where nobody says anything
 TWENTY = 20
+LINKS, TURNS = 30, 10  # of links to names, and configurations that name them
+MOST_UNDER_WAY, OTHERS = 128, 8  # questions at once, and threads that a gateway may have beside them
 
 
 def link(kind):
@@ -134,6 +140,29 @@ def an_end_doesnt_wait():
         gate.end()
 
 
+def of_names(turn):
+    """A configuration with many links to names, whose ports differ from turn to turn."""
+    links = (f"network {0x20 + k:X} 1 1490 qemu-udp 127.0.0.1:{5100 + k} {NAME}:{5002 + turn % 2} raw\n" for k in range(LINKS))
+    return tunnels(1) + "".join(links)
+
+
+def reloads_beside_silence():
+    """While nobody answers for names, reloads that change them use up no more threads and files than there are places for questions."""
+    with Names(1) as names, Changed(of_names(0), before=names.before) as gate:
+        for turn in range(1, TURNS):
+            gate.reload(of_names(turn))
+        threads = len(os.listdir(f"/proc/{gate.run.process()}/task"))
+        assert LINKS < threads <= MOST_UNDER_WAY + OTHERS, threads
+
+        # (whoever found no place is asked for as soon as there is one)
+        def are_known():
+            while select.select([names.udp], [], [], AGAIN)[0]:
+                names.gives("127.0.0.3")
+            return all(it["state"] == "up" for it in gate.shown("links"))
+
+        until(are_known, "all names are known")
+
+
 def the_next_address():
     """Of several addresses each has its turn, until somebody is there who takes a connection."""
     hosts = [(socket.AF_INET, "127.0.0.2"), (socket.AF_INET, "127.0.0.3"), *([(socket.AF_INET6, "::1")] if has_six() else [])]
@@ -145,6 +174,29 @@ def the_next_address():
             with routing(f"qemu-tcp connect {NAME}:{port}") as (names, gate):
                 names.gives("127.0.0.2", "127.0.0.3", "::1")
                 assert told_with(gate, f"[{host}]:{port}" if ":" in host else f"{host}:{port}")
+
+
+def no_room_for_a_call():
+    """Where the system has no room for a call, that is no fault of the address: the same one is called again, not the name's next."""
+    clock, trouble = Clock(), Trouble()
+    environment = {**clock.environment(), **trouble.environment()}
+    with socket.socket() as first, socket.socket() as second:
+        first.bind(("127.0.0.2", 0))
+        port = first.getsockname()[1]
+        second.bind(("127.0.0.3", port))
+        for pc in first, second:
+            pc.listen()
+        with routing(f"qemu-tcp connect {NAME}:{port}", program=SYSTEM.fast, environment=environment) as (names, gate):
+            names.gives("127.0.0.2", "127.0.0.3")
+            until(lambda: clock.let_pass(1) or " is up: qemu-tcp" in gate.report() + "".join(gate.lines), "a connection")
+            assert told_with(gate, f"127.0.0.2:{port}")
+            with trouble.fails("socket", errno.EMFILE):
+                first.accept()[0].close()
+                gate.told("network 00000020 is down")
+                clock.let_pass(1)
+                assert gate.told("can't connect").endswith(": Too many open files")
+            clock.let_pass(1)
+            assert told_with(gate, f"127.0.0.2:{port}")
 
 
 def of_six():
@@ -209,7 +261,8 @@ def inside():
     ip("link", "set", "lo", "up")
     mounts = subprocess.run(["unshare", "-m", "sh", "-c", "mount --bind /etc/hosts /etc/hosts"], stderr=subprocess.DEVNULL, check=False)
     if mounts.returncode == 0 and all(os.path.exists(f"/etc/{it}") for it in ("hosts", "resolv.conf", "nsswitch.conf")):
-        for test in (nobody_waits, an_end_doesnt_wait, the_next_address, its_own, asked_again, another_address):
+        for test in (nobody_waits, an_end_doesnt_wait, reloads_beside_silence, the_next_address, no_room_for_a_call, its_own, asked_again,
+                     another_address):
             counts.run(test)
         if has_six():
             counts.run(of_six)

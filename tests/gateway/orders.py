@@ -9,7 +9,7 @@ import sys
 import tempfile
 import time
 
-from lab import EVERYONE, GAME, LIMIT, RIP, Client, Counts, Gateway, address, left_out, reaches, tunnels, until
+from lab import AGAIN, EVERYONE, GAME, LIMIT, RIP, Client, Counts, Gateway, address, left_out, reaches, tunnels, until
 from systems import SYSTEM, Windows
 
 UNREACHABLE = 16  # hops
@@ -18,6 +18,7 @@ UNREAD, LONG_WORD = 3000, 1000  # packets that are more than the gateway and a p
 QUIET = 0.5  # seconds in which what was written has come
 PCAP_HEADER, RECORD = 24, 16  # bytes of a capture's header, and before each frame
 STALLED = 1000  # broadcasts, whose lines are more than the gateway and a pipe keep
+LITTLE = 4096  # bytes that a slow reader takes at a time
 
 
 def is_farewell(packet, network):
@@ -90,6 +91,18 @@ def nobody_reads():
         assert is_routed(a, b, STALLED)
         gate.run.order(SYSTEM.end)
         assert gate.run.wait(timeout=LIMIT) == 0
+
+
+def somebody_reads_slowly():
+    """It ends though somebody reads its lines a little at a time: he would need minutes for those that wait."""
+    with Gateway(tunnels(32, extra="extend 4003\nrate none\n"), options=["--log"]) as gate:
+        assert is_routed(Client(gate.ports[0x10]), Client(gate.ports[0x20]), STALLED)
+        gate.run.order(SYSTEM.end)
+        end = time.monotonic() + LIMIT
+        while gate.run.poll() is None and time.monotonic() < end:
+            os.read(gate.run.stdout.fileno(), LITTLE)
+            time.sleep(AGAIN)
+        assert gate.run.poll() == 0
 
 
 def whole_frames(capture):
@@ -172,7 +185,7 @@ def typed():
 
 def main():
     counts = Counts()
-    for test in (reports, lines_come, nobody_reads, seconds_pass, told_to_end, typed):
+    for test in (reports, lines_come, nobody_reads, somebody_reads_slowly, seconds_pass, told_to_end, typed):
         counts.run(test)
     if SYSTEM is Windows:
         left_out("a capture into a pipe that nobody reads", "pipes have other names there")

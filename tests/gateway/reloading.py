@@ -1,23 +1,35 @@
 """The configuration is read anew while the gateway runs: what changed changes, and all else runs on."""
+import itertools
+import json
 import os
 import pty
 import re
+import select
 import signal
 import socket
 import subprocess
+import sys
 import tempfile
 
 from events import Follower
-from lab import (AGAIN, ALL_THERE_IS, EVERYONE, GAME, LIMIT, TUNNEL, Client, Counts, address, free_ports, is_ping, left_out, packet,
-                 reaches, registration, rip_response, socket_of, tunnels, until)
+from frames import Packets, Station, Tcp, Udp
+from lab import (AGAIN, ALL_THERE_IS, EVERYONE, GAME, LIMIT, NOBODY, RIP, TUNNEL, Client, Clock, Counts, address, comes_next, free_ports,
+                 is_ping, left_out, packet, reaches, registration, rip_response, socket_of, tunnels, until)
 from orders import is_farewell, told_until
-from status import Watched, asked
+from segments import can, hears, hears_all_frames, pair, tells
+from six import has_six
+from spaces import INSIDE, ip, tried_inside
+from status import Watched, advertise, answer_of, asked
 from systems import SYSTEM, TOP, Windows
 
 TIMES = 20  # that the configuration is read anew while others play
 BETWEEN = 25  # packets from one time to the next
 ADVERTISED = 60  # packets that tell of routes: too many at once for a usual share, and few for all that there is
 OF_OTHERS = {"port", "has_shares"}  # fields of a network's settings that follow from the others
+ASKERS = 6  # who are shown a list while it becomes shorter: each gets a piece by turns
+MANY = 180  # clients, routes and services: more than a piece of what is shown
+CUT = 50  # times that it is shortened, until that comes between two pieces
+LONGEST = 1424  # bytes of a datagram of the tunnel
 FLOOD = 300  # packets of a client, more than another receives at once where there are limits
 
 
@@ -55,7 +67,7 @@ def all_is_compared():
     struct = re.search(r"typedef struct network_setting \{(.*?)\} network_setting;", source("settings.h"), re.DOTALL)[1]
     declared = re.findall(r"^\s*\w+ ([^;]+);", struct, re.MULTILINE)
     fields = [name for names in declared for name in re.findall(r"(\w+)(?:\[\w+\])?(?:,|$)", names)]
-    compared = source("change.c")
+    compared = source("plan.c")
     forgotten = [it for it in fields if not it.endswith("line") and it not in OF_OTHERS and f"a->{it}" not in compared]
     assert len(fields) > len(OF_OTHERS) and not forgotten, forgotten
 
@@ -115,6 +127,31 @@ def rules_for_clients():
         assert gate.counted(0x10, "clients") == 1 and reaches(a, a)
 
 
+def all_heard(stranger):
+    """The datagrams that have come to somebody's socket, up to a moment in which none does."""
+    heard = []
+    while select.select([stranger], [], [], AGAIN)[0]:
+        heard.append(stranger.recv(LONGEST))
+    return heard
+
+
+def newcomers():
+    """Who registered just before is pinged again afterwards, as he may have missed it; where the tunnel is at another port he isn't."""
+    clock = Clock()
+    port, moved = free_ports(2)
+    for now, is_pinged in ((port, True), (moved, False)):
+        how = {"program": SYSTEM.fast, "environment": clock.environment()}
+        with Changed(at(0x10, port), **how) as gate, socket.socket(socket.AF_INET, socket.SOCK_DGRAM) as stranger:
+            stranger.bind(("127.0.0.1", 0))
+            stranger.sendto(registration(), ("127.0.0.1", port))
+            assert any(is_ping(it) for it in all_heard(stranger))
+            gate.reload(at(0x10, now, below="clients 5\n"))
+            for _ in range(5):
+                clock.let_pass(1)
+                gate.report()
+            assert any(is_ping(it) for it in all_heard(stranger)) == is_pinged, now
+
+
 def a_line():
     """A narrow line holds as soon as the file names it, and no longer than it does; who is there stays."""
     dropped = "lost: too much for the line"
@@ -153,6 +190,103 @@ def limits():
         assert lost > 0 and gate.counted(0x10, dropped) == lost and f"{lost} copies of what it said" in gate.report()
         assert [it["dropped"] for it in gate.shown("clients")] == [lost, lost]
         assert not is_told_to_leave(gate)
+
+
+def nodes_on(gate, network):
+    """The links of a network as they are shown, each with the port that it took."""
+    return [it["link"] for it in gate.shown("links") if it["network"] == f"{network:08X}"]
+
+
+def port_in(link):
+    return int(re.search(r":(\d+)", link)[1])
+
+
+def comes_to(gate, link):
+    """Who comes to a link of the network 10: a DOSBox, or a PC in an emulator."""
+    if link.startswith("dosbox"):
+        return Client(port_in(link), gateway=gate.nodes[0x10])
+    connection = socket.create_connection(("127.0.0.1", port_in(link)))
+    pc = Station(Tcp(connection), "raw", 0x10, b"\2\0" + connection.getsockname()[1].to_bytes(4, "big"), gate.nodes[0x10])
+    pc.say(address(0x10, pc.gateway, GAME), b"I am here")
+    until(lambda: (link, "up") in ((it["link"], it["state"]) for it in gate.shown("links")), "its link is up")
+    return pc
+
+
+def all_hear(present):
+    """Whether each hears each other at once, and is heard."""
+    return all(hears(other, tells(one, other)) for one, other in itertools.permutations(present, 2))
+
+
+def has_left(gate, one):
+    """Whether somebody was put out: a client is told to, and the connection of a PC is closed."""
+    if isinstance(one, Client):
+        return gate.told(f"client {one.node.hex().upper()} leaves 00000010")
+    try:
+        while one.wire.receive():
+            pass
+    except ConnectionError:
+        return True
+    return False
+
+
+def links_that_are_alike():
+    """Of links that are alike each is kept or closed, and each new one is opened: no two share one, and who is on one that stays, stays."""
+    def text(count):
+        kinds = ("dosbox 127.0.0.1:0", "qemu-tcp listen 127.0.0.1:0 raw")
+        return "network 10 1 1424\n" + "".join(f"link {kind}\n" for kind in kinds for _ in range(count)) + at(0x20, "127.0.0.1:0")
+
+    with Changed(text(2)) as gate:
+        there = nodes_on(gate, 0x10)
+        present = {link: comes_to(gate, link) for link in there}
+        assert len(set(there)) == 4 and all_hear(present.values())
+        for count in (2, 2, 1, 1, 3, 3, 2):
+            said = gate.reload(text(count))
+            now = nodes_on(gate, 0x10)
+            half = len(there) // 2
+            kept = [link for of_kind in (there[:half], there[half:]) for link in of_kind[:count]]
+            assert len(set(now)) == len(now) == 2 * count and [it for it in now if it in there] == kept, (there, now)
+            assert count == half and said.endswith("nothing changed\n") or f" {2 * max(count - half, 0)} added" in said, said
+            assert all(has_left(gate, present.pop(link)) for link in there if link not in now)
+            present.update({link: comes_to(gate, link) for link in now if link not in there})
+            assert all_hear(present.values())
+            there = now
+
+
+def a_node_of_several_links():
+    """Where a network of several links gets another node of the gateway's, who is there stays, and finds the gateway at that node."""
+    def text(more):
+        return f"network 10 1 1424{more}\nlink dosbox 127.0.0.1:0\nlink qemu-tcp listen 127.0.0.1:0 raw\n" + at(0x20, "127.0.0.1:0")
+
+    with Changed(text("")) as gate:
+        there = nodes_on(gate, 0x10)
+        anna, ben, pc = present = [comes_to(gate, link) for link in (there[0], *there)]
+        far, made_up = Client(gate.ports[0x20]), gate.nodes[0x10]
+        for node in ("02005E000001", "02005E000002", ""):
+            said = gate.reload(text(f" node {node}" if node else ""))
+            assert ": 0 added, 0 removed, 0 with another link, 0 with other clients, " in said and said.endswith("starts afresh\n"), said
+            assert nodes_on(gate, 0x10) == there
+            gate.nodes[0x10] = pc.gateway = bytes.fromhex(node) if node else made_up
+            assert {it["node"] for it in gate.shown("links")[:2]} == {pc.gateway.hex().upper()}
+            assert all_hear(present) and reaches(pc, far) and reaches(far, pc) and reaches(anna, far) and reaches(far, ben)
+            newcomer = comes_to(gate, there[0])
+            assert hears(newcomer, tells(pc, newcomer))
+            pc.gateway = made_up
+            pc.say(far.at(), b"to the node that was")
+            pc.gateway = gate.nodes[0x10]
+            assert comes_next(pc, far) == bool(node), "the gateway has one node"
+        assert not is_told_to_leave(gate)
+
+
+def limits_of_a_link():
+    """Other limits of a link with frames are told, the share too, and its PC stays."""
+    (port,) = free_ports(1)
+    link = f"network 10 1 1424 qemu-tcp listen 127.0.0.1:{port} raw\n"
+    with Changed(link) as gate, socket.create_connection(("127.0.0.1", port)) as pc:
+        gate.told("network 00000010 is up")
+        for below in ("rate 800 60\n", "rate 800 70\n", "rate none\n"):
+            said = gate.reload(link + below)
+            assert "0 with another link, 1 with other clients" in said and "router" not in said, said
+        assert gate.counted(0x10, "connected") == 1 and pc.fileno() >= 0
 
 
 def shares():
@@ -210,6 +344,22 @@ def a_link_is_another():
     others_play(lambda port: at(0x20, port), lambda port: at(0x20, third))
 
 
+def frames_on_another_link():
+    """Where the one link of a network with frames is another, the router stays, and the gateway has the node there that it had."""
+    text = at(0x10, "127.0.0.1:0") + "network 20 1 1490 qemu-udp {} {} {}\n"
+    first, second = free_ports(2)
+    wires = Udp(), Udp()
+    with Changed(text.format(first, wires[0].port, "raw")) as gate:
+        far, node = Client(gate.ports[0x10]), gate.nodes[0x20]
+        for port, wire, kind in ((first, wires[1], "raw"), (second, wires[0], "raw"), (second, wires[0], "llc")):
+            said = gate.reload(text.format(port, wire.port, kind))
+            assert " 1 with another link, " in said and "afresh" not in said, said
+            assert gate.shown("links")[1]["node"] == node.hex().upper(), "it has another node"
+            wire.to = port
+            station = Station(wire, kind, 0x20, b"\2\0\0\0\x0a\xa1", node)
+            assert reaches(station, far) and reaches(far, station)
+
+
 def networks_come_and_go():
     """Networks that are added and removed are so; on another network nothing is lost, though the router starts afresh."""
     others_play(lambda port: at(0x20, port) + at(0x30, "127.0.0.1:0"), lambda port: "")
@@ -230,6 +380,11 @@ def another_address():
         gate.told(f"client {a.node.hex().upper()} leaves 00000010")
         assert gate.counted(0x10, "clients") == 0
         until(lambda: comes_in(moved), "somebody comes in at the other port")
+        gate.reload(at(0x10, "127.0.0.1:0"))
+        b = Client(port_in(gate.shown("links")[0]["link"]))
+        gate.reload(at(0x10, "0.0.0.0:0"))
+        assert gate.shown("clients") == [], "nobody finds the tunnel at the port that is free now"
+        gate.told(f"client {b.node.hex().upper()} leaves 00000010")
 
 
 def a_link_is_taken():
@@ -268,12 +423,93 @@ def the_router_begins_anew():
         assert reaches(a, b) and gate.shown("links")[1]["cost"] == 5 and not is_told_to_leave(gate)
 
 
+def is_cut(gate, section, short):
+    """Whether one of some who are shown a list heard its begin only, since it became shorter meanwhile. Each hears whole records."""
+    long = len(gate.shown(section))
+    gate.write(short)
+    askers, orders = [gate.connects() for _ in range(ASKERS)], gate.connects()
+    gate.report()
+    for it in askers:
+        it.sendall(f"show {section} json\n".encode())
+    orders.sendall(b"reload\n")
+    lengths = [len(json.loads(answer_of(it)[1:-2])) for it in askers]
+    assert answer_of(orders)[-2:] == b"\0" + b"0"
+    for it in (*askers, orders):
+        it.close()
+    return any(len(gate.shown(section)) < it < long for it in lengths)
+
+
+def is_shortened(gate, long, short, section, fill):
+    """A list is shown while it becomes shorter, until that comes between two pieces; then the gateway goes on."""
+    for _ in range(CUT):
+        gate.reload(long)
+        fill()
+        if is_cut(gate, section, short):
+            return
+    raise AssertionError(f"show {section} was never cut")
+
+
+SHORT = "network F0 1 1424 dosbox 127.0.0.1:0\n"
+
+
+def shown_while_links_go():
+    """Who is shown links while most of them go is shown those that there are, whole."""
+    udp = "qemu-udp [2001:db8:1:2:3:4:5:6]:{} [2001:db8:6:5:4:3:2:1]:5001 ethernet2\n"
+    if not has_six():
+        left_out("links that go while they are shown", "no address of IPv6 here, whose words are long")
+        return
+    several = "network 10 1 1424\n" + "".join("link " + udp.format(6000 + k) for k in range(32))
+    single = "".join(f"network {0x20 + k:X} 1 1424 " + udp.format(7000 + k) for k in range(31))
+    with Changed(SHORT) as gate:
+        is_shortened(gate, several + single, SHORT, "links", lambda: None)
+
+
+def shown_while_a_network_goes():
+    """The same of clients, stations, routes and services, when their network goes."""
+    (port,) = free_ports(1)
+    long = f"network 10 1 1424 {ALL_THERE_IS}\nlink dosbox {port}\nrate none\nstrangers none\nlink qemu-tcp listen 127.0.0.1:0 raw\n"
+    with Changed(SHORT) as gate:
+        def come():
+            node = bytes.fromhex(gate.shown("links")[0]["node"])
+            come.there = [Client(port, gateway=node) for _ in range(MANY)]
+
+        def tell():
+            come.there = come.there[:0]
+            a = Client(port, gateway=bytes.fromhex(gate.shown("links")[0]["node"]))
+            advertise(a, [b"%d" % k for k in range(MANY)], [(0x1000 + k, 1, 2) for k in range(MANY)])
+
+        for section, fill in (("clients", come), ("stations", come), ("routes", tell), ("services", tell)):
+            is_shortened(gate, long, SHORT, section, fill)
+
+
+def shown_while_counts_go():
+    """The same of counts, when the networks go that have them."""
+    ports = free_ports(32)
+    long = "".join(f"network {0x10 + k:X} 1 1424 dosbox {port}\nrate none\nstrangers none\n" for k, port in enumerate(ports))
+    with Changed(SHORT) as gate:
+        def count():
+            for port in ports:
+                it = Client(port)
+                for data in (b"no packet", bytes(1500), packet(it.at(), address(it.network, b"\2stran", GAME)),
+                             packet(address(0x99, NOBODY, GAME), it.at()), packet(address(0, EVERYONE, GAME), it.at()),
+                             packet(address(0, b"nobody", GAME), it.at()), packet(address(0, EVERYONE, RIP), it.at(), b"\0\7")):
+                    it.send(data)
+                assert reaches(it, it)
+                it.close()
+
+        is_shortened(gate, long, SHORT, "counts", count)
+
+
 def followed():
     """Who follows what happens follows on, whatever changes."""
     with Changed(tunnels(1)) as gate, Follower(gate, "--json") as follower:
         gate.reload(tunnels(1) + "network 30 1 1500 qemu-tcp listen 127.0.0.1:0 raw\n")
         a = Client(gate.ports[0x10])
         follower.told(event="client comes", client=a.node.hex().upper())
+        a.send(rip_response(0x10, a.node, [(0x77, 2, 3)]))
+        follower.told(event="route comes", network="00000077", on="00000010")
+        gate.reload(tunnels(1, first=0x8) + tunnels(1) + "network 30 1 1500 qemu-tcp listen 127.0.0.1:0 raw\n")
+        follower.told(event="route goes", network="00000077", on="00000010")
         gate.reload(tunnels(1, first=0x40) + "network 30 1 1500 qemu-tcp listen 127.0.0.1:0 raw\n")
         follower.told(event="client leaves", client=a.node.hex().upper())
         gate.told("network 00000010 is removed")
@@ -296,16 +532,84 @@ def at_a_terminal():
         assert os.waitstatus_to_exitcode(status) == 0
 
 
+# ---- In a network of the test's own ----
+
+
+def address_of(card):
+    return bytes.fromhex(json.loads(ip("-j", "link", "show", card))[0]["address"].replace(":", ""))
+
+
+def another_card():
+    """Where a network's interface is another, the gateway has that one's address there at once; where it isn't there yet, once it is."""
+    text = "network 10 1 1424 dosbox 127.0.0.1:0\nnetwork 20 1 1490 interface {} raw\n"
+    pair("v0", "v1")
+    pair("w0", "w1")
+    with Changed(text.format("v0")) as gate:
+        gate.until("network 00000020 up")
+        far = Client(gate.ports[0x10])
+        for name, other in (("w0", "w1"), ("v0", "v1"), ("x0", None), ("w0", "w1")):
+            said = gate.reload(text.format(name))
+            assert ": 0 added, 0 removed, 1 with another link, " in said and ("afresh" in said) == (other is not None), said
+            if other is None:
+                assert gate.shown("links")[1]["state"] == "down" and reaches(far, far)
+                continue
+            card = address_of(name)
+            assert gate.shown("links")[1]["node"] == card.hex().upper() and gate.shown("links")[1]["state"] == "up"
+            station = Station(Packets(other, "raw"), "raw", 0x20, b"\2\0\0\0\x0a\xa1", card)
+            assert reaches(station, far) and reaches(far, station) and gate.ports[0x10]
+        assert not is_told_to_leave(gate)
+    ip("link", "del", "v0")
+    ip("link", "del", "w0")
+
+
+def a_card_of_several_links():
+    """Where a network's first link of several is a card, the gateway's node isn't the card's: the router stays, whatever card is there."""
+    text = "network 10 1 1424\nlink interface {} raw\nlink dosbox 127.0.0.1:0\n"
+    pair("v0", "v1")
+    pair("w0", "w1")
+    with Changed(text.format("v0")) as gate:
+        there, node = comes_to(gate, nodes_on(gate, 0x10)[1]), gate.nodes[0x10]
+        assert gate.reload(text.format("v0")).endswith(": nothing changed\n")
+        said = gate.reload(text.format("w0"))
+        assert ": 1 added, 1 removed, 0 with another link, " in said and "afresh" not in said, said
+        assert {it["node"] for it in gate.shown("links")} == {node.hex().upper()}
+        station = Station(Packets("w1", "raw"), "raw", 0x10, b"\2\0\0\0\x0a\xa1", node)
+        assert hears(there, tells(station, there)) and hears(station, tells(there, station)) and not is_told_to_leave(gate)
+    ip("link", "del", "v0")
+    ip("link", "del", "w0")
+
+
+def inside():
+    """In the network of its own."""
+    counts = Counts()
+    ip("link", "set", "lo", "up")
+    if can(lambda: pair("v0", "v1")):
+        ip("link", "del", "v0")
+        counts.run(another_card)
+        if hears_all_frames():
+            counts.run(a_card_of_several_links)
+    else:
+        left_out("another card by a reload", "no pair of interfaces can be made")
+    print(f"{counts.passed} passed, {counts.failed} failed")
+
+
 def main():
     counts = Counts()
     if SYSTEM is Windows:
         left_out("reading the configuration anew", "it is Linux' own")
         return counts
-    for test in (all_is_compared, nothing_changes, wrong_file, rules_for_clients, limits, a_line, shares, sockets, a_link_is_another,
-                 networks_come_and_go, another_address, a_link_is_taken, the_router_begins_anew, followed, at_a_terminal):
+    for test in (all_is_compared, nothing_changes, wrong_file, rules_for_clients, newcomers, limits, limits_of_a_link, a_line, shares,
+                 sockets, a_link_is_another, frames_on_another_link, networks_come_and_go, links_that_are_alike, a_node_of_several_links,
+                 another_address, a_link_is_taken, the_router_begins_anew, shown_while_links_go, shown_while_a_network_goes,
+                 shown_while_counts_go, followed, at_a_terminal):
         counts.run(test)
+    own = tried_inside(os.path.realpath(__file__), "cards beside a reload")
+    counts.passed, counts.failed = counts.passed + own.passed, counts.failed + own.failed
     return counts
 
 
 if __name__ == "__main__":
-    main()
+    if sys.argv[1:] == [INSIDE]:
+        inside()
+    else:
+        main()

@@ -6,6 +6,7 @@ import sys
 import asked
 import attacks
 import bochs
+import complaints
 import counting
 import dosbox
 import events
@@ -14,16 +15,20 @@ import houses
 import kinds
 import limits
 import links
+import made_up
 import names
 import narrow
 import orders
 import pc
 import probes
+import queues
+import reload_memory
 import reloading
 import segments
 import siphash
 import six
 import slow_pc
+import staying
 import status
 import troubles
 import tunnel
@@ -33,8 +38,8 @@ import words
 from lab import left_out
 from systems import SYSTEM, Windows
 
-ALL = (counting, words, siphash, unit, orders, status, events, probes, reloading, tunnel, links, six, names, segments, kinds,
-       troubles, wires, houses, attacks, limits, asked, fair, slow_pc, narrow, dosbox, pc, bochs)
+ALL = (counting, words, siphash, queues, unit, orders, status, events, probes, reloading, staying, tunnel, links, six, names, segments,
+       kinds, made_up, troubles, reload_memory, wires, houses, attacks, limits, complaints, asked, fair, slow_pc, narrow, dosbox, pc, bochs)
 TESTS = {it.__name__: it for it in ALL}
 
 
@@ -53,7 +58,7 @@ def chosen(names):
         return [TESTS[it] for it in names or TESTS]
     # (TAPs and interfaces are no links there, which the words tell)
     left_out("Windows: calls of the system that fail, and hours", "trouble.c stands in front of Linux' calls alone")
-    return [TESTS[it] for it in TESTS if it not in ("troubles", "wires")]
+    return [TESTS[it] for it in TESTS if it not in ("troubles", "reload_memory", "wires")]
 
 
 def main(names):

@@ -8,7 +8,7 @@ import time
 from frames import Packets, Station, Udp, frame
 from lab import EVERYONE, GAME, LIMIT, Client, Clock, Counts, Gateway, address, fresh, is_routers, left_out, packet, reaches, until
 from spaces import INSIDE, ip, tried_inside
-from status import Watched
+from status import Watched, advertise
 from systems import SYSTEM, Windows
 
 NUMBER = 0x10
@@ -16,6 +16,9 @@ PC, CARD = bytes.fromhex("020000000AA1"), bytes.fromhex("020000000BB2")
 EVEN = "10.77.0.1"
 TWENTY = 20  # packets at once: fewer than a client's limit
 LASTS = 300  # seconds for which a station is known
+SIX_HUNDRED = 600  # clients: more than there are stations
+STATIONS = 512  # of a link with frames that are known
+ROUTES_OF_DOSBOX, SERVICES_OF_DOSBOX = 64, 32  # that are learned where a network's line says nothing of it
 ADVERTISED = 60  # seconds from one advertisement of a router's to the next
 
 
@@ -71,9 +74,10 @@ def tells(one, other):
 class Party:
     """Two DOSBoxes and two emulators' cards, of two kinds of frames, on one network."""
 
-    def __init__(self, extra="", **how):
+    def __init__(self, extra="", below="", **how):
         self.wires = [Udp(), Udp()]
-        links = ["dosbox 127.0.0.1:0", *(f"qemu-udp 0 {wire.port} {kind}" for wire, kind in zip(self.wires, ("raw", "ethernet2")))]
+        cards = (f"qemu-udp 0 {wire.port} {kind}" for wire, kind in zip(self.wires, ("raw", "ethernet2")))
+        links = [f"dosbox 127.0.0.1:0\n{below}".rstrip("\n"), *cards]
         self.gate = Cable(links, extra, **how)
         for k, wire in enumerate(self.wires):
             wire.to = self.gate.ports_of[k + 1]
@@ -171,6 +175,56 @@ def nobody_takes_a_clients_name():
 def lost(gate, what):
     """What all links together lost for a reason."""
     return sum(int(number) for number in re.findall(rf"lost: {what}: (\d+)", gate.report()))
+
+
+def clients_are_sure_after_a_reload():
+    """Who is a client when the configuration is read again is proved to be one still: no frame draws its packets away."""
+    with Party() as it:
+        for _ in range(3):
+            it.gate.run.order(signal.SIGHUP)
+            it.gate.told("nothing changed")
+            forged = packet(address(NUMBER, EVERYONE, GAME), it.pc.at(), b"forged")
+            it.wires[0].send(frame("raw", EVERYONE, it.anna.node, forged))
+            assert it.next_is(it.anna, tells(it.card, it.anna)), "what is for a client goes to who sent a frame in its name"
+            data = calls(it.card)
+            for one in (it.anna, it.ben, it.pc):
+                assert it.next_is(one, data), "somebody heard what was said in a client's name"
+
+
+def nodes_until(wire, data):
+    """The nodes for which frames come to a wire, up to one that says something."""
+    nodes = []
+    while True:
+        for bytes_ in wire.receive():
+            nodes.append(bytes_[:6])
+            if bytes_.rstrip(bytes(1)).endswith(data):
+                return nodes
+
+
+def each_client_is_sure():
+    """As many clients as a network may have are known at their link: none is looked for on others."""
+    with Party("", below=f"clients {SIX_HUNDRED}\nrate none\nstrangers none\n") as it:
+        others = [it.gate.client() for _ in range(SIX_HUNDRED - 2)]
+        assert it.gate.counted(NUMBER, "clients") == SIX_HUNDRED
+        told = it.anna, others[STATIONS], others[-1]
+        assert all(hears(one, tells(it.pc, one)) for one in told)
+        found = nodes_until(it.card.wire, calls(it.pc))
+        assert not any(one.node in found for one in told), "what was for a client went to another link"
+        report = it.gate.report()
+        assert f"stations on {NUMBER:08X}: {SIX_HUNDRED + 1}" in report, "each client, and the PC"
+
+
+def shares_of_several_links():
+    """Of a network that has several links the router learns as many routes, and as many services, as its line says, or as DOSBox' have."""
+    for said, routes, services in (("", ROUTES_OF_DOSBOX, SERVICES_OF_DOSBOX), (" 3 2", 3, 2)):
+        text = f"network {NUMBER:X} 1 1424{said}\nlink qemu-tcp listen 127.0.0.1:0 raw\nlink dosbox 127.0.0.1:0\nrate none\n"
+        with Watched(text) as gate:
+            link = gate.shown("links")[1]
+            a = Client(int(link["link"].rpartition(":")[2]), gateway=bytes.fromhex(link["node"]))
+            many = [(0x1000 + k, 1, 2) for k in range(2 * ROUTES_OF_DOSBOX)]
+            advertise(a, [b"%d" % k for k in range(2 * ROUTES_OF_DOSBOX)], many)
+            held = len(gate.shown("routes")), len(gate.shown("services"))
+            assert held == (routes, services), held
 
 
 def the_router_is_a_station():
@@ -303,6 +357,15 @@ def a_bridge_behind_its_back():
         # (each call comes once: none goes round)
         first, second = calls(pc), calls(pc)
         assert [anna.hear()[30:] for _ in range(2)] == [first, second]
+        # (that it is shut isn't told again where its line has another place in the file)
+        with open(gate.configuration, "r+", encoding="utf-8") as file:
+            text = "network 20 1 1424 dosbox 127.0.0.1:0\n" + file.read()
+            file.seek(0)
+            file.write(text)
+        gate.run.order(signal.SIGHUP)
+        gate.told(" was read again: networks and links: 1 added, 0 removed, 0 with another link, ")
+        assert sum("is down: tap segb raw" in it for it in told_so_far(gate)) == 1, gate.lines
+        assert hears(anna, calls(pc)) and hears(pc, tells(anna, pc))
         ip("link", "set", "segb", "nomaster")
         assert gate.told(f"network {NUMBER:08X} is up: tap segb raw")
     ip("link", "del", "s0")
@@ -335,8 +398,9 @@ def can(test):
     return True
 
 
-TESTS = (a_call_finds_all, an_answer_goes_to_one, a_node_moves, two_with_one_node, nobody_takes_a_clients_name, the_router_is_a_station)
-OF_LINUX = (stations_are_shown, links_change_while_it_runs, stations_age)
+TESTS = (a_call_finds_all, an_answer_goes_to_one, a_node_moves, two_with_one_node, nobody_takes_a_clients_name, the_router_is_a_station,
+         each_client_is_sure)
+OF_LINUX = (stations_are_shown, links_change_while_it_runs, clients_are_sure_after_a_reload, shares_of_several_links, stations_age)
 
 
 def main():

@@ -10,7 +10,7 @@ import sys
 import time
 
 from attacks import OTHER_PORT, QUIET, Playground, figures, flood, named, none
-from fair import LASTS, STEP, say_up_to
+from fair import LASTS, STEP, dropped, say_up_to
 from frames import frame
 from lab import EVERYONE, GAME, RIP, ROOM, Clock, Counts, address, left_out, packet, played_anew, rip_response
 from limits import AT_ONCE, CHAT, FIRST, FLOOD, RATE, RECEIVED, SECONDS, are_answering, come, place_of
@@ -72,11 +72,6 @@ class Eager(PC):
 
     def receive(self, most=sys.maxsize):
         Player.receive(self, most)
-
-
-def dropped(gate):
-    """How much links with frames didn't receive."""
-    return sum(map(int, re.findall(r"too much for a link: (\d+)", gate.report().partition("report after ")[2])))
 
 
 @played_anew

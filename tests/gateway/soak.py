@@ -1,9 +1,10 @@
-"""Minutes of everything at once, on the gateway with the sanitizers: tools/gateway soak [MINUTES].
+"""Minutes of floods, on the gateway with the sanitizers: tools/gateway soak [MINUTES].
 
-Datagrams of all kinds, altered and made up, from many places and in the name of others; frames the same on cards, in datagrams and on
-connections that are cut; cards that go down, come up and are taken out; a link that the configuration has and hasn't. Meanwhile players
-play, who may lose 2 % at most, the gateway must end well, and its memory must stay what it was. Two players of a network whose other links
-go and come lose nothing at all. The last line is 'N datagrams, M faults'.
+First each limit is driven over its number for a minute (driven.py). Then all comes at once: datagrams of all kinds, altered and made up,
+from many places and in the name of others; frames the same on cards, in datagrams and on connections that are cut; cards that go down, come
+up and are taken out; a link that the configuration has and hasn't. Meanwhile players play, who may lose 2 % at most, the gateway must end
+well, and its memory must stay what it was. Two players of a network whose other links go and come lose nothing at all. Beside all of it the
+gateway's code is played on a made-up system (made_up.py), by a process of its own. The last line is 'N datagrams, M faults'.
 """
 import collections
 import os
@@ -14,9 +15,10 @@ import subprocess
 import sys
 import time
 
+import driven
 from attacks import ADDRESSES, NOBODYS, PORTS, Playground, figures
 from frames import KINDS, Packets, frame
-from lab import EVERYONE, GAME, RIP, SAP, address, packet, rip_response, sap_response
+from lab import EVERYONE, GAME, RIP, SAP, address, left_out, packet, rip_response, sap_response
 from pair import OnWire, Pair
 from players import FAST, Player
 from spaces import GATEWAY, INSIDE, Field, Flood, build_flood, host, ip, own_addresses, way_inside
@@ -37,6 +39,8 @@ SANITIZER = "quarantine_size_mb=1:malloc_context_size=1"  # (else what is freed 
 UDP_PORT, CARD_PORT, LISTEN_PORT, CONNECT_PORT = 5001, 5002, 5003, 5004
 JOINED = 0x60  # the network of several links
 CLIENT_PORT, WIRE_PORT, WIRED_PORT, LINK_PORT, TURN_PORT, FAR_PORT = GATEWAY[1] + 2, 5011, 5012, 5013, 5014, 5015
+LIMITS_PART = 2 / 3  # the most of the time that limits are driven,
+BESIDE = 20  # of which each stage needs some seconds before and after
 FIRST_OF_PAIR = 240  # the number of the address of the first of two players there
 CONFIGURATION = f"""network 10 1 1424 dosbox 0.0.0.0:{GATEWAY[1]}
 network 20 1 1424 100 100 dosbox 0.0.0.0:{GATEWAY[1] + 1}
@@ -308,23 +312,54 @@ class Soak:
         print(f"{sent} datagrams, {len(self.faults)} faults")
 
 
+def drive_limits(seconds):
+    """Drives each limit for as long as that leaves, at most a minute. Returns the faults."""
+    lasts = min(driven.MINUTE, LIMITS_PART * seconds / len(driven.STAGES) - BESIDE)
+    if lasts < driven.SLICE:
+        left_out("limits for a minute", f"{seconds:.0f} s are too few")
+        return []
+    figures(f"each limit is driven for {lasts:.0f} s")
+    return driven.drive(lasts)
+
+
 def inside(minutes):
     """In the network of its own."""
     build_flood()
+    end = time.monotonic() + 60 * minutes
+    faults = drive_limits(60 * minutes)
     field = Field()
     cards = [Cards(field, "g2", "t2"), Cards(field, "g3", "t3")]
     with Playground(CONFIGURATION, environment={"ASAN_OPTIONS": SANITIZER}, field=field) as ground:
-        soak = Soak(ground, cards, 60 * minutes)
+        soak = Soak(ground, cards, end - time.monotonic())
         soak.run()
+        soak.faults += faults
         soak.tell()
     return 1 if soak.faults else 0
+
+
+def begin(*words):
+    return subprocess.Popen(words, stdout=subprocess.PIPE, stderr=subprocess.STDOUT, text=True)
+
+
+def all_but_last(run):
+    """Passes on what a program says, as it says it. Returns its last line."""
+    last = ""
+    for line in run.stdout:
+        print(last, end="", flush=True)
+        last = line
+    return last
 
 
 def main(minutes):
     if "sanitized" not in SYSTEM.program:
         print("left out: gateway: the sanitizers (no -fsanitize=address that runs)")
+    here = os.path.realpath(__file__)
+    made_up = begin(sys.executable, os.path.join(os.path.dirname(here), "made_up.py"), minutes)
     way = way_inside("soak")
-    return 0 if way is None else subprocess.run([*way, sys.executable, os.path.realpath(__file__), INSIDE, minutes], check=False).returncode
+    run = begin(*way, sys.executable, here, INSIDE, minutes) if way is not None else None
+    last = all_but_last(run) if run else ""
+    print(made_up.communicate()[0] + last, end="")
+    return max(abs(it.wait()) for it in (run, made_up) if it is not None)
 
 
 if __name__ == "__main__":

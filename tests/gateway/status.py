@@ -11,6 +11,7 @@ import subprocess
 import tempfile
 import time
 
+from frames import frame
 from lab import (ALL_THERE_IS, EVERYONE, GAME, LIMIT, NOBODY, Client, Counts, Gateway, address, left_out, packet, reaches,
                  rip_response, text_of, tunnels, until)
 from systems import SYSTEM, Windows
@@ -20,6 +21,7 @@ HOSTILE = [b'"', b"\\", b"\x1b[2J\x07", b"a b\tc\r\nd", b"\xff\xfe\x80", b"\x7f"
            bytes(range(200, 247)), "größe".encode()]
 ROUTES = 2048  # that fill the table
 MOST_ASKED = 8  # at once
+STATION = bytes.fromhex("020000000AA1")
 RESTED = 2  # seconds in which nobody can be taken
 
 
@@ -109,6 +111,42 @@ def seen():
         assert rows(gate.asked("show", "services"))[0][:4] == ["0640", "SERVER", "00000010", node]
         assert rows(gate.asked("show", "links"))[2][:4] == ["00000030", "down", "7", "1500"]
         assert rows(gate.asked("show", "clients"))[0][:3] == ["00000010", node, f"{host}:{port}"]
+
+
+KEYS = {
+    "links": ["network", "state", "cost", "longest", "node", "link", "kinds", "lacks"],
+    "clients": ["network", "client", "address", "trusted", "heard", "not_sent", "dropped"],
+    "stations": ["network", "station", "heard", "kind", "link"],
+    "routes": ["network", "hops", "ticks", "by", "on", "age"],
+    "services": ["type", "name", "network", "node", "socket", "hops", "by", "on", "age"],
+    "counts": ["network", "count", "number"],
+}
+
+
+def a_field_a_column():
+    """Each record has a field for each column, none more and none less, in columns too; and a trusted client's silence is its own."""
+    wire = socket.socket(socket.AF_INET, socket.SOCK_DGRAM)
+    wire.bind(("127.0.0.1", 0))
+    text = tunnels(1, extra="trust 127.0.0.2\n") + f"network 20 1 1424\nlink qemu-udp 0 {wire.getsockname()[1]} auto\nlink dosbox 0\n"
+    with wire, Watched(text) as gate:
+        a, trusted = Client(gate.ports[0x10]), Client(gate.ports[0x10], host="127.0.0.2")
+        advertise(a, [b"SERVER"], [(0x77, 2, 3)])
+        link = next(it["link"] for it in gate.shown("links") if it["link"].startswith("qemu-udp"))
+        here = int(re.match(r"qemu-udp 127.0.0.1:(\d+) ", link)[1])
+        inside = packet(address(0x20, EVERYONE, GAME), address(0x20, STATION, GAME))
+        wire.sendto(frame("raw", EVERYONE, STATION, inside), ("127.0.0.1", here))
+        until(lambda: gate.shown("stations"), "a station")
+        assert tuple(KEYS) == SECTIONS
+        for section, keys in KEYS.items():
+            records = gate.shown(section)
+            assert records and all(list(it) == keys for it in records), (section, records)
+            headings, *lines = gate.asked("show", section).splitlines()
+            assert headings.split() == [it.upper().replace("_", "-") for it in keys], headings
+            # (links, and what is counted, have words of several parts)
+            has_parts = section in ("links", "stations", "counts")
+            assert len(lines) == len(records) and (has_parts or all(len(it.split()) == len(keys) for it in lines)), lines
+        heard = {it["trusted"]: it["heard"] for it in gate.shown("clients")}
+        assert 0 <= heard[True] <= LIMIT and 0 <= heard[False] <= LIMIT and reaches(a, trusted), heard
 
 
 def all_of_it():
@@ -238,6 +276,21 @@ def who_may_ask():
             assert it.read() == "of somebody"
 
 
+def who_takes_nobody():
+    """A gateway doesn't wait for somebody who listens at its path and takes nobody: it says that the path is in use."""
+    with tempfile.TemporaryDirectory() as folder, contextlib.ExitStack() as waiting, socket.socket(socket.AF_UNIX) as silent:
+        path = os.path.join(folder, "status")
+        silent.bind(path)
+        silent.listen(0)
+        with contextlib.suppress(BlockingIOError):
+            while True:
+                one = waiting.enter_context(socket.socket(socket.AF_UNIX))
+                one.setblocking(False)
+                one.connect(path)
+        run = begun_at(path)
+        assert run.returncode == 1 and b"can't listen there: Address already in use" in run.stderr, run
+
+
 def many_ask():
     """Eight may be connected at once; another is told so, and comes in once one has left."""
     with Watched(tunnels(1)) as gate:
@@ -293,8 +346,8 @@ def main():
     if SYSTEM is Windows:
         left_out("the status socket", "it is Linux' own")
         return counts
-    for test in (seen, all_of_it, as_the_report, hostile_names, full_tables, metrics, wrong_questions, who_may_ask, many_ask,
-                 no_room_to_ask, nobody_reads):
+    for test in (seen, a_field_a_column, all_of_it, as_the_report, hostile_names, full_tables, metrics, wrong_questions, who_may_ask,
+                 who_takes_nobody, many_ask, no_room_to_ask, nobody_reads):
         counts.run(test)
     return counts
 

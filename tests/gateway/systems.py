@@ -88,7 +88,8 @@ class Linux:
     program = built("ipxr-gateway-sanitized", "ipxr-gateway")
     delivered = built("ipxr-gateway")
     troubled, fast = built("ipxr-gateway-troubled"), built("ipxr-gateway-fast")
-    siphash = built("siphash")
+    siphash, queues, minutes = built("siphash"), built("queues"), built("minutes")
+    made_up = built("made-up")
     runner = quick = []
     run = Run
     report, end = signal.SIGUSR1, signal.SIGTERM
@@ -101,7 +102,7 @@ class Aarch64(Linux):
     name = "aarch64"
     program = delivered = built("aarch64/ipxr-gateway")
     troubled, fast = built("aarch64/ipxr-gateway-troubled"), built("aarch64/ipxr-gateway-fast")
-    siphash = built("aarch64/siphash")
+    siphash, queues, minutes = built("aarch64/siphash"), built("aarch64/queues"), built("aarch64/minutes")
     runner = quick = ["qemu-aarch64"]
 
 
@@ -110,7 +111,7 @@ class Windows:
 
     name = "Windows"
     program = delivered = built("windows/ipxr-gateway.exe")
-    siphash = built("windows/siphash.exe")
+    siphash, queues, minutes = built("windows/siphash.exe"), built("windows/queues.exe"), built("windows/minutes.exe")
     quick = ["wine"]
     runner = ["wine", built("windows/console.exe")]
     run = ConsoleRun

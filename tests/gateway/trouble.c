@@ -2,12 +2,14 @@
  * own by --wrap, so it goes along with the sanitizers.
  *
  *     TROUBLE_CALL=NAME TROUBLE_AT=N TROUBLE_ERRNO=E   the Nth call of that name fails, once, with that errno
+ *     TROUBLE_RELOADS=FILE                             in a reload that somebody asks for, memory is refused when it is wanted for the Nth
+ *                                                      time, once, as the file says; then the file says how often it was wanted
+ *     TROUBLE_NOW=FILE                                 each call fails that the file names, with the errno behind the name
  *     TROUBLE_CLOCK=FILE                               the monotonic clock stands at the second that the file says
  *     TROUBLE_HASTE=N                                  a connection is known to be dead N times as soon */
 #define _GNU_SOURCE
 #include <errno.h>
 #include <fcntl.h>
-#include <net/if.h>
 #include <netinet/in.h>
 #include <netinet/tcp.h>
 #include <poll.h>
@@ -27,24 +29,56 @@ static unsigned long number_of(const char *name)
     return text != NULL ? strtoul(text, NULL, 10) : 0;
 }
 
-/* Whether this call is the one that fails. */
+/* The first bytes of a file, with a 0 behind. Returns whether there are any. */
+static bool read_start(const char *name, char *bytes, size_t room);
+
+/* Whether the file that says so lets this call fail. */
+static bool fails_now(const char *name)
+{
+    char words[64];
+    size_t length = strlen(name);
+    int before = errno;
+    const char *file = getenv("TROUBLE_NOW");
+    bool is_it = file != NULL && read_start(file, words, sizeof words) && strncmp(words, name, length) == 0 && words[length] == ' ';
+    errno = is_it ? atoi(words + length) : before;
+    return is_it;
+}
+
+/* Whether this call is the one that fails, or one of those that do now. */
 static bool fails(const char *name)
 {
     static unsigned long count;
     const char *which = getenv("TROUBLE_CALL");
     if (which == NULL || strcmp(which, name) != 0 || ++count != number_of("TROUBLE_AT"))
-        return false;
+        return fails_now(name);
     errno = (int)number_of("TROUBLE_ERRNO");
     return true;
 }
 
-#define TROUBLED(type, name, bad, params, args) \
-    type __real_##name params;                  \
-    type __wrap_##name params;                  \
-    type __wrap_##name params                   \
-    {                                           \
-        return fails(#name) ? bad : __real_##name args; \
+/* How often memory was wanted in this reload, and which time it is refused. */
+static struct {
+    bool is_now;
+    unsigned long wanted, refused;
+} reloading;
+
+/* Whether a call that wants memory is refused it. */
+static bool is_refused(void)
+{
+    if (!reloading.is_now || ++reloading.wanted != reloading.refused)
+        return false;
+    errno = ENOMEM;
+    return true;
+}
+
+#define TROUBLED_IF(is_bad, type, name, bad, params, args) \
+    type __real_##name params;                             \
+    type __wrap_##name params;                             \
+    type __wrap_##name params                              \
+    {                                                      \
+        return (is_bad) ? bad : __real_##name args;        \
     }
+#define TROUBLED(type, name, bad, params, args) TROUBLED_IF(fails(#name), type, name, bad, params, args)
+#define WANTS_MEMORY(type, name, bad, params, args) TROUBLED_IF(fails(#name) || is_refused(), type, name, bad, params, args)
 
 TROUBLED(int, socket, -1, (int a, int b, int c), (a, b, c))
 TROUBLED(int, bind, -1, (int a, const struct sockaddr *b, socklen_t c), (a, b, c))
@@ -58,14 +92,15 @@ TROUBLED(ssize_t, sendto, -1, (int a, const void *b, size_t c, int d, const stru
 TROUBLED(int, poll, -1, (struct pollfd *a, nfds_t b, int c), (a, b, c))
 TROUBLED(ssize_t, read, -1, (int a, void *b, size_t c), (a, b, c))
 TROUBLED(ssize_t, write, -1, (int a, const void *b, size_t c), (a, b, c))
-TROUBLED(unsigned, if_nametoindex, 0, (const char *a), (a))
-TROUBLED(FILE *, fopen, NULL, (const char *a, const char *b), (a, b))
 TROUBLED(size_t, fwrite, 0, (const void *a, size_t b, size_t c, FILE *d), (a, b, c, d))
 TROUBLED(int, fflush, EOF, (FILE *a), (a))
-TROUBLED(ssize_t, getline, -1, (char **a, size_t *b, FILE *c), (a, b, c))
 TROUBLED(ssize_t, getrandom, -1, (void *a, size_t b, unsigned c), (a, b, c))
-TROUBLED(void *, malloc, NULL, (size_t a), (a))
-TROUBLED(void *, realloc, NULL, (void *a, size_t b), (a, b))
+WANTS_MEMORY(ssize_t, getline, -1, (char **a, size_t *b, FILE *c), (a, b, c))
+WANTS_MEMORY(FILE *, fopen, NULL, (const char *a, const char *b), (a, b))
+WANTS_MEMORY(FILE *, open_memstream, NULL, (char **a, size_t *b), (a, b))
+WANTS_MEMORY(void *, malloc, NULL, (size_t a), (a))
+WANTS_MEMORY(void *, calloc, NULL, (size_t a, size_t b), (a, b))
+WANTS_MEMORY(void *, realloc, NULL, (void *a, size_t b), (a, b))
 
 TROUBLED(int, recvmmsg, -1, (int a, struct mmsghdr *b, unsigned c, int d, struct timespec *e), (a, b, c, d, e))
 
@@ -152,14 +187,21 @@ int __wrap_ioctl(int fd, unsigned long what, ...)
     return fails("ioctl") ? -1 : __real_ioctl(fd, what, value);
 }
 
+static bool read_start(const char *name, char *bytes, size_t room)
+{
+    int fd = __real_open(name, O_RDONLY);
+    ssize_t length = fd >= 0 ? __real_read(fd, bytes, room - 1) : -1;
+    if (fd >= 0)
+        __real_close(fd);
+    bytes[length > 0 ? length : 0] = '\0';
+    return length > 0;
+}
+
 /* The second that a file says, in digits, with or without a part of the next. */
 static int read_clock(const char *name, struct timespec *now)
 {
-    char digits[32] = {0};
-    int fd = __real_open(name, O_RDONLY);
-    bool is_read = fd >= 0 && __real_read(fd, digits, sizeof digits - 1) > 0;
-    if (fd >= 0)
-        __real_close(fd);
+    char digits[32];
+    bool is_read = read_start(name, digits, sizeof digits);
     double second = strtod(digits, NULL);
     now->tv_sec = (time_t)second;
     now->tv_nsec = (long)((second - (double)now->tv_sec) * 1e9);
@@ -174,4 +216,41 @@ int __wrap_clock_gettime(clockid_t which, struct timespec *now)
     if (fails("clock_gettime"))
         return -1;
     return name != NULL && which == CLOCK_MONOTONIC ? read_clock(name, now) : __real_clock_gettime(which, now);
+}
+
+/* The number that a file says. */
+static unsigned long read_number(const char *name)
+{
+    char digits[32] = {0};
+    int fd = __real_open(name, O_RDONLY);
+    ssize_t length = fd >= 0 ? __real_read(fd, digits, sizeof digits - 1) : 0;
+    if (fd >= 0)
+        __real_close(fd);
+    return length > 0 ? strtoul(digits, NULL, 10) : 0;
+}
+
+static void write_number(const char *name, unsigned long number)
+{
+    char digits[32];
+    int length = snprintf(digits, sizeof digits, "%lu", number), fd = __real_open(name, O_WRONLY | O_TRUNC);
+    if (fd < 0)
+        return;
+    (void)!__real_write(fd, digits, (size_t)length);
+    __real_close(fd);
+}
+
+struct gateway;
+struct viewer;
+void __real_reload_for(struct gateway *it, struct viewer *v);
+void __wrap_reload_for(struct gateway *it, struct viewer *v);
+void __wrap_reload_for(struct gateway *it, struct viewer *v)
+{
+    const char *name = getenv("TROUBLE_RELOADS");
+    reloading.refused = name != NULL ? read_number(name) : 0;
+    reloading.wanted = 0;
+    reloading.is_now = true;
+    __real_reload_for(it, v);
+    reloading.is_now = false;
+    if (name != NULL)
+        write_number(name, reloading.wanted);
 }

@@ -1,14 +1,18 @@
-"""Calls of the system that fail, each once; and hours that the test lets pass."""
+"""Calls of the system that fail, each once and for a while; and hours that the test lets pass."""
+import contextlib
 import errno
+import os
 import re
 import socket
-import subprocess
+import tempfile
 import time
 
 from frames import Station, Tcp, Udp
 from lab import (ALL_THERE_IS, AGAIN, EVERYONE, GAME, LIMIT, Client, Clock, Counts, Gateway, address, comes_next, fresh,
                  is_ping, reaches, reaches_again, registration, rip_response, sap_response, says, tunnels, until)
-from links import STATION, listening
+from links import STATION, connected, listening
+from orders import is_farewell
+from status import Watched, answer_of, processor_time
 from systems import SYSTEM
 
 # Each call, the faults that it gives, and how many times it is let fail: the first time, the second, ..
@@ -112,6 +116,130 @@ def each_fails():
             one_fails(name, fault, which)
 
 
+class Trouble:
+    """Calls that fail for as long as the test likes."""
+
+    def __init__(self):
+        self.folder = tempfile.TemporaryDirectory()
+        self.name = os.path.join(self.folder.name, "now")
+
+    def environment(self):
+        return {"TROUBLE_NOW": self.name}
+
+    @contextlib.contextmanager
+    def fails(self, name, fault):
+        """Each call of a name fails meanwhile."""
+        with open(f"{self.name}.new", "w", encoding="ascii") as it:
+            it.write(f"{name} {fault}")
+        os.replace(f"{self.name}.new", self.name)
+        try:
+            yield
+        finally:
+            os.remove(self.name)
+
+
+def knocks(gate):
+    """Somebody connects, and goes again."""
+    with contextlib.suppress(OSError), socket.create_connection(("127.0.0.1", gate.ports[0x40]), timeout=AGAIN):
+        pass
+
+
+def rests(gate, what):
+    """Sees that a gateway isn't kept busy by what it can't do. Somebody knocks meanwhile."""
+    process = gate.run.process()
+    used, began = processor_time(process), time.monotonic()
+    while time.monotonic() < began + A_WHILE:
+        knocks(gate)
+        time.sleep(A_WHILE / 10)
+    share = (processor_time(process) - used) / (time.monotonic() - began)
+    assert share < MOST_BUSY, f"{what}: it is busy for {share:.0%} of the time"
+
+
+A_WHILE, MOST_BUSY = 1.2, 0.25  # seconds for which a call fails, and the part of them in which the gateway may do something
+NO_MEMORY = 70  # seconds for which there is none: more than the router hears of that are late
+
+
+def each_fails_for_a_while():
+    """Each call of the system fails for a second: the gateway isn't busy for that, and goes on afterwards, under the sanitizers."""
+    trouble, card, place = Trouble(), Udp(), listening()
+    gate = Gateway(configuration(card, place), SYSTEM.troubled, ["--pcap", "/dev/null"], trouble.environment())
+    goes_on(gate, card)
+    for name, fault in dict.fromkeys((name, fault) for name, fault, _ in CALLS if fault != errno.EINTR):
+        with trouble.fails(name, fault):
+            rests(gate, f"{name} {fault}")
+        goes_on(gate, card)
+    ends_well(gate, "for a while")
+
+
+def cannot_wait():
+    """While the system can't wait for what comes, all of it is handed on, and a connection is taken; the gateway isn't busy for that."""
+    trouble = Trouble()
+    text = tunnels(2) + "network 40 1 1490 qemu-tcp listen 0 raw\n"
+    with Watched(text, program=SYSTEM.troubled, environment=trouble.environment()) as gate:
+        a, b = Client(gate.ports[0x10]), Client(gate.ports[0x20])
+        with trouble.fails("poll", errno.EINVAL):
+            for _ in range(20):
+                assert reaches(a, b) and reaches(b, a)
+            station, _ = connected(gate, 0x40, "raw")
+            assert reaches(a, station) and reaches(station, a) and gate.shown("clients")
+            rests(gate, "poll")
+        gate.report()
+        assert not any("nobody can " in it for it in gate.lines), gate.lines
+
+
+def nobody_is_taken():
+    """Where the system hands over nobody who asks, for whatever reason, that is told once, and the gateway isn't busy; it answers later."""
+    trouble = Trouble()
+    text = tunnels(1) + "network 40 1 1490 qemu-tcp listen 0 raw\n"
+    with Watched(text, program=SYSTEM.troubled, environment=trouble.environment()) as gate:
+        for fault in errno.ENFILE, errno.EPERM:
+            with trouble.fails("accept", fault):
+                late = gate.connects(b"show links\n")
+                assert gate.told("nobody can ask at").endswith(f" now: {os.strerror(fault)}")
+                rests(gate, f"accept {fault}")
+            with late:
+                assert answer_of(late).startswith(b"+")
+        gate.report()
+        assert sum("nobody can ask at" in it for it in gate.lines) == 2
+
+
+def no_room_to_receive():
+    """While the system has no room for what has come, the gateway isn't busy for that, and hears it afterwards: by datagrams and from a PC,
+    who stays."""
+    trouble = Trouble()
+    with Gateway(tunnels(2) + "network 40 1 1490 qemu-tcp listen 0 raw\n", SYSTEM.troubled, environment=trouble.environment()) as gate:
+        a, b = Client(gate.ports[0x10]), Client(gate.ports[0x20])
+        station, _ = connected(gate, 0x40, "raw")
+        assert reaches(station, a)
+        for name, fault, speaker in (("recvmmsg", errno.ENOMEM, b), ("recv", errno.ENOBUFS, station)):
+            with trouble.fails(name, fault):
+                data = fresh()
+                speaker.say(a.at(), data)
+                rests(gate, f"{name} {fault}")
+            assert a.hear()[30:] == data
+        assert reaches(a, station) and reaches(station, a) and not any("network 00000040 is down" in it for it in gate.lines[gate.looked:])
+
+
+def no_memory_for_a_second():
+    """While there is no memory for what a second brings, the gateway isn't busy for that, hands packets on, and doesn't say that it stood
+    still; seconds pass for the router once there is."""
+    trouble, clock = Trouble(), Clock()
+    with Gateway(tunnels(4, shares=ALL_THERE_IS), SYSTEM.troubled, environment={**trouble.environment(), **clock.environment()}) as gate:
+        a, b = Client(gate.ports[0x10]), Client(gate.ports[0x20])
+        with trouble.fails("realloc", errno.ENOMEM):
+            advertise(a, 400, 0)
+            for _ in range(NO_MEMORY):
+                clock.let_pass(1)
+                assert reaches(a, b)
+            rests(gate, "no memory for a second")
+            said = gate.report()
+        assert not any("stood still" in it for it in gate.lines), said
+        for _ in range(4):
+            clock.let_pass(MOST_LATE)
+            gate.report()
+        gate.until("routes: 0")
+
+
 ROUTES, SERVICES = 2048, 1024  # what the tables have room for
 
 
@@ -130,6 +258,17 @@ def is_held(gate, routes, services):
     return f"routes: {routes}\n" in report and f"services: {services}\n" in report
 
 
+MOST_LATE = 57  # seconds of which the router hears where they pass at once
+RECORD_LASTS = 180  # in the last of which a record ends that nobody says again
+
+
+def jump(gate, clock, seconds):
+    """Seconds pass, as many at once as the router hears of."""
+    for first in range(0, seconds, MOST_LATE):
+        clock.let_pass(min(MOST_LATE, seconds - first))
+        gate.report()
+
+
 def an_hour():
     """Records are gone in the 180th second, and after an hour, with packets of all kinds, it has no more memory than after some minutes."""
     clock = Clock()
@@ -142,11 +281,11 @@ def an_hour():
                 a.say(address(0, EVERYONE, GAME), bytes(32), kind=20)
                 clock.let_pass(10)
                 assert is_held(gate, 50, 7)
-            clock.let_pass(169)
+            jump(gate, clock, 169)
             assert is_held(gate, 50, 7), "for 179 seconds"
             clock.let_pass(1)
             assert is_held(gate, 0, 0), "in the 180th second all are gone"
-            clock.let_pass(130)
+            jump(gate, clock, 130)
             if minutes == 10:
                 early = gate.memory()
         assert f"report after {60 * 60} s\n" in gate.report()
@@ -244,6 +383,103 @@ def stands_still():
         assert not any(" leaves " in it for it in gate.lines)
 
 
+def ages(gate):
+    return [int(it) for it in re.findall(r", age (\d+) s", gate.report())]
+
+
+def tells_an_end(client):
+    """Whether a client has heard that a network can't be reached any more."""
+    heard = iter(lambda: client.hear(lambda _: True, 0), None)
+    return any(is_farewell(it, 0x1000) for it in heard)
+
+
+def who_spoke_meanwhile():
+    """Whatever came while a gateway stood still for three minutes is heard before these pass: what a neighbour said in the last of 2,000
+    packets doesn't end, and nobody is told that it did."""
+    clock = Clock()
+    with Gateway(tunnels(2, extra="rate none\n"), SYSTEM.fast, environment=clock.environment()) as gate:
+        a, b = Client(gate.ports[0x10]), Client(gate.ports[0x20])
+        advertise(a, 50, 7)
+        until(lambda: is_held(gate, 50, 7), "routes")
+        for _ in range(3):
+            with gate.run.halted():
+                for k in range(2000):
+                    a.say(b.at(), b"%d" % k)
+                advertise(a, 50, 7)
+                clock.let_pass(180)
+            assert is_held(gate, 50, 7) and max(ages(gate)) <= MOST_LATE, ages(gate)
+            assert not tells_an_end(b)
+        # (so it is where it stood still for less than a minute, which they wouldn't last any more)
+        jump(gate, clock, RECORD_LASTS // 2)
+        assert min(ages(gate)) + MOST_LATE > RECORD_LASTS, ages(gate)
+        with gate.run.halted():
+            for k in range(2000):
+                a.say(b.at(), b"%d" % k)
+            advertise(a, 50, 7)
+            clock.let_pass(MOST_LATE)
+        assert is_held(gate, 50, 7) and not tells_an_end(b)
+
+
+def each_has_its_turn():
+    """Where much waits on one network and a word on another, both are heard by turns: the word isn't behind all that waits."""
+    most, clock = 200, Clock()
+    with Gateway(tunnels(2, extra="rate none\n"), SYSTEM.fast, environment=clock.environment()) as gate:
+        a, b, c = (Client(gate.ports[number]) for number in (0x10, 0x20, 0x20))
+        for seconds in (0, 2):
+            with gate.run.halted():
+                for _ in range(2 * most):
+                    a.say(b.at(), b"one of many")
+                c.say(b.at(), b"a word")
+                clock.let_pass(seconds)
+            heard = [b.hear()[30:] for _ in range(2 * most + 1)]
+            assert heard.index(b"a word") < most, heard.index(b"a word")
+
+
+def what_was_heard_lately():
+    """What a neighbour said a minute before a gateway stood still for three is there still, until it is said again a minute later. What
+    nobody says any more ends, also where the gateway stands still again and again."""
+    clock = Clock()
+    with Gateway(tunnels(2), SYSTEM.fast, environment=clock.environment()) as gate:
+        a, b = Client(gate.ports[0x10]), Client(gate.ports[0x20])
+        advertise(a, 50, 7)
+        until(lambda: is_held(gate, 50, 7), "routes")
+        for _ in range(2):
+            let_pass(gate, clock, 60, a, b)
+            clock.let_pass(180)
+            assert is_held(gate, 50, 7), "it stood still"
+            let_pass(gate, clock, 60, a, b)
+            assert is_held(gate, 50, 7) and not tells_an_end(b), "a minute later"
+            advertise(a, 50, 7)
+            until(lambda: max(ages(gate)) == 0, "they are said again")
+        for _ in range(4):
+            clock.let_pass(180)
+            gate.report()
+        assert is_held(gate, 0, 0) and tells_an_end(b)
+        assert f"report after {2 * 300 + 4 * 180} s\n" in gate.report()
+
+
+def interrupted():
+    """Seconds pass, and are told as passed, also while each wait of a gateway that stood still is interrupted."""
+    clock, trouble = Clock(), Trouble()
+    with Gateway(tunnels(1), SYSTEM.fast, environment={**clock.environment(), **trouble.environment()}) as gate:
+        with trouble.fails("poll", errno.EINTR):
+            clock.let_pass(180)
+            gate.told("the gateway stood still for 180 s")
+            assert "report after 180 s\n" in gate.report()
+
+
+def few_strangers():
+    """With `strangers 1` a newcomer comes in, and the next of another address two seconds later."""
+    clock = Clock()
+    with Gateway(tunnels(1, extra="strangers 1\n"), SYSTEM.fast, environment=clock.environment()) as gate:
+        first, late = Client(gate.ports[0x10]), Client(gate.ports[0x10], host="127.0.0.2", registers=False)
+        late.send(registration())
+        gate.until_counted(0x10, "too many strangers", 1)
+        clock.let_pass(2)
+        late.register()
+        assert reaches(first, late) and reaches(late, first)
+
+
 def late_answers():
     """An answer to a ping of the last minute counts, an older one doesn't."""
     clock = Clock()
@@ -281,7 +517,7 @@ def one_is_refused():
 
 
 def who_stays():
-    """A machine that connects is told as up once it has said a frame, or has stayed for a second; and the next comes in a second later."""
+    """A machine that connects is told as up once it has said a frame, or has stayed for a second; and at most one a second is."""
     clock = Clock()
     text = tunnels(1) + "network 20 1 1490 qemu-tcp listen 0 raw\n"
     with Gateway(text, SYSTEM.fast, environment=clock.environment()) as gate:
@@ -296,12 +532,23 @@ def who_stays():
         gate.told("network 00000020 is up")
         talks.wire.socket.close()
         gate.told("network 00000020 is down")
+        for _ in range(2):
+            next_one = comes()
+            next_one.say(address(0x20, gate.nodes[0x20], GAME), b"I am here")
+            until(lambda: gate.counted(0x20, "connected") == 1, "it comes in at once")
+            used = processor_time(gate.run.process())
+            time.sleep(AGAIN)
+            assert processor_time(gate.run.process()) - used < MOST_BUSY * AGAIN, "it is busy meanwhile"
+            assert "network 00000020 down" in gate.report(), "no second has passed since the one before"
+            clock.let_pass(1)
+            gate.told("network 00000020 is up")
+            next_one.wire.socket.close()
+            gate.told("network 00000020 is down")
         silent = comes()
-        assert "network 00000020 down" in gate.report() and gate.counted(0x20, "connected") == 0, "a second comes at once"
-        clock.let_pass(1)
-        until(lambda: gate.counted(0x20, "connected") == 1, "it comes in a second later")
+        until(lambda: gate.counted(0x20, "connected") == 1, "it comes in at once")
+        clock.let_pass(0.5)
         assert "network 00000020 down" in gate.report(), "nothing was said, and no second has passed"
-        clock.let_pass(1)
+        clock.let_pass(0.5)
         gate.told("network 00000020 is up")
         silent.wire.socket.close()
 
@@ -324,8 +571,9 @@ def who_is_refused():
 
 def main():
     counts = Counts()
-    for test in (each_fails, one_is_refused, who_is_silent, who_left, stands_still, late_answers, who_is_refused, an_hour,
-                 full_tables, who_stays):
+    for test in (each_fails, each_fails_for_a_while, cannot_wait, nobody_is_taken, no_room_to_receive, no_memory_for_a_second,
+                 one_is_refused, who_is_silent, who_left, stands_still, who_spoke_meanwhile, each_has_its_turn, what_was_heard_lately,
+                 interrupted, few_strangers, late_answers, who_is_refused, an_hour, full_tables, who_stays):
         counts.run(test)
     return counts
 

@@ -6,8 +6,8 @@ import struct
 import subprocess
 import time
 
-from lab import (COOKIE, EVERYONE, GAME, GATEWAY, LIMIT, ROOM, TUNNEL, Client, Counts, Gateway, address, comes_next, free_ports, is_ping,
-                 is_routers, packet, reaches, reaches_again, registration, rip_response, sap_response, socket_of, tunnels, until,
+from lab import (COOKIE, EVERYONE, GAME, GATEWAY, LIMIT, RIP, ROOM, SAP, TUNNEL, Client, Counts, Gateway, address, comes_next, free_ports,
+                 is_ping, is_routers, packet, reaches, reaches_again, registration, rip_response, sap_response, socket_of, tunnels, until,
                  until_wine_lets_go)
 from systems import SYSTEM, TOP
 
@@ -201,7 +201,9 @@ def trusted():
         mute.network = 0x10
         assert reaches(mute, a) and reaches(a, mute)
         report = gate.report()
-        assert f"{mute.node.hex().upper()}, trusted, heard " in report and f"{a.node.hex().upper()}, answered " in report
+        for client, told in ((mute, "trusted, heard"), (a, "answered")):
+            found = re.search(rf"(?m)^    {client.node.hex().upper()}, {told} (\d+) s ago$", report)
+            assert found and int(found[1]) <= LIMIT, report
 
 
 def strangers():
@@ -302,6 +304,38 @@ def shares():
             assert reaches(a, a)
             report = gate.report()
             assert f"routes: {routes}\n" in report and f"services: {services}\n" in report, report
+
+
+def says_to_routers(client, to):
+    """A client says to routers of a network, which it calls its own, that it has a route and a service."""
+    route = struct.pack(">HIHH", 2, 0x77, 1, 2)
+    service = struct.pack(">HH48sI6sHH", 2, 4, b"FALSE", 0x77, client.node, 0x451, 1)
+    client.send(packet(to + struct.pack(">H", RIP), address(0, client.node, RIP), route, kind=1))
+    client.send(packet(to + struct.pack(">H", SAP), address(0, client.node, SAP), service))
+
+
+def routers_elsewhere():
+    """A client advertises nothing to routers of another network, where it would pass for a neighbour: it is dropped, and counted."""
+    here, there = free_ports(2)
+    text = "network {} 1 1424 dosbox 127.0.0.1:0\nnetwork 20 1 1490 qemu-udp {} {} raw\n"
+    with Gateway(text.format(10, here, there)) as one, Gateway(text.format(30, there, here)) as other:
+        one.until("\n  00000030 hops 1 ")
+        a, b, far = Client(one.ports[0x10]), Client(one.ports[0x10]), Client(other.ports[0x30])
+        for network, node in ((0x20, other.nodes[0x20]), (0x20, EVERYONE), (0x20, one.nodes[0x20]), (0x30, other.nodes[0x30]),
+                              (0x30, EVERYONE), (0x99, b.node)):
+            says_to_routers(a, struct.pack(">I6s", network, node))
+        assert comes_next(a, far), "what isn't for routers gets there"
+        report = other.report()
+        assert "\n  00000077 " not in report and "services: 0\n" in report, report
+        report = one.report()
+        assert one.counted(0x10, "for far routers", report) == 12 and "\n      dropped: 12 for the router\n" in report, report
+        assert comes_next(a, b), "nor do clients of its own network get any of it"
+        for network in (0, 0x10):
+            says_to_routers(a, struct.pack(">I6s", network, EVERYONE))
+        one.until("\n  00000077 hops 1 ")
+        assert "services: 1\n" in one.until("routes: 2\n")
+        assert one.counted(0x10, "for far routers") == 12
+        other.until("\n  00000077 hops 2 ")
 
 
 def heard_again():
@@ -511,7 +545,7 @@ def main():
     counts = Counts()
     for test in (two_clients, three_clients, seventy_clients, of_one_address, a_ping_is_lost, many_pings_are_lost,
                  four_thousand_clients, allowed, trusted, strangers,
-                 allowed_is_not_trusted, cookies_of_places, cookies_of_runs, who_comes_and_leaves, shares, starts_again,
+                 allowed_is_not_trusted, cookies_of_places, cookies_of_runs, who_comes_and_leaves, shares, routers_elsewhere, starts_again,
                  control_is_cleared, false_sources, ping, all_sizes, padding, nobody_there, neighbours, extended, flood, the_capture,
                  counts_and_lines):
         counts.run(test)

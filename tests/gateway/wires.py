@@ -1,19 +1,27 @@
 """Ethernet interfaces and TAPs, in a network of the test's own: nothing of this machine's network is touched."""
+import contextlib
 import errno
+import fcntl
 import json
 import os
+import re
+import resource
+import select
 import shutil
 import socket
+import struct
 import subprocess
 import sys
 import tempfile
+import time
 
 from frames import KINDS, Packets, Station, Tcp
-from lab import AGAIN, Client, Counts, Gateway, comes_next, is_routers, left_out, reaches, reaches_again, says, tunnels, until
-from links import both_ways, connected, listening, places_joined
+from lab import (AGAIN, GAME, Client, Counts, Gateway, address, comes_next, free_ports, is_routers, left_out, reaches, reaches_again, says,
+                 tunnels, until)
+from links import NO_LIMIT, both_ways, connected, listening, places_joined
 from spaces import tried_inside
 from systems import SYSTEM
-from troubles import ends_well, troubled
+from troubles import Trouble, ends_well, troubled
 
 STATION = bytes.fromhex("020000000AA1")
 INSIDE = "--inside"
@@ -85,7 +93,9 @@ def a_cable_is_pulled():
             gate.told("network 00000020 is up: interface v0 raw, node ")
             gate.until("network 00000020 up")
         ip("link", "del", "v0")
-        assert gate.told("network 00000020 is down").endswith(": interface v0 raw: it isn't there")
+        # (Linux switches it off first, which may be seen)
+        while not gate.told("network 00000020 is down").endswith(": interface v0 raw: it isn't there"):
+            pass
         gate.until("network 00000020 down")
         make_pair()
         gate.told("network 00000020 is up")
@@ -94,9 +104,35 @@ def a_cable_is_pulled():
     ip("link", "del", "v0")
 
 
+def a_card_by_the_same_number():
+    """A card that was taken away is heard again, also where it has the number that it had: as one has that was lent to a container. On a
+    network of several links what is for others is heard there again, too."""
+    (port,) = free_ports(1)
+    below = f"network 20 1 1490 interface v0 raw\nnetwork 30 1 1424\nlink interface v0 llc\nlink dosbox 127.0.0.1:{port}\n"
+    make_pair()
+    with Gateway(tunnels(1) + below) as gate:
+        far, near = Client(gate.ports[0x10]), Client(port, gateway=gate.nodes[0x30])
+        for number in (300, 300):
+            ip("link", "del", "v0")
+            while not gate.told("network 00000020 is down").endswith(": it isn't there"):
+                pass
+            ip("link", "add", "v0", "index", str(number), "type", "veth", "peer", "name", "v1")
+            for name in ("v0", "v1"):
+                ip("link", "set", name, "up")
+            gate.told("network 00000020 is up")
+            both_ways(gate, Station(Packets("v1", "raw"), "raw", 0x20, STATION, gate.nodes[0x20]), far)
+            pc = Station(Packets("v1", "llc"), "llc", 0x30, STATION, gate.nodes[0x30])
+            until(lambda: pc.say(near.at(), b"to another node", node=near.node) or near.hear(patience=AGAIN), "what is for others")
+    ip("link", "del", "v0")
+
+
+def about(name):
+    """What the system knows of an interface."""
+    return json.loads(subprocess.run(["ip", "-j", "link", "show", name], stdout=subprocess.PIPE, check=True).stdout)[0]
+
+
 def own_address(name):
-    run = subprocess.run(["ip", "-j", "link", "show", name], stdout=subprocess.PIPE, check=True)
-    return bytes.fromhex(json.loads(run.stdout)[0]["address"].replace(":", ""))
+    return bytes.fromhex(about(name)["address"].replace(":", ""))
 
 
 def a_card_comes_later():
@@ -124,6 +160,36 @@ def an_address_comes_later():
         ip("addr", "add", "10.77.0.1/24", "dev", "v0")
         assert gate.told("network 00000010 is up") and gate.told("network 00000020 is up")
         assert Client(2130, "10.77.0.1", to="10.77.0.1").network == 0x10
+    ip("link", "del", "v0")
+
+
+def sources(wire):
+    """The addresses of IPv4 from which the datagrams came that lie there."""
+    found = set()
+    while select.select([wire], [], [], 0)[0]:
+        frame = wire.recv(2000)
+        if frame[23] == socket.IPPROTO_UDP:
+            found.add(socket.inet_ntoa(frame[26:30]))
+    return found
+
+
+def another_own_address():
+    """Where this machine has another address, as of a line that connects anew, a link at 0.0.0.0 sends and hears by that one."""
+    make_pair()
+    ip("addr", "add", "10.77.0.1/24", "dev", "v0")
+    ip("neigh", "add", "10.77.0.9", "lladdr", about("v1")["address"], "dev", "v0", "nud", "permanent")
+    with Gateway(tunnels(1) + "network 20 1 1490 qemu-udp 0.0.0.0:5001 10.77.0.9:5002 raw\n") as gate:
+        gate.until("network 00000020 up")
+        far, wire = Client(gate.ports[0x10]), socket.socket(socket.AF_PACKET, socket.SOCK_RAW, socket.htons(0x0800))
+        wire.bind(("v1", 0x0800))
+        for old, new in (("10.77.0.1", "10.77.0.3"), ("10.77.0.3", "10.77.0.4")):
+            ip("addr", "add", f"{new}/32", "dev", "v0")
+            ip("addr", "del", f"{old}/{24 if old == '10.77.0.1' else 32}", "dev", "v0")
+            ip("route", "replace", "10.77.0.0/24", "dev", "v0", "src", new)
+            sources(wire)
+            until(lambda: far.say(address(0x20, STATION, GAME), b"out") or time.sleep(AGAIN) or new in sources(wire), f"it sends by {new}")
+            gate.told("network 00000020 is up")
+        wire.close()
     ip("link", "del", "v0")
 
 
@@ -295,10 +361,10 @@ def a_tap():
 # Each call that only cards and TAPs make, or make in another way, its fault, and how many times it is let fail.
 CALLS = [
     ("open", errno.EMFILE, 1),
-    ("ioctl", errno.EPERM, 12),
+    ("ioctl", errno.EPERM, 18),
+    ("ioctl", errno.ENODEV, 18),
     ("socket", errno.EMFILE, 8),
     ("bind", errno.ENODEV, 2),
-    ("if_nametoindex", errno.ENODEV, 6),
     ("read", errno.EIO, 3),
     ("write", errno.EIO, 3),
     ("recvmmsg", errno.ENETDOWN, 3),
@@ -329,6 +395,141 @@ def one_fails(name, fault, which):
     assert reaches_again(host, far) and reaches_again(far, host), f"{name} {which}: the card"
     until(lambda: is_well(gate, far), f"{name} {which}: the TAP")
     ends_well(gate, f"{name} {which}")
+
+
+# What the system says where it can't answer now, and the calls that say it.
+UNANSWERED = [(name, fault) for name in ("ioctl", "socket", "open") for fault in (errno.EMFILE, errno.ENFILE, errno.ENOMEM, errno.ENOBUFS)]
+
+
+def seconds_of(gate):
+    return int(re.search(r"(?m)^report after (\d+) s$", gate.report())[1])
+
+
+def let_pass(gate, seconds):
+    """Waits until some more seconds of the gateway's have passed."""
+    end = seconds_of(gate) + seconds
+    until(lambda: time.sleep(AGAIN) or seconds_of(gate) >= end, f"{seconds} seconds")
+
+
+@contextlib.contextmanager
+def no_more_files(gate):
+    """A gateway can open no file more meanwhile."""
+    process, (soft, hard) = gate.run.process(), resource.getrlimit(resource.RLIMIT_NOFILE)
+    there = {int(it) for it in os.listdir(f"/proc/{process}/fd")}
+    resource.prlimit(process, resource.RLIMIT_NOFILE, (min(set(range(len(there) + 1)) - there), hard))
+    try:
+        yield
+    finally:
+        resource.prlimit(process, resource.RLIMIT_NOFILE, (soft, hard))
+
+
+@contextlib.contextmanager
+def with_a_tap_in_a_bridge(**how):
+    """A gateway with a card and a TAP, which is in a bridge: both stay up, and the TAP stays there."""
+    make_pair()
+    ip("link", "add", "br0", "type", "bridge")
+    with Gateway(tunnels(1) + "network 20 1 1490 interface v0 raw\nnetwork 30 1 1490 tap ipx0 snap\n", **how) as gate:
+        for network in (0x20, 0x30):
+            gate.until(f"network {network:08X} up")
+        ip("link", "set", "ipx0", "master", "br0")
+        far, number, told = Client(gate.ports[0x10]), about("ipx0")["ifindex"], len(gate.lines)
+        yield gate
+        let_pass(gate, 2)
+        changes = [it for it in gate.lines[told:] if " is down: " in it or " is up: " in it]
+        assert not changes, changes
+        tap = about("ipx0")
+        assert tap["ifindex"] == number and tap.get("master") == "br0", tap
+        both_ways(gate, Station(Packets("v1", "raw"), "raw", 0x20, STATION, gate.nodes[0x20]), far)
+    for name in ("br0", "v0"):
+        ip("link", "del", name)
+
+
+def no_file_for_a_moment():
+    """Where no file can be opened for some seconds, a card and a TAP in a bridge stay up: nobody is told anything else."""
+    with with_a_tap_in_a_bridge() as gate, no_more_files(gate):
+        let_pass(gate, 3)
+
+
+def nobody_answers():
+    """The same where the system doesn't answer what it is asked about cards, for whatever reason."""
+    trouble = Trouble()
+    with with_a_tap_in_a_bridge(program=SYSTEM.troubled, environment=trouble.environment()) as gate:
+        for name, fault in UNANSWERED:
+            with trouble.fails(name, fault):
+                let_pass(gate, 2)
+
+
+def nobody_answers_of_one_that_is_off():
+    """Nor is a card up that was switched off, as long as the system doesn't answer."""
+    trouble = Trouble()
+    make_pair()
+    with Gateway("network 20 1 1490 interface v0 raw\n", SYSTEM.troubled, environment=trouble.environment()) as gate:
+        gate.until("network 00000020 up")
+        ip("link", "set", "v0", "down")
+        gate.told("network 00000020 is down")
+        told = len(gate.lines)
+        with trouble.fails("ioctl", errno.ENOMEM):
+            let_pass(gate, 2)
+        assert not any(" is up: " in it or " is down: " in it for it in gate.lines[told:]), gate.lines[told:]
+        ip("link", "set", "v0", "up")
+        gate.told("network 00000020 is up")
+    ip("link", "del", "v0")
+
+
+def a_node_stays():
+    """A made-up node stays where a card gets another address, so that the router starts afresh, and no file can be opened meanwhile."""
+    make_pair()
+    new = bytes.fromhex("02005E000078")
+    with Gateway("network 20 1 1490 interface v0 raw\nnetwork 30 1 1490 qemu-tcp listen 0 raw\n") as gate:
+        made_up = gate.nodes[0x30]
+        with no_more_files(gate):
+            ip("link", "set", "v0", "address", new.hex(":"))
+            assert gate.told("network 00000020 has another node") and gate.nodes[0x20] == new
+        assert f", node {made_up.hex().upper()}" in gate.report().partition("network 00000030 ")[2].split("\n")[0]
+    ip("link", "del", "v0")
+
+
+def what_waits_on_a_card():
+    """Frames that wait on a card while the gateway stands still are heard: a thousand, as of neighbours with full tables and of players."""
+    make_pair()
+    with Gateway(tunnels(1, extra=NO_LIMIT) + "network 20 1 1490 interface v0 raw\n") as gate:
+        far = Client(gate.ports[0x10])
+        gate.until("network 00000020 up")
+        host = Station(Packets("v1", "raw"), "raw", 0x20, STATION, gate.nodes[0x20])
+        both_ways(gate, host, far)
+        before = gate.counted(0x20, "in")
+        with gate.run.halted():
+            for _ in range(1000):
+                host.say(far.at(), bytes(400))
+        gate.until_counted(0x20, "in", before + 1000)
+    ip("link", "del", "v0")
+
+
+# What makes an interface of IP; and a packet of IP, from 129.55.0.0, that would be a frame of IPX if it were Ethernet's.
+TUNSETIFF, IFF_TUN, IFF_NO_PI = 0x400454CA, 1, 0x1000
+LIKE_A_FRAME = b"\x45\0\0\x50".ljust(12, b"\0") + b"\x81\x37" + b"\xff\xff\0\x1e".ljust(66, b"\0")
+
+
+def another_kind_of_card():
+    """An interface that isn't Ethernet in the place of a card that was taken out isn't heard, which is told; a card is, later."""
+    make_pair()
+    with Gateway(tunnels(1) + "network 20 1 1490 interface v0 raw\n") as gate:
+        far = Client(gate.ports[0x10])
+        gate.until("network 00000020 up")
+        ip("link", "del", "v0")
+        with open("/dev/net/tun", "r+b", buffering=0) as tun:
+            fcntl.ioctl(tun, TUNSETIFF, struct.pack("16sH22x", b"v0", IFF_TUN | IFF_NO_PI))
+            ip("link", "set", "v0", "up")
+            until(lambda: gate.told("network 00000020 is down").endswith(": it isn't Ethernet"), "it is told")
+            heard = gate.counted(0x20, "in")
+            for _ in range(3):
+                let_pass(gate, 1)
+                tun.write(LIKE_A_FRAME)
+            assert gate.counted(0x20, "in") == heard
+        make_pair()
+        gate.told("network 00000020 is up")
+        both_ways(gate, Station(Packets("v1", "raw"), "raw", 0x20, STATION, gate.nodes[0x20]), far)
+    ip("link", "del", "v0")
 
 
 def each_fails():
@@ -373,7 +574,8 @@ def inside():
         ip("link", "del", "v0")
         counts.run(all_kinds)
         counts.run(a_short_mtu)
-        for test in (a_cable_is_pulled, a_card_comes_later, an_address_comes_later, two_gateways, a_new_address, a_dead_pc):
+        for test in (a_cable_is_pulled, a_card_by_the_same_number, a_card_comes_later, an_address_comes_later, another_own_address,
+                     two_gateways, a_new_address, a_node_stays, nobody_answers_of_one_that_is_off, what_waits_on_a_card, a_dead_pc):
             counts.run(test)
         if can_give_rights():
             counts.run(rights_of_a_group)
@@ -385,6 +587,13 @@ def inside():
         counts.run(a_tap)
         if has_pairs:
             counts.run(each_fails)
+            counts.run(another_kind_of_card)
+        if has_pairs and can(lambda: ip("link", "add", "br0", "type", "bridge")):
+            ip("link", "del", "br0")
+            counts.run(no_file_for_a_moment)
+            counts.run(nobody_answers)
+        else:
+            left_out("a TAP in a bridge", "no bridge can be made")
     else:
         left_out("TAPs", "the device for them can't be opened")
     print(f"{counts.passed} passed, {counts.failed} failed")

@@ -55,6 +55,32 @@ def no_configuration():
     assert asked("--check", "..")[0] == (1 if SYSTEM is Windows else 2)
 
 
+def a_long_word():
+    """A word or a line of fifty million bytes is told by how it begins, at once."""
+    begins, most = "A" * 100 + "..", 50_000_000
+    for text, told in ((b"network " + b"A" * most, f"'{begins}': expected the number of a network"),
+                       (b"A" * most, f"'{begins}': expected network, link, "),
+                       (b"A" * most + b"\0", f"'{begins}': expected text, there is a byte 0 behind it"),
+                       (b"network 10 1 1424 dosbox 0 " + b"\xff" * 101, "'" + r"\xFF" * 100 + "..': expected nothing more"),
+                       (b"1 " * (most // 2), "'1': expected at most 32 words")):
+        status, _, complaint = asked("--check", STDIN, stdin=text)
+        assert status == 2 and complaint.startswith(f"{STDIN}:1: {told}") and complaint.count("\n") == 1, complaint[:1000]
+
+
+def what_editors_write():
+    """A mark of UTF-8 at the beginning is no part of the first word; UTF-16 is told once, by its name and with what helps."""
+    text = tunnels(2)
+    assert asked("--check", STDIN, stdin=text.encode("utf-8-sig"))[:2] == (0, f"{STDIN}: 2 networks, nothing wrong\n")
+    assert asked("--check", STDIN, stdin=b"\xef\xbb\xbf")[::2] == (2, f"{STDIN}: expected a line that begins with network\n")
+    status, _, complaint = asked("--check", STDIN, stdin=b"\xef\xbb\xbfnetworks\n\xef\xbb\xbfnetwork\n")
+    assert status == 2 and [it.split(": expected ")[0] for it in complaint.splitlines()] == [
+        f"{STDIN}:1: 'networks'", rf"{STDIN}:2: '\xEF\xBB\xBFnetwork'"], complaint
+    for encoding in ("utf-16", "utf-16-le", "utf-16-be"):
+        told = f"{STDIN}: expected UTF-8 or plain text, this is UTF-16: save it as UTF-8\n"
+        assert asked("--check", STDIN, stdin=text.encode(encoding)) == (2, "", told), encoding
+    assert asked("--check", STDIN, stdin=b"\n" + text.encode("utf-16-le"))[0] == 2
+
+
 def the_command_line():
     """A wrong command line is told with the word and what was expected, and how it is right."""
     status, use, complaint = asked("--help")
@@ -118,6 +144,21 @@ def what_is_right():
         assert asked("--check", "/dev/stdin", stdin=text)[:2] == (0, "/dev/stdin: 1 network, nothing wrong\n"), text
 
 
+def as_many_links():
+    """A file has 64 links, on networks of several or of one; one more of either kind is told."""
+    several = "".join(f"network {n} 1 1400\n" + "link dosbox 0\n" * count for n, count in ((10, 32), (11, 31)))
+    one = "network {} 1 1400 dosbox 0\n"
+    right = several + one.format(20)
+    assert asked("--check", STDIN, stdin=right.encode())[:2] == (0, f"{STDIN}: 3 networks, nothing wrong\n")
+    for more in (one.format(21), "network 21 1 1400\nlink dosbox 0\n"):
+        status, _, complaint = asked("--check", STDIN, stdin=(right + more + one.format(22)).encode())
+        word = "network" if "link" not in more else "link"
+        line = 67 + ("link" in more)
+        assert status == 2 and complaint.startswith(f"{STDIN}:{line}: '{word}': expected at most 64 links\n"), complaint
+    status, _, complaint = asked("--check", STDIN, stdin=(several + "link dosbox 0\n" + one.format(20) * 9).encode())
+    assert status == 2 and complaint.count("expected at most 64 links") == 9, complaint
+
+
 def one_rate_a_link():
     """Networks on one link share a rate: below one of them it is right, below a second it is told where the first is."""
     frames = [f"network {number} 1 1492 qemu-udp 5001 192.0.2.7:5001 {kind}\n" for number, kind in ((20, "raw"), (30, "llc"))]
@@ -160,7 +201,7 @@ def what_cannot_be_opened():
 
 def main():
     counts = Counts()
-    for test in (each_wrong_line, nothing_is_opened, no_configuration, the_command_line, the_version, no_words, the_example, what_is_right,
+    for test in (each_wrong_line, nothing_is_opened, no_configuration, a_long_word, what_editors_write, the_command_line, the_version, no_words, the_example, what_is_right, as_many_links,
                  one_rate_a_link, names_and_marks, what_cannot_be_opened):
         counts.run(test)
     if SYSTEM is Windows:

@@ -120,6 +120,35 @@ function tryRandom() {
     tell(`${RANDOM} changed packets, to words and back`, unlike(all)[0]);
 }
 
+// Words for more bytes than a packet has, or than memory has; and brackets that never end.
+const LIST = Array(9000).fill("00x65535").join();
+const MUCH = ["00x65536", "[00x65535]x2", "[00x65535]x65535", "[[[00x255]x255]x255]x255", "00x65535,00", LIST, `[${LIST}]x1`,
+    "00".repeat(65536), `${"[00,".repeat(99)}00x65535${"]x9".repeat(99)}`];
+const [DEEPEST, DEEP] = ["[".repeat(100), "[".repeat(101)];
+const SOON = 2000;
+
+function refusalOf(word) {
+    try {
+        return `${dataOf("data", word).length / 2} bytes`;
+    } catch (why) {
+        return why.message;
+    }
+}
+
+// They are refused in words, and before what they tell is made.
+function tryMuch() {
+    const begun = performance.now();
+    const taken = MUCH.filter((it) => refusalOf(it) !== "data: expected at most 65535 bytes");
+    const wrong = taken.map((it) => `${it.slice(0, 30)}: ${refusalOf(it)}`);
+    tell(`${MUCH.length} words for too many bytes are refused`, wrong.join("; "));
+    const deep = [DEEP, "[".repeat(100000)].filter((it) => refusalOf(it) !== "data: expected at most 100 brackets in one another");
+    const right = [`${DEEPEST}00${"]".repeat(100)}`, Array(101).fill("[00]").join()].map(refusalOf);
+    const refused = right.join() === "1 bytes,101 bytes" ? "" : right.join("; ");
+    tell("brackets in one another are refused where they are too many", deep.map(refusalOf).join("; ") || refused);
+    const took = performance.now() - begun;
+    tell("they are refused at once", took < SOON ? "" : `in ${Math.round(took)} ms`);
+}
+
 function tryData() {
     const given = ["", "00", "0002", "00".repeat(65535), "0102".repeat(9), "000000FF".repeat(4) + "01", "AB".repeat(7) + "CD".repeat(7)];
     const wrong = given.filter((it) => dataOf("data", (dataWords(it)[0] ?? "data=").slice("data=".length)) !== it);
@@ -188,5 +217,6 @@ tryWritten();
 tryAll();
 tryRandom();
 tryData();
+tryMuch();
 tryExamples();
 tryWrong();

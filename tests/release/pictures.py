@@ -3,9 +3,11 @@ import glob
 import os
 import re
 import shutil
+import struct
 import tempfile
 from xml.etree import ElementTree
 
+import layout
 from trying import TOP, VERBS, differs, has, run, stories, tell, text_of
 
 # Attributes that say where an element lies. They may differ by this much, since machines round otherwise.
@@ -165,6 +167,33 @@ def try_captures():
     tell(f"{len(captures)} captures are drawn, or it is said in a line why not", "".join(wrong) if captures else "    there are none")
 
 
+# Times of records, in thousandths of a second, and what the ladder says of them.
+TIMES, TOLD = [7_250, 7_375, 9_500], ["0 s", "0.125 s", "2.25 s"]
+# How captures begin, with how many parts of a second they count in a thousandth.
+FINE = {"microseconds": (0xA1B2C3D4, 1_000), "nanoseconds": (0xA1B23C4D, 1_000_000)}
+
+
+def timed(pcap, order, magic, parts):
+    """A capture of one packet, again and again, at the times above."""
+    frame = pcap.framed(PACKET)
+    head = (struct.pack(order + "IIII", at // 1_000, at % 1_000 * parts, len(frame), len(frame)) for at in TIMES)
+    return pcap.header(order, magic) + b"".join(it + frame for it in head)
+
+
+def try_times(folder):
+    """The times of a capture are the same in each of the ways in which they can be written, whatever the file is called."""
+    pcap = layout.tool("tools/pcap.py")
+    for fine, (magic, parts) in FINE.items():
+        for order, name in (("<", "lowest"), (">", "highest")):
+            seen = []
+            for file in (f"{folder}/times.pcap", f"{folder}/times"):
+                with open(file, "wb") as it:
+                    it.write(timed(pcap, order, magic, parts))
+                picture = ElementTree.fromstring(drawn(file))
+                seen.append([it.text for it in picture.iterfind(".//{*}text") if re.fullmatch(r"[\d.]+ s", it.text or "")])
+            tell(f"the times of a capture with {fine}, the {name} byte first, are drawn", differs(seen, [TOLD, TOLD]))
+
+
 def try_all():
     if not has("pictures", "node"):
         return
@@ -172,6 +201,7 @@ def try_all():
         try_kept(folder)
         try_words(folder)
         try_lost(folder)
+        try_times(folder)
     try_shown()
     try_maps()
     try_captures()

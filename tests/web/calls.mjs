@@ -42,7 +42,9 @@ await check("the numbers of answers, and their words, are the header's", () => {
 });
 
 await check("the other numbers are the header's", () => {
-    assert.deepEqual({ ...Frame }, defined(/^#define IPXR_FRAME_(\w+) (\d+)/gm));
+    const { KINDS, ...kinds } = defined(/^#define IPXR_FRAME_(\w+) (\d+)/gm);
+    assert.deepEqual({ ...Frame }, kinds);
+    assert.equal(Object.keys(Frame).length, KINDS);
     const { SHORTEST_FRAME, LONGEST_FRAME, NO_LIMIT } = it;
     assert.deepEqual({ SHORTEST_FRAME, LONGEST_FRAME, NO_LIMIT }, defined(/^#define IPXR_((?:SHORTEST|LONGEST)_FRAME|NO_LIMIT) (\d+)/gm));
     assert.deepEqual(it.BROADCAST, Array(6).fill(255));

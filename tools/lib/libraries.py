@@ -22,7 +22,14 @@ PARTS = ("src", "specs", "proofs")
 MEMORY = 3_300_000_000
 
 
+def see_toolchain():
+    """Ends where there is no toolchain."""
+    if not shutil.which("rt"):
+        sys.exit("the toolchain's command rt is missing: README.md says where it comes from")
+
+
 def command(*words):
+    see_toolchain()
     return subprocess.run(words, stdout=subprocess.PIPE, text=True, check=True).stdout.strip()
 
 

@@ -21,7 +21,7 @@ import tempfile
 sys.dont_write_bytecode = True
 import layout
 import systems
-from libraries import TOP, are_the_gates, below, command, kit, prover, sources, sum_of
+from libraries import TOP, are_the_gates, below, command, kit, prover, see_toolchain, sources, sum_of
 
 FOLDER = f"{TOP}/build/modules"
 # Any x86-64: for later ones the program asks the processor as it starts, which no other system has.
@@ -71,7 +71,8 @@ def is_built():
 def prove_below():
     """Sees to it that the libraries are there that the program stands on: those that the gate left, or those of `make run`."""
     if not is_built() and not are_the_gates("ipxr"):
-        subprocess.run([f"{TOP}/tools/build"], check=True, env={**os.environ, "CPU": CPU})
+        if subprocess.run([f"{TOP}/tools/build"], check=False, env={**os.environ, "CPU": CPU}).returncode:
+            fail("ipxr is not built")
 
 
 def built_program():
@@ -106,7 +107,8 @@ def sizes():
 def built_library():
     """The archive without an allocator that `make embed` made."""
     if not os.path.isfile(ARCHIVE):
-        subprocess.run([f"{TOP}/tools/embed"], check=True)
+        if subprocess.run([f"{TOP}/tools/embed"], check=False).returncode:
+            fail("the library for C is not built")
     return ARCHIVE
 
 
@@ -141,6 +143,7 @@ def is_kept(name, crate):
 
 def kept(crate):
     """The module of a crate and the words by which it was compiled: NAME.bc and NAME.words, of which this returns NAME."""
+    see_toolchain()
     name = f"{FOLDER}/{crate}"
     if is_kept(name, crate):
         return name

@@ -16,6 +16,8 @@ MOST = 1_200_000
 IMPORT = re.compile(r'^import \{([^}]*)\} from "\./(\w+\.mjs)";\n', re.MULTILINE)
 TOP_NAME = re.compile(r"^(?:export )?(?:async )?(?:function\*?|class|const|let) (\w+)", re.MULTILINE)
 TOP_NAMES = re.compile(r"^(?:export )?(?:const|let) \[([^\]]*)\]", re.MULTILINE)
+# A line that is nothing but a comment: readers of the sources need it, and the page is smaller without.
+COMMENT = re.compile(r"^[ \t]*//.*\n", re.MULTILINE)
 EXPORT = re.compile(r"^export (?=(?:async )?(?:function|class|const|let)\b)", re.MULTILINE)
 
 
@@ -54,7 +56,7 @@ def names_of(text):
 def one_module(name):
     """The text of a module in a scope of its own, which hands out what it exports. Modules are many, and some of their inner names are the
     same."""
-    text = read(name)
+    text = COMMENT.sub("", read(name))
     exported = [it for one in EXPORT.split(text)[1:] for it in names_of(one)[:1]]
     taken = "".join(f"const {{{what.replace(' as ', ': ')}}} = {scope_of(other)};\n" for what, other in IMPORT.findall(text))
     body = EXPORT.sub("", IMPORT.sub("", text)).replace("import.meta.url", "location.href")

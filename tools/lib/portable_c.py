@@ -5,6 +5,7 @@ memory and the globals are static, and host/portable.h has what is left of the r
 """
 import os
 import re
+import shutil
 import subprocess
 import tempfile
 
@@ -74,11 +75,17 @@ def read(name):
         return it.read()
 
 
-def translated(module):
-    """What wasm2c makes of a module: its header and its code."""
+def see_translator():
+    """Refuses another wasm2c than the one whose C is known."""
+    if not shutil.which("wasm2c"):
+        raise Unknown(f"wasm2c is missing: it is in Debian's package wabt, version {WASM2C}")
     found = subprocess.run(["wasm2c", "--version"], stdout=subprocess.PIPE, text=True, check=True).stdout.strip()
     if found != WASM2C:
-        raise Unknown(f"wasm2c {found}, not {WASM2C}")
+        raise Unknown(f"this is wasm2c {found}, and {WASM2C} is needed")
+
+
+def translated(module):
+    """What wasm2c makes of a module: its header and its code."""
     with tempfile.TemporaryDirectory() as folder:
         with open(f"{folder}/ipxr.wasm", "wb") as it:
             it.write(module)
@@ -125,6 +132,8 @@ def portable(module):
 
 
 def build():
+    # (before what takes minutes)
+    see_translator()
     made = portable(wasm32.lowered(wasm_modules.module("ipxr")))
     os.makedirs(os.path.dirname(f"{TOP}/{MADE}"), exist_ok=True)
     with open(f"{TOP}/{MADE}", "w", encoding="ascii") as it:

@@ -1,0 +1,25 @@
+/* What the gateway's files keep to themselves, for the checks: each file inside_*.c is one of them with a few functions more. */
+#ifndef INSIDE_H
+#define INSIDE_H
+
+#include "gateway.h"
+
+/* Descriptors of the status socket: of those who ask, and where they come in. */
+size_t status_descriptors(void);
+
+/* Whether somebody who asks has more to be sent than there is room for, or less than nothing. */
+void status_is_well(void);
+
+/* Looks at each address that is known: its clients are those of the lists of clients, and numbers of queues are counted right; and whether
+ * none is known. */
+void speakers_are_well(gateway *it);
+bool speakers_are_gone(void);
+
+/* The same of a narrow line. */
+void line_is_well(gateway *it);
+bool line_is_unused(void);
+
+/* What all queues of somebody together must be, whoever he is. */
+void queues_are_well(const fair *it, const char *whose);
+
+#endif

@@ -1,0 +1,195 @@
+/* What the world hears of the gateway, and what it does at once: players answer pings, stations answer questions. */
+#include "outside.h"
+
+#include <errno.h>
+#include <string.h>
+
+#include "chance.h"
+#include "clocks.h"
+#include "configurations.h"
+#include "ipx.h"
+#include "peace.h"
+#include "play.h"
+#include "world.h"
+
+enum { PING = 2, SILENT_HOST = 10, SLOW_HOST = 8, MILLION = 1000000, COME_AND_GO = 99, FIRST_PORT = 40000 };
+
+static uint8_t cookies[ALL_HOSTS][PORTS_OF_HOST][NODE];
+static bool has_address = true;
+static int joined[2] = {-1, -1};
+
+/* ---- Addresses ---- */
+
+void address_comes_or_goes(void)
+{
+    has_address = !has_address;
+    told("the machine %s 10.0.0.99", has_address ? "has" : "hasn't");
+}
+
+bool outside_has_address(const address *at)
+{
+    errno = EADDRNOTAVAIL;
+    return at->is_six || at->host[0] != 10 || has_address;
+}
+
+/* ---- Players ---- */
+
+/* Where the cookie of a place is kept, or NULL. */
+static uint8_t *kept_for(const uint8_t place[6])
+{
+    size_t host = place[3], number = (size_t)(get16(place + 4) - FIRST_PORT);
+    return place[0] == 10 && host < ALL_HOSTS && number < PORTS_OF_HOST ? cookies[host][number] : NULL;
+}
+
+const uint8_t *cookie_of(const uint8_t place[6])
+{
+    const uint8_t *kept = kept_for(place);
+    return kept != NULL && kept[0] != 0 ? kept : NULL;
+}
+
+static bool is_ping(const uint8_t *bytes, size_t length)
+{
+    return length == HEADER && get16(bytes + AT_TO_SOCKET) == PING && is_broadcast(bytes + AT_TO_NODE) && bytes[AT_FROM_NODE] == LOCAL_NODE;
+}
+
+static bool will_answer(const uint8_t place[6])
+{
+    if (is_peace())
+        return peace_answers(place);
+    return place[3] < SLOW_HOST ? !one_in(20) : place[3] < SILENT_HOST && one_in(4);
+}
+
+void outside_hears_datagram(int fd, descriptor *on, const departure *what)
+{
+    uint8_t place[NODE];
+    made_packet made;
+    memcpy(place, what->to.host, sizeof what->to.host);
+    put16(place + 4, what->to.port);
+    (void)fd;
+    bool is = is_ping(what->bytes, what->length);
+    uint8_t *kept = is ? kept_for(place) : NULL;
+    if (kept != NULL)
+        memcpy(kept, what->bytes + AT_FROM_NODE, NODE);
+    if (is && will_answer(place)) {
+        make_answer(&made, place, what->bytes + AT_FROM_NODE);
+        comes(on, &what->to, made.bytes, made.length);
+    } else if (!is_peace() && make_reply(&made, what->bytes, what->length) && !one_in(4)) {
+        comes(on, &what->to, made.bytes, made.length);
+    }
+}
+
+/* ---- Frames ---- */
+
+void cables_are_joined_or_not(void)
+{
+    joined[0] = joined[0] < 0 ? descriptor_any(one_in(2) ? CARD : TAP) : -1;
+    joined[1] = joined[0] < 0 ? -1 : descriptor_any(one_in(2) ? CARD : DATAGRAMS);
+    told("cables %d and %d are one", joined[0], joined[1]);
+}
+
+void cables_are_apart(void)
+{
+    joined[0] = joined[1] = -1;
+}
+
+/* The other of two cables that are one, if a descriptor is one of them; else -1. */
+static int other_of(int fd)
+{
+    return fd == joined[0] ? joined[1] : fd == joined[1] ? joined[0] : -1;
+}
+
+/* Whether a socket of a card lets a frame pass. */
+static bool lets_pass(const descriptor *it, const uint8_t *frame, size_t length)
+{
+    size_t front;
+    uint8_t kind = ipxr_frame_read(frame, length < MOST_RECEIVED ? length : MOST_RECEIVED, &front);
+    return kind == IPXR_NO_FRAME || (it->kinds & 1u << kind) != 0;
+}
+
+/* A frame on a wire comes to each socket of the card there. */
+static void comes_to_card(const descriptor *at, const uint8_t *frame, size_t length)
+{
+    address nobody = {.port = 0};
+    for (int fd = FIRST_DESCRIPTOR; fd < MOST_DESCRIPTORS; fd++) {
+        descriptor *it = descriptor_if_open(fd);
+        if (it != NULL && it->is == CARD && it->index == at->index && lets_pass(it, frame, length))
+            comes(it, &nobody, frame, length);
+    }
+}
+
+void frame_comes(int fd, const uint8_t *frame, size_t length)
+{
+    uint8_t front[4];
+    address nobody = {.port = 0};
+    descriptor *it = descriptor_if_open(fd);
+    if (it == NULL)
+        return;
+    if (it->is == CONNECTION) {
+        put32(front, (uint32_t)length);
+        bytes_come(it, front, sizeof front);
+        bytes_come(it, frame, length);
+    } else if (it->is == CARD) {
+        comes_to_card(it, frame, length);
+    } else {
+        comes(it, &nobody, frame, length);
+    }
+}
+
+/* The answer of a station to what the gateway asked it in a frame. */
+static void reply(int fd, const uint8_t *frame, size_t length)
+{
+    made_packet made;
+    uint8_t back[IPXR_LONGEST_FRAME];
+    size_t front = 0;
+    uint8_t kind = ipxr_frame_read(frame, length, &front);
+    if (kind == IPXR_NO_FRAME || !make_reply(&made, frame + front, length - front))
+        return;
+    if (has_length(made.bytes, made.length))
+        made.length = get16(made.bytes + AT_LENGTH);
+    size_t whole = ipxr_frame_write(kind, frame + NODE, frame, made.bytes, made.length, back, sizeof back);
+    if (whole > 0)
+        frame_comes(fd, back, whole);
+}
+
+void outside_hears_frame(int fd, descriptor *on, const uint8_t *bytes, size_t length)
+{
+    (void)on;
+    peace_hears(fd, bytes, length);
+    if (length > IPXR_LONGEST_FRAME || length < IPXR_SHORTEST_FRAME)
+        wrong("a frame of %zu bytes is sent", length);
+    if (!is_peace() && !one_in(4))
+        reply(fd, bytes, length);
+    if (other_of(fd) >= 0)
+        frame_comes(other_of(fd), bytes, length);
+}
+
+void outside_hears_stream(int fd, descriptor *on, const uint8_t *bytes, size_t length)
+{
+    peace_hears(fd, bytes, length);
+    for (size_t k = length > 2 ? length - 2 : 0; k < length; k++) {
+        on->last_bytes[0] = on->last_bytes[1];
+        on->last_bytes[1] = bytes[k];
+    }
+    on->taken += length;
+}
+
+/* ---- Turns ---- */
+
+network *network_at(int fd)
+{
+    for (size_t k = 0; the_gate != NULL && k < the_gate->count; k++)
+        if (the_gate->networks[k].cable != NULL && the_gate->networks[k].cable->fd == fd)
+            return &the_gate->networks[k];
+    return NULL;
+}
+
+void outside_waits(int milliseconds)
+{
+    uint64_t most = (uint64_t)milliseconds * MILLION;
+    clock_passes(one_in(4) ? below(1000) * most / 1000 : most);
+}
+
+const char *outside_configuration(void)
+{
+    return configuration_text();
+}

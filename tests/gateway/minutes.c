@@ -1,0 +1,539 @@
+/* For the tests: what is limited, by a clock that this program sets.
+ *
+ *     minutes link FRAMES RATE   on a link five say 35 packets a second and a sixth RATE, each in FRAMES frames: for ten minutes all six,
+ *                                for ten more the five, and then the sixth again
+ *     minutes parts COUNT        so many addresses say 1,000 packets a second to one client, and one more says nine tenths of its part
+ *     minutes once               what a client receives at once, of one address and of many
+ *     minutes two                an address has clients on two networks, and somebody floods those of the slower one
+ *     minutes address            a client's address has no room for what the client has room for
+ *     minutes line KILOBITS      four play by a line of so many kilobits, beside one who says 1,000 of the longest packets a second: for
+ *                                ten minutes all five, and for one more the four
+ *     minutes router             clients and a link say to the router what it limits: for ten minutes it hears as much as it is to
+ *     minutes gateway            the same of what the gateway answers to clients and strangers, and of pings for all
+ *
+ * It prints what it saw, and ends with 1 where that isn't what is due. */
+#include "../../gateway/throttle.h"
+
+#include "../../gateway/ipx.h"
+#include "../../gateway/strangers.h"
+#include "own_clock.h"
+
+/* As a network has them where no line says them. */
+enum { RATE = 800, SHARE = 50, RECEIVED = RATE + 2 * SHARE, USUAL = 16 * RATE };
+
+/* ---- Those who speak ---- */
+
+enum { MOST_SPEAKERS = 250, PLAYERS = 5, SHORT = 100 };
+
+static speaker *speakers[MOST_SPEAKERS];
+
+/* Some addresses that have a client each. */
+static void join(size_t count)
+{
+    for (size_t k = 0; k < count; k++)
+        speakers[k] = speaker_join((uint8_t[4]){10, 0, (uint8_t)(k >> 8), (uint8_t)k});
+}
+
+static network_setting usual(link_type type)
+{
+    return (network_setting){.type = type, .rate = RATE, .share = SHARE, .household = USUAL};
+}
+
+/* A client at an address of its own, which receives. */
+static member client_at(uint8_t last)
+{
+    return (member){.speaks = speaker_join((uint8_t[4]){10, 1, 0, last}), .queues = calloc(1, sizeof(fair))};
+}
+
+/* A packet for all, from a socket of a game. */
+static const uint8_t *packet(void)
+{
+    static uint8_t it[HEADER];
+    memset(it + AT_TO_NODE, 0xFF, NODE);
+    put16(it + AT_TO_SOCKET, 0x4003);
+    put16(it + AT_FROM_SOCKET, 0x4003);
+    return it;
+}
+
+/* How many packets one has said who says so many a second, so many milliseconds after he began. */
+static uint64_t said_by(uint64_t rate, uint64_t milliseconds)
+{
+    return (rate * milliseconds + SECOND - 1) / SECOND;
+}
+
+static void pass_millisecond(uint64_t at)
+{
+    pass(MILLISECOND);
+    if (at % SECOND == 0)
+        speakers_second();
+}
+
+/* ---- A link with several kinds of frames ---- */
+
+typedef struct wire {
+    throttle limits;
+    fair *queues;
+    uint32_t frames;
+    uint64_t said[PLAYERS + 1], heard[PLAYERS + 1];
+} wire;
+
+static void say_up_to(wire *it, size_t who, uint64_t count)
+{
+    for (; it->said[who] < count; it->said[who]++) {
+        throttle_bring(speakers[who], NULL, packet());
+        it->heard[who] += throttle_carries(&it->limits, it->queues, packet(), SHORT, it->frames) == REASONS;
+        throttle_bring(NULL, NULL, NULL);
+    }
+}
+
+/* For some milliseconds the players say 35 packets a second each, a little late, and a sixth as many as are named. Each player is heard
+ * whole, and the sixth has what they leave. */
+static void play(wire *it, uint64_t rate, uint64_t lasts)
+{
+    enum { GAME = 35, LATE = 10 };
+    uint64_t before = it->heard[PLAYERS];
+    memset(it->said, 0, sizeof it->said);
+    memset(it->heard, 0, sizeof it->heard);
+    for (uint64_t at = 1; at <= lasts; at++) {
+        pass_millisecond(at);
+        for (size_t k = 0; k < PLAYERS; k++)
+            say_up_to(it, k, said_by(GAME, at + draw(LATE)));
+        say_up_to(it, PLAYERS, said_by(rate, at));
+    }
+    for (size_t k = 0; k < PLAYERS; k++)
+        expect(it->heard[k] == it->said[k], "a player is heard whole");
+    uint64_t left = (uint64_t)RECEIVED / it->frames - PLAYERS * GAME, part = rate < left ? rate : left, heard = it->heard[PLAYERS];
+    expect(heard * 100 >= part * (lasts / SECOND) * 99, "who says most has what the others leave");
+    expect(heard <= part * (lasts / SECOND) + 250, "nobody has more than that");
+    if (rate > 0 || before > 0)
+        printf("in %" PRIu64 " s %" PRIu64 " of %" PRIu64 " packets of the sixth\n", lasts / SECOND, heard, it->said[PLAYERS]);
+}
+
+static void link_with(uint32_t frames, uint64_t rate)
+{
+    network_setting set = usual(LINK_INTERFACE);
+    wire it = {.frames = frames, .queues = calloc(1, sizeof(fair))};
+    join(PLAYERS + 1);
+    throttle_set(&it.limits, &set);
+    for (int k = 0; k < 10; k++)
+        play(&it, rate, MINUTE);
+    play(&it, 0, 10 * MINUTE);
+    play(&it, 1, MINUTE);
+    free(it.queues);
+}
+
+/* ---- A client ---- */
+
+static bool receives(const throttle *it, member *to, speaker *from, size_t length)
+{
+    return throttle_receives(it, to, throttle_queue(from, packet()), length) == REASONS;
+}
+
+static void parts(size_t count)
+{
+    enum { FLOOD = 1000 };
+    network_setting set = usual(LINK_DOSBOX);
+    throttle limits;
+    member to = client_at(1);
+    uint64_t said[MOST_SPEAKERS] = {0}, heard[MOST_SPEAKERS] = {0}, little = RECEIVED * 9 / 10 / (count + 1), sum = 0;
+    join(count + 1);
+    throttle_set(&limits, &set);
+    for (uint64_t at = 1; at <= MINUTE; at++) {
+        pass_millisecond(at);
+        for (size_t k = 0; k <= count; k++)
+            for (; said[k] < said_by(k < count ? FLOOD : little, at); said[k]++)
+                heard[k] += receives(&limits, &to, speakers[k], SHORT);
+    }
+    uint64_t part = (RECEIVED - little) * (MINUTE / SECOND) / count;
+    for (size_t k = 0; k < count; k++) {
+        expect(heard[k] * 100 >= part * 98, "each who floods has its part of what the other leaves");
+        sum += heard[k];
+    }
+    expect(heard[count] == said[count], "who says less than its part is heard whole");
+    expect(sum + heard[count] <= RECEIVED * (MINUTE / SECOND) + 258 + count, "a client receives no more than it reads");
+    printf("of %zu who flood %" PRIu64 " packets in a minute, of the other %" PRIu64 "\n", count, sum, heard[count]);
+    free(to.queues);
+}
+
+/* What a client receives at once of some addresses that say as much as they can: one after the other, or by turns. */
+static uint64_t at_once(size_t count, size_t length, uint32_t share, bool by_turns)
+{
+    enum { SAY = 300 };
+    network_setting set = usual(LINK_DOSBOX);
+    throttle limits;
+    member to = client_at(2);
+    uint64_t heard = 0;
+    set.share = share;
+    set.household = 0;
+    throttle_set(&limits, &set);
+    for (size_t k = 0; k < count * SAY; k++)
+        heard += receives(&limits, &to, speakers[by_turns ? k % count : k / SAY], length);
+    speaker_leave(to.speaks);
+    free(to.queues);
+    return heard;
+}
+
+/* The most of these beyond one of each address, of up to so many addresses. */
+static uint64_t most_at_once(size_t addresses, size_t length, uint32_t share)
+{
+    uint64_t most = 0;
+    for (size_t count = 1; count <= addresses; count++)
+        for (int by_turns = 0; by_turns < 2; by_turns++) {
+            uint64_t heard = at_once(count, length, share, by_turns == 1) - count;
+            most = heard > most ? heard : most;
+        }
+    return most;
+}
+
+/* What a client receives of one who speaks alone, after the router has said much: all of that goes out, and counts. */
+static uint64_t behind_the_router(void)
+{
+    enum { SAY = 300 };
+    network_setting set = usual(LINK_DOSBOX);
+    throttle limits;
+    member to = client_at(2);
+    uint64_t of_router = 0, heard = 0;
+    throttle_set(&limits, &set);
+    for (size_t k = 0; k < SAY; k++)
+        of_router += throttle_receives(&limits, &to, OF_ROUTER, SHORT) == REASONS;
+    for (size_t k = 0; k < SAY; k++)
+        heard += receives(&limits, &to, speakers[0], SHORT);
+    expect(of_router == SAY, "what the router says isn't dropped for a client");
+    speaker_leave(to.speaks);
+    free(to.queues);
+    return heard;
+}
+
+/* What a link with frames carries of another such link, and of the router itself: all. */
+static void from_other_links(void)
+{
+    enum { SAY = 3000, NUMBER = 3 };
+    network_setting set = usual(LINK_INTERFACE);
+    speaker network = {0};
+    throttle limits;
+    fair queues = {0};
+    uint64_t carried = 0;
+    throttle_set(&limits, &set);
+    speaker_be_network(&network, NUMBER);
+    for (size_t k = 0; k < SAY; k++) {
+        throttle_bring(k % 2 == 0 ? &network : NULL, NULL, packet());
+        carried += throttle_carries(&limits, &queues, packet(), SHORT, 1) == REASONS;
+    }
+    throttle_bring(NULL, NULL, NULL);
+    expect(carried == SAY, "what other links and the router say has no limit on a link");
+}
+
+static void once(void)
+{
+    enum { ADDRESSES = 40 };
+    static const uint32_t SHARES[] = {1, SHARE, 4 * SHARE, RATE};
+    join(MOST_SPEAKERS);
+    pass(MILLISECOND);
+    expect(at_once(1, 100, SHARE, false) == 100 && at_once(1, 1424, SHARE, false) == 32, "what one has who speaks alone");
+    from_other_links();
+    expect(behind_the_router() < 100, "the router's packets count towards what a client receives");
+    for (size_t k = 0; k < sizeof SHARES / sizeof *SHARES; k++) {
+        uint64_t small = most_at_once(ADDRESSES, 100, SHARES[k]), middle = most_at_once(ADDRESSES, 600, SHARES[k]);
+        uint64_t longest = most_at_once(ADDRESSES, 1424, SHARES[k]);
+        expect(small <= 250 && middle <= 153 && longest <= 64, "what all have, beside one of each");
+        printf("with a share of %" PRIu32 ": %" PRIu64 " short packets, %" PRIu64 " longer, %" PRIu64 " of the longest\n", SHARES[k], small,
+               middle, longest);
+    }
+}
+
+/* An address has two clients on a network whose addresses receive little and two on another: there somebody plays, while on the first
+ * somebody floods. */
+static void two(void)
+{
+    enum { CLIENTS = 4, LITTLE = 160, GAME = 35, FLOOD = 1000 };
+    network_setting slow = usual(LINK_DOSBOX), usually = usual(LINK_DOSBOX);
+    throttle limits[2];
+    member to[CLIENTS];
+    uint64_t said = 0, heard = 0, of_flood = 0;
+    slow.household = LITTLE;
+    throttle_set(&limits[0], &slow);
+    throttle_set(&limits[1], &usually);
+    join(2);
+    for (size_t k = 0; k < CLIENTS; k++)
+        to[k] = client_at(3);
+    for (uint64_t at = 1; at <= MINUTE; at++) {
+        pass_millisecond(at);
+        for (size_t k = 0; k < CLIENTS / 2; k++)
+            of_flood += receives(&limits[0], &to[k], speakers[0], SHORT);
+        for (; said < said_by(GAME, at); said++)
+            for (size_t k = CLIENTS / 2; k < CLIENTS; k++)
+                heard += receives(&limits[1], &to[k], speakers[1], SHORT);
+    }
+    printf("of the player %" PRIu64 " packets, of who floods %" PRIu64 "\n", heard, of_flood);
+    expect(heard == CLIENTS / 2 * said, "who plays on the other network is heard whole");
+    expect(of_flood <= LITTLE * (MINUTE / SECOND) + 500, "who floods has no more than the address receives there");
+    speakers_forget();
+    memset(to[0].queues, 0, sizeof *to[0].queues);
+    bool is_heard = receives(&limits[0], &to[0], speakers[0], SHORT) && receives(&limits[1], &to[CLIENTS - 1], speakers[1], SHORT);
+    expect(is_heard, "what was received before other limits counts no more");
+    for (size_t k = 0; k < CLIENTS; k++) {
+        speaker_leave(to[k].speaks); /* (the sanitizers see that nothing is left of the address) */
+        free(to[k].queues);
+    }
+}
+
+/* ---- A narrow line ---- */
+
+enum { BY_LINE = 5 };
+
+/* Copies of a packet go to all others by the line. Returns how many found no room. */
+static uint64_t say_by_line(size_t who, size_t length)
+{
+    uint64_t lost = 0;
+    line_begin(&speakers[who]->line, length);
+    for (size_t k = 0; k < BY_LINE; k++) {
+        line_use *to = &speakers[k]->line;
+        bool has_room = k != who && line_has_room(to);
+        if (has_room)
+            line_send(to);
+        lost += k != who && !has_room;
+    }
+    return lost;
+}
+
+/* Four say 35 short packets a second each, the fifth as many of the longest as are named. Returns how many copies of the fifth are lost. */
+static uint64_t play_by_line(uint64_t rate, uint64_t lasts)
+{
+    enum { GAME = 35, LATE = 10, FIFTH = BY_LINE - 1 };
+    uint64_t said[BY_LINE] = {0}, lost = 0, of_players = 0;
+    for (uint64_t at = 1; at <= lasts; at++) {
+        pass_millisecond(at);
+        for (size_t k = 0; k < FIFTH; k++)
+            for (; said[k] < said_by(GAME, at + draw(LATE)); said[k]++)
+                of_players += say_by_line(k, SHORT);
+        for (; said[FIFTH] < said_by(rate, at); said[FIFTH]++)
+            lost += say_by_line(FIFTH, 1424);
+    }
+    expect(of_players == 0, "by a line each who plays is heard whole");
+    printf("by the line %" PRIu64 " of %" PRIu64 " copies of the fifth are lost\n", lost, FIFTH * said[FIFTH]);
+    return lost;
+}
+
+static void by_line(uint32_t kilobits)
+{
+    static settings set;
+    set.count = 1;
+    set.networks[0].kilobits = kilobits;
+    line_set(&set);
+    join(BY_LINE);
+    for (size_t k = 0; k < BY_LINE; k++)
+        line_join(&speakers[k]->line);
+    expect(play_by_line(1000, 10 * MINUTE) > 0, "the line has no room for all");
+    (void)play_by_line(0, MINUTE);
+    expect(play_by_line(1, MINUTE) == 0, "the fifth is heard whole again, once it says little");
+}
+
+/* ---- What the router hears ---- */
+
+enum { RIP = 0x453, SAP = 0x452, PING = 2, GAMES = 0x4003, MOST_CLIENTS = 5 };
+
+/* What somebody says to the router, from a socket to a socket, with a word behind the header; and how often he is heard at once, and a
+ * second: one client of an address, one of several there, or a link. */
+typedef struct words {
+    const char *what;
+    uint16_t to, from, word;
+    uint64_t at_once[3], a_second[3];
+} words;
+
+static const words WORDS_TO_ROUTER[] = {
+    {"a request of RIP", RIP, GAMES, 1, {4, 16, 80}, {1, 4, 20}},
+    {"a query of SAP", SAP, GAMES, 1, {4, 16, 80}, {1, 4, 20}},
+    {"a query of SAP for the nearest", SAP, GAMES, 3, {4, 16, 80}, {1, 4, 20}},
+    {"a response of RIP", RIP, RIP, 2, {32, 32, 400}, {4, 4, 100}},
+    {"a response of SAP", SAP, SAP, 2, {32, 32, 400}, {4, 4, 100}},
+    {"an answer to a query for the nearest", SAP, SAP, 4, {32, 32, 400}, {4, 4, 100}},
+    {"a packet of a game", GAMES, GAMES, 0, {64, 64, 0}, {400, 400, 0}},
+    {"an answer to a ping", GAMES, PING, 0, {32, 32, 0}, {400, 400, 0}},
+};
+
+typedef struct teller {
+    throttle limits;
+    member clients[MOST_CLIENTS];
+    size_t count; /* of clients of the address; 0 for a link */
+    speaker *speaks;
+    const words *says;
+} teller;
+
+/* Says it so many times, by one client after the other. Returns how often it was heard. */
+static uint64_t say_to_router(teller *it, const words *what, uint64_t count)
+{
+    uint8_t bytes[HEADER + 4] = {0};
+    uint64_t heard = 0;
+    put16(bytes + AT_TO_SOCKET, what->to);
+    put16(bytes + AT_FROM_SOCKET, what->from);
+    put16(bytes + HEADER, what->word);
+    for (uint64_t k = 0; k < count; k++)
+        heard += (it->count > 0 ? throttle_hands(&it->limits, &it->clients[k % it->count], bytes, sizeof bytes)
+                                : throttle_hears(&it->limits, it->speaks, bytes, sizeof bytes)) == REASONS;
+    return heard;
+}
+
+/* Looks for ten minutes how often a limit lets something pass that comes 1,000 times a second, and before how often at once. */
+static void drive(const char *what, uint64_t (*passes)(void *of, uint64_t count), void *of, uint64_t at_once, uint64_t in_ten_seconds)
+{
+    enum { STEP = 50, LASTS = 10 * MINUTE };
+    uint64_t passed = 0, most = in_ten_seconds * (LASTS / SECOND) / 10;
+    pass(LASTS * MILLISECOND);
+    expect(passes(of, SECOND) == at_once, "so many at once");
+    for (uint64_t at = 0; at < LASTS; at += STEP) {
+        pass(STEP * MILLISECOND);
+        passed += passes(of, STEP);
+    }
+    expect(passed <= most && passed + 1 >= most, "so many a second");
+    printf("%s: %" PRIu64 " at once, %" PRIu64 " in ten minutes\n", what, at_once, passed);
+}
+
+/* Says it to the router so many times. */
+static uint64_t to_router(void *of, uint64_t count)
+{
+    teller *it = of;
+    return say_to_router(it, it->says, count);
+}
+
+static void drive_all(link_type type, size_t clients, size_t way)
+{
+    network_setting set = usual(type);
+    teller it = {.count = clients};
+    set.routes = set.services = IPXR_NO_LIMIT;
+    if (type == LINK_DOSBOX)
+        set.routes = 64, set.services = 32;
+    throttle_set(&it.limits, &set);
+    it.speaks = speaker_join((uint8_t[4]){10, 2, 0, (uint8_t)way});
+    for (size_t k = 0; k < clients; k++)
+        it.clients[k].speaks = speaker_join(it.speaks->host);
+    it.speaks->clients -= clients > 0;
+    for (size_t k = 0; k < sizeof WORDS_TO_ROUTER / sizeof *WORDS_TO_ROUTER; k++) {
+        it.says = &WORDS_TO_ROUTER[k];
+        if (it.says->at_once[way] > 0)
+            drive(it.says->what, to_router, &it, it.says->at_once[way], 10 * it.says->a_second[way]);
+    }
+}
+
+static void router(void)
+{
+    drive_all(LINK_DOSBOX, 1, 0);
+    drive_all(LINK_DOSBOX, MOST_CLIENTS, 1);
+    drive_all(LINK_TAP, 0, 2);
+}
+
+/* ---- What the gateway answers, and carries to all ---- */
+
+static uint64_t pings(void *of, uint64_t count)
+{
+    uint8_t ping[HEADER] = {0};
+    uint64_t passed = 0;
+    teller *it = of;
+    memset(ping + AT_TO_NODE, 0xFF, NODE);
+    put16(ping + AT_TO_SOCKET, PING);
+    for (uint64_t k = 0; k < count; k++)
+        passed += throttle_lets_say(&it->limits, &it->clients[k % it->count], ping) == REASONS;
+    return passed;
+}
+
+static uint64_t answers(void *of, uint64_t count)
+{
+    uint64_t passed = 0;
+    teller *it = of;
+    for (uint64_t k = 0; k < count; k++)
+        passed += throttle_lets_answer(&it->limits, &it->clients[k % it->count]);
+    return passed;
+}
+
+/* Strangers at one address, or at one after the other. */
+static uint64_t at_one(void *of, uint64_t count)
+{
+    uint64_t passed = 0;
+    for (uint64_t k = 0; k < count; k++)
+        passed += strangers_let(of, (uint8_t[6]){10, 3, 0, 0, (uint8_t)k}, 1);
+    return passed;
+}
+
+static uint64_t at_all(void *of, uint64_t count)
+{
+    uint64_t passed = 0;
+    for (uint64_t k = 0; k < count; k++)
+        passed += strangers_let(of, (uint8_t[6]){10, 4, (uint8_t)(k >> 8), (uint8_t)k}, 1);
+    return passed;
+}
+
+static void gateway(void)
+{
+    static const uint8_t key[SIPHASH_KEY] = {1};
+    network_setting set = usual(LINK_DOSBOX);
+    teller one = {.count = 1}, all = {.count = MOST_CLIENTS};
+    strangers strangers;
+    throttle_set(&one.limits, &set);
+    throttle_set(&all.limits, &set);
+    one.clients[0] = client_at(5);
+    for (size_t k = 0; k < MOST_CLIENTS; k++)
+        all.clients[k] = client_at(6);
+    if (!strangers_make(&strangers, 100, key))
+        abort();
+    drive("pings of a client", pings, &one, 2, 10);
+    drive("pings of all clients", pings, &all, 8, 40);
+    drive("answers to a client", answers, &one, 8, 20);
+    drive("answers to an address", answers, &all, 32, 80);
+    drive("strangers at an address", at_one, &strangers, 100, 125);
+    drive("all strangers", at_all, &strangers, 200, 1000);
+    strangers_free(&strangers);
+    free(one.clients[0].queues);
+    for (size_t k = 0; k < MOST_CLIENTS; k++)
+        free(all.clients[k].queues);
+}
+
+/* Somebody says 128 packets to eight clients of an address that receives 500 at once: each client has room for 100, and what its address
+ * has no room for counts, too. So the others are dropped for the clients, and no more of what is said then for the address. */
+static void of_address(void)
+{
+    enum { CLIENTS = 8, SAID = 128, OF_CLIENT = 100, OF_ADDRESS = 500 };
+    network_setting set = usual(LINK_DOSBOX);
+    throttle limits;
+    member to[CLIENTS];
+    uint64_t why[REASONS + 1] = {0};
+    set.household = 160;
+    throttle_set(&limits, &set);
+    join(1);
+    pass(MILLISECOND);
+    for (size_t k = 0; k < CLIENTS; k++)
+        to[k] = client_at(4);
+    for (size_t k = 0; k < CLIENTS * SAID; k++)
+        why[throttle_receives(&limits, &to[k % CLIENTS], throttle_queue(speakers[0], packet()), SHORT)]++;
+    printf("%" PRIu64 " received, %" PRIu64 " dropped for clients, %" PRIu64 " for their address\n", why[REASONS], why[TOO_MUCH_FOR_CLIENT],
+           why[TOO_MUCH_FOR_ADDRESS]);
+    expect(why[REASONS] == OF_ADDRESS, "an address receives so much");
+    expect(why[TOO_MUCH_FOR_CLIENT] == CLIENTS * (SAID - OF_CLIENT), "a client has room for so much, whatever its address has");
+    expect(why[TOO_MUCH_FOR_ADDRESS] == CLIENTS * OF_CLIENT - OF_ADDRESS, "the rest is dropped for the address");
+    for (size_t k = 0; k < CLIENTS; k++)
+        free(to[k].queues);
+}
+
+static const struct {
+    const char *word;
+    void (*does)(void);
+} WORDS_ALONE[] = {{"once", once}, {"two", two}, {"address", of_address}, {"router", router}, {"gateway", gateway}};
+
+int main(int count, char **words)
+{
+    const char *word = count > 1 ? words[1] : "";
+    uint64_t first = count > 2 ? strtoull(words[2], NULL, 10) : 0, second = count > 3 ? strtoull(words[3], NULL, 10) : 0;
+    bool is_link = strcmp(word, "link") == 0, is_line = strcmp(word, "line") == 0;
+    bool is_known = is_link || is_line || strcmp(word, "parts") == 0;
+    if (is_link)
+        link_with((uint32_t)first, second);
+    else if (is_line)
+        by_line((uint32_t)first);
+    else if (is_known)
+        parts((size_t)first);
+    for (size_t k = 0; k < sizeof WORDS_ALONE / sizeof *WORDS_ALONE; k++)
+        if (strcmp(word, WORDS_ALONE[k].word) == 0) {
+            WORDS_ALONE[k].does();
+            is_known = true;
+        }
+    expect(is_known, "a word that is known");
+    return faults == 0 ? 0 : 1;
+}

@@ -1,0 +1,54 @@
+"""What is limited, in two programs with a clock of their own (queues.c, minutes.c): minutes and hours pass in a moment."""
+import random
+import subprocess
+
+from attacks import figures, named
+from lab import LIMIT, Counts
+from systems import SYSTEM
+
+CALLS = 1_000_000
+
+
+def plays(*words, program=SYSTEM.minutes):
+    """Runs a program, and shows what it saw."""
+    run = subprocess.run([*SYSTEM.quick, program, *map(str, words)], capture_output=True, timeout=LIMIT, check=False)
+    said = run.stdout.decode() + run.stderr.decode()
+    assert run.returncode == 0, f"{words}: {said}"
+    figures(said.splitlines()[-1])
+
+
+def a_million_calls():
+    """By a million random calls, of packets in one to four frames, queues are as long as a simple model says, and empty in the end; or if
+    the clock is set back."""
+    seed = random.randrange(1 << 30)
+    figures(f"seed {seed}")
+    plays(seed, CALLS, program=SYSTEM.queues)
+
+
+TESTS = (
+    a_million_calls,
+    named("for ten minutes five say 35 packets a second in four kinds of frames, a sixth 80: the five are heard", plays, "link", 4, 80),
+    named("the same where the sixth says 60", plays, "link", 4, 60),
+    named("the same in three kinds of frames, the sixth 132", plays, "link", 3, 132),
+    named("the same in two kinds, the sixth 290", plays, "link", 2, 290),
+    named("of one who floods for a minute, and one who says less than his part", plays, "parts", 1),
+    named("of 16 who flood for a minute each has its part", plays, "parts", 16),
+    named("of 200 who flood for a minute each has its part", plays, "parts", 200),
+    named("what one receives at once, of one to 40 addresses", plays, "once"),
+    named("for ten minutes four play by a line of 1 Mbit/s, beside one who says 1,000 long packets a second", plays, "line", 1000),
+    named("for ten minutes clients and a link ask the router, and tell it, more than it hears", plays, "router"),
+    named("for ten minutes clients and strangers ask the gateway, and ping all, more often than they may", plays, "gateway"),
+    named("what a client has room for and its address hasn't counts for the client", plays, "address"),
+    named("somebody floods an address' clients on a network that lets them receive little: on another they hear all", plays, "two"),
+)
+
+
+def main():
+    counts = Counts()
+    for test in TESTS:
+        counts.run(test)
+    return counts
+
+
+if __name__ == "__main__":
+    main()
