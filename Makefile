@@ -7,9 +7,9 @@ SOAK ?= 10
 
 .PHONY: run try show build embed aarch64 windows portable wasm page web gateway test edits fuzz soak bench dist release-test install
 
-# What builds from the sources says first if there is no toolchain.
+# What builds from the sources, or proves them, says first if there is no toolchain.
 .PHONY: toolchain
-run try show build embed aarch64 windows portable wasm page web gateway fuzz soak bench install: | toolchain
+run try show build embed aarch64 windows portable wasm page web gateway test edits fuzz soak bench release-test install: | toolchain
 toolchain:
 	@command -v rt >/dev/null || { echo "the toolchain's command rt is missing: README.md says where it comes from" >&2; exit 1; }
 
@@ -73,8 +73,9 @@ edits:
 fuzz: build embed
 	@dev/fuzz $(MINUTES)
 
-# Plays everything at once to the gateway, under the sanitizers, for SOAK minutes, while players play, who may lose 2 % at most. Needs Linux,
-# a C compiler, Python and the right to make networks. The last line is 'N datagrams, M faults'; docs/authors/GATEWAY-TESTS.md.
+# Floods the gateway, under the sanitizers, for SOAK minutes: each limit, then everything at once, while players play, who may lose 2 % at
+# most. Needs Linux, a C compiler, Python and the right to make networks. The last line is 'N datagrams, M faults';
+# docs/authors/GATEWAY-TESTS.md.
 soak:
 	@tools/gateway soak $(SOAK)
 
