@@ -158,6 +158,12 @@ bool output_begin_capture(FILE *file)
     return outlets[CAPTURE].is_captured;
 }
 
+bool output_begin_capture_fifo(const char *name)
+{
+    outlets[CAPTURE].is_captured = writer_begin_fifo(CAPTURE, name, write_on);
+    return outlets[CAPTURE].is_captured;
+}
+
 /* Waits until nothing is left: no longer than somebody reads, and so many milliseconds at most. Returns how many of them are left. */
 static int wait_for(writer which, int most)
 {

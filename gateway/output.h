@@ -19,6 +19,9 @@ void complain(const char *format, ...);
  * thread for it. */
 bool output_begin_capture(FILE *file);
 
+/* The same for a pipe with a name: nobody waits until somebody reads there. */
+bool output_begin_capture_fifo(const char *name);
+
 /* What became of the bytes of a capture: they are written some time, or there was no room for them, or nobody will read any more. */
 typedef enum { WILL_BE_WRITTEN, NO_ROOM_FOR_IT, READER_IS_GONE } outcome;
 

@@ -31,7 +31,7 @@ static settings *free_room(const gateway *it)
 static size_t read_anew(settings *set, char **faults)
 {
     size_t length = 0;
-    FILE *complaints = text_open(faults, &length), *file = complaints != NULL ? file_open(name, "rb") : NULL;
+    FILE *complaints = text_open(faults, &length), *file = complaints != NULL ? file_open_at_once(name) : NULL;
     size_t count = 1;
     if (file != NULL)
         count = settings_read(set, file, name, complaints);

@@ -16,6 +16,12 @@ int gateway_main(int count, char **words);
 /* Opens a file as fopen does; its name is in UTF-8. */
 FILE *file_open(const char *name, const char *how);
 
+/* Opens a file to be read, and never waits for who writes there: what isn't there yet can't be read. */
+FILE *file_open_at_once(const char *name);
+
+/* Whether a file is a pipe with a name, which can't be opened to be written before somebody reads there. */
+bool file_is_fifo(const char *name);
+
 /* Whether a file is one that somebody else reads while it is written, such as a pipe: to write there may have to wait for him. */
 bool file_waits(FILE *file);
 

@@ -13,6 +13,9 @@ typedef enum { OUTPUT, COMPLAINTS, CAPTURE, WRITERS } writer;
 /* Begins a thread for a file, which calls a function that never returns; it ends with the program. Returns false where none can be had. */
 bool writer_begin(writer which, FILE *file, void (*write_on)(writer which));
 
+/* The same for a pipe with a name, which the thread opens as soon as somebody reads there. The name stays until the program ends. */
+bool writer_begin_fifo(writer which, const char *name, void (*write_on)(writer which));
+
 void writer_lock(writer which);
 void writer_unlock(writer which);
 

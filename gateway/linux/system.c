@@ -1,6 +1,7 @@
 #include "../system.h"
 
 #include <errno.h>
+#include <fcntl.h>
 #include <string.h>
 #include <sys/random.h>
 #include <sys/stat.h>
@@ -9,6 +10,23 @@
 FILE *file_open(const char *name, const char *how)
 {
     return fopen(name, how);
+}
+
+FILE *file_open_at_once(const char *name)
+{
+    int opened = open(name, O_RDONLY | O_NONBLOCK | O_CLOEXEC);
+    FILE *file = opened >= 0 ? fdopen(opened, "rb") : NULL;
+    int fault = errno;
+    if (opened >= 0 && file == NULL)
+        close(opened);
+    errno = fault;
+    return file;
+}
+
+bool file_is_fifo(const char *name)
+{
+    struct stat about;
+    return stat(name, &about) == 0 && S_ISFIFO(about.st_mode) && access(name, W_OK) == 0;
 }
 
 bool file_waits(FILE *file)

@@ -1,6 +1,7 @@
 #include "../writer.h"
 
 #include <errno.h>
+#include <fcntl.h>
 #include <poll.h>
 #include <pthread.h>
 #include <semaphore.h>
@@ -11,6 +12,7 @@ enum { SECOND = 1000 /* milliseconds */ };
 
 static struct {
     int file;
+    const char *fifo; /* to be opened, or NULL */
     pthread_mutex_t lock;
     sem_t woken;
     void (*write_on)(writer which);
@@ -20,16 +22,17 @@ static struct {
 static void *run(void *at)
 {
     writer which = *(writer *)at;
+    if (writers[which].fifo != NULL)
+        writers[which].file = open(writers[which].fifo, O_WRONLY | O_CLOEXEC);
     writers[which].write_on(which);
     return NULL;
 }
 
 /* (signals are for the thread that routes: it waits no longer then) */
-bool writer_begin(writer which, FILE *file, void (*write_on)(writer which))
+static bool begin(writer which, void (*write_on)(writer which))
 {
     pthread_t thread;
     sigset_t all, before;
-    writers[which].file = fileno(file);
     writers[which].which = which;
     writers[which].write_on = write_on;
     if ((errno = pthread_mutex_init(&writers[which].lock, NULL)) != 0 || sem_init(&writers[which].woken, 0, 0) != 0)
@@ -42,6 +45,18 @@ bool writer_begin(writer which, FILE *file, void (*write_on)(writer which))
         pthread_detach(thread);
     errno = fault;
     return fault == 0;
+}
+
+bool writer_begin(writer which, FILE *file, void (*write_on)(writer which))
+{
+    writers[which].file = fileno(file);
+    return begin(which, write_on);
+}
+
+bool writer_begin_fifo(writer which, const char *name, void (*write_on)(writer which))
+{
+    writers[which].fifo = name;
+    return begin(which, write_on);
 }
 
 void writer_lock(writer which)

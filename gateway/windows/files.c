@@ -22,6 +22,19 @@ FILE *file_open(const char *name, const char *how)
     return file;
 }
 
+/* (nobody asks for it: there is no order to read a configuration anew) */
+FILE *file_open_at_once(const char *name)
+{
+    return file_open(name, "rb");
+}
+
+/* (to open a pipe of this system never waits) */
+bool file_is_fifo(const char *name)
+{
+    (void)name;
+    return false;
+}
+
 bool file_waits(FILE *file)
 {
     return GetFileType((HANDLE)_get_osfhandle(_fileno(file))) != FILE_TYPE_DISK;

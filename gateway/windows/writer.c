@@ -46,6 +46,16 @@ bool writer_begin(writer which, FILE *file, void (*write_on)(writer which))
     return true;
 }
 
+/* (file_is_fifo says that there is none) */
+bool writer_begin_fifo(writer which, const char *name, void (*write_on)(writer which))
+{
+    (void)which;
+    (void)name;
+    (void)write_on;
+    errno = ENOSYS;
+    return false;
+}
+
 void writer_lock(writer which)
 {
     EnterCriticalSection(&writers[which].lock);

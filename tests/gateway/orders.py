@@ -142,6 +142,30 @@ def nobody_reads_the_capture():
             assert gate.run.returncode == 0 and complaint in (b"", b"ipxr-gateway: the capture ends: nobody reads it any more\n"), complaint
 
 
+def nobody_reads_the_fifo_yet():
+    """A capture into a FIFO waits for its reader beside the routing, which begins at once; he reads it from its beginning. A configuration
+    that has become a FIFO, into which nobody writes, is refused at once, too."""
+    with tempfile.TemporaryDirectory() as folder:
+        fifo = os.path.join(folder, "fifo")
+        os.mkfifo(fifo)
+        with Gateway(tunnels(2), options=["--pcap", fifo]) as gate:
+            a, b = Client(gate.ports[0x10]), Client(gate.ports[0x20])
+            early = b"said before somebody reads"
+            a.say(address(0, EVERYONE, GAME), early)
+            assert b.hear()[30:] == early
+            os.remove(gate.configuration)
+            os.mkfifo(gate.configuration)
+            gate.run.order(signal.SIGHUP)
+            gate.told(f"{gate.configuration}: ")
+            assert is_routed(a, b, 1)
+            reader = os.open(fifo, os.O_RDONLY)
+            capture = read_all(reader)
+            assert whole_frames(capture)[1] and early in capture, capture
+            os.close(reader)
+            gate.run.order(SYSTEM.end)
+            assert gate.run.wait(timeout=LIMIT) == 0
+
+
 def read_all(reader):
     """All that comes out of a pipe until nothing has come for a while."""
     pieces = []
@@ -191,6 +215,7 @@ def main():
         left_out("a capture into a pipe that nobody reads", "pipes have other names there")
     else:
         counts.run(nobody_reads_the_capture)
+        counts.run(nobody_reads_the_fifo_yet)
     return counts
 
 

@@ -85,11 +85,22 @@ FILE *file_open(const char *name, const char *how)
     return noted(text[0] != '\0' ? fmemopen((char *)text, strlen(text), how) : fopen("/dev/null", how));
 }
 
+FILE *file_open_at_once(const char *name)
+{
+    return file_open(name, "rb");
+}
+
 /* (each time the same of a seed: a pipe's thread has it until the program ends) */
 bool file_waits(FILE *file)
 {
     (void)file;
     return the_play.seed % 4 == 0;
+}
+
+bool file_is_fifo(const char *name)
+{
+    (void)name;
+    return the_play.seed % 4 == 1;
 }
 
 ssize_t line_read(char **line, size_t *room, FILE *file)

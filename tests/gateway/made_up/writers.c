@@ -16,6 +16,7 @@ static struct thread {
     bool is_begun, is_woken, is_stuck;
     bool is_its_turn;
     bool is_locked;
+    bool is_fifo; /* it waits for a reader before it begins */
     FILE *file; /* a pipe's, which stays open */
     void (*write_on)(writer which);
     writer which;
@@ -61,6 +62,9 @@ static void *run(void *at)
     pthread_mutex_lock(&lock);
     while (!it->is_its_turn)
         pthread_cond_wait(&turned, &lock);
+    it->is_stuck = it->is_fifo;
+    while (it->is_fifo && !are_read)
+        rest(it);
     it->write_on(it->which);
     return NULL;
 }
@@ -74,14 +78,10 @@ void writers_write(void)
 
 /* ---- Of the gateway ---- */
 
-bool writer_begin(writer which, FILE *file, void (*write_on)(writer which))
+static bool begin(writer which, void (*write_on)(writer which))
 {
     pthread_t thread;
     struct thread *it = &threads[which];
-    if (which == CAPTURE) {
-        own_close(it->file);
-        it->file = file;
-    }
     if (it->is_begun)
         return true; /* (of the start before) */
     it->is_begun = it->is_woken = true;
@@ -91,6 +91,22 @@ bool writer_begin(writer which, FILE *file, void (*write_on)(writer which))
         wrong("the test itself has no thread");
     pthread_detach(thread);
     return true;
+}
+
+bool writer_begin(writer which, FILE *file, void (*write_on)(writer which))
+{
+    if (which == CAPTURE) {
+        own_close(threads[which].file);
+        threads[which].file = file;
+    }
+    return begin(which, write_on);
+}
+
+bool writer_begin_fifo(writer which, const char *name, void (*write_on)(writer which))
+{
+    (void)name;
+    threads[which].is_fifo = true;
+    return begin(which, write_on);
 }
 
 void writer_lock(writer which)
