@@ -3,15 +3,15 @@
 #include <errno.h>
 #include <inttypes.h>
 
-#include "capture.h"
-#include "clock.h"
-#include "ether.h"
 #include "ipx.h"
-#include "links.h"
-#include "note.h"
-#include "segment.h"
-#include "status.h"
-#include "tunnel.h"
+#include "links/ether.h"
+#include "links/links.h"
+#include "links/segment.h"
+#include "monitoring/capture.h"
+#include "monitoring/note.h"
+#include "monitoring/status.h"
+#include "systems/clock.h"
+#include "tunnel/tunnel.h"
 
 /* Frames and datagrams of one cable, after which the next has its turn; and how many turns what waits is heard before seconds that are late:
  * as many as a cable takes of which the system keeps all that it may. */

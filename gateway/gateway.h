@@ -4,22 +4,22 @@
 
 #include <stdbool.h>
 
-#include "cable.h"
-#include "counts.h"
+#include "configuration/settings.h"
 #include "ipx.h"
 #include "ipxr.h"
 #include "ipxr_segment.h"
 #include "ipxr_tunnel.h"
-#include "kinds.h"
-#include "loop.h"
-#include "outgoing.h"
-#include "pings.h"
-#include "roster.h"
-#include "settings.h"
+#include "limits/strangers.h"
+#include "limits/throttle.h"
+#include "links/cable.h"
+#include "links/kinds.h"
+#include "links/loop.h"
+#include "links/twins.h"
+#include "monitoring/counts.h"
 #include "siphash.h"
-#include "strangers.h"
-#include "throttle.h"
-#include "twins.h"
+#include "tunnel/outgoing.h"
+#include "tunnel/pings.h"
+#include "tunnel/roster.h"
 
 /* A network on a link. A network of several links is one of these for each, which share a port of the router. */
 typedef struct network {

@@ -2,18 +2,18 @@
 #include <stdio.h>
 #include <string.h>
 
-#include "ask.h"
-#include "capture.h"
-#include "example.h"
+#include "configuration/example.h"
+#include "configuration/reload.h"
+#include "configuration/settings.h"
 #include "gateway.h"
-#include "local.h"
-#include "note.h"
-#include "orders.h"
-#include "output.h"
-#include "reload.h"
-#include "settings.h"
-#include "status.h"
-#include "system.h"
+#include "monitoring/ask.h"
+#include "monitoring/capture.h"
+#include "monitoring/note.h"
+#include "monitoring/output.h"
+#include "monitoring/status.h"
+#include "systems/local.h"
+#include "systems/orders.h"
+#include "systems/system.h"
 
 /* Exit statuses: something can't be opened; the configuration is wrong; the command line is. */
 enum { CANNOT_OPEN = 1, WRONG_CONFIGURATION = 2, WRONG_USE = 64 };

@@ -2,18 +2,18 @@
 #include <inttypes.h>
 #include <string.h>
 
-#include "capture.h"
-#include "clock.h"
 #include "gateway.h"
 #include "ipx.h"
-#include "links.h"
-#include "node.h"
-#include "note.h"
-#include "output.h"
-#include "segment.h"
-#include "status.h"
-#include "system.h"
-#include "tunnel.h"
+#include "links/links.h"
+#include "links/node.h"
+#include "links/segment.h"
+#include "monitoring/capture.h"
+#include "monitoring/note.h"
+#include "monitoring/output.h"
+#include "monitoring/status.h"
+#include "systems/clock.h"
+#include "systems/system.h"
+#include "tunnel/tunnel.h"
 
 /* ---- Links ---- */
 

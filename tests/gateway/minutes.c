@@ -12,10 +12,10 @@
  *     minutes gateway            the same of what the gateway answers to clients and strangers, and of pings for all
  *
  * It prints what it saw, and ends with 1 where that isn't what is due. */
-#include "../../gateway/throttle.h"
+#include "limits/throttle.h"
 
-#include "../../gateway/ipx.h"
-#include "../../gateway/strangers.h"
+#include "ipx.h"
+#include "limits/strangers.h"
 #include "own_clock.h"
 
 /* As a network has them where no line says them. */

@@ -8,8 +8,8 @@
 #include <stdlib.h>
 #include <string.h>
 
-#include "../../gateway/clock.h"
-#include "../../gateway/limit.h"
+#include "limits/limit.h"
+#include "systems/clock.h"
 
 #define MILLISECOND UINT64_C(1000000)
 

@@ -3,7 +3,7 @@
  *     queues SEED COUNT   so many random calls, beside each of which stands what a simple model says; and the clock is set back by an hour
  *
  * It prints what it saw, and ends with 1 where that isn't what is due. */
-#include "../../gateway/fair.h"
+#include "limits/fair.h"
 
 #include "own_clock.h"
 

@@ -58,7 +58,7 @@ def comes_in(port):
 
 
 def source(name):
-    with open(os.path.join(TOP, "gateway", name), encoding="utf-8") as it:
+    with open(os.path.join(TOP, "gateway", "configuration", name), encoding="utf-8") as it:
         return it.read()
 
 

@@ -1,6 +1,6 @@
 /* For the tests: compares SipHash-2-4 with the vectors that its authors published: the key is the bytes 00 to 0F, each text the bytes
  * 00, 01, .. and one byte longer than the text before. Prints each hash that differs. */
-#include "../../gateway/siphash.h"
+#include "siphash.h"
 
 #include <stdio.h>
 #include <stdlib.h>

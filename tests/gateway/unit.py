@@ -15,7 +15,7 @@ def little_is_allowed():
     """The unit allows the gateway little beside what it needs: systemd gives it at most 2.9 points of exposure, of ten."""
     with tempfile.TemporaryDirectory() as folder:
         unit = os.path.join(folder, "ipxr-gateway.service")
-        with open(os.path.join(TOP, "gateway", "ipxr-gateway.service.in"), encoding="ascii") as it:
+        with open(os.path.join(TOP, "gateway", "systems", "linux", "ipxr-gateway.service.in"), encoding="ascii") as it:
             text = it.read().replace("@PREFIX@", "/usr")
         with open(unit, "w", encoding="ascii") as it:
             it.write(text)

@@ -116,7 +116,7 @@ def no_words():
 def the_example():
     """--example prints the configuration of the sources, which is right, and has one network of DOSBox' on this machine alone."""
     status, out, complaint = asked("--example")
-    with open(os.path.join(TOP, "gateway", "example.conf"), encoding="utf-8") as it:
+    with open(os.path.join(TOP, "gateway", "configuration", "example.conf"), encoding="utf-8") as it:
         assert (status, out, complaint) == (0, it.read(), "")
     assert asked("--check", STDIN, stdin=out.encode())[:2] == (0, f"{STDIN}: 1 network, nothing wrong\n")
     assert re.findall(r"(?m)^[^#\n]+$", out) == ["network 10      1     1424               dosbox 127.0.0.1:2130"], out
@@ -132,7 +132,7 @@ def status_on_windows():
 
 def what_is_right():
     """What is right is told so: the example, 32 networks, shares, blanks, comments, a port at both ends, the last line without its end."""
-    example = os.path.join(TOP, "gateway", "example.conf")
+    example = os.path.join(TOP, "gateway", "configuration", "example.conf")
     assert asked("--check", example)[:2] == (0, f"{example}: 1 network, nothing wrong\n")
     many = tunnels(32).encode()
     assert asked("--check", "/dev/stdin", stdin=many)[:2] == (0, "/dev/stdin: 32 networks, nothing wrong\n")

@@ -83,7 +83,7 @@ def try_install():
 
 def try_example(gateway, folder):
     """The example of a configuration and what of it Windows has, with the lines that are commented out."""
-    examples = {"Linux": (text_of("gateway/example.conf"), 10, 4), "Windows": (layout.windows_configuration().decode(), 8, 1)}
+    examples = {"Linux": (text_of("gateway/configuration/example.conf"), 10, 4), "Windows": (layout.windows_configuration().decode(), 8, 1)}
     for system, (text, words_there, kinds_there) in examples.items():
         text = re.sub(r"(?m)^#   (?=network|link|extend|clients|allow|trust|rate|strangers|line)", "", text)
         with open(f"{folder}/whole.conf", "w", encoding="utf-8", newline="") as it:

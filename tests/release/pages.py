@@ -111,7 +111,7 @@ ASKED = {
     "ipxr replay examples/drops.script ": "",
     "ipxr-gateway --c": "--check",
     "ipxr-gateway --": "--check --example --help --log --pcap --status --version",
-    "ipxr-gateway --check gateway/ex": "gateway/example.conf",
+    "ipxr-gateway --check gateway/configuration/ex": "gateway/configuration/example.conf",
     "ipxr-gateway sh": "show",
     "ipxr-gateway show l": "links",
     "ipxr-gateway show events --": "--json --prometheus --status",

@@ -114,8 +114,8 @@ def gateway(system, prefix, units):
     yield Piece("ipxr-gateway", "sbin/ipxr-gateway", stamped(system, system.gateway), 0o755)
     yield Piece("ipxr-gateway", "share/bash-completion/completions/ipxr-gateway", content("completions/ipxr.bash"))
     yield Piece("ipxr-gateway", "share/zsh/site-functions/_ipxr-gateway", content("completions/_ipxr-gateway"))
-    yield Piece("ipxr-gateway", "share/ipxr/ipxr-gateway.conf", content("gateway/example.conf"))
-    yield Piece("ipxr-gateway", f"{units}/ipxr-gateway.service", filled("gateway/ipxr-gateway.service.in", {"@PREFIX@": prefix}))
+    yield Piece("ipxr-gateway", "share/ipxr/ipxr-gateway.conf", content("gateway/configuration/example.conf"))
+    yield Piece("ipxr-gateway", f"{units}/ipxr-gateway.service", filled("gateway/systems/linux/ipxr-gateway.service.in", {"@PREFIX@": prefix}))
 
 
 def pieces(system, prefix, lib="lib", units="share/ipxr", is_system=False):
@@ -135,7 +135,7 @@ def pieces(system, prefix, lib="lib", units="share/ipxr", is_system=False):
 def windows_configuration():
     """The example of a configuration with what the gateway has on Windows, its lines ended as editors there end them: each of its
     paragraphs but those whose networks lie on a card or a TAP."""
-    paragraphs = content("gateway/example.conf").decode().split("\n\n")
+    paragraphs = content("gateway/configuration/example.conf").decode().split("\n\n")
     kept = [it for it in paragraphs if not re.search(r"(?m)^#?\s*network .* (tap|interface) ", it)]
     return ("\n\n".join(kept).rstrip("\n") + "\n").replace("\n", "\r\n").encode()
 

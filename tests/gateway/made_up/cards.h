@@ -2,7 +2,7 @@
 #ifndef CARDS_H
 #define CARDS_H
 
-#include "card.h"
+#include "systems/card.h"
 
 enum { MOST_CARDS = 6 };
 

@@ -1,7 +1,7 @@
 /* clock.h of a made-up system. */
 #include "clocks.h"
 
-#include "clock.h"
+#include "systems/clock.h"
 
 enum { NANOSECONDS_OF_ONE = 1000000 /* millisecond */ };
 

@@ -7,9 +7,9 @@
 #include <string.h>
 
 #include "chance.h"
+#include "configuration/settings.h"
 #include "files.h"
 #include "play.h"
-#include "settings.h"
 
 enum { MOST_NETWORKS = 33, USUAL_NETWORKS = 6, MOST_OF_ONE = 12, USUAL_OF_ONE = 5, MOST_LINE = 400, MOST_BELOW = 6, MOST_TEXT = 1 << 17 };
 

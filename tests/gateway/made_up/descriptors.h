@@ -7,7 +7,7 @@
 #include <stddef.h>
 #include <stdint.h>
 
-#include "address.h"
+#include "systems/address.h"
 
 enum {
     FIRST_DESCRIPTOR = 3,

@@ -3,13 +3,13 @@
 #include <string.h>
 
 #include "chance.h"
-#include "change.h"
-#include "ether.h"
-#include "outgoing.h"
+#include "configuration/change.h"
+#include "links/ether.h"
+#include "monitoring/status.h"
 #include "peace.h"
 #include "play.h"
-#include "status.h"
-#include "tunnel.h"
+#include "tunnel/outgoing.h"
+#include "tunnel/tunnel.h"
 #include "weather.h"
 
 /* What happened to a packet, or in a turn. */

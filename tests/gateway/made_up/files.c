@@ -8,11 +8,11 @@
 #include <string.h>
 
 #include "chance.h"
-#include "machine.h"
-#include "orders.h"
 #include "outside.h"
 #include "play.h"
-#include "system.h"
+#include "systems/machine.h"
+#include "systems/orders.h"
+#include "systems/system.h"
 #include "weather.h"
 
 static const int OF_OPENING[] = {EMFILE, ENFILE, ENOMEM, ENOENT, EACCES, 0};

@@ -1,4 +1,4 @@
-#include "line.c"
+#include "limits/line.c"
 
 #include "inside.h"
 #include "play.h"

@@ -1,4 +1,4 @@
-#include "speaker.c"
+#include "limits/speaker.c"
 
 #include "inside.h"
 #include "play.h"

@@ -1,4 +1,4 @@
-#include "status.c"
+#include "monitoring/status.c"
 
 #include "inside.h"
 #include "play.h"

@@ -1,5 +1,5 @@
 /* local.h of a made-up system: the status socket. */
-#include "local.h"
+#include "systems/local.h"
 
 #include <errno.h>
 
@@ -7,7 +7,7 @@
 #include "descriptors.h"
 #include "outside.h"
 #include "play.h"
-#include "sockets.h"
+#include "systems/sockets.h"
 #include "weather.h"
 
 static const int OF_LISTENING[] = {EADDRINUSE, EACCES, EMFILE, ENOMEM, 0};

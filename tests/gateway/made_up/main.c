@@ -21,7 +21,7 @@
 #include "outside.h"
 #include "peace.h"
 #include "play.h"
-#include "system.h"
+#include "systems/system.h"
 #include "weather.h"
 #include "world.h"
 #include "writers.h"

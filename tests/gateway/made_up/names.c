@@ -5,7 +5,7 @@
 
 #include "chance.h"
 #include "play.h"
-#include "resolver.h"
+#include "systems/resolver.h"
 #include "weather.h"
 
 enum { MOST_TASKS = 256 };

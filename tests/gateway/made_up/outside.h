@@ -6,8 +6,8 @@
 #include <stddef.h>
 #include <stdint.h>
 
-#include "datagram.h"
 #include "descriptors.h"
+#include "systems/datagram.h"
 
 /* Whether the machine has an address now; else errno says that it hasn't. */
 bool outside_has_address(const address *at);

@@ -1,5 +1,5 @@
 /* sockets.h of a made-up system. */
-#include "sockets.h"
+#include "systems/sockets.h"
 
 #include <arpa/inet.h>
 #include <errno.h>

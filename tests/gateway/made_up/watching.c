@@ -1,5 +1,5 @@
 /* watch.h of a made-up system. */
-#include "watch.h"
+#include "systems/watch.h"
 
 #include <errno.h>
 

@@ -7,7 +7,7 @@
 
 #include "files.h"
 #include "play.h"
-#include "writer.h"
+#include "systems/writer.h"
 
 static pthread_mutex_t lock = PTHREAD_MUTEX_INITIALIZER;
 static pthread_cond_t turned = PTHREAD_COND_INITIALIZER;

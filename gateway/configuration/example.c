@@ -1,0 +1,73 @@
+#include "configuration/example.h"
+
+#include <stddef.h>
+
+/* (a test compares them with example.conf) */
+static const char *const LINES[] = {
+    "# The networks that the gateway joins, one on each line. `ipxr-gateway --check FILE` says what is wrong with a file.",
+    "#",
+    "#       number  cost  longest  [shares]  what carries it",
+    "#",
+    "# number   of the network, in hexadecimal digits: a different one for each network, and the one that other routers there use",
+    "# cost     of crossing the network, in ticks (eighteenths of a second): 1 for anything fast",
+    "# longest  packet that may leave there, in bytes: 576 to 1424 for DOSBox, 1500 for Ethernet (llc 1497, snap and auto 1492)",
+    "# shares   how many routes and how many services the router may learn there: by default 64 and 32 for DOSBox, else any number",
+    "",
+    "# DOSBox on this machine alone: IPXNET CONNECT 127.0.0.1 2130. With 0.0.0.0:2130 anyone who reaches this machine may join, unless",
+    "# the lines below the network limit it: to 32 clients, at most 4 of them from one address; to these addresses. `trust` lets in",
+    "# programs other than DOSBox, which answer no pings, from the addresses that it names.",
+    "network 10      1     1424               dosbox 127.0.0.1:2130",
+    "#   clients 32 4",
+    "#   allow 127.0.0.1 192.168.1.0/24",
+    "#   trust 192.168.1.7",
+    "# Limits: a client receives at most 800 packets a second and two shares of 50, all clients of an address together 12800 from",
+    "# others, and everyone who isn't a client 100 datagrams together.",
+    "#   rate 800 50 12800",
+    "#   strangers 100",
+    "# How many kilobits a second the line to the clients carries, if it is narrow, such as the upload of a home: each address gets a",
+    "# fair part of it.",
+    "#   line 1000",
+    "",
+    "# Below are further networks and links: remove the first # of a line to use it, and put your own addresses and names there.",
+    "#",
+    "# A second network for DOSBox, to see packets cross the router:",
+    "#   network 20  1     1424               dosbox 127.0.0.1:2131",
+    "",
+    "# Games that broadcast only to their own network: write this line below each network whose players want to meet.",
+    "#   extend 869C",
+    "",
+    "# A PC in QEMU: -netdev dgram,id=n,local.type=inet,local.host=127.0.0.1,local.port=5002,",
+    "#                       remote.type=inet,remote.host=127.0.0.1,remote.port=5001 -device ne2k_isa,netdev=n",
+    "#   network 30  1     1500               qemu-udp 127.0.0.1:5001 127.0.0.1:5002 raw",
+    "",
+    "# The same over a connection that QEMU opens: -netdev stream,id=n,addr.type=inet,addr.host=127.0.0.1,addr.port=5003",
+    "#   network 40  1     1500               qemu-tcp listen 127.0.0.1:5003 raw",
+    "",
+    "# Over one that the gateway opens, to an address or a name, such as [::1]:5004 or b.example.net:5004:",
+    "#                       -netdev stream,id=n,server=on,addr.type=inet,addr.host=127.0.0.1,addr.port=5004",
+    "#   network 41  1     1500               qemu-tcp connect 127.0.0.1:5004 raw",
+    "",
+    "# Old computers on an Ethernet card of this machine, with three kinds of frames (on Linux; needs the right to open packet sockets):",
+    "#   network 50  1     1500   200 100     interface eth0 raw",
+    "#   network 51  1     1497   200 100     interface eth0 llc",
+    "#   network 52  1     1492   200 100     interface eth0 snap",
+    "",
+    "# The same as one network, whatever kinds of frames the computers use:",
+    "#   network 53  1     1492   200 100     interface eth1 auto",
+    "",
+    "# A TAP, for other emulators and for bridges (on Linux; needs the right to make it, or a TAP that belongs to you):",
+    "#   network 60  1     1500               tap ipx0 ethernet2",
+    "",
+    "# All of them on one network, as on one cable: the line of the network names no link, and its links follow below it.",
+    "#   network 70  1     1424",
+    "#   link dosbox 127.0.0.1:2132",
+    "#   clients 32 4",
+    "#   link qemu-udp 127.0.0.1:5005 127.0.0.1:5006 raw",
+    "#   link tap ipx1 ethernet2",
+};
+
+void example_show(FILE *file)
+{
+    for (size_t k = 0; k < sizeof LINES / sizeof *LINES; k++)
+        fprintf(file, "%s\n", LINES[k]);
+}

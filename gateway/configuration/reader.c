@@ -1,0 +1,80 @@
+#include "configuration/reader.h"
+
+#include <stdarg.h>
+#include <string.h>
+
+/* Bytes of a word that are shown: who wrote a longer one knows it by these; and of their text, with the 0 behind. */
+enum { MOST_SHOWN = 100, SHOWN_ROOM = 4 * MOST_SHOWN + sizeof ".." };
+
+/* The text of a word, or of how it begins. Bytes that a terminal doesn't show are there by number. */
+static const char *shown_word(const char *word, char text[SHOWN_ROOM])
+{
+    size_t shown = 0;
+    char *to = text;
+    for (; word[shown] != '\0' && shown < MOST_SHOWN; shown++) {
+        unsigned char byte = (unsigned char)word[shown];
+        to += sprintf(to, byte > ' ' && byte < 127 ? "%c" : "\\x%02X", byte);
+    }
+    strcpy(to, word[shown] != '\0' ? ".." : "");
+    return text;
+}
+
+bool reader_fault(reader *r, const char *word, const char *format, ...)
+{
+    char shown[SHOWN_ROOM];
+    va_list rest;
+    va_start(rest, format);
+    fprintf(r->complaints, "%s:%zu: ", r->name, r->line);
+    if (word != NULL)
+        fprintf(r->complaints, "'%s': ", shown_word(word, shown));
+    else
+        fputs("the line ends: ", r->complaints);
+    vfprintf(r->complaints, format, rest);
+    fputc('\n', r->complaints);
+    va_end(rest);
+    r->faults++;
+    return false;
+}
+
+/* Whether a text is of two bytes a character: by its mark, or since one of its first two bytes is 0. */
+static bool is_utf_16(const unsigned char *text, size_t length)
+{
+    return length > 1 && ((text[0] == 0xFF && text[1] == 0xFE) || (text[0] == 0xFE && text[1] == 0xFF) || (text[0] == 0) != (text[1] == 0));
+}
+
+char *reader_begin(reader *r, char *line, size_t *length)
+{
+    static const char MARK[] = "\xEF\xBB\xBF";
+    size_t mark = strncmp(line, MARK, sizeof MARK - 1) == 0 ? sizeof MARK - 1 : 0;
+    if (is_utf_16((const unsigned char *)line, *length)) {
+        fprintf(r->complaints, "%s: expected UTF-8 or plain text, this is UTF-16: save it as UTF-8\n", r->name);
+        r->faults++;
+        return NULL;
+    }
+    *length -= mark;
+    return line + mark;
+}
+
+const char *reader_word(reader *r)
+{
+    return r->next < r->count ? r->words[r->next++] : NULL;
+}
+
+bool reader_ends(reader *r)
+{
+    return r->next == r->count || reader_fault(r, r->words[r->next], "expected nothing more");
+}
+
+bool reader_cut(reader *r, char *line)
+{
+    static const char BLANKS[] = " \t\r\n\v\f";
+    char *rest;
+    line[strcspn(line, "#")] = '\0';
+    r->count = r->next = 0;
+    for (char *word = strtok_r(line, BLANKS, &rest); word != NULL; word = strtok_r(NULL, BLANKS, &rest)) {
+        if (r->count == MOST_WORDS)
+            return reader_fault(r, word, "expected at most %d words", MOST_WORDS);
+        r->words[r->count++] = word;
+    }
+    return true;
+}

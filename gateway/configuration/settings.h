@@ -1,0 +1,93 @@
+/* What a configuration says. Nothing is opened while it is read, and nothing of it is used unless all of it is right. */
+#ifndef SETTINGS_H
+#define SETTINGS_H
+
+#include <stdbool.h>
+#include <stddef.h>
+#include <stdint.h>
+#include <stdio.h>
+
+#include "configuration/range.h"
+#include "ipxr.h"
+#include "ipxr_segment.h"
+#include "ipxr_tunnel.h"
+#include "links/kinds.h"
+#include "systems/address.h"
+
+enum {
+    MOST_RATE = 1000000, /* that a line may say */
+    MOST_KILOBITS = 10000000, /* alike: ten gigabits */
+    USUAL_SHARE = 50,    /* packets a second of who says little, where no line says it: games say some 35 */
+    USUAL_HOUSEHOLD = 16, /* times the rate: what all clients of an address receive where no line says it */
+    MOST_SOCKETS = 16, /* that a network's `extend` may name */
+    NAME_ROOM = 16,    /* bytes of the name of a TAP or an interface, with the 0 behind */
+    MOST_LINKS = IPXR_MOST_PORTS + IPXR_MOST_LINKS, /* of all networks together */
+};
+
+/* What carries a network. */
+typedef enum {
+    LINK_DOSBOX,      /* datagrams of DOSBox' tunnel: the gateway is its server */
+    LINK_QEMU_UDP,    /* a frame a datagram, from and to one address */
+    LINK_QEMU_LISTEN,  /* frames with their length in front, on a connection that comes in */
+    LINK_QEMU_CONNECT, /* the same on a connection that goes out */
+    LINK_TAP,         /* frames of a TAP */
+    LINK_INTERFACE,   /* frames of an Ethernet interface */
+} link_type;
+
+/* A network on a link, as its line says it. Where links stand in lines below it, each of them is one, with what its network's line says. */
+typedef struct network_setting {
+    size_t line;               /* the number of the line that names the link, for messages; */
+    size_t network_line;       /* and of the one that names the network */
+    bool is_of_several;        /* links stand below the network's line */
+    uint8_t port;              /* of the router: all links of a network have one */
+    uint32_t network;
+    uint16_t cost;             /* ticks */
+    uint16_t longest;          /* bytes of the longest packet */
+    bool has_shares;           /* whether the line says them: */
+    uint16_t routes, services; /* shares of the tables, or IPXR_NO_LIMIT */
+    link_type type;
+    address local;             /* where datagrams and connections come in */
+    address remote;            /* where they go; */
+    char host[HOST_ROOM];      /* or the name of the machine there, whose port that has; without one it is empty */
+    char name[NAME_ROOM];      /* of a TAP or an interface */
+    uint8_t kind;              /* of its frames; ANY_KIND where any may come; IPXR_NO_FRAME in the tunnel */
+    bool has_node;             /* whether the line says the gateway's node there */
+    uint8_t node[6];
+    uint16_t sockets[MOST_SOCKETS]; /* whose broadcasts are extended */
+    size_t socket_count;
+    size_t clients_line;       /* the number of the line that says these two, or 0 */
+    uint16_t clients;          /* most clients of DOSBox' */
+    uint16_t per_address;      /* and most of one address */
+    size_t rate_line;          /* the number of the line that says these three, or 0 */
+    uint32_t rate;             /* packets a second that a client receives, or a link with frames of clients; 0 for any number */
+    uint32_t share;            /* and those of an address that says little */
+    uint32_t household;        /* and those that all clients of an address receive, 0 for any number */
+    size_t kilobits_line;      /* the number of the line that says this, or 0 */
+    uint32_t kilobits;         /* a second, of the line by which the network is reached; 0 where that isn't narrow */
+    size_t strangers_line;     /* the number of the line that says this, or 0 */
+    uint32_t strangers;        /* datagrams a second for strangers, 0 for any number */
+    ranges allowed;            /* who may be a client; none where all may */
+    ranges trusted;            /* who may be one though he answers no ping */
+} network_setting;
+
+/* The links of one network stand one behind the other. */
+typedef struct settings {
+    network_setting networks[MOST_LINKS];
+    size_t count;
+    size_t ports; /* how many networks there are */
+} settings;
+
+/* Reads a configuration. Returns how many faults there are; each has been told on `complaints` with its line and word, and what
+ * was expected. `name` is the file's, for the messages. */
+size_t settings_read(settings *it, FILE *file, const char *name, FILE *complaints);
+
+/* Whether two networks are on one link, which is opened once for both. */
+bool same_link(const network_setting *a, const network_setting *b);
+
+enum { LINK_ROOM = 96 + HOST_ROOM /* bytes of a link in words, with the 0 behind */ };
+
+/* The words of a kind of frame, and of a link with its addresses or name. */
+const char *kind_word(uint8_t kind);
+const char *link_words(const network_setting *it, char words[LINK_ROOM]);
+
+#endif

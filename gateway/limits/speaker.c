@@ -1,0 +1,141 @@
+#include "limits/speaker.h"
+
+#include <stdlib.h>
+#include <string.h>
+
+#include "limits/numbers.h"
+
+/* Seconds for which whoever spoke has a queue. */
+enum { QUIET = 10 };
+
+static numbers queues = {.count = MOST_NUMBERS, .first = OF_ADDRESSES};
+
+/* All that are known; and the one that those share for whom there was no memory. */
+static speaker *speakers, spare;
+
+static speaker *known(const uint8_t host[4])
+{
+    speaker *it = speakers;
+    while (it != NULL && memcmp(it->host, host, sizeof it->host) != 0)
+        it = it->next;
+    return it;
+}
+
+static speaker *new_speaker(const uint8_t host[4])
+{
+    speaker *it = malloc(sizeof *it);
+    if (it == NULL)
+        return &spare;
+    memset(it, 0, sizeof *it);
+    memcpy(it->host, host, sizeof it->host);
+    it->line.is_address = true;
+    it->next = speakers;
+    speakers = it;
+    return it;
+}
+
+speaker *speaker_join(const uint8_t host[4])
+{
+    speaker *it = known(host);
+    if (it == NULL)
+        it = new_speaker(host);
+    it->clients++;
+    return it;
+}
+
+void speaker_be_network(speaker *it, size_t number)
+{
+    it->queue = OF_NETWORKS + number % (OF_ADDRESSES - OF_NETWORKS);
+}
+
+size_t speaker_speaks(speaker *it)
+{
+    it->quiet = 0;
+    if (it->queue == 0)
+        it->queue = numbers_take(&queues);
+    return it->queue;
+}
+
+static void be_quiet(speaker *it)
+{
+    if (it->queue != 0)
+        numbers_give_back(&queues, it->queue);
+    it->queue = 0;
+}
+
+static household *new_household(uint64_t between)
+{
+    household *it = malloc(sizeof *it);
+    if (it == NULL)
+        return NULL;
+    memset(it, 0, sizeof *it);
+    it->between = between;
+    return it;
+}
+
+/* (where there is no memory networks with different limits share one) */
+household *speaker_household(speaker *it, uint64_t between)
+{
+    household *at = &it->first;
+    if (at->between == 0)
+        at->between = between;
+    while (at->between != between && at->next != NULL)
+        at = at->next;
+    if (at->between == between)
+        return at;
+    at->next = new_household(between);
+    return at->next != NULL ? at->next : at;
+}
+
+static void forget_household(household *it)
+{
+    household *next;
+    for (household *at = it->next; at != NULL; at = next) {
+        next = at->next;
+        free(at);
+    }
+    memset(it, 0, sizeof *it);
+}
+
+void speaker_leave(speaker *it)
+{
+    speaker **at = &speakers;
+    if (--it->clients > 0)
+        return;
+    line_end(&it->line);
+    be_quiet(it);
+    forget_household(&it->first);
+    if (it == &spare)
+        return;
+    while (*at != it)
+        at = &(*at)->next;
+    *at = it->next;
+    free(it);
+}
+
+static void second(speaker *it)
+{
+    line_second(&it->line);
+    if (it->quiet++ == QUIET)
+        be_quiet(it);
+}
+
+void speakers_second(void)
+{
+    second(&spare);
+    for (speaker *it = speakers; it != NULL; it = it->next)
+        second(it);
+}
+
+static void forget(speaker *it)
+{
+    forget_household(&it->first);
+    it->asked = it->answered = it->handed = it->advertised = 0;
+}
+
+void speakers_forget(void)
+{
+    forget(&spare);
+    for (speaker *it = speakers; it != NULL; it = it->next)
+        forget(it);
+}

@@ -1,0 +1,92 @@
+#include "limits/strangers.h"
+
+#include <stdlib.h>
+#include <string.h>
+
+#include "ipx.h"
+
+/* One address gets one part in so many of what goes to all; at once half of what all get. */
+enum { PART_OF_ONE = 8, PART_AT_ONCE = 2 };
+
+/* Bytes of a place that are its address. */
+enum { HOST = 4 };
+
+/* How many at once, in seconds of what goes to all; and to one address at least as many as a registration takes, its answer and a ping. */
+enum { BURST = 2, LEAST_OF_ONE = 2 };
+
+/* The turns of a second, from a registration on, in which one is pinged again, and once more, so that more than one second and three have
+ * passed; and places of the list for one address. */
+enum { AGAIN = 2, ONCE_MORE = 4, MOST_OF_ONE = 16 };
+
+bool strangers_make(strangers *it, uint32_t rate, const uint8_t key[SIPHASH_KEY])
+{
+    memset(it, 0, sizeof *it);
+    memcpy(it->key, key, sizeof it->key);
+    it->hosts = malloc(MOST_HOSTS * sizeof *it->hosts);
+    if (it->hosts == NULL)
+        return false;
+    memset(it->hosts, 0, MOST_HOSTS * sizeof *it->hosts);
+    it->has_no_limit = rate == 0;
+    if (it->has_no_limit)
+        return true;
+    it->all = limit_of(rate, 1, BURST * rate);
+    uint32_t of_one = BURST * rate / PART_AT_ONCE;
+    it->one = limit_of(rate, PART_OF_ONE, of_one > LEAST_OF_ONE ? of_one : LEAST_OF_ONE);
+    return true;
+}
+
+void strangers_free(strangers *it)
+{
+    free(it->hosts);
+    memset(it, 0, sizeof *it);
+}
+
+/* What an address has been sent. (with a hash that can be told beforehand somebody would choose an address that has a newcomer's) */
+static meter *of_host(strangers *it, const uint8_t place[6])
+{
+    return &it->hosts[siphash(it->key, place, HOST) % MOST_HOSTS];
+}
+
+bool strangers_let(strangers *it, const uint8_t place[6], uint32_t count)
+{
+    if (it->has_no_limit)
+        return true;
+    meter *host = of_host(it, place);
+    return limit_has_room(&it->one, host, count) && limit_lets(&it->all, &it->sent, count) && limit_lets(&it->one, host, count);
+}
+
+/* Whether the place of a ping waits already, or as many of its address do as may. */
+static bool has_its_part(const strangers *it, const uint8_t place[6])
+{
+    size_t count = 0;
+    for (size_t k = 0; k < MOST_NEW; k++) {
+        const newcomer *at = &it->list[k];
+        if (at->is_waiting && same_node(at->ping.place, place))
+            return true;
+        count += at->is_waiting && get32(at->ping.place) == get32(place);
+    }
+    return count >= MOST_OF_ONE;
+}
+
+void strangers_keep(strangers *it, const ipxr_own *ping)
+{
+    if (has_its_part(it, ping->place))
+        return;
+    it->list[it->next] = (newcomer){.ping = *ping, .is_waiting = true};
+    it->next = (it->next + 1) % MOST_NEW;
+}
+
+void strangers_second(strangers *it, roster *clients)
+{
+    for (size_t k = 0; k < MOST_NEW; k++) {
+        newcomer *at = &it->list[k];
+        if (at->is_waiting && (at->seconds++ == ONCE_MORE || roster_find(clients, at->ping.place) != NULL))
+            at->is_waiting = false;
+    }
+}
+
+const ipxr_own *strangers_due(const strangers *it, size_t index)
+{
+    const newcomer *at = &it->list[index];
+    return at->is_waiting && (at->seconds == AGAIN || at->seconds == ONCE_MORE) ? &at->ping : NULL;
+}

@@ -1,0 +1,109 @@
+#include "links/links.h"
+
+#include <errno.h>
+#include <inttypes.h>
+#include <string.h>
+
+#include "configuration/words.h"
+#include "links/segment.h"
+#include "monitoring/events.h"
+#include "monitoring/note.h"
+#include "systems/system.h"
+
+const char *link_lacks(const network *on, int *fault)
+{
+    *fault = on->loop.is_shut ? 0 : on->cable->fault;
+    return on->loop.is_shut ? on->loop.why : on->cable->lacks;
+}
+
+const char *part_of(const network *on)
+{
+    return on->set->is_of_several ? "a link of " : "";
+}
+
+static void tell_up(network *on)
+{
+    char link[LINK_ROOM], node[WORDS], pc[ADDRESS_ROOM];
+    const address *with = cable_with(on->cable);
+    event("%snetwork %08" PRIX32 " is up: %s, node %s%s%s", part_of(on), on->set->network, cable_words(on->cable, on->set, link),
+          node_words(on->node, node), with != NULL ? ", with " : "", with != NULL ? address_words(with, pc) : "");
+    on->lacks = NULL;
+}
+
+/* Tells what a network lacks. Returns false where that was told. */
+static bool tell_down(network *on)
+{
+    char link[LINK_ROOM];
+    int fault;
+    const char *lacks = link_lacks(on, &fault);
+    if (lacks == NULL || (on->lacks != NULL && strcmp(on->lacks, lacks) == 0 && on->fault == fault))
+        return false;
+    on->lacks = lacks;
+    on->fault = errno = fault;
+    event("%snetwork %08" PRIX32 " is down: %s: %s%s%s", part_of(on), on->set->network, cable_words(on->cable, on->set, link), lacks,
+          fault != 0 ? ": " : "", fault != 0 ? fault_words() : "");
+    return true;
+}
+
+/* The router's port is up as long as one of its links is. Returns false where the router has no memory for it. */
+static bool port_follows(gateway *it, const network *on, bool is_up)
+{
+    port *at = port_of(it, on);
+    for (const network *other = first_of(it, at); other < first_of(it, at) + at->count; other++)
+        is_up = is_up || (other != on && other->is_up);
+    if (at->is_up == is_up)
+        return true;
+    if ((is_up ? ipxr_port_up(&it->router, on->set->port) : ipxr_port_down(&it->router, on->set->port)) < 0)
+        return false;
+    at->is_up = is_up;
+    return true;
+}
+
+static void look_at(gateway *it, network *on, bool is_up)
+{
+    if (!on->is_up && !is_up)
+        (void)port_follows(it, on, false); /* (the router may have had no memory for it before) */
+    if (on->is_up == is_up || (is_up && has_new_address(on)))
+        return; /* (a card that isn't known yet comes up with its own address, gateway_renew) */
+    if (!port_follows(it, on, is_up))
+        return; /* (no memory: it is tried again with the next look) */
+    on->is_up = is_up;
+    kinds_forget_all(&on->kinds);
+    segment_change(on);
+    if (is_up)
+        loop_ask(it, on);
+    if (is_up)
+        tell_up(on);
+    else
+        tell_down(on);
+    events_link(on);
+}
+
+static void look(gateway *it, cable *at)
+{
+    bool is_up = cable_is_up(at), was_lost = cable_was_lost(at);
+    for (size_t k = 0; k < it->count; k++) {
+        network *on = &it->networks[k];
+        if (on->cable != at)
+            continue;
+        if (was_lost)
+            look_at(it, on, false);
+        look_at(it, on, is_up && !on->loop.is_shut);
+        if (!on->is_up && tell_down(on))
+            events_link(on);
+    }
+}
+
+void links_look(gateway *it, cable *at)
+{
+    look(it, at);
+    gateway_send_all(it);
+}
+
+/* (what the router has to say is sent once it is known where nobody hears it) */
+void links_look_at_all(gateway *it)
+{
+    for (size_t k = 0; k < it->cable_count; k++)
+        look(it, &it->cables[k]);
+    gateway_send_all(it);
+}

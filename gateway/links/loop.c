@@ -1,0 +1,156 @@
+#include "links/loop.h"
+
+#include <stdio.h>
+#include <string.h>
+
+#include "gateway.h"
+#include "ipx.h"
+#include "links/ether.h"
+#include "links/links.h"
+
+enum {
+    LOOP_SOCKET = 0x8A5E, /* no program's: whoever hears such a packet lets go of it */
+    QUIET = 5,            /* seconds, after which a link is one cable with no other any more */
+    LATE = 3,             /* seconds for which a packet may be under way */
+    SEAL = 8,             /* bytes by which the gateway knows its own packet */
+};
+
+/* The data of such a packet: the link, the second, and a hash of both that nobody can make but this gateway. */
+enum { AT_LINK = 0, AT_SECOND = 1, AT_SEAL = 9, DATA = AT_SEAL + SEAL };
+
+/* ---- The packets ---- */
+
+static void put_seal(const gateway *it, const network *on, uint8_t data[DATA])
+{
+    uint8_t sealed[AT_SEAL + sizeof on->set->network];
+    memcpy(sealed, data, AT_SEAL);
+    put32(sealed + AT_SEAL, on->set->network);
+    uint64_t hash = siphash(it->key, sealed, sizeof sealed);
+    for (int k = 0; k < SEAL; k++)
+        data[AT_SEAL + k] = (uint8_t)(hash >> 8 * k);
+}
+
+static void put_second(uint8_t data[DATA], uint64_t second)
+{
+    put32(data + AT_SECOND, (uint32_t)(second >> 32));
+    put32(data + AT_SECOND + 4, (uint32_t)second);
+}
+
+static uint64_t second_of(const uint8_t data[DATA])
+{
+    return (uint64_t)get32(data + AT_SECOND) << 32 | get32(data + AT_SECOND + 4);
+}
+
+/* Whether the link is one of several and carries frames, so that a bridge may join it to another. */
+static bool is_cable(const network *on)
+{
+    return on->segment != NULL && on->set->type != LINK_DOSBOX;
+}
+
+/* Whether there is another such link on the network. */
+static bool has_another(gateway *it, const network *on)
+{
+    const port *at = port_of(it, on);
+    for (const network *other = first_of(it, at); other < first_of(it, at) + at->count; other++)
+        if (other != on && is_cable(other))
+            return true;
+    return false;
+}
+
+/* (not counted, since it is no station's) */
+static void send_one(const gateway *it, network *on)
+{
+    static const uint8_t ALL[NODE] = {0xFF, 0xFF, 0xFF, 0xFF, 0xFF, 0xFF};
+    ipxr_address from = {.network = on->set->network, .socket = LOOP_SOCKET}, to = from;
+    uint8_t data[DATA], packet[HEADER + DATA];
+    memcpy(from.node, on->node, NODE);
+    memcpy(to.node, ALL, NODE);
+    data[AT_LINK] = on->link;
+    put_second(data, it->seconds);
+    put_seal(it, on, data);
+    int32_t length = ipxr_write_packet(&from, &to, 0, 0, data, DATA, packet, sizeof packet);
+    if (length > 0)
+        (void)!ether_put(on, on->node, ALL, packet, (size_t)length);
+}
+
+void loop_ask(gateway *it, network *on)
+{
+    if (is_cable(on) && has_another(it, on))
+        send_one(it, on);
+}
+
+/* ---- Shutting ---- */
+
+/* Why a link is shut that is one cable with another. */
+static void why_with(const network *with, char why[LOOP_WORDS])
+{
+    char link[LINK_ROOM];
+    snprintf(why, LOOP_WORDS, "it is one cable with %s", cable_words(with->cable, with->set, link));
+}
+
+/* A link is one cable with an earlier one. */
+static void shut(gateway *it, network *on, const network *with)
+{
+    bool was_shut = on->loop.is_shut;
+    on->loop.is_shut = true;
+    on->loop.quiet = 0;
+    if (was_shut)
+        return;
+    why_with(with, on->loop.why);
+    links_look(it, on->cable);
+}
+
+/* Whether the link with which one is one cable is still before it. */
+static bool stays_shut(gateway *it, const network *on)
+{
+    char why[LOOP_WORDS];
+    for (const network *other = first_of(it, port_of(it, on)); other < on; other++) {
+        why_with(other, why);
+        if (is_cable(other) && strcmp(why, on->loop.why) == 0)
+            return true;
+    }
+    return false;
+}
+
+void loops_change(gateway *it)
+{
+    for (network *on = it->networks; on < it->networks + it->count; on++)
+        on->loop.is_shut = on->loop.is_shut && stays_shut(it, on);
+}
+
+static bool is_own(const gateway *it, const network *on, const uint8_t *packet)
+{
+    const uint8_t *data = packet + HEADER;
+    uint8_t made[DATA];
+    memcpy(made, data, DATA);
+    put_seal(it, on, made);
+    return memcmp(made, data, DATA) == 0 && it->seconds - second_of(data) <= LATE;
+}
+
+bool loop_hears(gateway *it, network *on, const uint8_t *packet, size_t length)
+{
+    if (!is_cable(on) || length < HEADER + DATA || get16(packet + AT_TO_SOCKET) != LOOP_SOCKET || !is_own(it, on, packet))
+        return false;
+    port *at = port_of(it, on);
+    network *other = first_of(it, at) + packet[HEADER + AT_LINK];
+    if (packet[HEADER + AT_LINK] >= at->count)
+        return true; /* (there were more links when it was sent) */
+    if (other < on)
+        shut(it, on, other);
+    else if (other > on && !other->loop.is_shut)
+        shut(it, other, on);
+    return true;
+}
+
+void loops_second(gateway *it)
+{
+    for (size_t k = 0; k < it->count; k++) {
+        network *on = &it->networks[k];
+        if (on->is_up)
+            loop_ask(it, on);
+        if (on->loop.is_shut && ++on->loop.quiet > QUIET) {
+            on->loop.is_shut = false;
+            links_look(it, on->cable);
+        }
+    }
+}

@@ -1,0 +1,178 @@
+#include "links/remote.h"
+
+#include <stdlib.h>
+#include <string.h>
+
+#include "systems/clock.h"
+
+/* Milliseconds from one question for a name to the next; and questions that may be under way: one for each link, and as many that a reload
+ * has left to their threads. (where nobody answers each has a thread and a file for long, and reloads would use up both) */
+enum { MINUTE = 60000, MOST_UNDER_WAY = 2 * MOST_LINKS };
+
+const char REMOTE_UNKNOWN[] = "no address of that name is known yet";
+
+/* ---- Questions ---- */
+
+/* What who asks and the thread that waits for the answer share. Whoever of them lets go last frees it. */
+typedef struct question {
+    char host[HOST_ROOM];
+    wanted which;
+    bool is_answered, is_left;
+    answers found;
+} question;
+
+static size_t under_way; /* looked at by one at a time, too */
+
+/* One more question is under way. Returns false where there are too many. */
+static bool takes_place(void)
+{
+    resolver_lock();
+    bool has_place = under_way < MOST_UNDER_WAY;
+    under_way += has_place;
+    resolver_unlock();
+    return has_place;
+}
+
+static void give_place(void)
+{
+    resolver_lock();
+    under_way--;
+    resolver_unlock();
+}
+
+static void run(void *at)
+{
+    question *it = at;
+    answers found;
+    resolver_ask(it->host, it->which, &found);
+    resolver_lock();
+    it->found = found;
+    it->is_answered = true;
+    bool is_left = it->is_left;
+    resolver_unlock();
+    if (is_left)
+        free(it);
+    give_place();
+}
+
+/* Datagrams go from an address to one of the same kind. */
+static wanted wanted_by(const network_setting *set)
+{
+    if (set->type != LINK_QEMU_UDP)
+        return ANY_ADDRESS;
+    return set->local.is_six ? ADDRESS_OF_IPV6 : ADDRESS_OF_IPV4;
+}
+
+/* The question for a setting's name, that is under way; or NULL. */
+static question *begin(const network_setting *set)
+{
+    question *made = calloc(1, sizeof *made);
+    if (made == NULL)
+        return NULL;
+    strcpy(made->host, set->host);
+    made->which = wanted_by(set);
+    if (resolver_begin(run, made))
+        return made;
+    free(made);
+    return NULL;
+}
+
+/* (where there is no memory, no thread or no place it is asked again with the next look) */
+static void ask(remote *it, const network_setting *set)
+{
+    if (!takes_place())
+        return;
+    question *made = begin(set);
+    if (made == NULL) {
+        give_place();
+        return;
+    }
+    it->question = made;
+    it->asked = clock_now();
+}
+
+void remote_end(remote *it)
+{
+    question *left = it->question;
+    it->question = NULL;
+    if (left == NULL)
+        return;
+    resolver_lock();
+    left->is_left = true;
+    bool is_answered = left->is_answered;
+    resolver_unlock();
+    if (is_answered)
+        free(left);
+}
+
+/* Whether an answer has come; it is taken then. */
+static bool takes_answer(remote *it, answers *found)
+{
+    if (it->question == NULL)
+        return false;
+    resolver_lock();
+    bool is_answered = it->question->is_answered;
+    *found = it->question->found;
+    resolver_unlock();
+    if (is_answered)
+        remote_end(it);
+    return is_answered;
+}
+
+/* ---- Addresses ---- */
+
+/* From now on the address of a turn is in use. Returns whether it is another one. */
+static bool use(remote *it, size_t turn, uint16_t port)
+{
+    address before = it->at;
+    bool was_known = it->is_known;
+    it->turn = turn;
+    it->at = it->found.list[turn];
+    it->at.port = port;
+    it->is_known = true;
+    return !was_known || !same_address(&before, &it->at);
+}
+
+/* Whether two addresses differ in their ports at most. */
+static bool same_machine(const address *a, const address *b)
+{
+    address here = *a;
+    here.port = b->port;
+    return same_address(&here, b);
+}
+
+/* The turn of the address in use; the first where it isn't among those of the name. */
+static size_t turn_of(const remote *it)
+{
+    for (size_t k = 0; it->is_known && k < it->found.count; k++)
+        if (same_machine(&it->found.list[k], &it->at))
+            return k;
+    return 0;
+}
+
+void remote_begin(remote *it, const network_setting *set)
+{
+    *it = (remote){.is_known = set->host[0] == '\0', .at = set->remote};
+    if (!it->is_known)
+        ask(it, set);
+}
+
+bool remote_look(remote *it, const network_setting *set, bool is_wanted)
+{
+    answers found;
+    if (set->host[0] == '\0')
+        return false;
+    if (takes_answer(it, &found) && found.count > 0) {
+        it->found = found;
+        return use(it, turn_of(it), set->remote.port);
+    }
+    if (it->question == NULL && (it->asked == 0 || ((is_wanted || !it->is_known) && clock_now() - it->asked >= MINUTE)))
+        ask(it, set);
+    return false;
+}
+
+void remote_fails(remote *it)
+{
+    if (it->found.count > 0)
+        use(it, (it->turn + 1) % it->found.count, it->at.port);
+}

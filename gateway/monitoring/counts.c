@@ -1,0 +1,57 @@
+#include "monitoring/counts.h"
+
+#include <inttypes.h>
+
+#include "monitoring/note.h"
+#include "monitoring/output.h"
+
+static const char *const WORDS_OF[REASONS] = {
+    [TOO_LONG] = "longer than the link carries",
+    [FALSE_SOURCE] = "source of another",
+    [STRANGER] = "from a stranger",
+    [NO_ROOM] = "no room for a client",
+    [NOT_ALLOWED] = "address not allowed",
+    [NO_CLIENT] = "no such client",
+    [NO_IPX] = "no IPX",
+    [OTHER_KIND] = "another kind of frame",
+    [SECOND_KIND] = "second kind of a station",
+    [FOR_ANOTHER] = "for another node",
+    [OWN_FRAME] = "own frame",
+    [NO_MEMORY] = "out of memory",
+    [NOT_EXTENDED] = "not extended",
+    [NOT_SENT] = "not sent",
+    [NOBODY_THERE] = "nobody there",
+    [TOO_MANY_STRANGERS] = "too many strangers",
+    [TOO_MUCH_FOR_CLIENT] = "too much for a client",
+    [TOO_MUCH_FOR_ADDRESS] = "too much for an address",
+    [TOO_MUCH_FOR_LINE] = "too much for the line",
+    [TOO_MUCH_FOR_LINK] = "too much for a link",
+    [TOO_MANY_PINGS] = "too many pings",
+    [TOO_MANY_QUESTIONS] = "too many questions",
+    [TOO_MANY_ADVERTISEMENTS] = "too many advertisements",
+    [TOO_MANY_ANSWERS] = "too many answers",
+    [FOR_FAR_ROUTERS] = "for far routers",
+    [TOO_MUCH_FOR_ROUTER] = "too much for the router",
+};
+
+const char *reason_words(reason why)
+{
+    return WORDS_OF[why];
+}
+
+void count_drop(counts *it, int32_t answer)
+{
+    if (answer / 100 < MOST_HUNDREDS && answer % 100 < MOST_REST)
+        it->dropped[answer / 100][answer % 100]++;
+}
+
+void counts_show(const counts *it)
+{
+    char words[WORDS];
+    for (int why = 0; why < REASONS; why++)
+        if (it->lost[why] > 0)
+            say("  lost: %s: %" PRIu64, WORDS_OF[why], it->lost[why]);
+    for (int answer = 0; answer < MOST_HUNDREDS * 100; answer++)
+        if (answer % 100 < MOST_REST && it->dropped[answer / 100][answer % 100] > 0)
+            say("  %s: %" PRIu64, answer_words(answer, words), it->dropped[answer / 100][answer % 100]);
+}

@@ -1,0 +1,291 @@
+#include "monitoring/shown.h"
+
+#include <errno.h>
+#include <inttypes.h>
+#include <stdio.h>
+#include <string.h>
+
+#include "configuration/words.h"
+#include "links/links.h"
+#include "monitoring/note.h"
+#include "systems/clock.h"
+#include "systems/system.h"
+#include "tunnel/tunnel.h"
+
+enum { LACK_ROOM = 160 /* bytes of what a link lacks, in words */ };
+
+/* ---- Fields ---- */
+
+static void field_network(sheet *s, uint32_t number)
+{
+    char words[WORDS];
+    snprintf(words, sizeof words, "%08" PRIX32, number);
+    field_text(s, words);
+}
+
+static void field_node(sheet *s, const uint8_t node[6])
+{
+    char words[WORDS];
+    field_text(s, node_words(node, words));
+}
+
+static void field_hexadecimal(sheet *s, uint16_t value)
+{
+    char words[8];
+    snprintf(words, sizeof words, "%04X", value);
+    field_text(s, words);
+}
+
+/* ---- Links ---- */
+
+static const column LINK_COLUMNS[] = {{"network", "NETWORK", 8}, {"state", "STATE", 5}, {"cost", "COST", 5}, {"longest", "LONGEST", 7},
+                                      {"node", "NODE", 12}, {"link", "LINK", 40}, {"kinds", "KINDS", 22}, {"lacks", "LACKS", 0}, {0}};
+
+/* What a link lacks, or NULL where it is up. */
+static const char *lack_words(const network *on, char words[LACK_ROOM])
+{
+    int fault;
+    const char *lacks = link_lacks(on, &fault);
+    if (on->is_up || lacks == NULL)
+        return NULL;
+    errno = fault;
+    snprintf(words, LACK_ROOM, "%s%s%s", lacks, fault != 0 ? ": " : "", fault != 0 ? fault_words() : "");
+    return words;
+}
+
+/* The kinds of frames in which a broadcast goes out there, or NULL. */
+static const char *kinds_on(const network *on, char words[KINDS_ROOM])
+{
+    if (on->set->kind == IPXR_NO_FRAME)
+        return NULL;
+    return on->set->kind == ANY_KIND ? kinds_words(&on->kinds, words) : kind_word(on->set->kind);
+}
+
+static bool next_link(gateway *it, cursor *at, sheet *s)
+{
+    char link[LINK_ROOM], lack[LACK_ROOM], kinds[KINDS_ROOM];
+    if (at->network >= it->count)
+        return false;
+    const network *on = &it->networks[at->network++];
+    record_begin(s, LINK_COLUMNS);
+    field_network(s, on->set->network);
+    field_text(s, on->is_up ? "up" : "down");
+    field_number(s, on->set->cost);
+    field_number(s, on->set->longest);
+    field_node(s, on->node);
+    field_text(s, cable_words(on->cable, on->set, link));
+    field_text(s, kinds_on(on, kinds));
+    field_text(s, lack_words(on, lack));
+    record_end(s);
+    return true;
+}
+
+/* ---- Clients ---- */
+
+static const column CLIENT_COLUMNS[] = {{"network", "NETWORK", 8},   {"client", "CLIENT", 12}, {"address", "ADDRESS", 21},
+                                        {"trusted", "TRUSTED", 7}, {"heard", "HEARD", 5},    {"not_sent", "NOT-SENT", 8},
+                                        {"dropped", "DROPPED", 0}, {0}};
+
+/* All that was dropped of a client, and for it. */
+static uint64_t dropped_of(const known_client *client)
+{
+    uint64_t sum = 0;
+    for (int k = 0; k < DROPS; k++)
+        sum += client->dropped[k];
+    return sum;
+}
+
+static bool next_client(gateway *it, cursor *at, sheet *s)
+{
+    known_client client;
+    char place[ADDRESS_ROOM];
+    while (at->network < it->count && !tunnel_client(&it->networks[at->network], at->index, &client)) {
+        at->network++;
+        at->index = 0;
+    }
+    if (at->network >= it->count)
+        return false;
+    at->index++;
+    record_begin(s, CLIENT_COLUMNS);
+    field_network(s, it->networks[at->network].set->network);
+    field_node(s, client.place);
+    field_text(s, address_words(&client.at, place));
+    field_flag(s, client.is_trusted);
+    field_number(s, (uint64_t)client.heard);
+    field_number(s, client.refused);
+    field_number(s, dropped_of(&client));
+    record_end(s);
+    return true;
+}
+
+/* ---- Stations of networks that have several links, and of links of any kind ---- */
+
+static const column STATION_COLUMNS[] = {{"network", "NETWORK", 8}, {"station", "STATION", 12}, {"heard", "HEARD", 5},
+                                         {"kind", "KIND", 9}, {"link", "LINK", 0}, {0}};
+
+enum { STATION_LASTS = 300 /* seconds */ };
+
+/* The next station of a port, from one on; `index` goes behind it. Returns its link, or NULL where there is none. */
+static const network *station_of(gateway *it, port *of, size_t *index, ipxr_station *station)
+{
+    const network *first = first_of(it, of);
+    if (first->set->is_of_several)
+        return ipxr_segment_station(&of->segment, (*index)++, station) == 0 ? first + station->link : NULL;
+    const kind_of_station *next = kinds_next(&first->kinds, index);
+    if (next == NULL)
+        return NULL;
+    *station = (ipxr_station){.seconds_left = (uint16_t)(STATION_LASTS - (first->kinds.second - next->heard))};
+    memcpy(station->node, next->node, sizeof station->node);
+    return first;
+}
+
+/* The words of a station's kind of frames, or NULL. */
+static const char *kind_on(const network *on, const uint8_t node[6])
+{
+    uint8_t kind = on->set->kind == ANY_KIND ? kinds_of(&on->kinds, node) : on->set->kind;
+    return kind != IPXR_NO_FRAME ? kind_word(kind) : NULL;
+}
+
+static bool next_station(gateway *it, cursor *at, sheet *s)
+{
+    char link[LINK_ROOM];
+    ipxr_station station;
+    const network *on = NULL;
+    while (at->network < it->port_count && (on = station_of(it, &it->ports[at->network], &at->index, &station)) == NULL) {
+        at->network++;
+        at->index = 0;
+    }
+    if (on == NULL)
+        return false;
+    record_begin(s, STATION_COLUMNS);
+    field_network(s, on->set->network);
+    field_node(s, station.node);
+    if (station.is_sure)
+        field_text(s, NULL);
+    else
+        field_number(s, STATION_LASTS - station.seconds_left);
+    field_text(s, kind_on(on, station.node));
+    field_text(s, cable_words(on->cable, on->set, link));
+    record_end(s);
+    return true;
+}
+
+/* ---- Routes and services ---- */
+
+static const column ROUTE_COLUMNS[] = {{"network", "NETWORK", 8}, {"hops", "HOPS", 4}, {"ticks", "TICKS", 5},
+                                       {"by", "BY", 12},          {"on", "ON", 8},     {"age", "AGE", 0}, {0}};
+
+static bool next_route(gateway *it, cursor *at, sheet *s)
+{
+    ipxr_route_record route;
+    if (ipxr_route(&it->router, at->index, &route) != 0)
+        return false;
+    at->index++;
+    record_begin(s, ROUTE_COLUMNS);
+    field_network(s, route.network);
+    field_number(s, route.hops);
+    field_number(s, route.ticks);
+    field_node(s, route.node);
+    field_network(s, port_network(it, route.port));
+    field_number(s, route.age);
+    record_end(s);
+    return true;
+}
+
+static const column SERVICE_COLUMNS[] = {{"type", "TYPE", 4},     {"name", "NAME", 24}, {"network", "NETWORK", 8},
+                                         {"node", "NODE", 12},    {"socket", "SOCKET", 6}, {"hops", "HOPS", 4},
+                                         {"by", "BY", 12},        {"on", "ON", 8},      {"age", "AGE", 0}, {0}};
+
+static bool next_service(gateway *it, cursor *at, sheet *s)
+{
+    ipxr_service_record service;
+    if (ipxr_service(&it->router, at->index, &service) != 0)
+        return false;
+    at->index++;
+    record_begin(s, SERVICE_COLUMNS);
+    field_hexadecimal(s, service.type);
+    field_name(s, service.name, strnlen((const char *)service.name, sizeof service.name));
+    field_network(s, service.network);
+    field_node(s, service.node);
+    field_hexadecimal(s, service.socket);
+    field_number(s, service.hops);
+    field_node(s, service.neighbour);
+    field_network(s, port_network(it, service.port));
+    field_number(s, service.age);
+    record_end(s);
+    return true;
+}
+
+/* ---- Sections ---- */
+
+static const struct {
+    const char *word;
+    const column *columns;
+    bool (*next)(gateway *it, cursor *at, sheet *s);
+} SECTIONS[] = {
+    {"links", LINK_COLUMNS, next_link},    {"clients", CLIENT_COLUMNS, next_client},    {"stations", STATION_COLUMNS, next_station},
+    {"routes", ROUTE_COLUMNS, next_route}, {"services", SERVICE_COLUMNS, next_service}, {"counts", COUNT_COLUMNS, shown_count},
+};
+enum { SECTION_COUNT = sizeof SECTIONS / sizeof *SECTIONS };
+
+bool shown_begin(cursor *at, const char *word)
+{
+    memset(at, 0, sizeof *at);
+    at->is_whole = word == NULL;
+    at->behind = SECTION_COUNT;
+    if (word == NULL)
+        return true;
+    while (at->section < SECTION_COUNT && strcmp(SECTIONS[at->section].word, word) != 0)
+        at->section++;
+    at->behind = at->section + 1;
+    return at->section < SECTION_COUNT;
+}
+
+/* What stands before a section, or is its headings. */
+static void begin_section(gateway *it, cursor *at, sheet *s)
+{
+    if (s->form == AS_JSON && at->is_whole && at->section == 0)
+        sheet_put(s, "{\"release\": \"%s\", \"seconds\": %" PRIu64 ",\n", IPXR_RELEASE, (clock_now() - it->began) / 1000);
+    if (s->form == AS_JSON && at->is_whole)
+        sheet_put(s, "\"%s\": ", SECTIONS[at->section].word);
+    if (s->form == AS_JSON)
+        sheet_put(s, "[");
+    else if (at->is_whole && at->section > 0)
+        sheet_put(s, "\n");
+    sheet_headings(s, SECTIONS[at->section].columns);
+    at->has_begun = true;
+}
+
+/* What stands behind it; the next one begins. */
+static void end_section(cursor *at, sheet *s)
+{
+    at->section++;
+    if (s->form == AS_JSON && at->is_whole)
+        sheet_put(s, "]%s\n", at->section < at->behind ? "," : "}");
+    else if (s->form == AS_JSON)
+        sheet_put(s, "]\n");
+    at->has_begun = false;
+    at->written = at->network = at->index = 0;
+}
+
+bool shown_next(gateway *it, cursor *at, sheet *s)
+{
+    if (s->form == AS_PROMETHEUS)
+        return shown_metric(it, at, s);
+    if (at->section == at->behind)
+        return false;
+    if (!at->has_begun) {
+        begin_section(it, at, s);
+        return true;
+    }
+    size_t before = s->count;
+    if (s->form == AS_JSON)
+        sheet_put(s, at->written > 0 ? ",\n" : "\n");
+    if (SECTIONS[at->section].next(it, at, s)) {
+        at->written++;
+        return true;
+    }
+    s->count = before;
+    end_section(at, s);
+    return true;
+}

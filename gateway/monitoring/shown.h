@@ -1,0 +1,33 @@
+/* What `show` shows: links, clients, stations, routes, services and counts, piece by piece, each record as it is when it is written. */
+#ifndef SHOWN_H
+#define SHOWN_H
+
+#include "gateway.h"
+#include "monitoring/sheet.h"
+
+/* Where one is who is shown something: the sections that are left, and the record of this one that is next. */
+typedef struct cursor {
+    size_t section, behind; /* the section, and the one behind the last */
+    bool is_whole;          /* all of them are shown, in one object of JSON */
+    bool has_begun;         /* the section has its headings */
+    size_t written;         /* records of it so far */
+    size_t network, index;  /* the record that is next */
+    size_t metric;          /* and of what Prometheus collects */
+} cursor;
+
+/* Begins with a section by its word, or with all where there is none. Returns false where there is no such section. */
+bool shown_begin(cursor *at, const char *word);
+
+/* Writes the next piece, of at most MOST_RECORD bytes. Returns false where all is written. */
+bool shown_next(gateway *it, cursor *at, sheet *s);
+
+/* ---- Of its sections ---- */
+
+/* Writes the record that is next, and goes behind it. Returns false where there is none, and nothing is written. */
+bool shown_count(gateway *it, cursor *at, sheet *s);
+extern const column COUNT_COLUMNS[];
+
+/* The next piece of all counts in the text format of Prometheus. Returns false where all is written. */
+bool shown_metric(gateway *it, cursor *at, sheet *s);
+
+#endif

@@ -1,0 +1,35 @@
+/* Datagrams and frames as they come and go, several at a time. */
+#ifndef DATAGRAM_H
+#define DATAGRAM_H
+
+#include <stddef.h>
+#include <stdint.h>
+
+#include "systems/address.h"
+
+/* Room for what comes in one piece. What is longer is told by its length. */
+#define MOST_RECEIVED 2048
+
+/* How many come, or go, by one call of the system. */
+#define MOST_TOGETHER 32
+
+/* What came, and for a datagram who sent it. The length may be more than the room: what is beyond is lost. */
+typedef struct arrival {
+    address from;
+    size_t length;
+    uint8_t bytes[MOST_RECEIVED];
+} arrival;
+
+typedef struct arrivals {
+    size_t count;
+    arrival list[MOST_TOGETHER];
+} arrivals;
+
+/* What goes to somebody. */
+typedef struct departure {
+    address to;
+    size_t length;
+    const uint8_t *bytes;
+} departure;
+
+#endif

@@ -1,0 +1,111 @@
+/* (for sockets of this machine) */
+#define _DEFAULT_SOURCE
+#include "systems/local.h"
+
+#include <errno.h>
+#include <fcntl.h>
+#include <string.h>
+#include <sys/socket.h>
+#include <sys/stat.h>
+#include <sys/un.h>
+#include <unistd.h>
+
+#include "systems/sockets.h"
+
+/* What the owner and the group may not: nothing; all others: anything. Nobody executes it. */
+enum { WITHHELD = 0117, MOST_WAITING = 16 };
+
+/* The file that was made, by which it is known again. */
+static struct stat made;
+
+bool has_local(void)
+{
+    return true;
+}
+
+/* The address of a path; false where it is too long. */
+static bool named(const char *path, struct sockaddr_un *at)
+{
+    memset(at, 0, sizeof *at);
+    at->sun_family = AF_UNIX;
+    if (strlen(path) >= sizeof at->sun_path) {
+        errno = ENAMETOOLONG;
+        return false;
+    }
+    strcpy(at->sun_path, path);
+    return true;
+}
+
+static int closed(int fd)
+{
+    int why = errno;
+    close_any(&fd);
+    errno = why;
+    return -1;
+}
+
+/* Connects to a path by a socket of some type. Returns it, or -1. */
+static int connected(const char *path, int type)
+{
+    struct sockaddr_un at;
+    int fd = named(path, &at) ? socket(AF_UNIX, type, 0) : -1;
+    if (fd < 0 || connect(fd, (const struct sockaddr *)&at, sizeof at) == 0)
+        return fd;
+    return closed(fd);
+}
+
+int local_connect(const char *path)
+{
+    return connected(path, SOCK_STREAM);
+}
+
+/* Removes a socket at which nobody listens any more. (it doesn't wait for one who listens, and takes nobody) */
+static void remove_left(const char *path)
+{
+    struct stat found;
+    int fd = connected(path, SOCK_STREAM | SOCK_NONBLOCK);
+    if (fd < 0 && errno == ECONNREFUSED && lstat(path, &found) == 0 && S_ISSOCK(found.st_mode))
+        unlink(path);
+    close_any(&fd);
+}
+
+/* (the rights are those of the file from its first moment on) */
+static bool is_bound(int fd, const struct sockaddr_un *at)
+{
+    mode_t before = umask(WITHHELD);
+    bool is_well = bind(fd, (const struct sockaddr *)at, sizeof *at) == 0;
+    umask(before);
+    return is_well;
+}
+
+static bool unwaiting(int fd)
+{
+    int flags = fcntl(fd, F_GETFL);
+    return flags >= 0 && fcntl(fd, F_SETFL, flags | O_NONBLOCK) == 0 && fcntl(fd, F_SETFD, FD_CLOEXEC) == 0;
+}
+
+int local_open(const char *path)
+{
+    struct sockaddr_un at;
+    if (!named(path, &at))
+        return -1;
+    remove_left(path);
+    int fd = socket(AF_UNIX, SOCK_STREAM, 0);
+    if (fd < 0 || (unwaiting(fd) && is_bound(fd, &at) && lstat(path, &made) == 0 && listen(fd, MOST_WAITING) == 0))
+        return fd;
+    return closed(fd);
+}
+
+void local_close(int *fd, const char *path)
+{
+    struct stat found;
+    if (*fd >= 0 && lstat(path, &found) == 0 && found.st_dev == made.st_dev && found.st_ino == made.st_ino)
+        unlink(path);
+    close_any(fd);
+}
+
+int local_take(int listener)
+{
+    int fd = accept(listener, NULL, NULL);
+    return fd < 0 || unwaiting(fd) ? fd : closed(fd);
+}

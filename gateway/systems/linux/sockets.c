@@ -1,0 +1,400 @@
+/* (for several datagrams at a time, and what the system knows of a connection) */
+#define _GNU_SOURCE
+#include "systems/sockets.h"
+
+#include <arpa/inet.h>
+#include <errno.h>
+#include <fcntl.h>
+#include <linux/sockios.h>
+#include <netinet/in.h>
+#include <netinet/tcp.h>
+#include <poll.h>
+#include <string.h>
+#include <sys/ioctl.h>
+#include <sys/socket.h>
+#include <unistd.h>
+
+/* Bytes that the system keeps: of what has come, while the gateway sends to many; and of what it sends, as to machines that are gone. */
+enum { KEPT = 8 << 20, KEPT_SENT = 8 << 20, MOST_WAITING = 128 };
+
+/* What goes to strangers may hold one part in so many of what the system keeps of what is sent. */
+enum { STRANGERS_PART = 4 };
+
+/* How often something is sent where the call tells only what somebody complained of: the next complaint may be there already. */
+enum { MOST_TRIES = 16 };
+
+/* Seconds of silence, after which a connection is asked whether it is there; from one question to the next; and how many there are. */
+enum { SILENT = 20, AGAIN = 20, TIMES = 2, MINUTE = SILENT + AGAIN * TIMES, MILLISECONDS = 1000 };
+
+void close_any(int *fd)
+{
+    int at = *fd;
+    *fd = -1;
+    if (at >= 0)
+        close(at);
+}
+
+/* ---- Addresses ---- */
+
+static struct sockaddr_in to_system(const address *at)
+{
+    struct sockaddr_in it = {0};
+    it.sin_family = AF_INET;
+    it.sin_port = htons(at->port);
+    memcpy(&it.sin_addr, at->host, sizeof at->host);
+    return it;
+}
+
+static address of_system(const struct sockaddr_in *at)
+{
+    address it = {.port = ntohs(at->sin_port)};
+    memcpy(it.host, &at->sin_addr, sizeof it.host);
+    return it;
+}
+
+bool six_of_words(const char *digits, uint8_t six[16])
+{
+    return inet_pton(AF_INET6, digits, six) == 1;
+}
+
+void six_words(const uint8_t six[16], char digits[SIX_ROOM])
+{
+    if (inet_ntop(AF_INET6, six, digits, SIX_ROOM) == NULL)
+        digits[0] = '\0';
+}
+
+/* An address of either kind as the system takes it. Clients are of IPv4, which is the faster. */
+typedef union any_address {
+    struct sockaddr one;
+    struct sockaddr_in four;
+    struct sockaddr_in6 six;
+} any_address;
+
+static int family_of(const address *at)
+{
+    return at->is_six ? AF_INET6 : AF_INET;
+}
+
+/* Returns its size. */
+static socklen_t to_any(const address *at, any_address *it)
+{
+    memset(it, 0, sizeof *it);
+    if (!at->is_six) {
+        it->four = to_system(at);
+        return sizeof it->four;
+    }
+    it->six.sin6_family = AF_INET6;
+    it->six.sin6_port = htons(at->port);
+    memcpy(&it->six.sin6_addr, at->six, sizeof at->six);
+    return sizeof it->six;
+}
+
+static address of_any(const any_address *at)
+{
+    address it = {.is_six = at->one.sa_family == AF_INET6};
+    if (!it.is_six)
+        return of_system(&at->four);
+    it.port = ntohs(at->six.sin6_port);
+    memcpy(it.six, &at->six.sin6_addr, sizeof it.six);
+    return it;
+}
+
+/* ---- Opening ---- */
+
+/* Makes a socket that doesn't wait, or closes it. */
+static int unwaiting(int fd)
+{
+    int flags = fd < 0 ? -1 : fcntl(fd, F_GETFL);
+    if (flags >= 0 && fcntl(fd, F_SETFL, flags | O_NONBLOCK) == 0 && fcntl(fd, F_SETFD, FD_CLOEXEC) == 0)
+        return fd;
+    int why = errno;
+    close_any(&fd);
+    errno = why;
+    return -1;
+}
+
+static bool set(int fd, int level, int option, int value)
+{
+    return setsockopt(fd, level, option, &value, sizeof value) == 0;
+}
+
+/* Whether a socket has an address; tells the port that it took. */
+static bool is_bound(int fd, address *local)
+{
+    any_address at;
+    socklen_t size = to_any(local, &at);
+    /* (an address of IPv6 is none of IPv4 too, as other programs may take it) */
+    if (local->is_six && !set(fd, IPPROTO_IPV6, IPV6_V6ONLY, 1))
+        return false;
+    if (bind(fd, &at.one, size) != 0 || getsockname(fd, &at.one, &size) != 0)
+        return false;
+    *local = of_any(&at);
+    return true;
+}
+
+/* Whether a connection is there or under way; a socket for datagrams hears that address alone. */
+static bool is_connected(int fd, const address *remote)
+{
+    any_address to;
+    socklen_t size = to_any(remote, &to);
+    return connect(fd, &to.one, size) == 0 || errno == EINPROGRESS;
+}
+
+/* The socket, where all is well; else it is closed. */
+static int kept_if(bool is_well, int fd)
+{
+    int why = errno;
+    if (!is_well)
+        close_any(&fd);
+    errno = why;
+    return fd;
+}
+
+/* Asks for room, as much as the gateway has the right to: by the first option without the limit for all programs, by the second within it.
+ * (less is enough: then more is lost when many send at once) */
+static void keep(int fd, int without_limit, int within_limit, int size)
+{
+    (void)(set(fd, SOL_SOCKET, without_limit, size) || set(fd, SOL_SOCKET, within_limit, size));
+}
+
+int datagram_open(address *local, const address *remote)
+{
+    int fd = unwaiting(socket(family_of(local), SOCK_DGRAM, 0));
+    if (fd < 0)
+        return -1;
+    keep(fd, SO_RCVBUFFORCE, SO_RCVBUF, KEPT);
+    keep(fd, SO_SNDBUFFORCE, SO_SNDBUF, KEPT_SENT);
+    /* (else anybody who forges a router's complaint makes the system cut what goes to a client, into pieces as small as he likes) */
+    if (local->is_six)
+        (void)set(fd, IPPROTO_IPV6, IPV6_MTU_DISCOVER, IPV6_PMTUDISC_OMIT);
+    else
+        (void)set(fd, IPPROTO_IP, IP_MTU_DISCOVER, IP_PMTUDISC_OMIT);
+    return kept_if(is_bound(fd, local) && (remote == NULL || is_connected(fd, remote)), fd);
+}
+
+/* (a socket for another port at that address tells it) */
+bool datagram_has_address(int fd)
+{
+    any_address at = {.six = {.sin6_family = AF_INET}};
+    socklen_t size = sizeof at;
+    if (getsockname(fd, &at.one, &size) != 0)
+        return true;
+    address own = of_any(&at);
+    own.port = 0;
+    int other = unwaiting(socket(family_of(&own), SOCK_DGRAM, 0));
+    bool is_gone = other >= 0 && !is_bound(other, &own) && errno == EADDRNOTAVAIL;
+    close_any(&other);
+    return !is_gone;
+}
+
+int listener_open(address *local)
+{
+    int yes = 1;
+    int fd = unwaiting(socket(family_of(local), SOCK_STREAM, 0));
+    if (fd < 0)
+        return -1;
+    bool is_well = setsockopt(fd, SOL_SOCKET, SO_REUSEADDR, &yes, sizeof yes) == 0 && is_bound(fd, local);
+    return kept_if(is_well && listen(fd, MOST_WAITING) == 0, fd);
+}
+
+/* Frames go out at once; and whether the other end is there is known after a minute. */
+static int plain_connection(int fd)
+{
+    if (fd < 0)
+        return fd;
+    (void)set(fd, IPPROTO_TCP, TCP_NODELAY, 1);
+    (void)set(fd, SOL_SOCKET, SO_KEEPALIVE, 1);
+    (void)set(fd, IPPROTO_TCP, TCP_KEEPIDLE, SILENT);
+    (void)set(fd, IPPROTO_TCP, TCP_KEEPINTVL, AGAIN);
+    (void)set(fd, IPPROTO_TCP, TCP_KEEPCNT, TIMES);
+    return fd;
+}
+
+int listener_take(int listener, address *from)
+{
+    any_address at = {.six = {.sin6_family = AF_INET}};
+    socklen_t size = sizeof at;
+    int fd = plain_connection(unwaiting(accept(listener, &at.one, &size)));
+    *from = of_any(&at);
+    return fd;
+}
+
+int connection_begin(const address *remote)
+{
+    int fd = plain_connection(unwaiting(socket(family_of(remote), SOCK_STREAM, 0)));
+    return fd < 0 ? -1 : kept_if(is_connected(fd, remote), fd);
+}
+
+int connection_state(int fd)
+{
+    int fault = 0;
+    socklen_t size = sizeof fault;
+    struct pollfd waiting = {fd, POLLOUT, 0};
+    if (poll(&waiting, 1, 0) <= 0)
+        return 0;
+    if (getsockopt(fd, SOL_SOCKET, SO_ERROR, &fault, &size) != 0)
+        return -1;
+    errno = fault;
+    return fault == 0 ? 1 : -1;
+}
+
+void connection_drop(int *fd)
+{
+    struct linger none = {.l_onoff = 1, .l_linger = 0};
+    (void)!setsockopt(*fd, SOL_SOCKET, SO_LINGER, &none, sizeof none);
+    close_any(fd);
+}
+
+bool connection_is_own(int fd)
+{
+    any_address at = {.six = {.sin6_family = AF_INET}}, with = at;
+    socklen_t size = sizeof at, other_size = sizeof with;
+    if (getsockname(fd, &at.one, &size) != 0 || getpeername(fd, &with.one, &other_size) != 0)
+        return false;
+    address own = of_any(&at), other = of_any(&with);
+    return same_address(&own, &other);
+}
+
+/* (while something is under way nobody is asked whether he is there, and Linux tries for a quarter of an hour. Who acknowledges, but takes
+ * nothing, as a PC that is halted, has nothing under way) */
+bool connection_is_dead(int fd)
+{
+    struct tcp_info about = {0};
+    socklen_t size = sizeof about;
+    return getsockopt(fd, IPPROTO_TCP, TCP_INFO, &about, &size) == 0 && about.tcpi_unacked > 0 &&
+           about.tcpi_last_ack_recv >= MINUTE * MILLISECONDS;
+}
+
+bool connection_has_more(int fd)
+{
+    char byte;
+    return recv(fd, &byte, sizeof byte, MSG_PEEK) >= 0 || errno != EAGAIN;
+}
+
+bool connection_has_ended(int fd)
+{
+    struct pollfd at = {fd, POLLRDHUP, 0};
+    return poll(&at, 1, 0) > 0;
+}
+
+/* ---- Sending and receiving ---- */
+
+/* Datagrams as the system takes them: each with its place, and with its bytes in one piece. */
+typedef struct batch {
+    struct mmsghdr list[MOST_TOGETHER];
+    struct iovec pieces[MOST_TOGETHER];
+    any_address places[MOST_TOGETHER]; /* (with room for that of a frame, too) */
+} batch;
+
+static void set_piece(batch *it, size_t k, uint8_t *bytes, size_t length, socklen_t size_of_place)
+{
+    it->pieces[k] = (struct iovec){bytes, length};
+    it->list[k].msg_hdr = (struct msghdr){
+        .msg_name = &it->places[k], .msg_namelen = size_of_place, .msg_iov = &it->pieces[k], .msg_iovlen = 1};
+}
+
+/* The rooms of what comes, as the system takes them. They are the same each time, and are set where they aren't. */
+static batch *rooms_of(arrivals *in)
+{
+    static batch rooms;
+    static const arrivals *whose;
+    for (size_t k = 0; whose != in && k < MOST_TOGETHER; k++)
+        set_piece(&rooms, k, in->list[k].bytes, sizeof in->list[k].bytes, sizeof rooms.places[k]);
+    whose = in;
+    return &rooms;
+}
+
+/* Whether a call on a socket for datagrams has done nothing but to tell what ICMP said of an earlier one, for IPv4 or IPv6: such as that it
+ * was too long, or that somebody on its way forbids it. Anybody can send that. */
+static bool tells_complaint(ssize_t answer)
+{
+    if (answer >= 0)
+        return false;
+    switch (errno) {
+    case ECONNREFUSED:
+    case EACCES:
+    case EMSGSIZE:
+    case EOPNOTSUPP:
+    case ENOPROTOOPT:
+    case ENETUNREACH:
+    case EHOSTUNREACH:
+    case EHOSTDOWN:
+    case ENONET:
+    case EPROTO:
+        return true;
+    default:
+        return false;
+    }
+}
+
+bool datagrams_receive(int fd, arrivals *in)
+{
+    batch *all = rooms_of(in);
+    int count = recvmmsg(fd, all->list, MOST_TOGETHER, MSG_TRUNC, NULL);
+    for (int k = 0; k < count; k++) {
+        in->list[k].length = all->list[k].msg_len;
+        in->list[k].from = of_system(&all->places[k].four); /* (it is asked for in the tunnel, which is of IPv4) */
+        all->list[k].msg_hdr.msg_namelen = sizeof all->places[k];
+    }
+    in->count = count > 0 ? (size_t)count : 0;
+    if (tells_complaint(count))
+        errno = ECONNREFUSED;
+    return count > 0;
+}
+
+bool datagram_send(int fd, const uint8_t *bytes, size_t length)
+{
+    int tries = 0;
+    ssize_t sent;
+    do
+        sent = send(fd, bytes, length, MSG_NOSIGNAL);
+    while (tells_complaint(sent) && ++tries < MOST_TRIES);
+    return sent == (ssize_t)length;
+}
+
+/* Whether there is room for what goes to somebody who may not be there. Linux asks for a card that it doesn't know and keeps what is to go
+ * to it meanwhile, in the socket's room: so made-up neighbours could fill it, until nothing goes to anybody. */
+static bool has_room_for_stranger(int fd)
+{
+    int kept, room;
+    socklen_t size = sizeof room;
+    return ioctl(fd, SIOCOUTQ, &kept) != 0 || getsockopt(fd, SOL_SOCKET, SO_SNDBUF, &room, &size) != 0 || kept < room / STRANGERS_PART;
+}
+
+static bool is_sent(int fd, const departure *what, int how)
+{
+    struct sockaddr_in at = to_system(&what->to);
+    return sendto(fd, what->bytes, what->length, how, (const struct sockaddr *)&at, sizeof at) == (ssize_t)what->length;
+}
+
+bool datagram_send_to(int fd, const departure *what)
+{
+    if (has_room_for_stranger(fd))
+        return is_sent(fd, what, 0);
+    errno = EAGAIN;
+    return false;
+}
+
+/* (of one who is known to be there Linux doesn't ask. Else it would, a while after he was switched off, and keep what goes to him) */
+size_t datagrams_send(int fd, const departure *list, size_t count)
+{
+    batch all;
+    if (count == 1) /* (a call for one is the faster) */
+        return is_sent(fd, list, MSG_CONFIRM);
+    for (size_t k = 0; k < count; k++) {
+        all.places[k].four = to_system(&list[k].to);
+        set_piece(&all, k, (uint8_t *)list[k].bytes, list[k].length, sizeof all.places[k].four);
+    }
+    int sent = sendmmsg(fd, all.list, (unsigned)count, MSG_CONFIRM);
+    return sent > 0 ? (size_t)sent : 0;
+}
+
+ssize_t connection_receive(int fd, uint8_t *bytes, size_t room)
+{
+    return recv(fd, bytes, room, 0);
+}
+
+ssize_t connection_send(int fd, const uint8_t *bytes, size_t length)
+{
+    return send(fd, bytes, length, MSG_NOSIGNAL);
+}

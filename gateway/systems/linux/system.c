@@ -1,0 +1,62 @@
+#include "systems/system.h"
+
+#include <errno.h>
+#include <fcntl.h>
+#include <string.h>
+#include <sys/random.h>
+#include <sys/stat.h>
+#include <unistd.h>
+
+FILE *file_open(const char *name, const char *how)
+{
+    return fopen(name, how);
+}
+
+FILE *file_open_at_once(const char *name)
+{
+    int opened = open(name, O_RDONLY | O_NONBLOCK | O_CLOEXEC);
+    FILE *file = opened >= 0 ? fdopen(opened, "rb") : NULL;
+    int fault = errno;
+    if (opened >= 0 && file == NULL)
+        close(opened);
+    errno = fault;
+    return file;
+}
+
+bool file_is_fifo(const char *name)
+{
+    struct stat about;
+    return stat(name, &about) == 0 && S_ISFIFO(about.st_mode) && access(name, W_OK) == 0;
+}
+
+bool file_waits(FILE *file)
+{
+    struct stat about;
+    return fstat(fileno(file), &about) == 0 && (S_ISFIFO(about.st_mode) || S_ISSOCK(about.st_mode) || isatty(fileno(file)));
+}
+
+ssize_t line_read(char **line, size_t *room, FILE *file)
+{
+    return getline(line, room, file);
+}
+
+FILE *text_open(char **text, size_t *length)
+{
+    return open_memstream(text, length);
+}
+
+bool system_random(uint8_t *bytes, size_t count)
+{
+    return getrandom(bytes, count, 0) == (ssize_t)count;
+}
+
+const char *fault_words(void)
+{
+    return strerror(errno);
+}
+
+int main(int count, char **words)
+{
+    setvbuf(stdout, NULL, _IOLBF, BUFSIZ);
+    return gateway_main(count, words);
+}

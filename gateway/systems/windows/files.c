@@ -1,0 +1,76 @@
+#include "systems/system.h"
+
+#include <errno.h>
+#include <io.h>
+#include <stdbool.h>
+#include <stdlib.h>
+
+#include "systems/windows/net.h"
+#include "systems/windows/text.h"
+
+/* (other programs may read it meanwhile) */
+FILE *file_open(const char *name, const char *how)
+{
+    FILE *file = NULL;
+    wchar_t *wide_name = text_of_utf8(name), *wide_how = text_of_utf8(how);
+    if (wide_name != NULL && wide_how != NULL)
+        file = _wfopen(wide_name, wide_how);
+    else
+        errno = ENOMEM;
+    free(wide_name);
+    free(wide_how);
+    return file;
+}
+
+/* (nobody asks for it: there is no order to read a configuration anew) */
+FILE *file_open_at_once(const char *name)
+{
+    return file_open(name, "rb");
+}
+
+/* (to open a pipe of this system never waits) */
+bool file_is_fifo(const char *name)
+{
+    (void)name;
+    return false;
+}
+
+bool file_waits(FILE *file)
+{
+    return GetFileType((HANDLE)_get_osfhandle(_fileno(file))) != FILE_TYPE_DISK;
+}
+
+/* Makes room for so many bytes. */
+static bool has_room(char **line, size_t *room, size_t wanted)
+{
+    if (wanted <= *room)
+        return true;
+    char *larger = realloc(*line, 2 * wanted);
+    if (larger == NULL)
+        return false;
+    *line = larger;
+    *room = 2 * wanted;
+    return true;
+}
+
+/* (nobody asks for one: there is no order to read a configuration anew) */
+FILE *text_open(char **text, size_t *length)
+{
+    *text = NULL;
+    *length = 0;
+    return NULL;
+}
+
+ssize_t line_read(char **line, size_t *room, FILE *file)
+{
+    size_t length = 0;
+    for (int c = 0; c != '\n' && (c = getc(file)) != EOF;) {
+        if (!has_room(line, room, length + 2))
+            return -1;
+        (*line)[length++] = (char)c;
+    }
+    if (length == 0 || ferror(file))
+        return -1;
+    (*line)[length] = '\0';
+    return (ssize_t)length;
+}

@@ -1,0 +1,75 @@
+#include "tunnel/roster.h"
+
+#include <stdlib.h>
+#include <string.h>
+
+#include "ipx.h"
+
+bool roster_make(roster *it, size_t room)
+{
+    memset(it, 0, sizeof *it);
+    it->list = malloc(room * sizeof *it->list);
+    it->queues = malloc(room * sizeof *it->queues);
+    it->room = it->list != NULL && it->queues != NULL ? room : 0;
+    for (size_t k = 0; k < it->room; k++)
+        it->list[k].queues = &it->queues[k];
+    return it->room == room;
+}
+
+static void leave(member *it)
+{
+    if (it->is_by_line)
+        line_leave(&it->speaks->line);
+    speaker_leave(it->speaks);
+}
+
+void roster_free(roster *it)
+{
+    for (size_t k = 0; k < it->count; k++)
+        leave(&it->list[k]);
+    free(it->list);
+    free(it->queues);
+    memset(it, 0, sizeof *it);
+}
+
+member *roster_find(roster *it, const uint8_t place[6])
+{
+    for (size_t k = 0; k < it->count; k++) {
+        size_t at = (it->next + k) % it->count;
+        if (same_node(it->list[at].place, place)) {
+            it->next = at + 1;
+            return &it->list[at];
+        }
+    }
+    return NULL;
+}
+
+void roster_add(roster *it, const uint8_t place[6], bool is_trusted, bool is_by_line)
+{
+    if (it->count == it->room)
+        return;
+    member *added = &it->list[it->count++];
+    fair *queues = added->queues;
+    memset(added, 0, sizeof *added);
+    memset(queues, 0, sizeof *queues);
+    added->queues = queues;
+    memcpy(added->place, place, NODE);
+    added->speaks = speaker_join(place);
+    added->is_trusted = is_trusted;
+    added->is_by_line = is_by_line;
+    if (is_by_line)
+        line_join(&added->speaks->line);
+}
+
+void roster_remove(roster *it, const uint8_t place[6])
+{
+    member *gone = roster_find(it, place);
+    if (gone == NULL)
+        return;
+    leave(gone);
+    fair *queues = gone->queues;
+    it->count--;
+    memmove(gone, gone + 1, (size_t)(it->list + it->count - gone) * sizeof *gone);
+    it->list[it->count].queues = queues;
+    it->next = 0;
+}

@@ -1,0 +1,57 @@
+/* The clients of a tunnel as the gateway tells of them, and what each has received and said lately: who they are, the library knows. */
+#ifndef ROSTER_H
+#define ROSTER_H
+
+#include <stdbool.h>
+#include <stddef.h>
+#include <stdint.h>
+
+#include "limits/fair.h"
+#include "limits/limit.h"
+#include "limits/speaker.h"
+#include "tunnel/asked.h"
+
+/* What was dropped of a client. */
+typedef enum {
+    DROPPED_FOR_IT,     /* packets for it, since it received too many */
+    DROPPED_OF_IT,      /* copies of what it said, since others received too many */
+    DROPPED_PINGS,      /* pings of its own */
+    DROPPED_QUESTIONS,  /* questions to the router */
+    DROPPED_ADVERTISEMENTS, /* what it told as a router */
+    DROPPED_FOR_ROUTER, /* all else that the router would hear, and what routers of other networks would */
+    DROPPED_ANSWERS,    /* of the gateway, to its registrations and pings */
+    DROPS,
+} drop;
+
+typedef struct member {
+    uint8_t place[6];
+    uint64_t refused; /* datagrams for it that the system didn't take */
+    uint64_t dropped[DROPS];
+    speaker *speaks;  /* its address */
+    bool is_trusted;  /* whether that needn't answer pings */
+    bool is_by_line;  /* whether it is reached by the narrow line */
+    fair *queues;     /* what it receives of each who speaks to it */
+    asked ping;       /* the last that it was sent */
+    meter pinged, asked, answered;
+} member;
+
+typedef struct roster {
+    member *list; /* in the order in which they came; behind them those have queues, too, for whom there is room */
+    fair *queues; /* of all */
+    size_t count;
+    size_t room;
+    size_t next; /* behind the one that was found last */
+} roster;
+
+/* Makes one for so many clients. Returns false where there is no memory. */
+bool roster_make(roster *it, size_t room);
+void roster_free(roster *it);
+
+/* The client at a place, or NULL. Who asks for one behind the other, in their order, is answered at once. */
+member *roster_find(roster *it, const uint8_t place[6]);
+
+/* A client comes, whose address is trusted or not, and which is reached by the narrow line or not. */
+void roster_add(roster *it, const uint8_t place[6], bool is_trusted, bool is_by_line);
+void roster_remove(roster *it, const uint8_t place[6]);
+
+#endif

@@ -1,0 +1,454 @@
+/* A client's node is the place where its datagrams come from: four bytes of address, two of port. Who wants to be one has to answer a ping
+ * whose source node he can't guess, a cookie; so nobody comes in by a forged address, and who is gone is known by his silence. */
+#include "tunnel/tunnel.h"
+
+#include <inttypes.h>
+#include <stdio.h>
+#include <string.h>
+
+#include "configuration/words.h"
+#include "ipx.h"
+#include "limits/strangers.h"
+#include "limits/throttle.h"
+#include "links/extend.h"
+#include "links/segment.h"
+#include "monitoring/capture.h"
+#include "monitoring/events.h"
+#include "monitoring/note.h"
+#include "monitoring/output.h"
+#include "systems/clock.h"
+#include "tunnel/cookie.h"
+#include "tunnel/place.h"
+
+/* Seconds with which a client is kept: from its answer on, and from each word of one that is trusted. */
+enum { ANSWER_LASTS = 30, TRUST_LASTS = 180 };
+
+/* Seconds for which a cookie is a place's own. The one before counts too. */
+enum { MINUTE = 60 };
+
+/* Milliseconds from one line about an address that isn't allowed to the next, and to the next about the same. */
+enum { BETWEEN = 1000, BETWEEN_SAME = 60000 };
+
+/* ---- Beginning and end ---- */
+
+int32_t tunnel_open(const gateway *it, network *on)
+{
+    ipxr_tunnel_setting set = {.network = on->set->network, .capacity = on->set->clients, .share = on->set->per_address};
+    memcpy(set.node, on->node, NODE);
+    throttle_set(&on->throttle, on->set);
+    if (!roster_make(&on->roster, on->set->clients) || !strangers_make(&on->strangers, on->set->strangers, it->key) ||
+        !pings_make(&on->pings, on->set->kilobits > 0 ? on->set->clients : 0))
+        return IPXR_OUT_OF_MEMORY;
+    return ipxr_tunnel_make(&on->tunnel, &set);
+}
+
+void tunnel_close(network *on)
+{
+    ipxr_tunnel_free(&on->tunnel);
+    roster_free(&on->roster);
+    strangers_free(&on->strangers);
+    pings_free(&on->pings);
+}
+
+/* ---- Sending ---- */
+
+/* Whether what goes to strangers of a network is limited by a narrow line. */
+static bool are_by_line(const network *on)
+{
+    return on->set->kilobits > 0 && !on->strangers.has_no_limit;
+}
+
+/* Sends a datagram of the gateway's own. */
+static void send_one(network *on, const ipxr_own *own, bool is_client)
+{
+    if (!is_client && are_by_line(on))
+        line_send_to_stranger(sizeof own->bytes);
+    else if (on->set->kilobits > 0)
+        line_send_own(sizeof own->bytes);
+    outgoing_own(on, own->place, own->bytes, sizeof own->bytes, is_client);
+    capture_packet(own->bytes, sizeof own->bytes, on->node);
+}
+
+/* Sends the answers and pings that the tunnel gave. */
+static void send_own(network *on, bool are_clients)
+{
+    ipxr_own own;
+    for (size_t k = 0; ipxr_tunnel_own(&on->tunnel, k, &own) == 0; k++)
+        send_one(on, &own, are_clients);
+}
+
+/* Why a client doesn't get the copy of a packet; REASONS where it does. What it doesn't get is counted. */
+static reason why_not(network *on, const uint8_t place[NODE], size_t queue, size_t length)
+{
+    member *to = roster_find(&on->roster, place);
+    if (to == NULL)
+        return REASONS;
+    bool has_room = !to->is_by_line || line_has_room(&to->speaks->line);
+    reason why = has_room ? throttle_receives(&on->throttle, to, queue, length) : TOO_MUCH_FOR_LINE;
+    if (why != REASONS) {
+        to->dropped[DROPPED_FOR_IT]++;
+        on->counts.lost[why]++;
+    } else if (to->is_by_line) {
+        line_send(&to->speaks->line);
+    }
+    return why;
+}
+
+/* Sends what somebody says, or the router itself where that is NULL, to the clients that get it, as the tunnel said, and as far as each
+ * receives it. Returns to how many it doesn't go since they received too much. */
+static size_t send_carried(network *on, speaker *from, const uint8_t *packet, size_t length)
+{
+    uint8_t place[NODE];
+    size_t dropped = 0;
+    if (ipxr_tunnel_receivers(&on->tunnel) == 0)
+        return 0;
+    size_t queue = throttle_queue(from, packet);
+    if (on->set->kilobits > 0)
+        line_begin(from != NULL ? &from->line : NULL, length);
+    outgoing_begin(on, packet, length);
+    for (size_t k = 0; ipxr_tunnel_receiver(&on->tunnel, k, place) == 0; k++) {
+        if (why_not(on, place, queue, length) == REASONS)
+            outgoing_copy(on, place);
+        else
+            dropped++;
+    }
+    return dropped;
+}
+
+void tunnel_send(network *on, const uint8_t *node, const uint8_t *packet, size_t length)
+{
+    ipxr_tunnel_send(&on->tunnel, node);
+    if (ipxr_tunnel_receivers(&on->tunnel) == 0 && !is_broadcast(node) && on->segment == NULL)
+        gateway_lose(on, NO_CLIENT); /* (else it may be a station of another link) */
+    (void)send_carried(on, throttle_brought(packet), packet, length);
+}
+
+/* ---- Who comes and who leaves ---- */
+
+void tunnel_list(network *on, const uint8_t place[NODE])
+{
+    address at = address_of(place);
+    roster_add(&on->roster, place, ranges_have(&on->set->trusted, &at), on->set->kilobits > 0);
+}
+
+void tunnel_tell_comes(network *on, const uint8_t place[NODE])
+{
+    char words[WORDS];
+    tunnel_list(on, place);
+    segment_client(on, place, true);
+    event("client %s comes to %08" PRIX32, node_words(place, words), on->set->network);
+    events_client(on, place, true);
+}
+
+void tunnel_tell_leaves(network *on, const uint8_t place[NODE])
+{
+    char words[WORDS];
+    roster_remove(&on->roster, place);
+    segment_client(on, place, false);
+    event("client %s leaves %08" PRIX32, node_words(place, words), on->set->network);
+    events_client(on, place, false);
+}
+
+/* Whether so many datagrams may go to a stranger now. */
+static bool lets_stranger(network *on, const uint8_t place[NODE], uint32_t count)
+{
+    return (!are_by_line(on) || line_lets_strangers()) && strangers_let(&on->strangers, place, count);
+}
+
+/* Pings those again who registered lately and haven't come in, as far as strangers may be answered. */
+static void ping_again(network *on)
+{
+    strangers_second(&on->strangers, &on->roster);
+    for (size_t k = 0; k < MOST_NEW; k++) {
+        const ipxr_own *ping = strangers_due(&on->strangers, k);
+        if (ping != NULL && lets_stranger(on, ping->place, 1))
+            send_one(on, ping, false);
+    }
+}
+
+/* Pings a client, and again until it answers. */
+static void ping_one(network *on, const ipxr_own *own)
+{
+    member *to = roster_find(&on->roster, own->place);
+    send_one(on, own, true);
+    if (to != NULL && on->set->kilobits == 0)
+        asked_ping(&to->ping, &on->asks, on->strangers.key, own);
+}
+
+/* Pings clients: by a narrow line one after the other, later, and once. */
+static void ping(network *on)
+{
+    ipxr_own own;
+    for (size_t k = 0; ipxr_tunnel_own(&on->tunnel, k, &own) == 0; k++)
+        if (!pings_add(&on->pings, &own))
+            ping_one(on, &own);
+    if (on->pings.count > 0)
+        pings_pace(&on->pings, line_between_pings(sizeof own.bytes));
+}
+
+void tunnel_second(network *on)
+{
+    uint8_t place[NODE];
+    ipxr_tunnel_second(&on->tunnel);
+    for (size_t k = 0; ipxr_tunnel_leaver(&on->tunnel, k, place) == 0; k++)
+        tunnel_tell_leaves(on, place);
+    ping(on);
+    ping_again(on);
+}
+
+/* Pings clients once more that haven't answered. */
+static void ping_unanswered(network *on)
+{
+    for (size_t k = 0; k < on->roster.count; k++) {
+        asked *of = &on->roster.list[k].ping;
+        if (asked_is_due(of, &on->asks)) {
+            send_one(on, &of->ping, true);
+            asked_again(of, &on->asks, on->strangers.key);
+        }
+    }
+}
+
+void tunnel_ping(network *on)
+{
+    const ipxr_own *next;
+    while ((next = pings_due(&on->pings)) != NULL)
+        send_one(on, next, true);
+    if (asks_are_due(&on->asks))
+        ping_unanswered(on);
+}
+
+/* ---- Hearing ---- */
+
+/* Whether a network lets somebody in who sends from that address. */
+bool tunnel_lets_in(const network_setting *set, const address *from)
+{
+    return set->allowed.count == 0 || ranges_have(&set->allowed, from) || ranges_have(&set->trusted, from);
+}
+
+ipxr_sender tunnel_sender(const gateway *it, const network *on, const address *from)
+{
+    ipxr_sender sender = {.is_trusted = ranges_have(&on->set->trusted, from)};
+    uint64_t minute = it->seconds / MINUTE;
+    place_of(from, sender.place);
+    cookie_make(it->key, sender.place, minute, sender.current);
+    cookie_make(it->key, sender.place, minute - 1, sender.previous);
+    return sender;
+}
+
+/* Why nothing became of what somebody said; REASONS, which is none, where something did. */
+static reason why_lost(network *on, bool is_client, int32_t said, bool is_packet)
+{
+    bool is_answered = ipxr_tunnel_owns(&on->tunnel) > 0;
+    if (ipxr_tunnel_receivers(&on->tunnel) > 0 || ipxr_tunnel_is_heard(&on->tunnel) == 1)
+        return REASONS;
+    switch (said) {
+    case IPXR_REGISTERS:
+        return is_answered ? REASONS : NO_ROOM;
+    case IPXR_ANSWERS:
+        return is_client ? REASONS : NO_ROOM;
+    case IPXR_SPEAKS:
+        if (is_client)
+            return is_answered || on->segment != NULL ? REASONS : NO_CLIENT; /* (other links may have the node) */
+        return is_answered ? STRANGER : NO_ROOM;
+    default:
+        return is_packet ? FALSE_SOURCE : NO_IPX;
+    }
+}
+
+/* Answers a client's registration or ping. (somebody may ask in its name, so that it would hear nothing else) */
+static void answer_client(network *on, member *to)
+{
+    if (ipxr_tunnel_owns(&on->tunnel) == 0)
+        return;
+    if (throttle_lets_answer(&on->throttle, to))
+        send_own(on, true);
+    else
+        on->counts.lost[TOO_MANY_ANSWERS]++;
+}
+
+/* Answers a stranger, and pings him; who registers is pinged again. Returns false where too many strangers were answered lately. */
+static bool answer_stranger(network *on, const uint8_t place[NODE], bool registers)
+{
+    uint32_t count = (uint32_t)ipxr_tunnel_owns(&on->tunnel);
+    ipxr_own last;
+    if (count == 0)
+        return true;
+    if (!lets_stranger(on, place, count))
+        return false;
+    send_own(on, false);
+    if (registers && ipxr_tunnel_own(&on->tunnel, count - 1, &last) == 0 && is_broadcast(last.bytes + AT_TO_NODE))
+        strangers_keep(&on->strangers, &last);
+    return true;
+}
+
+/* What a client said goes to the router, and to other networks where it is extended. */
+static void pass_on(gateway *it, network *on, member *from, const uint8_t *packet, size_t length)
+{
+    reason why = throttle_hands(&on->throttle, from, packet, length);
+    if (why != REASONS) {
+        gateway_lose(on, why);
+        return;
+    }
+    throttle_bring(from->speaks, &from->dropped[DROPPED_OF_IT], packet);
+    if (is_broadcast(packet + AT_TO_NODE) && is_for_here(on, packet))
+        extend(it, on, packet, length);
+    gateway_hear(it, on, packet, length);
+    throttle_bring(NULL, NULL, NULL);
+}
+
+/* What a client said goes to the other links of its network. Returns whether any of them gets it. */
+static bool carry_over(gateway *it, network *on, member *from, const uint8_t *packet, size_t length)
+{
+    uint8_t to[NODE];
+    if (on->segment == NULL)
+        return false;
+    segment_next(on, packet, to);
+    throttle_bring(from->speaks, &from->dropped[DROPPED_OF_IT], packet);
+    heard what = segment_hear(it, on, from->place, to, packet, length);
+    throttle_bring(NULL, NULL, NULL);
+    return what.links > 0;
+}
+
+/* Whether it is for routers of another network. Where it names no network as its source, they would take it for a neighbour's, and learn
+ * beyond what this network may advertise; nobody else than routers says such a thing, which they say to their own networks. */
+static bool is_for_far_routers(const network *on, const uint8_t *packet)
+{
+    uint16_t socket = get16(packet + AT_TO_SOCKET);
+    return (socket == IPXR_RIP_SOCKET || socket == IPXR_SAP_SOCKET) && !is_for_here(on, packet);
+}
+
+/* Why what a client said is dropped before anybody gets it; REASONS where it isn't. */
+static reason why_not_said(network *on, member *from, const uint8_t *packet)
+{
+    if (!is_for_far_routers(on, packet))
+        return throttle_lets_say(&on->throttle, from, packet);
+    from->dropped[DROPPED_FOR_ROUTER]++;
+    return FOR_FAR_ROUTERS;
+}
+
+/* Sends what a client said before the router, which sends too, hears it. */
+static void carry(gateway *it, network *on, member *from, const uint8_t *packet, size_t length)
+{
+    bool is_heard = ipxr_tunnel_is_heard(&on->tunnel) == 1;
+    reason why = why_not_said(on, from, packet);
+    if (why != REASONS) {
+        gateway_lose(on, why);
+        return;
+    }
+    bool is_received = ipxr_tunnel_receivers(&on->tunnel) > 0;
+    from->dropped[DROPPED_OF_IT] += send_carried(on, from->speaks, packet, length);
+    is_received = carry_over(it, on, from, packet, length) || is_received;
+    if (is_heard)
+        pass_on(it, on, from, packet, length);
+    else if (is_received || on->segment == NULL)
+        gateway_note(on, packet, length, "handed on");
+    else
+        gateway_lose(on, NO_CLIENT);
+}
+
+/* (behind the tunnel, which has noted that a client answers: no limit drops that) */
+static void hear(gateway *it, network *on, const ipxr_sender *sender, const uint8_t *bytes, size_t length)
+{
+    size_t before = ipxr_tunnel_clients(&on->tunnel);
+    int32_t said = ipxr_tunnel_hear(&on->tunnel, sender, bytes, length);
+    size_t carried = ipxr_tunnel_carried(&on->tunnel);
+    if (ipxr_tunnel_clients(&on->tunnel) > before)
+        tunnel_tell_comes(on, sender->place);
+    member *from = roster_find(&on->roster, sender->place);
+    reason why = why_lost(on, from != NULL, said, has_length(bytes, length));
+    if (from != NULL) {
+        from->ping.waits = from->ping.waits && said != IPXR_ANSWERS;
+        answer_client(on, from);
+    } else if (!answer_stranger(on, sender->place, said == IPXR_REGISTERS))
+        why = TOO_MANY_STRANGERS;
+    if (why != REASONS)
+        gateway_lose(on, why);
+    else if (said == IPXR_SPEAKS && from != NULL)
+        carry(it, on, from, bytes, carried);
+}
+
+/* Counts a datagram from an address that isn't allowed, and tells it: it may be a friend's new one. */
+static void refuse(network *on, const address *from)
+{
+    char who[ADDRESS_ROOM];
+    uint64_t now = clock_now();
+    bool is_same = memcmp(on->refused, from->host, sizeof on->refused) == 0;
+    gateway_lose(on, NOT_ALLOWED);
+    if (on->refused_at != 0 && now - on->refused_at < (is_same ? BETWEEN_SAME : BETWEEN))
+        return;
+    memcpy(on->refused, from->host, sizeof on->refused);
+    on->refused_at = now;
+    event("%s is refused on %08" PRIX32 ": %s", address_words(from, who), on->set->network, reason_words(NOT_ALLOWED));
+}
+
+void tunnel_hear(gateway *it, network *on, uint8_t *bytes, size_t length, const address *from)
+{
+    ipxr_sender sender = tunnel_sender(it, on, from);
+    on->counts.in++;
+    if (length > on->set->longest) {
+        gateway_lose(on, TOO_LONG);
+        return;
+    }
+    capture_packet(bytes, length, sender.place);
+    if (!tunnel_lets_in(on->set, from)) {
+        refuse(on, from);
+        return;
+    }
+    /* (a driver clears it; DOSBox' leaves there what the program left) */
+    if (length >= HEADER)
+        bytes[AT_CONTROL] = 0;
+    hear(it, on, &sender, bytes, length);
+}
+
+/* ---- Reports ---- */
+
+bool tunnel_client(network *on, size_t index, known_client *client)
+{
+    ipxr_client at;
+    if (ipxr_tunnel_client(&on->tunnel, index, &at) != 0)
+        return false;
+    const member *known = roster_find(&on->roster, at.place);
+    memset(client, 0, sizeof *client);
+    memcpy(client->place, at.place, NODE);
+    client->at = address_of(at.place);
+    client->is_trusted = ranges_have(&on->set->trusted, &client->at);
+    client->heard = (client->is_trusted ? TRUST_LASTS : ANSWER_LASTS) - at.seconds_left;
+    if (known != NULL) {
+        client->refused = known->refused;
+        memcpy(client->dropped, known->dropped, sizeof client->dropped);
+    }
+    return true;
+}
+
+/* What was dropped of a client, behind its line. */
+static void show_dropped(const known_client *it)
+{
+    static const char *const OF[DROPS] = {[DROPPED_FOR_IT] = "for it", [DROPPED_OF_IT] = "copies of what it said",
+        [DROPPED_PINGS] = "pings", [DROPPED_QUESTIONS] = "questions", [DROPPED_ADVERTISEMENTS] = "advertisements",
+        [DROPPED_FOR_ROUTER] = "for the router", [DROPPED_ANSWERS] = "answers"};
+    char words[240] = "";
+    size_t at = 0;
+    for (int k = 0; k < DROPS; k++)
+        if (it->dropped[k] > 0)
+            at += (size_t)snprintf(words + at, sizeof words - at, "%s %" PRIu64 " %s", at > 0 ? "," : "", it->dropped[k], OF[k]);
+    if (at > 0)
+        say("      dropped:%s", words);
+}
+
+static void show_client(const known_client *client)
+{
+    char node[WORDS], refused[40] = "";
+    if (client->refused > 0)
+        snprintf(refused, sizeof refused, ", %" PRIu64 " not sent", client->refused);
+    say("    %s, %s %d s ago%s", node_words(client->place, node), client->is_trusted ? "trusted, heard" : "answered", client->heard,
+        refused);
+    show_dropped(client);
+}
+
+void tunnel_show(network *on)
+{
+    known_client client;
+    say("  clients: %zu of %u", ipxr_tunnel_clients(&on->tunnel), on->set->clients);
+    for (size_t k = 0; tunnel_client(on, k, &client); k++)
+        show_client(&client);
+}
