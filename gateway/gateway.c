@@ -2,6 +2,7 @@
 
 #include <errno.h>
 #include <inttypes.h>
+#include <string.h>
 
 #include "ipx.h"
 #include "links/ether.h"
@@ -53,17 +54,17 @@ uint32_t port_network(const gateway *it, uint8_t number)
     return number < it->port_count ? it->networks[it->ports[number].first].set->network : 0;
 }
 
-void gateway_put(network *on, const uint8_t *from, const uint8_t *node, const uint8_t *packet, size_t length)
+void gateway_put(network *on, const origin *by, const uint8_t *from, const uint8_t *node, const uint8_t *packet, size_t length)
 {
     if (on->set->type == LINK_DOSBOX) {
         capture_packet(packet, length, from);
-        tunnel_send(on, node, packet, length);
+        tunnel_send(on, by, node, packet, length);
     } else {
-        ether_send(on, from, node, packet, length);
+        ether_send(on, by, from, node, packet, length);
     }
 }
 
-void gateway_send(gateway *it, port *at, const uint8_t *node, const uint8_t *packet, size_t length)
+void gateway_send(gateway *it, port *at, const origin *by, const uint8_t *node, const uint8_t *packet, size_t length)
 {
     char to[WORDS], from[WORDS];
     network *first = first_of(it, at);
@@ -73,9 +74,9 @@ void gateway_send(gateway *it, port *at, const uint8_t *node, const uint8_t *pac
         note("out %08" PRIX32 " %s > %s type %u length %zu", first->set->network, address_at(packet + AT_FROM_NETWORK, from),
              address_at(packet + AT_TO_NETWORK, to), packet[AT_TYPE], length);
     if (first->set->is_of_several)
-        segment_send(it, at, node, packet, length);
+        segment_send(it, at, by, node, packet, length);
     else
-        gateway_put(first, first->node, node, packet, length);
+        gateway_put(first, by, first->node, node, packet, length);
 }
 
 void gateway_flush(gateway *it)
@@ -92,16 +93,29 @@ uint8_t *gateway_room(gateway *it)
     return it->rooms[it->room_count++];
 }
 
-void gateway_send_all(gateway *it)
+/* Whether a packet of the router's is one that it heard and hands on, which keeps the node and the socket of its source. (so nobody passes
+ * for the router by naming its node) */
+static bool goes_on(const uint8_t *packet, const uint8_t *heard)
+{
+    return memcmp(packet + AT_FROM_NODE, heard + AT_FROM_NODE, HEADER - AT_FROM_NODE) == 0;
+}
+
+/* Sends what the router has to send, once it heard what somebody said; or else by itself, where both are NULL. */
+static void send_all(gateway *it, const origin *by, const uint8_t *heard)
 {
     size_t count = ipxr_sent(&it->router);
     for (size_t k = 0; k < count; k++) {
         ipxr_packet_sent sent;
         uint8_t *packet = gateway_room(it);
         if (ipxr_get(&it->router, k, &sent, packet, LONGEST) == 0)
-            gateway_send(it, &it->ports[sent.port], sent.node, packet, sent.length);
+            gateway_send(it, &it->ports[sent.port], by != NULL && goes_on(packet, heard) ? by : NULL, sent.node, packet, sent.length);
     }
     ipxr_clear(&it->router);
+}
+
+void gateway_send_all(gateway *it)
+{
+    send_all(it, NULL, NULL);
 }
 
 void gateway_note(const network *on, const uint8_t *packet, size_t length, const char *became)
@@ -117,7 +131,7 @@ void gateway_note(const network *on, const uint8_t *packet, size_t length, const
          became);
 }
 
-void gateway_hear(gateway *it, network *on, const uint8_t *packet, size_t length)
+void gateway_hear(gateway *it, network *on, const origin *by, const uint8_t *packet, size_t length)
 {
     char words[WORDS];
     if (status_hears(packet, length)) {
@@ -131,7 +145,7 @@ void gateway_hear(gateway *it, network *on, const uint8_t *packet, size_t length
         gateway_lose(on, NO_MEMORY);
     else if (IPXR_DROPPED(became))
         count_drop(&on->counts, became);
-    gateway_send_all(it);
+    send_all(it, by, packet);
 }
 
 /* ---- Turns ---- */

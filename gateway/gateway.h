@@ -98,7 +98,7 @@ void gateway_report(gateway *it);
 /* ---- Between its parts ---- */
 
 /* The router hears a packet that came on a network, and what it has to say is sent. */
-void gateway_hear(gateway *it, network *on, const uint8_t *packet, size_t length);
+void gateway_hear(gateway *it, network *on, const origin *by, const uint8_t *packet, size_t length);
 
 /* Sends what the router has to send. */
 void gateway_send_all(gateway *it);
@@ -110,10 +110,10 @@ uint8_t *gateway_room(gateway *it);
 void gateway_flush(gateway *it);
 
 /* Sends a packet of the router's on a network, to a node there or to all. Its bytes stay where they are until gateway_flush. */
-void gateway_send(gateway *it, port *to, const uint8_t *node, const uint8_t *packet, size_t length);
+void gateway_send(gateway *it, port *to, const origin *by, const uint8_t *node, const uint8_t *packet, size_t length);
 
 /* Puts a packet of a station's, or of the router's, on a link of its network, to a node there or to all; the same of its bytes. */
-void gateway_put(network *on, const uint8_t *from, const uint8_t *node, const uint8_t *packet, size_t length);
+void gateway_put(network *on, const origin *by, const uint8_t *from, const uint8_t *node, const uint8_t *packet, size_t length);
 
 /* Takes the ports from the list of networks on links. */
 void gateway_take_ports(gateway *it);

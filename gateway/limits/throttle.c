@@ -36,8 +36,8 @@ enum { HOUSEHOLD_PART = 8, HOUSEHOLD_AT_ONCE = 2 * (LEAST_AT_ONCE + LEAST_KEPT),
 /* Answers to pings may use so much of the burst that an address hands to the router. Answers of the gateway to what a client says to it. */
 enum { BURST_WITH_PINGS = BURST / 2, ANSWERS = 2, ANSWERS_AT_ONCE = 8 };
 
-/* Bytes of a socket; sockets; and the words of routers that ask. */
-enum { SOCKET = 2, PING_SOCKET = 2, SAP_SOCKET = 0x452, RIP_SOCKET = 0x453, RIP_REQUEST = 1, SAP_QUERY = 1, SAP_NEAREST_QUERY = 3 };
+/* Sockets; and the words of routers that ask. */
+enum { PING_SOCKET = 2, SAP_SOCKET = 0x452, RIP_SOCKET = 0x453, RIP_REQUEST = 1, SAP_QUERY = 1, SAP_NEAREST_QUERY = 3 };
 
 static uint32_t least(uint32_t a, uint32_t b)
 {
@@ -238,27 +238,6 @@ reason throttle_hands(throttle *it, member *from, const uint8_t *packet, size_t 
 
 /* ---- What they receive ---- */
 
-/* Whose packet the router hears, and from which node and socket it comes. */
-static struct {
-    speaker *from;
-    uint64_t *copies;
-    uint8_t source[NODE + SOCKET];
-} brought;
-
-void throttle_bring(speaker *from, uint64_t *copies, const uint8_t *packet)
-{
-    brought.from = from;
-    brought.copies = copies;
-    if (from != NULL)
-        memcpy(brought.source, packet + AT_FROM_NODE, sizeof brought.source);
-}
-
-/* (what goes on keeps its source; so nobody passes for the router by naming its node) */
-speaker *throttle_brought(const uint8_t *packet)
-{
-    return memcmp(packet + AT_FROM_NODE, brought.source, sizeof brought.source) == 0 ? brought.from : NULL;
-}
-
 /* Whether an address has room for a copy for one of its clients; it is counted then. */
 static bool household_receives(const throttle *it, member *to, size_t queue)
 {
@@ -289,18 +268,17 @@ reason throttle_receives(const throttle *it, member *to, size_t queue, size_t le
 
 /* (networks of another kind have no clients. A packet goes out in all of its frames or in none, so nobody hears less for the kind that he
  * uses: where its queue has room for the first, those behind it are owed, and the queue has room again once they are served) */
-reason throttle_carries(const throttle *it, fair *queues, const uint8_t *packet, size_t length, uint32_t frames)
+reason throttle_carries(const throttle *it, fair *queues, const origin *by, const uint8_t *packet, size_t length, uint32_t frames)
 {
-    speaker *from = throttle_brought(packet);
-    if (it->is_off || from == NULL || from->clients == 0)
+    if (it->is_off || by == NULL || by->speaks->clients == 0)
         return REASONS;
-    size_t queue = throttle_queue(from, packet);
+    size_t queue = throttle_queue(by->speaks, packet);
     if (fair_has_room(&it->received, queues, queue, pieces(length))) {
         fair_add(&it->received, queues, queue, pieces(length), frames);
         return REASONS;
     }
-    if (brought.copies != NULL)
-        ++*brought.copies;
+    if (by->copies != NULL)
+        ++*by->copies;
     return TOO_MUCH_FOR_LINK;
 }
 

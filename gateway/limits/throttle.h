@@ -37,6 +37,13 @@ typedef struct throttle {
     meter pinged;
 } throttle;
 
+/* Who said a packet that goes on: an address, or a network of another kind. What links with frames don't get of it is counted in `copies`
+ * too, unless that is NULL. Of what the router itself says there is none: NULL. */
+typedef struct origin {
+    speaker *speaks;
+    uint64_t *copies;
+} origin;
+
 /* Sets the limits of a network, by its line and those below it. */
 void throttle_set(throttle *it, const network_setting *set);
 
@@ -46,19 +53,12 @@ reason throttle_lets_say(throttle *it, member *from, const uint8_t *packet);
 /* The queue by which clients get a packet of one who says it, or of the router where that is NULL. */
 size_t throttle_queue(speaker *from, const uint8_t *packet);
 
-/* From now on the router hears, and other networks and links get, what somebody says; NULL where nobody does. What links with frames don't
- * get of it is counted in `copies` too, unless that is NULL. */
-void throttle_bring(speaker *from, uint64_t *copies, const uint8_t *packet);
-
-/* Who says a packet that the router or `extend` sends: NULL where that is the router itself, else he whose packet was brought. */
-speaker *throttle_brought(const uint8_t *packet);
-
 /* Why a client doesn't receive a packet of so many bytes by a queue; REASONS where it does. */
 reason throttle_receives(const throttle *it, member *to, size_t queue, size_t length);
 
 /* Why a link with frames, which has some queues, doesn't get a packet of so many bytes, in so many frames; REASONS where it does. Only what
  * clients say is limited there. */
-reason throttle_carries(const throttle *it, fair *queues, const uint8_t *packet, size_t length, uint32_t frames);
+reason throttle_carries(const throttle *it, fair *queues, const origin *by, const uint8_t *packet, size_t length, uint32_t frames);
 
 /* Why the router doesn't hear a packet that came in a frame; REASONS where it does. (what it hears of other routers it says to all other
  * networks at once, and what it is asked it answers at length) */

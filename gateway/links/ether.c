@@ -65,10 +65,10 @@ bool ether_put(network *on, const uint8_t *from, const uint8_t *node, const uint
 }
 
 /* (a packet is one, in however many kinds it goes out) */
-void ether_send(network *on, const uint8_t *from, const uint8_t *node, const uint8_t *packet, size_t length)
+void ether_send(network *on, const origin *by, const uint8_t *from, const uint8_t *node, const uint8_t *packet, size_t length)
 {
     unsigned kinds = kinds_to(on, node);
-    reason why = throttle_carries(&on->throttle, on->of_link, packet, length, count_of(kinds));
+    reason why = throttle_carries(&on->throttle, on->of_link, by, packet, length, count_of(kinds));
     if (why != REASONS) {
         gateway_lose(on, why);
         return;
@@ -102,23 +102,29 @@ static bool is_heard_beside(const gateway *it, const cable *on, uint8_t kind)
     return false;
 }
 
+/* Who said what came on a network: the network itself, whoever is there. */
+static origin spoken_on(const gateway *it, network *on)
+{
+    speaker_be_network(&on->speaks, (size_t)(on - it->networks));
+    return (origin){.speaks = &on->speaks};
+}
+
 /* A packet came for the gateway or for all. (clients of DOSBox' receive of all who are there as much as of one address) */
 static void hear_packet(gateway *it, network *on, const uint8_t *packet, size_t length)
 {
-    speaker_be_network(&on->speaks, (size_t)(on - it->networks));
-    if (has_length(packet, length)) {
+    origin by = spoken_on(it, on);
+    bool is_whole = has_length(packet, length);
+    if (is_whole) {
         reason why = throttle_hears(&on->throttle, &on->speaks, packet, length);
         if (why != REASONS) {
             gateway_lose(on, why);
             return;
         }
-        throttle_bring(&on->speaks, NULL, packet);
         length = get16(packet + AT_LENGTH);
         if (is_broadcast(packet + AT_TO_NODE) && is_for_here(on, packet) && length <= LONGEST)
-            extend(it, on, packet, length);
+            extend(it, on, &by, packet, length);
     }
-    gateway_hear(it, on, packet, length);
-    throttle_bring(NULL, NULL, NULL);
+    gateway_hear(it, on, is_whole ? &by : NULL, packet, length);
 }
 
 /* Whether another link of the network has proved that a node is there: it is a client of a tunnel. */
@@ -166,10 +172,8 @@ static void hear_at_link(gateway *it, network *on, const uint8_t *frame, const u
         gateway_lose(on, FALSE_SOURCE);
         return;
     }
-    speaker_be_network(&on->speaks, (size_t)(on - it->networks));
-    throttle_bring(&on->speaks, NULL, packet);
-    heard what = segment_hear(it, on, from, to, packet, carried);
-    throttle_bring(NULL, NULL, NULL);
+    origin by = spoken_on(it, on);
+    heard what = segment_hear(it, on, &by, from, to, packet, carried);
     if (what.by_router || what.links > 0)
         look_for_twins(it, on, from);
     if (what.by_router)

@@ -9,7 +9,7 @@ void ether_hear(gateway *it, cable *on, const uint8_t *frame, size_t length);
 
 /* Sends a packet in a frame from a node to a node, or to all. On a link of any kind it goes to a node in the kind that this uses, and to
  * all, or to a node that isn't known, in each that was heard lately. What clients say goes there as far as the link receives it. */
-void ether_send(network *on, const uint8_t *from, const uint8_t *node, const uint8_t *packet, size_t length);
+void ether_send(network *on, const origin *by, const uint8_t *from, const uint8_t *node, const uint8_t *packet, size_t length);
 
 /* The same without that limit, and nothing is counted. Returns whether it is on its way. */
 bool ether_put(network *on, const uint8_t *from, const uint8_t *node, const uint8_t *packet, size_t length);

@@ -13,7 +13,7 @@ static bool names(const network_setting *it, uint16_t socket)
 }
 
 /* Sends the copy for another network, where the library makes one. */
-static void hand_to(gateway *it, port *at, const network_setting *from, const uint8_t *packet, size_t length)
+static void hand_to(gateway *it, port *at, const origin *by, const network_setting *from, const uint8_t *packet, size_t length)
 {
     network *to = first_of(it, at);
     if (!at->is_up)
@@ -27,10 +27,10 @@ static void hand_to(gateway *it, port *at, const network_setting *from, const ui
         return;
     }
     to->counts.extended++;
-    gateway_send(it, at, copy + AT_TO_NODE, copy, length);
+    gateway_send(it, at, by, copy + AT_TO_NODE, copy, length);
 }
 
-void extend(gateway *it, network *on, const uint8_t *packet, size_t length)
+void extend(gateway *it, network *on, const origin *by, const uint8_t *packet, size_t length)
 {
     uint16_t socket = get16(packet + AT_TO_SOCKET);
     if (packet[AT_TYPE] == PROPAGATED || !names(on->set, socket))
@@ -41,5 +41,5 @@ void extend(gateway *it, network *on, const uint8_t *packet, size_t length)
     }
     for (size_t k = 0; k < it->port_count; k++)
         if (k != on->set->port && names(first_of(it, &it->ports[k])->set, socket))
-            hand_to(it, &it->ports[k], on->set, packet, length);
+            hand_to(it, &it->ports[k], by, on->set, packet, length);
 }

@@ -7,6 +7,6 @@
 
 /* A broadcast came on a network. It goes on unchanged but for its destination network, where its source names the network on which it
  * came; so what was handed on once is never handed on again, here or by another gateway. */
-void extend(gateway *it, network *on, const uint8_t *packet, size_t length);
+void extend(gateway *it, network *on, const origin *by, const uint8_t *packet, size_t length);
 
 #endif

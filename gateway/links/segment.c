@@ -71,26 +71,26 @@ void segment_client(network *on, const uint8_t place[NODE], bool comes)
 /* ---- Packets ---- */
 
 /* Puts a packet on the links that get it, as the library said. Returns how many. */
-static size_t put(gateway *it, port *at, const uint8_t *from, const uint8_t *to, const uint8_t *packet, size_t length)
+static size_t put(gateway *it, port *at, const origin *by, const uint8_t *from, const uint8_t *to, const uint8_t *packet, size_t length)
 {
     uint8_t link;
     size_t count = 0;
     for (; ipxr_segment_receiver(&at->segment, count, &link) == 0; count++)
-        gateway_put(first_of(it, at) + link, from, to, packet, length);
+        gateway_put(first_of(it, at) + link, by, from, to, packet, length);
     return count;
 }
 
-heard segment_hear(gateway *it, network *on, const uint8_t *from, const uint8_t *to, const uint8_t *packet, size_t length)
+heard segment_hear(gateway *it, network *on, const origin *by, const uint8_t *from, const uint8_t *to, const uint8_t *packet, size_t length)
 {
     heard what = {.by_router = ipxr_segment_hear(on->segment, on->link, from, to) == 1};
-    what.links = put(it, port_of(it, on), from, to, packet, length);
+    what.links = put(it, port_of(it, on), by, from, to, packet, length);
     return what;
 }
 
-void segment_send(gateway *it, port *at, const uint8_t *node, const uint8_t *packet, size_t length)
+void segment_send(gateway *it, port *at, const origin *by, const uint8_t *node, const uint8_t *packet, size_t length)
 {
     ipxr_segment_send(&at->segment, node);
-    (void)put(it, at, first_of(it, at)->node, node, packet, length);
+    (void)put(it, at, by, first_of(it, at)->node, node, packet, length);
 }
 
 void segment_next(network *on, const uint8_t *packet, uint8_t node[NODE])

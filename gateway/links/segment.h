@@ -26,10 +26,11 @@ typedef struct heard {
 
 /* A packet was heard at a link, from a node for a node or for all, and is put on the links that get it. Its bytes stay where they are until
  * gateway_flush. */
-heard segment_hear(gateway *it, network *on, const uint8_t *from, const uint8_t *to, const uint8_t *packet, size_t length);
+heard segment_hear(gateway *it, network *on, const origin *by, const uint8_t *from, const uint8_t *to, const uint8_t *packet,
+    size_t length);
 
 /* The router sends a packet to a node or to all. */
-void segment_send(gateway *it, port *at, const uint8_t *node, const uint8_t *packet, size_t length);
+void segment_send(gateway *it, port *at, const origin *by, const uint8_t *node, const uint8_t *packet, size_t length);
 
 /* The node that a client's packet goes to on its network. */
 void segment_next(network *on, const uint8_t *packet, uint8_t node[6]);

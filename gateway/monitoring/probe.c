@@ -123,7 +123,7 @@ static void ask(gateway *it, probe *p, network *on, const uint8_t hop[NODE], con
     p->count++;
     p->is_awaited = true;
     p->began = clock_nanoseconds();
-    gateway_send(it, port_of(it, on), hop, packet, (size_t)length);
+    gateway_send(it, port_of(it, on), NULL, hop, packet, (size_t)length);
     gateway_flush(it); /* (the packet's bytes don't stay) */
 }
 

@@ -115,12 +115,12 @@ static size_t send_carried(network *on, speaker *from, const uint8_t *packet, si
     return dropped;
 }
 
-void tunnel_send(network *on, const uint8_t *node, const uint8_t *packet, size_t length)
+void tunnel_send(network *on, const origin *by, const uint8_t *node, const uint8_t *packet, size_t length)
 {
     ipxr_tunnel_send(&on->tunnel, node);
     if (ipxr_tunnel_receivers(&on->tunnel) == 0 && !is_broadcast(node) && on->segment == NULL)
         gateway_lose(on, NO_CLIENT); /* (else it may be a station of another link) */
-    (void)send_carried(on, throttle_brought(packet), packet, length);
+    (void)send_carried(on, by != NULL ? by->speaks : NULL, packet, length);
 }
 
 /* ---- Who comes and who leaves ---- */
@@ -281,32 +281,35 @@ static bool answer_stranger(network *on, const uint8_t place[NODE], bool registe
     return true;
 }
 
+/* A client as the one who said a packet. */
+static origin origin_of(member *from)
+{
+    return (origin){.speaks = from->speaks, .copies = &from->dropped[DROPPED_OF_IT]};
+}
+
 /* What a client said goes to the router, and to other networks where it is extended. */
 static void pass_on(gateway *it, network *on, member *from, const uint8_t *packet, size_t length)
 {
+    origin by = origin_of(from);
     reason why = throttle_hands(&on->throttle, from, packet, length);
     if (why != REASONS) {
         gateway_lose(on, why);
         return;
     }
-    throttle_bring(from->speaks, &from->dropped[DROPPED_OF_IT], packet);
     if (is_broadcast(packet + AT_TO_NODE) && is_for_here(on, packet))
-        extend(it, on, packet, length);
-    gateway_hear(it, on, packet, length);
-    throttle_bring(NULL, NULL, NULL);
+        extend(it, on, &by, packet, length);
+    gateway_hear(it, on, &by, packet, length);
 }
 
 /* What a client said goes to the other links of its network. Returns whether any of them gets it. */
 static bool carry_over(gateway *it, network *on, member *from, const uint8_t *packet, size_t length)
 {
     uint8_t to[NODE];
+    origin by = origin_of(from);
     if (on->segment == NULL)
         return false;
     segment_next(on, packet, to);
-    throttle_bring(from->speaks, &from->dropped[DROPPED_OF_IT], packet);
-    heard what = segment_hear(it, on, from->place, to, packet, length);
-    throttle_bring(NULL, NULL, NULL);
-    return what.links > 0;
+    return segment_hear(it, on, &by, from->place, to, packet, length).links > 0;
 }
 
 /* Whether it is for routers of another network. Where it names no network as its source, they would take it for a neighbour's, and learn

@@ -18,7 +18,7 @@ void tunnel_second(network *on);
 void tunnel_ping(network *on);
 
 /* Sends a packet of the router's to the client that has a node, or to all. Its bytes stay where they are until gateway_flush. */
-void tunnel_send(network *on, const uint8_t *node, const uint8_t *packet, size_t length);
+void tunnel_send(network *on, const origin *by, const uint8_t *node, const uint8_t *packet, size_t length);
 
 /* ---- For those who change a tunnel ---- */
 

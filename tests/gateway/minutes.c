@@ -79,11 +79,9 @@ typedef struct wire {
 
 static void say_up_to(wire *it, size_t who, uint64_t count)
 {
-    for (; it->said[who] < count; it->said[who]++) {
-        throttle_bring(speakers[who], NULL, packet());
-        it->heard[who] += throttle_carries(&it->limits, it->queues, packet(), SHORT, it->frames) == REASONS;
-        throttle_bring(NULL, NULL, NULL);
-    }
+    origin by = {.speaks = speakers[who]};
+    for (; it->said[who] < count; it->said[who]++)
+        it->heard[who] += throttle_carries(&it->limits, it->queues, &by, packet(), SHORT, it->frames) == REASONS;
 }
 
 /* For some milliseconds the players say 35 packets a second each, a little late, and a sixth as many as are named. Each player is heard
@@ -215,11 +213,9 @@ static void from_other_links(void)
     uint64_t carried = 0;
     throttle_set(&limits, &set);
     speaker_be_network(&network, NUMBER);
-    for (size_t k = 0; k < SAY; k++) {
-        throttle_bring(k % 2 == 0 ? &network : NULL, NULL, packet());
-        carried += throttle_carries(&limits, &queues, packet(), SHORT, 1) == REASONS;
-    }
-    throttle_bring(NULL, NULL, NULL);
+    origin by = {.speaks = &network};
+    for (size_t k = 0; k < SAY; k++)
+        carried += throttle_carries(&limits, &queues, k % 2 == 0 ? &by : NULL, packet(), SHORT, 1) == REASONS;
     expect(carried == SAY, "what other links and the router say has no limit on a link");
 }
 
