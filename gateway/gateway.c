@@ -44,9 +44,9 @@ port *port_of(gateway *it, const network *on)
     return &it->ports[on->set->port];
 }
 
-network *first_of(gateway *it, const port *at)
+network *first_of(gateway *it, const port *router_port)
 {
-    return &it->networks[at->first];
+    return &it->networks[router_port->first];
 }
 
 uint32_t port_network(const gateway *it, uint8_t number)
@@ -64,17 +64,17 @@ void gateway_put(network *on, const origin *by, const uint8_t *from, const uint8
     }
 }
 
-void gateway_send(gateway *it, port *at, const origin *by, const uint8_t *node, const uint8_t *packet, size_t length)
+void gateway_send(gateway *it, port *router_port, const origin *by, const uint8_t *node, const uint8_t *packet, size_t length)
 {
     char to[WORDS], from[WORDS];
-    network *first = first_of(it, at);
-    if (!at->is_up)
+    network *first = first_of(it, router_port);
+    if (!router_port->is_up)
         return; /* (the router said it before it heard that the link is lost) */
     if (notes_events())
         note("out %08" PRIX32 " %s > %s type %u length %zu", first->set->network, address_at(packet + AT_FROM_NETWORK, from),
              address_at(packet + AT_TO_NETWORK, to), packet[AT_TYPE], length);
     if (first->set->is_of_several)
-        segment_send(it, at, by, node, packet, length);
+        segment_send(it, router_port, by, node, packet, length);
     else
         gateway_put(first, by, first->node, node, packet, length);
 }
@@ -150,50 +150,50 @@ void gateway_hear(gateway *it, network *on, const origin *by, const uint8_t *pac
 
 /* ---- Turns ---- */
 
-network *first_on(gateway *it, const cable *at)
+network *first_on(gateway *it, const cable *carrier)
 {
     size_t k = 0;
-    while (it->networks[k].cable != at)
+    while (it->networks[k].cable != carrier)
         k++;
     return &it->networks[k];
 }
 
 /* Hears what came on a cable, and sends what is to be sent for it. */
-static void hear_all(gateway *it, cable *at, arrivals *in)
+static void hear_all(gateway *it, cable *carrier, arrivals *in)
 {
     for (size_t k = 0; k < in->count; k++) {
         arrival *next = &in->list[k];
-        if (at->set->type == LINK_DOSBOX)
-            tunnel_hear(it, first_on(it, at), next->bytes, next->length, &next->from);
+        if (carrier->set->type == LINK_DOSBOX)
+            tunnel_hear(it, first_on(it, carrier), next->bytes, next->length, &next->from);
         else
-            ether_hear(it, at, next->bytes, next->length);
+            ether_hear(it, carrier, next->bytes, next->length);
     }
     gateway_flush(it);
 }
 
 /* The next that came on a cable, sent on. Returns how many: frames, datagrams, or a complaint that nobody hears; 0 where there is none. */
-static size_t receive_next(gateway *it, cable *at)
+static size_t receive_next(gateway *it, cable *carrier)
 {
     arrivals *in = &it->arrivals;
-    if (cable_receive(at, in)) {
-        hear_all(it, at, in);
+    if (cable_receive(carrier, in)) {
+        hear_all(it, carrier, in);
         return in->count;
     }
-    if (at->set->type == LINK_QEMU_UDP && errno == ECONNREFUSED) {
-        gateway_lose(first_on(it, at), NOBODY_THERE);
+    if (carrier->set->type == LINK_QEMU_UDP && errno == ECONNREFUSED) {
+        gateway_lose(first_on(it, carrier), NOBODY_THERE);
         return 1;
     }
     if (errno != EAGAIN)
-        links_look(it, at);
+        links_look(it, carrier);
     return 0;
 }
 
 /* What came on a cable, as far as it is its turn. Returns whether there may be more. */
-static bool receive(gateway *it, cable *at)
+static bool receive(gateway *it, cable *carrier)
 {
     size_t heard = 0, next = 1;
-    while (next > 0 && heard < MOST_AT_ONCE && at->fd >= 0) {
-        next = receive_next(it, at);
+    while (next > 0 && heard < MOST_AT_ONCE && carrier->fd >= 0) {
+        next = receive_next(it, carrier);
         heard += next;
     }
     return heard >= MOST_AT_ONCE;
@@ -279,17 +279,17 @@ static void send_pings(gateway *it)
 }
 
 /* Hears a cable, of which `list` tells what is there. Returns whether there may be more. */
-static bool attend(gateway *it, cable *at, const watch *list, size_t count)
+static bool attend(gateway *it, cable *carrier, const watch *list, size_t count)
 {
-    bool has_changed = false, has_come = cable_has_more(at);
+    bool has_changed = false, has_come = cable_has_more(carrier);
     for (size_t k = 0; k < count; k++) {
-        bool is_packet = list[k].fd == at->fd && !list[k].has_changed;
+        bool is_packet = list[k].fd == carrier->fd && !list[k].has_changed;
         has_come = has_come || list[k].has_come;
         has_changed = has_changed || (list[k].has_come && !is_packet);
     }
-    if (has_changed || cable_is_new(at))
-        links_look(it, at);
-    return has_come && receive(it, at);
+    if (has_changed || cable_is_new(carrier))
+        links_look(it, carrier);
+    return has_come && receive(it, carrier);
 }
 
 /* Waits so many milliseconds until something comes, and hears it: of each cable as far as it is its turn. Returns whether there may be more. */

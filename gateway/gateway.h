@@ -35,7 +35,7 @@ typedef struct network {
     throttle throttle;   /* within limits, */
     strangers strangers; /* and who isn't one; */
     uint8_t refused[4];  /* the address that isn't allowed and was told last, */
-    uint64_t refused_at; /* and when, or 0; */
+    uint64_t refusal_told; /* and when, or 0; */
     pings pings;         /* pings that wait for a narrow line; */
     asks asks;           /* when pings are repeated that aren't answered; */
     outgoing outgoing;   /* what waits to be sent to clients */
@@ -110,7 +110,7 @@ uint8_t *gateway_room(gateway *it);
 void gateway_flush(gateway *it);
 
 /* Sends a packet of the router's on a network, to a node there or to all. Its bytes stay where they are until gateway_flush. */
-void gateway_send(gateway *it, port *to, const origin *by, const uint8_t *node, const uint8_t *packet, size_t length);
+void gateway_send(gateway *it, port *router_port, const origin *by, const uint8_t *node, const uint8_t *packet, size_t length);
 
 /* Puts a packet of a station's, or of the router's, on a link of its network, to a node there or to all; the same of its bytes. */
 void gateway_put(network *on, const origin *by, const uint8_t *from, const uint8_t *node, const uint8_t *packet, size_t length);
@@ -120,8 +120,8 @@ void gateway_take_ports(gateway *it);
 
 /* The port of a network, the first link of a port, and the first network of a cable. */
 port *port_of(gateway *it, const network *on);
-network *first_of(gateway *it, const port *at);
-network *first_on(gateway *it, const cable *at);
+network *first_of(gateway *it, const port *router_port);
+network *first_on(gateway *it, const cable *carrier);
 
 /* The number of a port's network, by the port's number; 0 where there is no such port. */
 uint32_t port_network(const gateway *it, uint8_t number);

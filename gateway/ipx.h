@@ -32,26 +32,26 @@ enum {
 /* Bytes of the longest packet that any link here carries. */
 #define LONGEST 1500
 
-static inline uint16_t get16(const uint8_t *at)
+static inline uint16_t get16(const uint8_t *field)
 {
-    return (uint16_t)(at[0] << 8 | at[1]);
+    return (uint16_t)(field[0] << 8 | field[1]);
 }
 
-static inline uint32_t get32(const uint8_t *at)
+static inline uint32_t get32(const uint8_t *field)
 {
-    return (uint32_t)get16(at) << 16 | get16(at + 2);
+    return (uint32_t)get16(field) << 16 | get16(field + 2);
 }
 
-static inline void put16(uint8_t *at, uint16_t value)
+static inline void put16(uint8_t *field, uint16_t value)
 {
-    at[0] = (uint8_t)(value >> 8);
-    at[1] = (uint8_t)value;
+    field[0] = (uint8_t)(value >> 8);
+    field[1] = (uint8_t)value;
 }
 
-static inline void put32(uint8_t *at, uint32_t value)
+static inline void put32(uint8_t *field, uint32_t value)
 {
-    put16(at, (uint16_t)(value >> 16));
-    put16(at + 2, (uint16_t)value);
+    put16(field, (uint16_t)(value >> 16));
+    put16(field + 2, (uint16_t)value);
 }
 
 static inline bool same_node(const uint8_t *a, const uint8_t *b)

@@ -83,13 +83,13 @@ void gateway_take_ports(gateway *it)
     take_links(it);
     it->port_count = 0;
     for (size_t k = 0; k < it->count; k++) {
-        port *at = &it->ports[it->networks[k].set->port];
+        port *router_port = &it->ports[it->networks[k].set->port];
         if (k == 0 || it->networks[k].set->port != it->networks[k - 1].set->port) {
             it->port_count++;
-            *at = (port){.first = k, .segment = IPXR_SEGMENT_NONE};
+            *router_port = (port){.first = k, .segment = IPXR_SEGMENT_NONE};
         }
-        at->count++;
-        at->is_up = at->is_up || it->networks[k].is_up;
+        router_port->count++;
+        router_port->is_up = router_port->is_up || it->networks[k].is_up;
     }
 }
 
@@ -138,13 +138,13 @@ static int32_t open_segments(gateway *it)
 {
     int32_t made = 0;
     for (size_t k = 0; made >= 0 && k < it->port_count; k++) {
-        port *at = &it->ports[k];
-        const network *first = first_of(it, at);
+        port *router_port = &it->ports[k];
+        const network *first = first_of(it, router_port);
         if (!first->set->is_of_several)
             continue;
-        made = segment_make(&at->segment, first->set, at->count, first->node);
+        made = segment_make(&router_port->segment, first->set, router_port->count, first->node);
         if (made >= 0)
-            segment_begin(it, at);
+            segment_begin(it, router_port);
     }
     return made;
 }

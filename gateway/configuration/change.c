@@ -171,10 +171,10 @@ static void take_ports(gateway *it)
 static void take_segments(gateway *it)
 {
     for (size_t k = 0; k < it->port_count; k++) {
-        port *at = &it->ports[k];
-        at->segment = next.segments[k];
-        if (first_of(it, at)->set->is_of_several)
-            segment_begin(it, at);
+        port *router_port = &it->ports[k];
+        router_port->segment = next.segments[k];
+        if (first_of(it, router_port)->set->is_of_several)
+            segment_begin(it, router_port);
     }
 }
 

@@ -8,17 +8,17 @@ static const char DIGITS[] = "0123456789abcdef0123456789ABCDEF";
 /* The value of a digit, or -1. */
 static int digit(char c)
 {
-    const char *at = c != '\0' ? strchr(DIGITS, c) : NULL;
-    return at != NULL ? (int)((at - DIGITS) % 16) : -1;
+    const char *found = c != '\0' ? strchr(DIGITS, c) : NULL;
+    return found != NULL ? (int)((found - DIGITS) % 16) : -1;
 }
 
 bool is_number(const char *word, uint32_t most, uint32_t *number)
 {
     uint64_t value = 0;
-    for (const char *at = word; *at != '\0'; at++) {
-        if (*at < '0' || *at > '9')
+    for (const char *next = word; *next != '\0'; next++) {
+        if (*next < '0' || *next > '9')
             return false;
-        value = value * 10 + (uint64_t)digit(*at);
+        value = value * 10 + (uint64_t)digit(*next);
         if (value > most)
             return false;
     }
@@ -32,10 +32,10 @@ bool is_hexadecimal(const char *word, size_t digits, uint32_t *number)
     uint32_t value = 0;
     if (length == 0 || length > digits)
         return false;
-    for (const char *at = word; *at != '\0'; at++) {
-        if (digit(*at) < 0)
+    for (const char *next = word; *next != '\0'; next++) {
+        if (digit(*next) < 0)
             return false;
-        value = value << 4 | (uint32_t)digit(*at);
+        value = value << 4 | (uint32_t)digit(*next);
     }
     *number = value;
     return true;
@@ -43,37 +43,37 @@ bool is_hexadecimal(const char *word, size_t digits, uint32_t *number)
 
 bool is_node(const char *word, uint8_t node[6])
 {
-    const char *at = word;
+    const char *next = word;
     bool has_colons = strlen(word) == 17;
     for (size_t k = 0; k < 6; k++) {
-        if (has_colons && k > 0 && *at++ != ':')
+        if (has_colons && k > 0 && *next++ != ':')
             return false;
-        int high = digit(at[0]);
-        int low = high >= 0 ? digit(at[1]) : -1;
+        int high = digit(next[0]);
+        int low = high >= 0 ? digit(next[1]) : -1;
         if (low < 0)
             return false;
         node[k] = (uint8_t)(high << 4 | low);
-        at += 2;
+        next += 2;
     }
-    return *at == '\0';
+    return *next == '\0';
 }
 
 /* Four numbers of 0 to 255 between dots, which don't begin with a 0 that means nothing. */
 static bool is_host(const char *word, const char *end, uint8_t host[4])
 {
-    const char *at = word;
+    const char *next = word;
     for (size_t k = 0; k < 4; k++) {
-        if (k > 0 && *at++ != '.')
+        if (k > 0 && *next++ != '.')
             return false;
-        const char *first = at;
+        const char *first = next;
         unsigned value = 0;
-        for (; *at >= '0' && *at <= '9' && value <= 255; at++)
-            value = value * 10 + (unsigned)digit(*at);
-        if (at == first || value > 255 || (*first == '0' && at - first > 1))
+        for (; *next >= '0' && *next <= '9' && value <= 255; next++)
+            value = value * 10 + (unsigned)digit(*next);
+        if (next == first || value > 255 || (*first == '0' && next - first > 1))
             return false;
         host[k] = (uint8_t)value;
     }
-    return at == end;
+    return next == end;
 }
 
 static bool is_six_and_port(const char *word, address *at)
@@ -112,11 +112,11 @@ static bool is_letter(char c)
 static bool is_name_of_host(const char *word, const char *end)
 {
     bool is_begun = false, has_letter = false;
-    for (const char *at = word; at < end; at++) {
-        if (*at == '.' ? !is_begun : !(is_letter(*at) || (*at >= '0' && *at <= '9') || *at == '_' || (*at == '-' && is_begun)))
+    for (const char *next = word; next < end; next++) {
+        if (*next == '.' ? !is_begun : !(is_letter(*next) || (*next >= '0' && *next <= '9') || *next == '_' || (*next == '-' && is_begun)))
             return false;
-        has_letter = *at != '.' && (has_letter || is_letter(*at));
-        is_begun = *at != '.';
+        has_letter = *next != '.' && (has_letter || is_letter(*next));
+        is_begun = *next != '.';
     }
     return is_begun && has_letter && end - word < HOST_ROOM;
 }

@@ -76,30 +76,30 @@ static household *new_household(uint64_t between)
 /* (where there is no memory networks with different limits share one) */
 household *speaker_household(speaker *it, uint64_t between)
 {
-    household *at = &it->first;
-    if (at->between == 0)
-        at->between = between;
-    while (at->between != between && at->next != NULL)
-        at = at->next;
-    if (at->between == between)
-        return at;
-    at->next = new_household(between);
-    return at->next != NULL ? at->next : at;
+    household *found = &it->first;
+    if (found->between == 0)
+        found->between = between;
+    while (found->between != between && found->next != NULL)
+        found = found->next;
+    if (found->between == between)
+        return found;
+    found->next = new_household(between);
+    return found->next != NULL ? found->next : found;
 }
 
 static void forget_household(household *it)
 {
     household *next;
-    for (household *at = it->next; at != NULL; at = next) {
-        next = at->next;
-        free(at);
+    for (household *gone = it->next; gone != NULL; gone = next) {
+        next = gone->next;
+        free(gone);
     }
     memset(it, 0, sizeof *it);
 }
 
 void speaker_leave(speaker *it)
 {
-    speaker **at = &speakers;
+    speaker **before = &speakers;
     if (--it->clients > 0)
         return;
     line_end(&it->line);
@@ -107,9 +107,9 @@ void speaker_leave(speaker *it)
     forget_household(&it->first);
     if (it == &spare)
         return;
-    while (*at != it)
-        at = &(*at)->next;
-    *at = it->next;
+    while (*before != it)
+        before = &(*before)->next;
+    *before = it->next;
     free(it);
 }
 

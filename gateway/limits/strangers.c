@@ -60,10 +60,10 @@ static bool has_its_part(const strangers *it, const uint8_t place[6])
 {
     size_t count = 0;
     for (size_t k = 0; k < MOST_NEW; k++) {
-        const newcomer *at = &it->list[k];
-        if (at->is_waiting && same_node(at->ping.place, place))
+        const newcomer *one = &it->list[k];
+        if (one->is_waiting && same_node(one->ping.place, place))
             return true;
-        count += at->is_waiting && get32(at->ping.place) == get32(place);
+        count += one->is_waiting && get32(one->ping.place) == get32(place);
     }
     return count >= MOST_OF_ONE;
 }
@@ -79,14 +79,14 @@ void strangers_keep(strangers *it, const ipxr_own *ping)
 void strangers_second(strangers *it, roster *clients)
 {
     for (size_t k = 0; k < MOST_NEW; k++) {
-        newcomer *at = &it->list[k];
-        if (at->is_waiting && (at->seconds++ == ONCE_MORE || roster_find(clients, at->ping.place) != NULL))
-            at->is_waiting = false;
+        newcomer *one = &it->list[k];
+        if (one->is_waiting && (one->seconds++ == ONCE_MORE || roster_find(clients, one->ping.place) != NULL))
+            one->is_waiting = false;
     }
 }
 
 const ipxr_own *strangers_due(const strangers *it, size_t index)
 {
-    const newcomer *at = &it->list[index];
-    return at->is_waiting && (at->seconds == AGAIN || at->seconds == ONCE_MORE) ? &at->ping : NULL;
+    const newcomer *one = &it->list[index];
+    return one->is_waiting && (one->seconds == AGAIN || one->seconds == ONCE_MORE) ? &one->ping : NULL;
 }

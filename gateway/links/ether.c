@@ -82,22 +82,22 @@ void ether_send(network *on, const origin *by, const uint8_t *from, const uint8_
 /* ---- Hearing ---- */
 
 /* The network that has frames of a kind on a cable; where none has, the cable's first, and *is_there is false. */
-static network *network_of(gateway *it, const cable *on, uint8_t kind, bool *is_there)
+static network *network_of(gateway *it, const cable *carrier, uint8_t kind, bool *is_there)
 {
-    network *first = first_on(it, on);
-    for (network *at = first; at < it->networks + it->count; at++) {
-        *is_there = at->cable == on && (at->set->kind == kind || at->set->kind == ANY_KIND);
+    network *first = first_on(it, carrier);
+    for (network *on = first; on < it->networks + it->count; on++) {
+        *is_there = on->cable == carrier && (on->set->kind == kind || on->set->kind == ANY_KIND);
         if (*is_there)
-            return at;
+            return on;
     }
     return first;
 }
 
 /* Whether another cable on the same interface hears frames of a kind. */
-static bool is_heard_beside(const gateway *it, const cable *on, uint8_t kind)
+static bool is_heard_beside(const gateway *it, const cable *carrier, uint8_t kind)
 {
     for (size_t k = 0; k < it->count; k++)
-        if (it->networks[k].cable != on && same_link(it->networks[k].set, on->set) && it->networks[k].set->kind == kind)
+        if (it->networks[k].cable != carrier && same_link(it->networks[k].set, carrier->set) && it->networks[k].set->kind == kind)
             return true;
     return false;
 }
@@ -130,8 +130,8 @@ static void hear_packet(gateway *it, network *on, const uint8_t *packet, size_t 
 /* Whether another link of the network has proved that a node is there: it is a client of a tunnel. */
 static bool is_client_elsewhere(gateway *it, const network *on, const uint8_t *node)
 {
-    port *at = port_of(it, on);
-    for (network *other = first_of(it, at); other < first_of(it, at) + at->count; other++)
+    port *router_port = port_of(it, on);
+    for (network *other = first_of(it, router_port); other < first_of(it, router_port) + router_port->count; other++)
         if (other != on && other->set->type == LINK_DOSBOX && roster_find(&other->roster, node) != NULL)
             return true;
     return false;
@@ -150,10 +150,10 @@ static void look_for_twins(gateway *it, network *on, const uint8_t *node)
 {
     char words[WORDS], link[LINK_ROOM], other[LINK_ROOM];
     uint8_t before;
-    port *at = port_of(it, on);
-    if (!twins_hear(&at->twins, node, on->link, it->seconds, &before))
+    port *router_port = port_of(it, on);
+    if (!twins_hear(&router_port->twins, node, on->link, it->seconds, &before))
         return;
-    const network *with = first_of(it, at) + before;
+    const network *with = first_of(it, router_port) + before;
     event("network %08" PRIX32 " hears node %s by turns on %s and on %s: each machine needs a node of its own", on->set->network,
           node_words(node, words), cable_words(with->cable, with->set, other), cable_words(on->cable, on->set, link));
 }
@@ -231,32 +231,32 @@ static void lose_other_kind(gateway *it, network *on, uint8_t kind, const uint8_
           is_shared(it, on) ? " for one more network" : ", or auto");
 }
 
-void ether_hear(gateway *it, cable *on, const uint8_t *frame, size_t length)
+void ether_hear(gateway *it, cable *carrier, const uint8_t *frame, size_t length)
 {
     bool is_there = false;
     size_t front = 0;
     uint8_t kind = ipxr_frame_read(frame, length < MOST_RECEIVED ? length : MOST_RECEIVED, &front);
-    network *at = network_of(it, on, kind, &is_there);
-    if (kind != IPXR_NO_FRAME && !is_there && is_heard_beside(it, on, kind))
+    network *on = network_of(it, carrier, kind, &is_there);
+    if (kind != IPXR_NO_FRAME && !is_there && is_heard_beside(it, carrier, kind))
         return;
-    at->counts.in++;
+    on->counts.in++;
     if (kind == IPXR_NO_FRAME)
-        gateway_lose(at, NO_IPX);
+        gateway_lose(on, NO_IPX);
     else if (!is_there)
-        lose_other_kind(it, at, kind, frame + NODE);
+        lose_other_kind(it, on, kind, frame + NODE);
     else if (length > IPXR_LONGEST_FRAME)
-        gateway_lose(at, TOO_LONG);
-    else if (same_node(frame + NODE, at->node))
-        hear_own(it, at, frame + front, length - front);
-    else if (!is_of_its_kind(at, kind, frame, frame + front, length - front))
-        gateway_lose(at, SECOND_KIND);
-    else if (at->segment == NULL && !is_broadcast(frame) && !same_node(frame, at->node))
-        gateway_lose(at, FOR_ANOTHER);
+        gateway_lose(on, TOO_LONG);
+    else if (same_node(frame + NODE, on->node))
+        hear_own(it, on, frame + front, length - front);
+    else if (!is_of_its_kind(on, kind, frame, frame + front, length - front))
+        gateway_lose(on, SECOND_KIND);
+    else if (on->segment == NULL && !is_broadcast(frame) && !same_node(frame, on->node))
+        gateway_lose(on, FOR_ANOTHER);
     else {
         capture_frame(frame, length);
-        if (at->segment != NULL)
-            hear_at_link(it, at, frame, frame + front, length - front);
+        if (on->segment != NULL)
+            hear_at_link(it, on, frame, frame + front, length - front);
         else
-            hear_packet(it, at, frame + front, length - front);
+            hear_packet(it, on, frame + front, length - front);
     }
 }

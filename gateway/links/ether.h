@@ -5,7 +5,7 @@
 #include "gateway.h"
 
 /* A frame came on a cable; `length` is all that it had, of which the first MOST_RECEIVED bytes are there. */
-void ether_hear(gateway *it, cable *on, const uint8_t *frame, size_t length);
+void ether_hear(gateway *it, cable *carrier, const uint8_t *frame, size_t length);
 
 /* Sends a packet in a frame from a node to a node, or to all. On a link of any kind it goes to a node in the kind that this uses, and to
  * all, or to a node that isn't known, in each that was heard lately. What clients say goes there as far as the link receives it. */

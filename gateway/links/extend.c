@@ -13,10 +13,10 @@ static bool names(const network_setting *it, uint16_t socket)
 }
 
 /* Sends the copy for another network, where the library makes one. */
-static void hand_to(gateway *it, port *at, const origin *by, const network_setting *from, const uint8_t *packet, size_t length)
+static void hand_to(gateway *it, port *router_port, const origin *by, const network_setting *from, const uint8_t *packet, size_t length)
 {
-    network *to = first_of(it, at);
-    if (!at->is_up)
+    network *to = first_of(it, router_port);
+    if (!router_port->is_up)
         return;
     uint8_t *copy = gateway_room(it);
     memcpy(copy, packet, length);
@@ -27,7 +27,7 @@ static void hand_to(gateway *it, port *at, const origin *by, const network_setti
         return;
     }
     to->counts.extended++;
-    gateway_send(it, at, by, copy + AT_TO_NODE, copy, length);
+    gateway_send(it, router_port, by, copy + AT_TO_NODE, copy, length);
 }
 
 void extend(gateway *it, network *on, const origin *by, const uint8_t *packet, size_t length)

@@ -32,9 +32,9 @@ void kinds_second(kinds *it)
 
 /* ---- Stations ---- */
 
-static bool is_known(const kinds *it, const kind_of_station *at)
+static bool is_known(const kinds *it, const kind_of_station *station)
 {
-    return at->kind != IPXR_NO_FRAME && it->second - at->heard < STATION_LASTS;
+    return station->kind != IPXR_NO_FRAME && it->second - station->heard < STATION_LASTS;
 }
 
 static size_t bucket_of(const uint8_t node[6])
@@ -67,30 +67,30 @@ static kind_of_station *place_for(kinds *it, const uint8_t node[6])
 
 bool kinds_hear(kinds *it, uint8_t kind, const uint8_t node[6], bool is_for_all)
 {
-    kind_of_station *at = place_for(it, node);
-    bool has_another = at != NULL && is_known(it, at) && at->kind != kind && it->second - at->heard < STAYS;
+    kind_of_station *station = place_for(it, node);
+    bool has_another = station != NULL && is_known(it, station) && station->kind != kind && it->second - station->heard < STAYS;
     if (has_another && is_for_all)
         return false;
     it->until[kind] = it->second + KIND_LASTS;
-    if (at != NULL && !has_another) {
-        memcpy(at->node, node, NODE);
-        at->kind = kind;
-        at->heard = it->second;
+    if (station != NULL && !has_another) {
+        memcpy(station->node, node, NODE);
+        station->kind = kind;
+        station->heard = it->second;
     }
     return true;
 }
 
 uint8_t kinds_of(const kinds *it, const uint8_t node[6])
 {
-    const kind_of_station *at = find(it, node);
-    return at != NULL ? at->kind : IPXR_NO_FRAME;
+    const kind_of_station *station = find(it, node);
+    return station != NULL ? station->kind : IPXR_NO_FRAME;
 }
 
-const kind_of_station *kinds_next(const kinds *it, size_t *at)
+const kind_of_station *kinds_next(const kinds *it, size_t *index)
 {
-    while (*at < KIND_BUCKETS * IN_BUCKET) {
-        const kind_of_station *next = &it->stations[*at / IN_BUCKET][*at % IN_BUCKET];
-        ++*at;
+    while (*index < KIND_BUCKETS * IN_BUCKET) {
+        const kind_of_station *next = &it->stations[*index / IN_BUCKET][*index % IN_BUCKET];
+        ++*index;
         if (is_known(it, next))
             return next;
     }
@@ -100,7 +100,7 @@ const kind_of_station *kinds_next(const kinds *it, size_t *at)
 size_t kinds_stations(const kinds *it)
 {
     size_t count = 0;
-    for (size_t at = 0; kinds_next(it, &at) != NULL;)
+    for (size_t index = 0; kinds_next(it, &index) != NULL;)
         count++;
     return count;
 }

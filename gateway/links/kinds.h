@@ -58,7 +58,7 @@ unsigned kinds_for(const kinds *it, const uint8_t node[6]);
 uint8_t kinds_of(const kinds *it, const uint8_t node[6]);
 
 /* The next station that is known, from one place of the table on; `at` goes behind it. Returns NULL where there is none. */
-const kind_of_station *kinds_next(const kinds *it, size_t *at);
+const kind_of_station *kinds_next(const kinds *it, size_t *index);
 
 /* How many are known. */
 size_t kinds_stations(const kinds *it);

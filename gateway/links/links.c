@@ -48,14 +48,14 @@ static bool tell_down(network *on)
 /* The router's port is up as long as one of its links is. Returns false where the router has no memory for it. */
 static bool port_follows(gateway *it, const network *on, bool is_up)
 {
-    port *at = port_of(it, on);
-    for (const network *other = first_of(it, at); other < first_of(it, at) + at->count; other++)
+    port *router_port = port_of(it, on);
+    for (const network *other = first_of(it, router_port); other < first_of(it, router_port) + router_port->count; other++)
         is_up = is_up || (other != on && other->is_up);
-    if (at->is_up == is_up)
+    if (router_port->is_up == is_up)
         return true;
     if ((is_up ? ipxr_port_up(&it->router, on->set->port) : ipxr_port_down(&it->router, on->set->port)) < 0)
         return false;
-    at->is_up = is_up;
+    router_port->is_up = is_up;
     return true;
 }
 
@@ -79,12 +79,12 @@ static void look_at(gateway *it, network *on, bool is_up)
     events_link(on);
 }
 
-static void look(gateway *it, cable *at)
+static void look(gateway *it, cable *carrier)
 {
-    bool is_up = cable_is_up(at), was_lost = cable_was_lost(at);
+    bool is_up = cable_is_up(carrier), was_lost = cable_was_lost(carrier);
     for (size_t k = 0; k < it->count; k++) {
         network *on = &it->networks[k];
-        if (on->cable != at)
+        if (on->cable != carrier)
             continue;
         if (was_lost)
             look_at(it, on, false);
@@ -94,9 +94,9 @@ static void look(gateway *it, cable *at)
     }
 }
 
-void links_look(gateway *it, cable *at)
+void links_look(gateway *it, cable *carrier)
 {
-    look(it, at);
+    look(it, carrier);
     gateway_send_all(it);
 }
 

@@ -5,7 +5,7 @@
 #include "gateway.h"
 
 /* Looks at a cable, or at all, and tells the router what has changed on their networks. */
-void links_look(gateway *it, cable *at);
+void links_look(gateway *it, cable *carrier);
 void links_look_at_all(gateway *it);
 
 /* What a link lacks that is down, or NULL; and the system's number for it, or 0. */

@@ -50,8 +50,8 @@ static bool is_cable(const network *on)
 /* Whether there is another such link on the network. */
 static bool has_another(gateway *it, const network *on)
 {
-    const port *at = port_of(it, on);
-    for (const network *other = first_of(it, at); other < first_of(it, at) + at->count; other++)
+    const port *router_port = port_of(it, on);
+    for (const network *other = first_of(it, router_port); other < first_of(it, router_port) + router_port->count; other++)
         if (other != on && is_cable(other))
             return true;
     return false;
@@ -131,9 +131,9 @@ bool loop_hears(gateway *it, network *on, const uint8_t *packet, size_t length)
 {
     if (!is_cable(on) || length < HEADER + DATA || get16(packet + AT_TO_SOCKET) != LOOP_SOCKET || !is_own(it, on, packet))
         return false;
-    port *at = port_of(it, on);
-    network *other = first_of(it, at) + packet[HEADER + AT_LINK];
-    if (packet[HEADER + AT_LINK] >= at->count)
+    port *router_port = port_of(it, on);
+    network *other = first_of(it, router_port) + packet[HEADER + AT_LINK];
+    if (packet[HEADER + AT_LINK] >= router_port->count)
         return true; /* (there were more links when it was sent) */
     if (other < on)
         shut(it, on, other);

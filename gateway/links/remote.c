@@ -40,9 +40,9 @@ static void give_place(void)
     resolver_unlock();
 }
 
-static void run(void *at)
+static void run(void *given)
 {
-    question *it = at;
+    question *it = given;
     answers found;
     resolver_ask(it->host, it->which, &found);
     resolver_lock();

@@ -33,19 +33,19 @@ int32_t segment_make(ipxr_segment *made, const network_setting *links, size_t co
     return ipxr_segment_make(made, &set);
 }
 
-void segment_begin(gateway *it, port *at)
+void segment_begin(gateway *it, port *router_port)
 {
-    network *first = first_of(it, at);
-    for (size_t k = 0; k < at->count; k++) {
-        first[k].segment = &at->segment;
+    network *first = first_of(it, router_port);
+    for (size_t k = 0; k < router_port->count; k++) {
+        first[k].segment = &router_port->segment;
         first[k].link = (uint8_t)k;
         segment_change(first + k);
     }
 }
 
-void segment_close(port *at)
+void segment_close(port *router_port)
 {
-    ipxr_segment_free(&at->segment);
+    ipxr_segment_free(&router_port->segment);
 }
 
 /* ---- Links and clients ---- */
@@ -71,12 +71,13 @@ void segment_client(network *on, const uint8_t place[NODE], bool comes)
 /* ---- Packets ---- */
 
 /* Puts a packet on the links that get it, as the library said. Returns how many. */
-static size_t put(gateway *it, port *at, const origin *by, const uint8_t *from, const uint8_t *to, const uint8_t *packet, size_t length)
+static size_t put(gateway *it, port *router_port, const origin *by, const uint8_t *from, const uint8_t *to, const uint8_t *packet,
+    size_t length)
 {
     uint8_t link;
     size_t count = 0;
-    for (; ipxr_segment_receiver(&at->segment, count, &link) == 0; count++)
-        gateway_put(first_of(it, at) + link, by, from, to, packet, length);
+    for (; ipxr_segment_receiver(&router_port->segment, count, &link) == 0; count++)
+        gateway_put(first_of(it, router_port) + link, by, from, to, packet, length);
     return count;
 }
 
@@ -87,10 +88,10 @@ heard segment_hear(gateway *it, network *on, const origin *by, const uint8_t *fr
     return what;
 }
 
-void segment_send(gateway *it, port *at, const origin *by, const uint8_t *node, const uint8_t *packet, size_t length)
+void segment_send(gateway *it, port *router_port, const origin *by, const uint8_t *node, const uint8_t *packet, size_t length)
 {
-    ipxr_segment_send(&at->segment, node);
-    (void)put(it, at, by, first_of(it, at)->node, node, packet, length);
+    ipxr_segment_send(&router_port->segment, node);
+    (void)put(it, router_port, by, first_of(it, router_port)->node, node, packet, length);
 }
 
 void segment_next(network *on, const uint8_t *packet, uint8_t node[NODE])
@@ -121,19 +122,19 @@ static void show_stations_of_any_kind(const network *on)
 {
     const kind_of_station *station;
     say("stations on %08" PRIX32 ": %zu", on->set->network, kinds_stations(&on->kinds));
-    for (size_t at = 0; (station = kinds_next(&on->kinds, &at)) != NULL;)
+    for (size_t index = 0; (station = kinds_next(&on->kinds, &index)) != NULL;)
         show_station(on, station->node);
 }
 
-void stations_show(gateway *it, port *at)
+void stations_show(gateway *it, port *router_port)
 {
     ipxr_station station;
-    network *first = first_of(it, at);
+    network *first = first_of(it, router_port);
     if (!first->set->is_of_several && first->set->kind == ANY_KIND)
         show_stations_of_any_kind(first);
     if (!first->set->is_of_several)
         return;
-    say("stations on %08" PRIX32 ": %zu", first->set->network, ipxr_segment_stations(&at->segment));
-    for (size_t k = 0; ipxr_segment_station(&at->segment, k, &station) == 0; k++)
+    say("stations on %08" PRIX32 ": %zu", first->set->network, ipxr_segment_stations(&router_port->segment));
+    for (size_t k = 0; ipxr_segment_station(&router_port->segment, k, &station) == 0; k++)
         show_station(first + station.link, station.node);
 }

@@ -7,10 +7,10 @@
 /* Makes the segment of a network of several links, which stand one behind the other, with the gateway's node there. Returns 0, or the
  * library's fault. */
 int32_t segment_make(ipxr_segment *made, const network_setting *links, size_t count, const uint8_t node[6]);
-void segment_close(port *at);
+void segment_close(port *router_port);
 
 /* The links of a port, which has its segment, join that as they are: those that are up, with their clients. */
-void segment_begin(gateway *it, port *at);
+void segment_begin(gateway *it, port *router_port);
 
 /* A link went up or down. */
 void segment_change(network *on);
@@ -30,7 +30,7 @@ heard segment_hear(gateway *it, network *on, const origin *by, const uint8_t *fr
     size_t length);
 
 /* The router sends a packet to a node or to all. */
-void segment_send(gateway *it, port *at, const origin *by, const uint8_t *node, const uint8_t *packet, size_t length);
+void segment_send(gateway *it, port *router_port, const origin *by, const uint8_t *node, const uint8_t *packet, size_t length);
 
 /* The node that a client's packet goes to on its network. */
 void segment_next(network *on, const uint8_t *packet, uint8_t node[6]);
@@ -39,6 +39,6 @@ void segment_next(network *on, const uint8_t *packet, uint8_t node[6]);
 void segments_second(gateway *it);
 
 /* Says a line for each station of a network that has several links, or whose link is of any kind. */
-void stations_show(gateway *it, port *at);
+void stations_show(gateway *it, port *router_port);
 
 #endif

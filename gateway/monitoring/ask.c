@@ -116,12 +116,12 @@ static int hear(int fd, const char *path)
     ssize_t length;
     bool has_ended = false;
     while ((length = connection_receive(fd, (uint8_t *)bytes, sizeof bytes)) > 0) {
-        size_t at = 0;
+        size_t done = 0;
         if (file == NULL)
-            file = bytes[at++] == FOR_OUTPUT ? stdout : stderr;
+            file = bytes[done++] == FOR_OUTPUT ? stdout : stderr;
         if (!has_ended)
-            at += print(file, bytes + at, (size_t)length - at);
-        has_ended = has_ended || at < (size_t)length;
+            done += print(file, bytes + done, (size_t)length - done);
+        has_ended = has_ended || done < (size_t)length;
         if (has_ended && bytes[length - 1] != '\0')
             return bytes[length - 1] == IS_WELL ? WELL : NOT_WELL;
     }

@@ -77,14 +77,14 @@ void events_link(const network *on)
 {
     char link[LINK_ROOM];
     happening h;
-    const cable *at = on->cable;
+    const cable *carrier = on->cable;
     int fault;
     const char *lacks = link_lacks(on, &fault);
     if (!status_is_followed())
         return;
     begin(&h, on->is_up ? "link up" : "link down");
     sheet_put(&h.line, "%snetwork %08" PRIX32 " is %s: %s", part_of(on), on->set->network, on->is_up ? "up" : "down",
-              cable_words(at, on->set, link));
+              cable_words(carrier, on->set, link));
     put_network(&h, "network", on->set->network);
     put_text(&h, "link", link);
     if (!on->is_up && lacks != NULL) {
@@ -169,24 +169,24 @@ static void look_at_routes(gateway *it)
 
 /* ---- Services ---- */
 
-static void tell_service(const gateway *it, const ipxr_service_record *at, const char *what, const char *event)
+static void tell_service(const gateway *it, const ipxr_service_record *service, const char *what, const char *event)
 {
     char node[WORDS], by[WORDS];
-    size_t length = strnlen((const char *)at->name, sizeof at->name);
+    size_t length = strnlen((const char *)service->name, sizeof service->name);
     happening h;
     begin(&h, event);
-    sheet_put(&h.line, "service %04X ", at->type);
-    sheet_word(&h.line, at->name, length);
-    sheet_put(&h.line, " %s: %08" PRIX32 ".%s.%04X hops %u by %s on %08" PRIX32, what, at->network, node_words(at->node, node), at->socket,
-              at->hops, node_words(at->neighbour, by), port_network(it, at->port));
-    sheet_put(&h.json, ", \"type\": \"%04X\"", at->type);
-    put_bytes(&h, "name", (const char *)at->name, length);
-    put_network(&h, "network", at->network);
+    sheet_put(&h.line, "service %04X ", service->type);
+    sheet_word(&h.line, service->name, length);
+    sheet_put(&h.line, " %s: %08" PRIX32 ".%s.%04X hops %u by %s on %08" PRIX32, what, service->network, node_words(service->node, node),
+              service->socket, service->hops, node_words(service->neighbour, by), port_network(it, service->port));
+    sheet_put(&h.json, ", \"type\": \"%04X\"", service->type);
+    put_bytes(&h, "name", (const char *)service->name, length);
+    put_network(&h, "network", service->network);
     put_text(&h, "node", node);
-    sheet_put(&h.json, ", \"socket\": \"%04X\"", at->socket);
-    put_number(&h, "hops", at->hops);
+    sheet_put(&h.json, ", \"socket\": \"%04X\"", service->socket);
+    put_number(&h, "hops", service->hops);
     put_text(&h, "by", by);
-    put_network(&h, "on", port_network(it, at->port));
+    put_network(&h, "on", port_network(it, service->port));
     tell(&h);
 }
 

@@ -55,10 +55,10 @@ const char *node_words(const uint8_t *node, char words[WORDS])
     return words;
 }
 
-const char *address_at(const uint8_t *at, char words[WORDS])
+const char *address_at(const uint8_t *bytes, char words[WORDS])
 {
     char node[WORDS];
-    snprintf(words, WORDS, "%08" PRIX32 ".%.12s.%04X", get32(at), node_words(at + 4, node), get16(at + 10));
+    snprintf(words, WORDS, "%08" PRIX32 ".%.12s.%04X", get32(bytes), node_words(bytes + 4, node), get16(bytes + 10));
     return words;
 }
 

@@ -19,7 +19,7 @@ void event(const char *format, ...);
 
 /* A node by its twelve digits; network, node and socket at a place of a header. */
 const char *node_words(const uint8_t *node, char words[WORDS]);
-const char *address_at(const uint8_t *at, char words[WORDS]);
+const char *address_at(const uint8_t *bytes, char words[WORDS]);
 
 /* The words of a number of the library. */
 const char *answer_words(int32_t answer, char words[WORDS]);

@@ -131,16 +131,16 @@ static void note_written(writer which, ssize_t written)
 static void write_on(writer which)
 {
     outlet *it = &outlets[which];
-    const char *at = NULL;
+    const char *next = NULL;
     writer_lock(which);
     for (;;) {
         if (it->under_way == 0)
-            at = next_lines(which);
+            next = next_lines(which);
         size_t piece = it->under_way < PIECE ? it->under_way : PIECE;
         writer_unlock(which);
-        ssize_t written = writer_write(which, at, piece);
+        ssize_t written = writer_write(which, next, piece);
         writer_lock(which);
-        at += written > 0 ? written : 0;
+        next += written > 0 ? written : 0;
         note_written(which, written);
     }
 }

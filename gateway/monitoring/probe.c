@@ -26,25 +26,25 @@ enum {
 /* ---- Words ---- */
 
 /* Reads NETWORK.NODE or NETWORK.NODE.SOCKET. */
-static bool is_station(const char *word, ipxr_address *at, bool *has_socket)
+static bool is_station(const char *word, ipxr_address *station, bool *has_socket)
 {
     char number[9] = "", node[18] = "", port[5] = "";
     uint32_t value = 0;
     int count = sscanf(word, "%8[^.].%17[^.].%4[^.]", number, node, port);
     size_t length = strlen(number) + 1 + strlen(node) + (count > 2 ? 1 + strlen(port) : 0);
-    if (count < 2 || length != strlen(word) || !is_hexadecimal(number, 8, &at->network) || !is_node(node, at->node))
+    if (count < 2 || length != strlen(word) || !is_hexadecimal(number, 8, &station->network) || !is_node(node, station->node))
         return false;
     *has_socket = count > 2;
     if (count > 2 && (!is_hexadecimal(port, 4, &value) || value == 0))
         return false;
-    at->socket = (uint16_t)value;
-    return at->network != 0;
+    station->socket = (uint16_t)value;
+    return station->network != 0;
 }
 
-static const char *station_words(const ipxr_address *at, char words[WORDS])
+static const char *station_words(const ipxr_address *station, char words[WORDS])
 {
     char node[WORDS];
-    snprintf(words, WORDS, "%08" PRIX32 ".%.12s", at->network, node_words(at->node, node));
+    snprintf(words, WORDS, "%08" PRIX32 ".%.12s", station->network, node_words(station->node, node));
     return words;
 }
 
@@ -76,11 +76,11 @@ static network *own_network(gateway *it, uint32_t number, const uint8_t node[NOD
 /* The router's route to a network, or its default one. */
 static bool find_route(gateway *it, uint32_t number, ipxr_route_record *found)
 {
-    ipxr_route_record at;
+    ipxr_route_record route;
     bool has = false;
-    for (size_t k = 0; ipxr_route(&it->router, k, &at) == 0; k++)
-        if (at.network == number || (at.network == DEFAULT_ROUTE && !has)) {
-            *found = at;
+    for (size_t k = 0; ipxr_route(&it->router, k, &route) == 0; k++)
+        if (route.network == number || (route.network == DEFAULT_ROUTE && !has)) {
+            *found = route;
             has = true;
         }
     return has;
@@ -209,12 +209,12 @@ void probe_ping(gateway *it, viewer *v, const char *word, unsigned number)
 static void trace_own(gateway *it, viewer *v, const network *own)
 {
     char words[LINK_ROOM];
-    const port *at = port_of(it, own);
+    const port *router_port = port_of(it, own);
     begin(v, true, 0);
-    for (const network *on = first_of(it, at); on < first_of(it, at) + at->count; on++)
+    for (const network *on = first_of(it, router_port); on < first_of(it, router_port) + router_port->count; on++)
         viewer_say(v, "network %08" PRIX32 " is the gateway's own, and %s: %s", on->set->network, on->is_up ? "up" : "down",
                    cable_words(on->cable, on->set, words));
-    viewer_end(v, at->is_up);
+    viewer_end(v, router_port->is_up);
 }
 
 void probe_trace(gateway *it, viewer *v, const char *word, unsigned number)
@@ -249,14 +249,14 @@ static void say_way(viewer *v, const uint8_t *data, size_t length, const char *t
 {
     char words[WORDS];
     const probe *p = &v->probe;
-    for (size_t at = 2; at + 8 <= length; at += 8) {
-        if (get32(data + at) != p->to.network)
+    for (size_t entry = 2; entry + 8 <= length; entry += 8) {
+        if (get32(data + entry) != p->to.network)
             continue;
-        if (get16(data + at + 4) >= UNREACHABLE)
+        if (get16(data + entry + 4) >= UNREACHABLE)
             viewer_say(v, "%s answers in %s: it can't reach it any more", station_words(&p->asked, words), took);
         else
-            viewer_say(v, "%s answers in %s: hops %u ticks %u", station_words(&p->asked, words), took, get16(data + at + 4),
-                       get16(data + at + 6));
+            viewer_say(v, "%s answers in %s: hops %u ticks %u", station_words(&p->asked, words), took, get16(data + entry + 4),
+                       get16(data + entry + 6));
         return;
     }
     viewer_say(v, "%s answers in %s, but not about this network", station_words(&p->asked, words), took);

@@ -44,14 +44,15 @@ static void show_routes(gateway *it)
 static void show_services(gateway *it)
 {
     char node[WORDS], by[WORDS];
-    ipxr_service_record at;
+    ipxr_service_record service;
     say("services: %zu", ipxr_services(&it->router));
-    for (size_t k = 0; ipxr_service(&it->router, k, &at) == 0; k++) {
-        char name[sizeof at.name + 1] = {0};
-        for (size_t c = 0; c < sizeof at.name && at.name[c] != 0; c++)
-            name[c] = at.name[c] > ' ' && at.name[c] < 127 ? (char)at.name[c] : '.';
-        say("  %04X %s at %08" PRIX32 ".%s.%04X hops %u by %s on %08" PRIX32 ", age %u s", at.type, name, at.network,
-            node_words(at.node, node), at.socket, at.hops, node_words(at.neighbour, by), port_network(it, at.port), at.age);
+    for (size_t k = 0; ipxr_service(&it->router, k, &service) == 0; k++) {
+        char name[sizeof service.name + 1] = {0};
+        for (size_t c = 0; c < sizeof service.name && service.name[c] != 0; c++)
+            name[c] = service.name[c] > ' ' && service.name[c] < 127 ? (char)service.name[c] : '.';
+        say("  %04X %s at %08" PRIX32 ".%s.%04X hops %u by %s on %08" PRIX32 ", age %u s", service.type, name, service.network,
+            node_words(service.node, node), service.socket, service.hops, node_words(service.neighbour, by),
+            port_network(it, service.port), service.age);
     }
 }
 

@@ -47,25 +47,25 @@ void sheet_word(sheet *s, const uint8_t *bytes, size_t count)
 
 /* ---- Columns ---- */
 
-static bool is_last(const column *at)
+static bool is_last(const column *next)
 {
-    return at->key == NULL || at[1].key == NULL;
+    return next->key == NULL || next[1].key == NULL;
 }
 
 /* Fills up a column that was begun at a place of the text. */
-static void pad(sheet *s, const column *at, size_t begun)
+static void pad(sheet *s, const column *next, size_t begun)
 {
     int written = (int)(s->count - begun);
-    if (!is_last(at))
-        sheet_put(s, "%*s", written < at->width ? at->width - written + 1 : 1, "");
+    if (!is_last(next))
+        sheet_put(s, "%*s", written < next->width ? next->width - written + 1 : 1, "");
 }
 
 void sheet_headings(sheet *s, const column *columns)
 {
-    for (const column *at = columns; s->form == AS_COLUMNS && at->key != NULL; at++) {
+    for (const column *next = columns; s->form == AS_COLUMNS && next->key != NULL; next++) {
         size_t begun = s->count;
-        sheet_put(s, "%s", at->heading);
-        pad(s, at, begun);
+        sheet_put(s, "%s", next->heading);
+        pad(s, next, begun);
     }
     if (s->form == AS_COLUMNS)
         sheet_put(s, "\n");

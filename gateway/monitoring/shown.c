@@ -61,12 +61,12 @@ static const char *kinds_on(const network *on, char words[KINDS_ROOM])
     return on->set->kind == ANY_KIND ? kinds_words(&on->kinds, words) : kind_word(on->set->kind);
 }
 
-static bool next_link(gateway *it, cursor *at, sheet *s)
+static bool next_link(gateway *it, cursor *so_far, sheet *s)
 {
     char link[LINK_ROOM], lack[LACK_ROOM], kinds[KINDS_ROOM];
-    if (at->network >= it->count)
+    if (so_far->network >= it->count)
         return false;
-    const network *on = &it->networks[at->network++];
+    const network *on = &it->networks[so_far->network++];
     record_begin(s, LINK_COLUMNS);
     field_network(s, on->set->network);
     field_text(s, on->is_up ? "up" : "down");
@@ -95,19 +95,19 @@ static uint64_t dropped_of(const known_client *client)
     return sum;
 }
 
-static bool next_client(gateway *it, cursor *at, sheet *s)
+static bool next_client(gateway *it, cursor *so_far, sheet *s)
 {
     known_client client;
     char place[ADDRESS_ROOM];
-    while (at->network < it->count && !tunnel_client(&it->networks[at->network], at->index, &client)) {
-        at->network++;
-        at->index = 0;
+    while (so_far->network < it->count && !tunnel_client(&it->networks[so_far->network], so_far->index, &client)) {
+        so_far->network++;
+        so_far->index = 0;
     }
-    if (at->network >= it->count)
+    if (so_far->network >= it->count)
         return false;
-    at->index++;
+    so_far->index++;
     record_begin(s, CLIENT_COLUMNS);
-    field_network(s, it->networks[at->network].set->network);
+    field_network(s, it->networks[so_far->network].set->network);
     field_node(s, client.place);
     field_text(s, address_words(&client.at, place));
     field_flag(s, client.is_trusted);
@@ -146,14 +146,14 @@ static const char *kind_on(const network *on, const uint8_t node[6])
     return kind != IPXR_NO_FRAME ? kind_word(kind) : NULL;
 }
 
-static bool next_station(gateway *it, cursor *at, sheet *s)
+static bool next_station(gateway *it, cursor *so_far, sheet *s)
 {
     char link[LINK_ROOM];
     ipxr_station station;
     const network *on = NULL;
-    while (at->network < it->port_count && (on = station_of(it, &it->ports[at->network], &at->index, &station)) == NULL) {
-        at->network++;
-        at->index = 0;
+    while (so_far->network < it->port_count && (on = station_of(it, &it->ports[so_far->network], &so_far->index, &station)) == NULL) {
+        so_far->network++;
+        so_far->index = 0;
     }
     if (on == NULL)
         return false;
@@ -175,12 +175,12 @@ static bool next_station(gateway *it, cursor *at, sheet *s)
 static const column ROUTE_COLUMNS[] = {{"network", "NETWORK", 8}, {"hops", "HOPS", 4}, {"ticks", "TICKS", 5},
                                        {"by", "BY", 12},          {"on", "ON", 8},     {"age", "AGE", 0}, {0}};
 
-static bool next_route(gateway *it, cursor *at, sheet *s)
+static bool next_route(gateway *it, cursor *so_far, sheet *s)
 {
     ipxr_route_record route;
-    if (ipxr_route(&it->router, at->index, &route) != 0)
+    if (ipxr_route(&it->router, so_far->index, &route) != 0)
         return false;
-    at->index++;
+    so_far->index++;
     record_begin(s, ROUTE_COLUMNS);
     field_network(s, route.network);
     field_number(s, route.hops);
@@ -196,12 +196,12 @@ static const column SERVICE_COLUMNS[] = {{"type", "TYPE", 4},     {"name", "NAME
                                          {"node", "NODE", 12},    {"socket", "SOCKET", 6}, {"hops", "HOPS", 4},
                                          {"by", "BY", 12},        {"on", "ON", 8},      {"age", "AGE", 0}, {0}};
 
-static bool next_service(gateway *it, cursor *at, sheet *s)
+static bool next_service(gateway *it, cursor *so_far, sheet *s)
 {
     ipxr_service_record service;
-    if (ipxr_service(&it->router, at->index, &service) != 0)
+    if (ipxr_service(&it->router, so_far->index, &service) != 0)
         return false;
-    at->index++;
+    so_far->index++;
     record_begin(s, SERVICE_COLUMNS);
     field_hexadecimal(s, service.type);
     field_name(s, service.name, strnlen((const char *)service.name, sizeof service.name));
@@ -221,71 +221,71 @@ static bool next_service(gateway *it, cursor *at, sheet *s)
 static const struct {
     const char *word;
     const column *columns;
-    bool (*next)(gateway *it, cursor *at, sheet *s);
+    bool (*next)(gateway *it, cursor *so_far, sheet *s);
 } SECTIONS[] = {
     {"links", LINK_COLUMNS, next_link},    {"clients", CLIENT_COLUMNS, next_client},    {"stations", STATION_COLUMNS, next_station},
     {"routes", ROUTE_COLUMNS, next_route}, {"services", SERVICE_COLUMNS, next_service}, {"counts", COUNT_COLUMNS, shown_count},
 };
 enum { SECTION_COUNT = sizeof SECTIONS / sizeof *SECTIONS };
 
-bool shown_begin(cursor *at, const char *word)
+bool shown_begin(cursor *so_far, const char *word)
 {
-    memset(at, 0, sizeof *at);
-    at->is_whole = word == NULL;
-    at->behind = SECTION_COUNT;
+    memset(so_far, 0, sizeof *so_far);
+    so_far->is_whole = word == NULL;
+    so_far->behind = SECTION_COUNT;
     if (word == NULL)
         return true;
-    while (at->section < SECTION_COUNT && strcmp(SECTIONS[at->section].word, word) != 0)
-        at->section++;
-    at->behind = at->section + 1;
-    return at->section < SECTION_COUNT;
+    while (so_far->section < SECTION_COUNT && strcmp(SECTIONS[so_far->section].word, word) != 0)
+        so_far->section++;
+    so_far->behind = so_far->section + 1;
+    return so_far->section < SECTION_COUNT;
 }
 
 /* What stands before a section, or is its headings. */
-static void begin_section(gateway *it, cursor *at, sheet *s)
+static void begin_section(gateway *it, cursor *so_far, sheet *s)
 {
-    if (s->form == AS_JSON && at->is_whole && at->section == 0)
+    if (s->form == AS_JSON && so_far->is_whole && so_far->section == 0)
         sheet_put(s, "{\"release\": \"%s\", \"seconds\": %" PRIu64 ",\n", IPXR_RELEASE, (clock_now() - it->began) / 1000);
-    if (s->form == AS_JSON && at->is_whole)
-        sheet_put(s, "\"%s\": ", SECTIONS[at->section].word);
+    if (s->form == AS_JSON && so_far->is_whole)
+        sheet_put(s, "\"%s\": ", SECTIONS[so_far->section].word);
     if (s->form == AS_JSON)
         sheet_put(s, "[");
-    else if (at->is_whole && at->section > 0)
+    else if (so_far->is_whole && so_far->section > 0)
         sheet_put(s, "\n");
-    sheet_headings(s, SECTIONS[at->section].columns);
-    at->has_begun = true;
+    sheet_headings(s, SECTIONS[so_far->section].columns);
+    so_far->has_begun = true;
 }
 
 /* What stands behind it; the next one begins. */
-static void end_section(cursor *at, sheet *s)
+static void end_section(cursor *so_far, sheet *s)
 {
-    at->section++;
-    if (s->form == AS_JSON && at->is_whole)
-        sheet_put(s, "]%s\n", at->section < at->behind ? "," : "}");
+    so_far->section++;
+    if (s->form == AS_JSON && so_far->is_whole)
+        sheet_put(s, "]%s\n", so_far->section < so_far->behind ? "," : "}");
     else if (s->form == AS_JSON)
         sheet_put(s, "]\n");
-    at->has_begun = false;
-    at->written = at->network = at->index = 0;
+    so_far->has_begun = false;
+    so_far->written = so_far->network = so_far->index = 0;
 }
 
-bool shown_next(gateway *it, cursor *at, sheet *s)
+bool shown_next(gateway *it, cursor *so_far, sheet *s)
 {
     if (s->form == AS_PROMETHEUS)
-        return shown_metric(it, at, s);
-    if (at->section == at->behind)
+        return shown_metric(it, so_far, s);
+    if (so_far->section == so_far->behind)
         return false;
-    if (!at->has_begun) {
-        begin_section(it, at, s);
+    if (!so_far->has_begun) {
+        begin_section(it, so_far, s);
         return true;
     }
     size_t before = s->count;
     if (s->form == AS_JSON)
-        sheet_put(s, at->written > 0 ? ",\n" : "\n");
-    if (SECTIONS[at->section].next(it, at, s)) {
-        at->written++;
+        sheet_put(s, so_far->written > 0 ? ",\n" : "\n");
+    if (SECTIONS[so_far->section].next(it, so_far, s)) {
+        so_far->written++;
         return true;
     }
     s->count = before;
-    end_section(at, s);
+    end_section(so_far, s);
     return true;
 }

@@ -16,18 +16,18 @@ typedef struct cursor {
 } cursor;
 
 /* Begins with a section by its word, or with all where there is none. Returns false where there is no such section. */
-bool shown_begin(cursor *at, const char *word);
+bool shown_begin(cursor *so_far, const char *word);
 
 /* Writes the next piece, of at most MOST_RECORD bytes. Returns false where all is written. */
-bool shown_next(gateway *it, cursor *at, sheet *s);
+bool shown_next(gateway *it, cursor *so_far, sheet *s);
 
 /* ---- Of its sections ---- */
 
 /* Writes the record that is next, and goes behind it. Returns false where there is none, and nothing is written. */
-bool shown_count(gateway *it, cursor *at, sheet *s);
+bool shown_count(gateway *it, cursor *so_far, sheet *s);
 extern const column COUNT_COLUMNS[];
 
 /* The next piece of all counts in the text format of Prometheus. Returns false where all is written. */
-bool shown_metric(gateway *it, cursor *at, sheet *s);
+bool shown_metric(gateway *it, cursor *so_far, sheet *s);
 
 #endif

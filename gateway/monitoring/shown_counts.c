@@ -35,13 +35,13 @@ static uint64_t value_on(network *on, size_t index)
 }
 
 /* The same of all links of a network together. */
-static uint64_t value_of(gateway *it, const cursor *at)
+static uint64_t value_of(gateway *it, const cursor *so_far)
 {
-    const port *of = &it->ports[at->network];
+    const port *of = &it->ports[so_far->network];
     uint64_t sum = 0;
     for (size_t k = 0; k < of->count; k++)
-        sum += value_on(first_of(it, of) + k, at->index);
-    return at->index == UP ? of->is_up : sum;
+        sum += value_on(first_of(it, of) + k, so_far->index);
+    return so_far->index == UP ? of->is_up : sum;
 }
 
 /* What a count is called: the words of the report. */
@@ -54,46 +54,46 @@ static const char *name_of(size_t index, char words[WORDS])
 }
 
 /* Goes to the next network of which something is counted between two numbers, and to that. Returns false where there is none. */
-static bool find(gateway *it, cursor *at, size_t first, size_t behind, size_t always_behind)
+static bool find(gateway *it, cursor *so_far, size_t first, size_t behind, size_t always_behind)
 {
-    if (at->index < first)
-        at->index = first;
-    while (at->network < it->port_count && at->index >= always_behind && value_of(it, at) == 0) {
-        at->index++;
-        if (at->index >= behind) {
-            at->network++;
-            at->index = first;
+    if (so_far->index < first)
+        so_far->index = first;
+    while (so_far->network < it->port_count && so_far->index >= always_behind && value_of(it, so_far) == 0) {
+        so_far->index++;
+        if (so_far->index >= behind) {
+            so_far->network++;
+            so_far->index = first;
         }
     }
-    return at->network < it->port_count;
+    return so_far->network < it->port_count;
 }
 
 /* Goes behind what was written. */
-static void step(cursor *at, size_t first, size_t behind)
+static void step(cursor *so_far, size_t first, size_t behind)
 {
-    at->index++;
-    if (at->index >= behind) {
-        at->network++;
-        at->index = first;
+    so_far->index++;
+    if (so_far->index >= behind) {
+        so_far->network++;
+        so_far->index = first;
     }
 }
 
 /* ---- Records ---- */
 
-bool shown_count(gateway *it, cursor *at, sheet *s)
+bool shown_count(gateway *it, cursor *so_far, sheet *s)
 {
     char number[WORDS], words[WORDS], name[WORDS + 8];
-    if (!find(it, at, IN, COUNTED, EXTENDED))
+    if (!find(it, so_far, IN, COUNTED, EXTENDED))
         return false;
-    bool is_lost = at->index >= LOST && at->index < DROPPED;
-    snprintf(number, sizeof number, "%08" PRIX32, first_of(it, &it->ports[at->network])->set->network);
-    snprintf(name, sizeof name, "%s%s", is_lost ? "lost: " : "", name_of(at->index, words));
+    bool is_lost = so_far->index >= LOST && so_far->index < DROPPED;
+    snprintf(number, sizeof number, "%08" PRIX32, first_of(it, &it->ports[so_far->network])->set->network);
+    snprintf(name, sizeof name, "%s%s", is_lost ? "lost: " : "", name_of(so_far->index, words));
     record_begin(s, COUNT_COLUMNS);
     field_text(s, number);
     field_text(s, name);
-    field_number(s, value_of(it, at));
+    field_number(s, value_of(it, so_far));
     record_end(s);
-    step(at, IN, COUNTED);
+    step(so_far, IN, COUNTED);
     return true;
 }
 
@@ -120,17 +120,17 @@ static void put_head(sheet *s, const char *name, const char *type, const char *h
     sheet_put(s, "# HELP %s %s\n# TYPE %s %s\n", name, help, name, type);
 }
 
-static void put_sample(gateway *it, const cursor *at, sheet *s, const char *name, bool has_reason)
+static void put_sample(gateway *it, const cursor *so_far, sheet *s, const char *name, bool has_reason)
 {
     static const char DROP[] = "drop ";
     char words[WORDS];
-    const network *on = first_of(it, &it->ports[at->network]);
+    const network *on = first_of(it, &it->ports[so_far->network]);
     sheet_put(s, "%s{network=\"%08" PRIX32 "\"", name, on->set->network);
     if (has_reason) {
-        const char *why = name_of(at->index, words);
+        const char *why = name_of(so_far->index, words);
         sheet_put(s, ",reason=\"%s\"", strncmp(why, DROP, strlen(DROP)) == 0 ? why + strlen(DROP) : why);
     }
-    sheet_put(s, "} %" PRIu64 "\n", value_of(it, at));
+    sheet_put(s, "} %" PRIu64 "\n", value_of(it, so_far));
 }
 
 /* What is one number of the whole gateway. */
@@ -144,27 +144,27 @@ static void put_whole(gateway *it, sheet *s)
     sheet_put(s, "ipxr_gateway_uptime_seconds %" PRIu64 "\n", (clock_now() - it->began) / 1000);
 }
 
-bool shown_metric(gateway *it, cursor *at, sheet *s)
+bool shown_metric(gateway *it, cursor *so_far, sheet *s)
 {
-    if (at->metric > METRIC_COUNT)
+    if (so_far->metric > METRIC_COUNT)
         return false;
-    if (at->metric == METRIC_COUNT) {
+    if (so_far->metric == METRIC_COUNT) {
         put_whole(it, s);
-        at->metric++;
+        so_far->metric++;
         return true;
     }
-    size_t first = METRICS[at->metric].first, behind = METRICS[at->metric].behind;
+    size_t first = METRICS[so_far->metric].first, behind = METRICS[so_far->metric].behind;
     bool has_reason = behind - first > 1;
-    if (!at->has_begun) {
-        put_head(s, METRICS[at->metric].name, METRICS[at->metric].type, METRICS[at->metric].help);
-        at->has_begun = true;
-        at->network = at->index = 0;
-    } else if (find(it, at, first, behind, has_reason ? first : behind)) {
-        put_sample(it, at, s, METRICS[at->metric].name, has_reason);
-        step(at, first, behind);
+    if (!so_far->has_begun) {
+        put_head(s, METRICS[so_far->metric].name, METRICS[so_far->metric].type, METRICS[so_far->metric].help);
+        so_far->has_begun = true;
+        so_far->network = so_far->index = 0;
+    } else if (find(it, so_far, first, behind, has_reason ? first : behind)) {
+        put_sample(it, so_far, s, METRICS[so_far->metric].name, has_reason);
+        step(so_far, first, behind);
     } else {
-        at->metric++;
-        at->has_begun = false;
+        so_far->metric++;
+        so_far->has_begun = false;
     }
     return true;
 }

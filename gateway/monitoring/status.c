@@ -94,7 +94,7 @@ static void show(gateway *it, viewer *v, const question *q)
         if (!status_is_followed())
             events_begin(it);
         v->state = FOLLOWS;
-    } else if (shown_begin(&v->at, section)) {
+    } else if (shown_begin(&v->so_far, section)) {
         v->state = IS_SHOWN;
     } else {
         viewer_complain(v, "expected %s", SECTION_WORDS);
@@ -178,11 +178,11 @@ static bool waits_for_piece(const viewer *v)
 static void fill_next(gateway *it)
 {
     for (size_t k = 0; k < MOST_VIEWERS; k++) {
-        size_t at = (the.turn + k) % MOST_VIEWERS;
-        if (!waits_for_piece(&the.viewers[at]))
+        size_t number = (the.turn + k) % MOST_VIEWERS;
+        if (!waits_for_piece(&the.viewers[number]))
             continue;
-        viewer_fill(it, &the.viewers[at]);
-        the.turn = at + 1;
+        viewer_fill(it, &the.viewers[number]);
+        the.turn = number + 1;
         return;
     }
 }

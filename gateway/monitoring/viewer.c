@@ -134,7 +134,7 @@ void viewer_fill(gateway *it, viewer *v)
     if (v->count == 0)
         v->moved = clock_now();
     while (is_more && s.count < PIECE && s.room - s.count >= MOST_RECORD)
-        is_more = shown_next(it, &v->at, &s);
+        is_more = shown_next(it, &v->so_far, &s);
     v->count += s.count;
     if (!is_more)
         viewer_end(v, true);

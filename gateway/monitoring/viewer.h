@@ -15,7 +15,7 @@ typedef struct viewer {
     viewer_state state;
     int fd;
     sheet_form form;
-    cursor at;             /* of what is shown to him */
+    cursor so_far;         /* in what is shown to him */
     probe probe;           /* that he wanted */
     char asked[MOST_ASKED];
     size_t asked_count;

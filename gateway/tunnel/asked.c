@@ -6,10 +6,10 @@
 /* Milliseconds from one ping to the next of a client that doesn't answer: some, and at random up to so many more. */
 enum { LEAST = 250, SPREAD = 500, MILLISECOND_NS = 1000000 };
 
-static void note_moment(asks *all, uint64_t at)
+static void note_moment(asks *all, uint64_t when)
 {
-    if (all->next == 0 || at < all->next)
-        all->next = at;
+    if (all->next == 0 || when < all->next)
+        all->next = when;
 }
 
 void asked_again(asked *it, asks *all, const uint8_t key[SIPHASH_KEY])

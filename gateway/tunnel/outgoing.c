@@ -34,16 +34,16 @@ void outgoing_copy(network *on, const uint8_t place[NODE])
 }
 
 /* What became of a copy. */
-static void settle(network *on, size_t at, bool is_sent)
+static void settle(network *on, size_t index, bool is_sent)
 {
     outgoing *it = &on->outgoing;
-    if (it->is_first[at])
+    if (it->is_first[index])
         it->is_counted = false;
     if (is_sent) {
         on->counts.out += !it->is_counted;
         it->is_counted = true;
     } else {
-        refuse(on, &it->list[at].to);
+        refuse(on, &it->list[index].to);
     }
 }
 
@@ -62,8 +62,8 @@ static size_t send_from(network *on, size_t from)
 void outgoing_send(network *on)
 {
     outgoing *it = &on->outgoing;
-    for (size_t at = 0; at < it->count;)
-        at += send_from(on, at);
+    for (size_t next = 0; next < it->count;)
+        next += send_from(on, next);
     it->count = 0;
 }
 

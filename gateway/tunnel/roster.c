@@ -35,10 +35,10 @@ void roster_free(roster *it)
 member *roster_find(roster *it, const uint8_t place[6])
 {
     for (size_t k = 0; k < it->count; k++) {
-        size_t at = (it->next + k) % it->count;
-        if (same_node(it->list[at].place, place)) {
-            it->next = at + 1;
-            return &it->list[at];
+        size_t index = (it->next + k) % it->count;
+        if (same_node(it->list[index].place, place)) {
+            it->next = index + 1;
+            return &it->list[index];
         }
     }
     return NULL;

@@ -377,10 +377,10 @@ static void refuse(network *on, const address *from)
     uint64_t now = clock_now();
     bool is_same = memcmp(on->refused, from->host, sizeof on->refused) == 0;
     gateway_lose(on, NOT_ALLOWED);
-    if (on->refused_at != 0 && now - on->refused_at < (is_same ? BETWEEN_SAME : BETWEEN))
+    if (on->refusal_told != 0 && now - on->refusal_told < (is_same ? BETWEEN_SAME : BETWEEN))
         return;
     memcpy(on->refused, from->host, sizeof on->refused);
-    on->refused_at = now;
+    on->refusal_told = now;
     event("%s is refused on %08" PRIX32 ": %s", address_words(from, who), on->set->network, reason_words(NOT_ALLOWED));
 }
 
@@ -407,15 +407,15 @@ void tunnel_hear(gateway *it, network *on, uint8_t *bytes, size_t length, const 
 
 bool tunnel_client(network *on, size_t index, known_client *client)
 {
-    ipxr_client at;
-    if (ipxr_tunnel_client(&on->tunnel, index, &at) != 0)
+    ipxr_client listed;
+    if (ipxr_tunnel_client(&on->tunnel, index, &listed) != 0)
         return false;
-    const member *known = roster_find(&on->roster, at.place);
+    const member *known = roster_find(&on->roster, listed.place);
     memset(client, 0, sizeof *client);
-    memcpy(client->place, at.place, NODE);
-    client->at = address_of(at.place);
+    memcpy(client->place, listed.place, NODE);
+    client->at = address_of(listed.place);
     client->is_trusted = ranges_have(&on->set->trusted, &client->at);
-    client->heard = (client->is_trusted ? TRUST_LASTS : ANSWER_LASTS) - at.seconds_left;
+    client->heard = (client->is_trusted ? TRUST_LASTS : ANSWER_LASTS) - listed.seconds_left;
     if (known != NULL) {
         client->refused = known->refused;
         memcpy(client->dropped, known->dropped, sizeof client->dropped);
@@ -430,11 +430,12 @@ static void show_dropped(const known_client *it)
         [DROPPED_PINGS] = "pings", [DROPPED_QUESTIONS] = "questions", [DROPPED_ADVERTISEMENTS] = "advertisements",
         [DROPPED_FOR_ROUTER] = "for the router", [DROPPED_ANSWERS] = "answers"};
     char words[240] = "";
-    size_t at = 0;
+    size_t length = 0;
     for (int k = 0; k < DROPS; k++)
         if (it->dropped[k] > 0)
-            at += (size_t)snprintf(words + at, sizeof words - at, "%s %" PRIu64 " %s", at > 0 ? "," : "", it->dropped[k], OF[k]);
-    if (at > 0)
+            length += (size_t)snprintf(words + length, sizeof words - length, "%s %" PRIu64 " %s", length > 0 ? "," : "",
+                                       it->dropped[k], OF[k]);
+    if (length > 0)
         say("      dropped:%s", words);
 }
 

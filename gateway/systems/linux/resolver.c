@@ -16,10 +16,10 @@ typedef struct task {
     void *with;
 } task;
 
-static void *work(void *at)
+static void *work(void *given)
 {
-    task it = *(task *)at;
-    free(at);
+    task it = *(task *)given;
+    free(given);
     it.run(it.with);
     return NULL;
 }

@@ -28,10 +28,10 @@ enum { SILENT = 20, AGAIN = 20, TIMES = 2, MINUTE = SILENT + AGAIN * TIMES, MILL
 
 void close_any(int *fd)
 {
-    int at = *fd;
+    int closed = *fd;
     *fd = -1;
-    if (at >= 0)
-        close(at);
+    if (closed >= 0)
+        close(closed);
 }
 
 /* ---- Addresses ---- */
@@ -273,8 +273,8 @@ bool connection_has_more(int fd)
 
 bool connection_has_ended(int fd)
 {
-    struct pollfd at = {fd, POLLRDHUP, 0};
-    return poll(&at, 1, 0) > 0;
+    struct pollfd ended = {fd, POLLRDHUP, 0};
+    return poll(&ended, 1, 0) > 0;
 }
 
 /* ---- Sending and receiving ---- */

@@ -19,9 +19,9 @@ static struct {
     writer which;
 } writers[WRITERS];
 
-static void *run(void *at)
+static void *run(void *given)
 {
-    writer which = *(writer *)at;
+    writer which = *(writer *)given;
     if (writers[which].fifo != NULL)
         writers[which].file = open(writers[which].fifo, O_WRONLY | O_CLOEXEC);
     writers[which].write_on(which);

@@ -13,10 +13,10 @@ typedef struct task {
     void *with;
 } task;
 
-static DWORD WINAPI work(void *at)
+static DWORD WINAPI work(void *given)
 {
-    task it = *(task *)at;
-    free(at);
+    task it = *(task *)given;
+    free(given);
     it.run(it.with);
     return 0;
 }

@@ -25,10 +25,10 @@ static int answered(int answer)
 
 void close_any(int *fd)
 {
-    int at = *fd;
+    int closed = *fd;
     *fd = -1;
-    if (at >= 0)
-        closesocket((SOCKET)at);
+    if (closed >= 0)
+        closesocket((SOCKET)closed);
 }
 
 /* ---- Addresses ---- */
@@ -260,8 +260,8 @@ bool connection_has_more(int fd)
 
 bool connection_has_ended(int fd)
 {
-    WSAPOLLFD at = {.fd = (SOCKET)fd, .events = POLLRDNORM};
-    return WSAPoll(&at, 1, 0) > 0 && (at.revents & (POLLHUP | POLLERR)) != 0;
+    WSAPOLLFD ended = {.fd = (SOCKET)fd, .events = POLLRDNORM};
+    return WSAPoll(&ended, 1, 0) > 0 && (ended.revents & (POLLHUP | POLLERR)) != 0;
 }
 
 /* ---- Sending and receiving ---- */

@@ -15,9 +15,9 @@ static struct {
     writer which;
 } writers[WRITERS];
 
-static DWORD WINAPI run(void *at)
+static DWORD WINAPI run(void *given)
 {
-    writer which = *(writer *)at;
+    writer which = *(writer *)given;
     writers[which].write_on(which);
     return 0;
 }
