@@ -3,16 +3,14 @@ buffers just when pings come.
 
 It runs in networks of its own (spaces.py).
 """
-import os
-import sys
 import time
 
-from attacks import TWO, Playground, figures
-from lab import EVERYONE, TUNNEL, Clock, Counts, address, left_out, packet, played_anew, socket_of, until
+from attacks import TWO, Playground
+from lab import EVERYONE, TUNNEL, Clock, address, packet, played_anew, socket_of, until
 from limits import CHAT, are_answering, come
 from players import Player, Slow
-from spaces import GATEWAY, INSIDE, tried_inside
-from systems import SYSTEM
+from spaces import GATEWAY
+from trying import begin, figures, tried, tried_on_own_system
 
 SILENCE, GONE = 5, 30  # seconds after which a client is pinged, and after which one that answers no ping leaves
 STEP = 0.05  # seconds from one look at the clock to the next
@@ -115,23 +113,12 @@ TESTS = [asked_again, buffers_filled_at_the_second]
 
 def inside():
     """In the network of its own."""
-    counts = Counts()
-    for test in TESTS:
-        counts.run(test)
-    print(f"{counts.passed} passed, {counts.failed} failed")
+    return tried(*TESTS)
 
 
 def main():
-    if SYSTEM.name != "Linux":
-        left_out("pings that are lost", "they are tried on this machine's own system")
-        return Counts()
-    return tried_inside(os.path.realpath(__file__), "pings that are lost")
+    return tried_on_own_system(__file__, "pings that are lost")
 
 
 if __name__ == "__main__":
-    if sys.argv[1:] == [INSIDE]:
-        inside()
-    else:
-        ended = main()
-        print(f"{ended.passed} passed, {ended.failed} failed")
-        sys.exit(ended.failed > 0)
+    begin(main, inside)

@@ -4,17 +4,15 @@ PCs off, the players who are there lose at most 2 % of what they say.
 It runs in networks of its own (spaces.py). The floods come from flood.c at the rates that are named, and the rate that was reached is printed.
 """
 import math
-import os
 import resource
-import sys
 import time
 
-from lab import ALL_THERE_IS, EVERYONE, GAME, LIMIT, Clock, Counts, Gateway, address, left_out, packet, until
+from lab import ALL_THERE_IS, EVERYONE, GAME, LIMIT, Clock, Gateway, address, packet, until
 from players import GUEST, NETWORK, Party, Player
-from spaces import (CROWD, GATEWAY, INSIDE, NEIGHBOURS, STRANGERS, VICTIM, Field, Flood, build_flood, leave, own_addresses,
-                    tried_inside)
+from spaces import CROWD, GATEWAY, NEIGHBOURS, STRANGERS, VICTIM, Field, Flood, build_flood, leave, own_addresses
 from systems import SYSTEM
 from troubles import ROUTES, SERVICES, advertise, is_held
+from trying import begin, figures, named, tried, tried_on_own_system
 
 SECONDS = 2  # that a flood lasts
 LOOKED_FOR = 12  # seconds in which the kernel finds out that somebody is gone, and has looked for him again
@@ -29,19 +27,6 @@ OTHER_PORT = GATEWAY[1] + 1
 STILL = TUNNEL_LINE + "rate none\nstrangers none\n"
 TWO = STILL.replace("dosbox", LONG_SHARES) + f"network 20 1 1424 dosbox 0.0.0.0:{OTHER_PORT}\nstrangers none\n"
 VICTIMS_PORT = 5000
-
-
-def figures(what):
-    print(f"        {what}", flush=True)
-
-
-def named(name, test, *words, **values):
-    """A test with a name of its own, and what it tries."""
-    def it():
-        test(*words, **values)
-
-    it.__doc__ = name
-    return it
 
 
 def flood(gate, way, kind, rate=1000, count=None, port=GATEWAY[1], **places):
@@ -296,25 +281,17 @@ TESTS = [
 
 def inside():
     """In the network of its own."""
-    counts = Counts()
     began = time.monotonic()
     build_flood()
-    for test in TESTS:
-        counts.run(test)
+    counts = tried(*TESTS)
     used = [resource.getrusage(of) for of in (resource.RUSAGE_SELF, resource.RUSAGE_CHILDREN)]
     figures(f"attacks: {time.monotonic() - began:.0f} s, {sum(it.ru_utime + it.ru_stime for it in used):.0f} processor seconds")
-    print(f"{counts.passed} passed, {counts.failed} failed")
+    return counts
 
 
 def main():
-    if SYSTEM.name != "Linux":
-        left_out("attacks", "they are tried on this machine's own system")
-        return Counts()
-    return tried_inside(os.path.realpath(__file__), "attacks")
+    return tried_on_own_system(__file__, "attacks")
 
 
 if __name__ == "__main__":
-    if sys.argv[1:] == [INSIDE]:
-        inside()
-    else:
-        main()
+    begin(main, inside)

@@ -3,14 +3,14 @@ import glob
 import os
 import shutil
 import subprocess
-import sys
 import tempfile
 
-from lab import Client, Counts, Gateway, free_ports, is_free, left_out, tunnels, until
+from cards import has_taps
+from lab import Client, Gateway, free_ports, is_free, tunnels, until
 from pc import MAC, all_come_back, boot_sector
-from segments import can
-from spaces import INSIDE, ip, tried_inside
+from spaces import ip
 from systems import SYSTEM, Windows
+from trying import Counts, begin, can, left_out, tried, tried_inside
 
 FLOPPY = 1474560  # bytes
 ROMS = "/usr/share/bochs"
@@ -79,13 +79,11 @@ def by_a_bridge():
 
 def inside():
     """In the network of its own."""
-    counts = Counts()
     ip("link", "set", "lo", "up")
-    if os.path.exists("/dev/net/tun"):
-        counts.run(by_a_bridge)
-    else:
-        left_out("a PC in Bochs behind a bridge", "no TAPs")
-    print(f"{counts.passed} passed, {counts.failed} failed")
+    if has_taps():
+        return tried(by_a_bridge)
+    left_out("a PC in Bochs behind a bridge", "no TAPs")
+    return Counts()
 
 
 def lacks():
@@ -102,21 +100,13 @@ def lacks():
 
 
 def main():
-    counts = Counts()
     why = lacks()
     if why:
         left_out("a PC in Bochs", why)
-        return counts
-    counts.run(datagrams)
-    if SYSTEM is Windows:
-        return counts
-    own = tried_inside(os.path.realpath(__file__), "a PC in Bochs behind a bridge")
-    counts.passed, counts.failed = counts.passed + own.passed, counts.failed + own.failed
-    return counts
+        return Counts()
+    counts = tried(datagrams)
+    return counts if SYSTEM is Windows else counts + tried_inside(__file__, "a PC in Bochs behind a bridge")
 
 
 if __name__ == "__main__":
-    if sys.argv[1:] == [INSIDE]:
-        inside()
-    else:
-        main()
+    begin(main, inside)

@@ -2,17 +2,15 @@
 
 It runs in networks of its own (spaces.py).
 """
-import os
 import socket
 import struct
-import sys
 
 from attacks import OTHER_PORT, TUNNEL_LINE, Playground, during, none
-from lab import EVERYONE, GAME, Client, Counts, Gateway, LIMIT, address, free_ports, left_out, tunnels, until
+from lab import EVERYONE, GAME, LIMIT, Client, Gateway, address, free_ports, tunnels, until
 from players import NUMBERED
 from six import has_six
-from spaces import GATEWAY, INSIDE, host, ip, tried_inside
-from systems import SYSTEM
+from spaces import GATEWAY, host, ip
+from trying import begin, left_out, tried, tried_on_own_system
 
 FRAGMENTATION_NEEDED = 4
 CODES = 16  # of what can't be reached, and why: 3 is a port, 4 says that the datagram is too long, 5 that the way wasn't right
@@ -94,26 +92,18 @@ def a_port_of_six():
 
 def inside():
     """In the network of its own."""
-    counts = Counts()
-    for test in (a_forged_complaint, a_port_that_is_there):
-        counts.run(test)
     ip("link", "set", "lo", "up")
+    counts = tried(a_forged_complaint, a_port_that_is_there)
     if has_six():
         counts.run(a_port_of_six)
     else:
         left_out("what IPv6's ICMP says", "no address of IPv6 here")
-    print(f"{counts.passed} passed, {counts.failed} failed")
+    return counts
 
 
 def main():
-    if SYSTEM.name != "Linux":
-        left_out("forged words of ICMP", "they are tried on this machine's own system")
-        return Counts()
-    return tried_inside(os.path.realpath(__file__), "complaints")
+    return tried_on_own_system(__file__, "complaints")
 
 
 if __name__ == "__main__":
-    if sys.argv[1:] == [INSIDE]:
-        inside()
-    else:
-        main()
+    begin(main, inside)

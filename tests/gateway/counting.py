@@ -2,7 +2,7 @@
 import contextlib
 import io
 
-from lab import Counts
+from trying import Counts, begin, tried
 
 
 def stumbles():
@@ -25,10 +25,8 @@ def any_fault():
 
 
 def main():
-    counts = Counts()
-    counts.run(any_fault)
-    return counts
+    return tried(any_fault)
 
 
 if __name__ == "__main__":
-    main()
+    begin(main)

@@ -7,10 +7,11 @@ import tempfile
 import time
 
 from frames import Station, Udp
-from lab import AGAIN, Client, Counts, Gateway, address, free_ports, left_out, packet, reaches, tunnels, until, until_wine_lets_go
+from lab import AGAIN, Client, Gateway, address, free_ports, packet, reaches, tunnels, until, until_wine_lets_go
 from players import NETWORK, Player
 from status import Watched
-from systems import SYSTEM, TOP, Windows
+from systems import TOP
+from trying import Counts, begin, has_linux, left_out, tried
 
 DOS = os.path.join(TOP, "tests", "gateway", "dos")
 CARD = bytes.fromhex("020000000BB2")
@@ -245,21 +246,15 @@ def answers_pings():
 
 
 def main():
-    counts = Counts()
     missing = [it for it in ("dosbox", "nasm") if not shutil.which(it)]
     if missing:
         left_out("real DOSBox", f"no {missing[0]}")
-    else:
-        counts.run(two_dosboxes)
-        counts.run(no_room)
-        counts.run(come_and_go)
-        counts.run(on_one_network)
-        if SYSTEM is Windows:
-            left_out("pings that a real DOSBox answers", "the status socket is Linux' own")
-        else:
-            counts.run(answers_pings)
+        return Counts()
+    counts = tried(two_dosboxes, no_room, come_and_go, on_one_network)
+    if has_linux("pings that a real DOSBox answers", "the status socket is Linux' own"):
+        counts.run(answers_pings)
     return counts
 
 
 if __name__ == "__main__":
-    main()
+    begin(main)

@@ -10,13 +10,14 @@ import subprocess
 import sys
 import time
 
-from attacks import OTHER_PORT, TUNNEL_LINE, Playground, during, figures, flood
+from attacks import OTHER_PORT, TUNNEL_LINE, Playground, during, flood
 from fair import ALL_KINDS, CARDS, GAMES, SIXTH, OnCable, cabled
 from frames import Udp, frame
 from lab import EVERYONE, GAME, RIP, SAP, TUNNEL, address, packet, rip_response, sap_response, socket_of
 from limits import CHAT, place_of
 from players import MOST_LOST, NETWORK, NUMBERED, Party, Player
-from spaces import GATEWAY, INSIDE, STRANGERS, build_flood, host, way_inside
+from spaces import GATEWAY, STRANGERS, build_flood, host
+from trying import INSIDE, figures, way_inside
 
 MINUTE = 60.0
 SLICE = 5.0  # seconds after which it is looked who was heard

@@ -9,9 +9,10 @@ import socket
 import subprocess
 import time
 
-from lab import ALL_THERE_IS, LIMIT, Client, Counts, left_out, reaches, rip_response, tunnels
+from lab import ALL_THERE_IS, LIMIT, Client, reaches, rip_response, tunnels
 from status import ROUTES, Watched, advertise
-from systems import SYSTEM, Windows
+from systems import SYSTEM
+from trying import Counts, begin, has_linux, tried
 
 UNREACHABLE = 16  # hops
 
@@ -147,14 +148,10 @@ def late_reader():
 
 
 def main():
-    counts = Counts()
-    if SYSTEM is Windows:
-        left_out("following what happens", "the status socket is Linux' own")
-        return counts
-    for test in (come_and_go, links, links_by_reload, in_words, late_reader):
-        counts.run(test)
-    return counts
+    if not has_linux("following what happens"):
+        return Counts()
+    return tried(come_and_go, links, links_by_reload, in_words, late_reader)
 
 
 if __name__ == "__main__":
-    main()
+    begin(main)

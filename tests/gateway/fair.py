@@ -3,18 +3,16 @@ the system's, what a cable with several kinds of frames receives for a while.
 
 It runs in networks of its own (spaces.py).
 """
-import os
 import re
-import sys
 import time
 
-from attacks import OTHER_PORT, QUIET, Playground, during, figures, named, none
+from attacks import OTHER_PORT, QUIET, Playground, during, none
 from frames import Packets, unframed
-from lab import EVERYONE, GAME, Clock, Counts, address, left_out, packet, played_anew
+from lab import EVERYONE, GAME, Clock, address, packet, played_anew
 from limits import AT_ONCE, BURST, CHAT, HOUSEHOLD, LONGEST, RATE, RECEIVED, SHARE, TWO, chatter, come
 from players import NETWORK, NUMBERED, Player
-from spaces import GATEWAY, INSIDE, Field, host, ip, tried_inside
-from systems import SYSTEM
+from spaces import GATEWAY, Field, host, ip
+from trying import begin, figures, named, tried, tried_on_own_system
 
 LASTS, WHOLE = 2, 0.95  # seconds by that clock, and the least of a part that somebody has of it
 STEP = 0.05  # seconds from one look at the clock to the next
@@ -244,21 +242,12 @@ TESTS = [
 
 def inside():
     """In the network of its own."""
-    counts = Counts()
-    for test in TESTS:
-        counts.run(test)
-    print(f"{counts.passed} passed, {counts.failed} failed")
+    return tried(*TESTS)
 
 
 def main():
-    if SYSTEM.name != "Linux":
-        left_out("parts of what clients receive", "they are tried on this machine's own system")
-        return Counts()
-    return tried_inside(os.path.realpath(__file__), "parts of what clients receive")
+    return tried_on_own_system(__file__, "parts of what clients receive")
 
 
 if __name__ == "__main__":
-    if sys.argv[1:] == [INSIDE]:
-        inside()
-    else:
-        main()
+    begin(main, inside)

@@ -10,16 +10,15 @@ import re
 import shutil
 import socket
 import subprocess
-import sys
 import tempfile
 import time
 
 from frames import frame
-from lab import (EVERYONE, GAME, GATEWAY, Client, Counts, address, comes_next, fresh, is_routers, left_out, packet, reaches, reaches_again,
-                 until)
-from spaces import INSIDE, Space, ip, run, tried_inside
+from lab import EVERYONE, GAME, GATEWAY, Client, address, comes_next, fresh, is_routers, packet, reaches, reaches_again, until
+from spaces import Space, ip, run
 from status import Watched
-from systems import SYSTEM, TOP, Windows
+from systems import TOP
+from trying import Counts, begin, has_linux, left_out, tried, tried_inside
 
 PAGE = os.path.join(TOP, "docs", "HOUSES.md")
 NAME_ON_PAGE, PORT_ON_PAGE = "a.example.net", 51820
@@ -384,24 +383,20 @@ def lacks_of_wireguard():
 
 def inside():
     """In the network that plays the Internet."""
-    counts = Counts()
     ip("link", "set", "lo", "up")
-    lacks = lacks_of_wireguard()
+    lacks, counts = lacks_of_wireguard(), Counts()
     if lacks is None:
-        for test in (one_network_over_both, what_crosses, nobody_else_comes_in, the_internet_fails):
-            counts.run(test)
+        counts += tried(one_network_over_both, what_crosses, nobody_else_comes_in, the_internet_fails)
     else:
         left_out("two houses by WireGuard", lacks)
-    counts.run(without_a_vpn)
-    print(f"{counts.passed} passed, {counts.failed} failed")
+    return counts + tried(without_a_vpn)
 
 
 def main():
-    if SYSTEM is Windows:
-        left_out("two houses", "networks of the test's own are Linux' alone")
-        return Counts()
-    return tried_inside(os.path.realpath(__file__), "two houses")
+    if has_linux("two houses", "networks of the test's own are Linux' alone"):
+        return tried_inside(__file__, "two houses")
+    return Counts()
 
 
-if __name__ == "__main__" and INSIDE in sys.argv[1:]:
-    inside()
+if __name__ == "__main__":
+    begin(main, inside)

@@ -1,20 +1,20 @@
 """Links whose stations may use any kind of frames: each is spoken to in its own, and all in those that were heard."""
 import errno
-import os
 import re
 import select
 import signal
-import sys
 
+from cards import has_bridges, has_cards, has_taps, hears_all_frames, pair
 from frames import KINDS, Packets, Station, Udp, frame, unframed
-from lab import (EVERYONE, GAME, LIMIT, Client, Clock, Counts, Gateway, address, comes_next, free_ports, fresh, is_routers, left_out,
-                 packet, reaches, reaches_again, tunnels, until)
+from lab import (EVERYONE, GAME, LIMIT, Client, Clock, Gateway, address, comes_next, free_ports, fresh, is_routers, packet, reaches,
+                 reaches_again, tunnels, until)
 from links import both_ways, connected, places_joined
-from segments import NUMBER, Cable, calls, can, hears, hears_all_frames, pair, tells
-from spaces import INSIDE, ip, tried_inside
+from segments import NUMBER, Cable, calls, hears, tells
+from spaces import ip
 from status import Watched
 from systems import SYSTEM, Windows
 from troubles import ends_well, troubled
+from trying import Counts, begin, left_out, tried, tried_inside
 
 CABLE = 0x20
 STAYS = 5  # seconds without a word in its kind, after which a station may have another
@@ -533,52 +533,34 @@ def each_option_fails():
     ip("link", "del", "k0")
 
 
-def inside():
-    """In the network of its own."""
-    counts = Counts()
-    ip("link", "set", "lo", "up")
-    if can(lambda: pair("k0", "k1")):
-        ip("link", "del", "k0")
-        counts.run(old_pcs_on_a_card)
-        counts.run(two_on_a_cable)
-        counts.run(each_option_fails)
-        for test in (wrong_kinds_on_a_card, several_networks_on_a_card, others_wake_nobody, tagged):
-            counts.run(test)
-    else:
-        left_out("cards of any kind", "none can be made")
-    if os.path.exists("/dev/net/tun") and counts.passed > 0:
-        if hears_all_frames():
-            counts.run(cards_and_taps)
-        counts.run(wrong_kinds_on_a_tap)
-        if can(lambda: ip("link", "add", "brk", "type", "bridge")):
-            ip("link", "del", "brk")
-            counts.run(a_bridge_behind_its_back)
-        else:
-            left_out("a bridge behind the gateway's back", "none can be made")
-    else:
-        left_out("TAPs of any kind", "none can be made")
-    print(f"{counts.passed} passed, {counts.failed} failed")
-
-
 TESTS = (each_in_its_kind, all_in_what_was_heard, made_up_nodes, another_machine, two_gateways, on_one_network)
 OF_LINUX = (kinds_are_shown, wrong_kinds_are_told, read_while_it_runs, a_station_changes_its_kind, kinds_age)
 
 
-def main():
-    counts = Counts()
-    for test in TESTS:
-        counts.run(test)
-    if SYSTEM is Windows:
+def inside():
+    """In the network of its own."""
+    ip("link", "set", "lo", "up")
+    counts, cards = Counts(), has_cards()
+    if cards:
+        counts += tried(old_pcs_on_a_card, two_on_a_cable, each_option_fails, wrong_kinds_on_a_card, several_networks_on_a_card,
+                        others_wake_nobody, tagged)
+    else:
+        left_out("cards of any kind", "none can be made")
+    if not cards or not has_taps():
+        left_out("TAPs of any kind", "none can be made")
         return counts
-    for test in OF_LINUX:
-        counts.run(test)
-    own = tried_inside(os.path.realpath(__file__), "cards and TAPs of any kind")
-    counts.passed, counts.failed = counts.passed + own.passed, counts.failed + own.failed
+    counts += tried(*((cards_and_taps,) if hears_all_frames() else ()), wrong_kinds_on_a_tap)
+    if has_bridges():
+        return counts + tried(a_bridge_behind_its_back)
+    left_out("a bridge behind the gateway's back", "none can be made")
     return counts
 
 
+def main():
+    if SYSTEM is Windows:
+        return tried(*TESTS)
+    return tried(*TESTS, *OF_LINUX) + tried_inside(__file__, "cards and TAPs of any kind")
+
+
 if __name__ == "__main__":
-    if sys.argv[1:] == [INSIDE]:
-        inside()
-    else:
-        main()
+    begin(main, inside)

@@ -1,5 +1,4 @@
-"""What the tests of the gateway share: gateways that are started and asked, packets, clients of DOSBox' tunnel, and a count of
-what went well.
+"""What the tests of the gateway speak with: gateways that are started and asked, packets, and clients of DOSBox' tunnel.
 
 No test depends on how fast the machine is. A test waits for what is to happen, and LIMIT ends it only where it fails. That nothing
 comes is shown by what comes next: what is said in order is heard in order. Where a test needs hours, it sets the clock itself.
@@ -22,6 +21,7 @@ import time
 import weakref
 
 from systems import SYSTEM, Windows
+from trying import left_out
 
 LIMIT = 60  # seconds until a test that fails gives up
 PLAYS = 3  # of what a machine with much else to do may spoil
@@ -35,29 +35,6 @@ COOKIE = 0x02  # the first byte of what its pings name as their source
 GAME = 0x4003
 RIP, SAP = 0x453, 0x452
 TUNNEL = 2  # the socket of registrations and pings
-
-
-class Counts:
-    """What went well and what didn't, told as it happens."""
-
-    def __init__(self):
-        self.passed = self.failed = 0
-
-    def run(self, test):
-        """Runs a test: a function whose name and first line tell what it shows."""
-        name = test.__doc__.splitlines()[0].rstrip(".")
-        try:
-            test()
-        except Exception as fault:  # (of whatever kind: the tests behind it are run too)
-            self.failed += 1
-            print(f"FAILED  gateway: {name}\n        {type(fault).__name__}: {fault}", flush=True)
-        else:
-            self.passed += 1
-            print(f"ok      gateway: {name}", flush=True)
-
-
-def left_out(what, why):
-    print(f"left out: gateway: {what} ({why})", flush=True)
 
 
 def until_wine_lets_go(plays):

@@ -7,14 +7,14 @@ import multiprocessing
 import os
 import re
 import struct
-import sys
 import time
 
-from attacks import LONG_SHARES, OTHER_PORT, QUIET, TUNNEL_LINE, Playground, during, figures, fill, flood, named, none
-from lab import EVERYONE, GAME, LIMIT, RIP, SAP, Clock, Counts, address, left_out, packet, played_anew, rip_response, until
+from attacks import LONG_SHARES, OTHER_PORT, QUIET, TUNNEL_LINE, Playground, during, fill, flood, none
+from lab import EVERYONE, GAME, LIMIT, RIP, SAP, Clock, address, packet, played_anew, rip_response, until
 from players import FAST, NETWORK, Party, Player, Slow
-from spaces import GATEWAY, INSIDE, STRANGERS, build_flood, host, tried_inside
+from spaces import GATEWAY, STRANGERS, build_flood, host
 from systems import SYSTEM
+from trying import begin, figures, named, tried, tried_on_own_system
 
 SECONDS = 6  # that a flood lasts: each client is pinged meanwhile
 RATE, SHARE, BURST = 800, 50, 64  # as a network's `rate` says them, and packets that an address hands the router at once
@@ -492,22 +492,13 @@ TESTS = [
 
 def inside():
     """In the network of its own."""
-    counts = Counts()
     build_flood()
-    for test in TESTS:
-        counts.run(test)
-    print(f"{counts.passed} passed, {counts.failed} failed")
+    return tried(*TESTS)
 
 
 def main():
-    if SYSTEM.name != "Linux":
-        left_out("limits", "they are tried on this machine's own system")
-        return Counts()
-    return tried_inside(os.path.realpath(__file__), "limits")
+    return tried_on_own_system(__file__, "limits")
 
 
 if __name__ == "__main__":
-    if sys.argv[1:] == [INSIDE]:
-        inside()
-    else:
-        main()
+    begin(main, inside)

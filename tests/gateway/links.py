@@ -11,9 +11,10 @@ import threading
 import time
 
 from frames import KINDS, Station, Tcp, Udp, frame
-from lab import (EVERYONE, GAME, LIMIT, Client, Counts, Gateway, address, comes_next, free_ports, is_routers, left_out, packet, played_anew,
-                 reaches, tunnels, until)
+from lab import (EVERYONE, GAME, LIMIT, Client, Gateway, address, comes_next, free_ports, is_routers, packet, played_anew, reaches, tunnels,
+                 until)
 from systems import SYSTEM, Windows
+from trying import begin, has_linux, left_out, tried
 
 STATION = bytes.fromhex("020000000AA1")
 RESETS = 30
@@ -413,19 +414,15 @@ def nobody_listens():
 
 
 def main():
-    counts = Counts()
-    for test in (datagrams, two_networks_on_a_link, long_frames, a_connection_comes, one_pc_at_a_time, nobody_hears_of_it, others_knock,
-                 a_connection_is_reset, a_stream, a_connection_goes, nobody_listens_yet, nobody_answers, an_address_comes_later,
-                 two_gateways, extended):
-        counts.run(test)
-    if SYSTEM is Windows:
-        left_out("whether what is sent to nobody is counted", "Windows doesn't tell it, though Wine does")
-        left_out("no room for a connection", "it is tried on Linux alone")
-    else:
+    counts = tried(datagrams, two_networks_on_a_link, long_frames, a_connection_comes, one_pc_at_a_time, nobody_hears_of_it, others_knock,
+                   a_connection_is_reset, a_stream, a_connection_goes, nobody_listens_yet, nobody_answers, an_address_comes_later,
+                   two_gateways, extended)
+    if has_linux("whether what is sent to nobody is counted", "Windows doesn't tell it, though Wine does"):
         counts.run(nobody_listens)
+    if has_linux("no room for a connection", "it is tried on Linux alone"):
         counts.run(no_room_for_a_connection)
     return counts
 
 
 if __name__ == "__main__":
-    main()
+    begin(main)

@@ -9,8 +9,8 @@ import subprocess
 import sys
 import time
 
-from lab import Counts, left_out
 from systems import SYSTEM, Linux
+from trying import Counts, begin, left_out, tried
 
 SECONDS = 60  # of new seeds in the gate
 TURNS = 12000  # of a seed
@@ -89,14 +89,10 @@ def those_that_found():
 
 
 def main():
-    counts = Counts()
-    if SYSTEM is not Linux:
-        left_out("the gateway on a made-up system", "it is the same code on each system, and is played on this machine's own")
-        return counts
-    counts.run(the_same_again)
-    counts.run(those_that_found)
-    counts.run(new_ones)
-    return counts
+    if SYSTEM is Linux:
+        return tried(the_same_again, those_that_found, new_ones)
+    left_out("the gateway on a made-up system", "it is the same code on each system, and is played on this machine's own")
+    return Counts()
 
 
 def soak(minutes):
@@ -111,4 +107,6 @@ def soak(minutes):
 
 
 if __name__ == "__main__":
-    sys.exit(soak(float(sys.argv[1])) if len(sys.argv) > 1 else 0 if main().failed == 0 else 1)
+    if sys.argv[1:]:
+        sys.exit(soak(float(sys.argv[1])))
+    begin(main)

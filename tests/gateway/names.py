@@ -7,17 +7,17 @@ import select
 import socket
 import struct
 import subprocess
-import sys
 import tempfile
 
+from changed import Changed
 from frames import Station, Tcp, Udp
-from lab import AGAIN, LIMIT, Client, Clock, Counts, Gateway, left_out, reaches, tunnels, until
+from lab import AGAIN, LIMIT, Client, Clock, Gateway, reaches, tunnels, until
 from links import STATION, both_ways
-from reloading import Changed
 from six import has_six
-from spaces import INSIDE, ip, tried_inside
+from spaces import ip
 from systems import SYSTEM, Windows
 from troubles import Trouble
+from trying import Counts, begin, left_out, tried, tried_inside
 from words import asked
 
 UNKNOWN = "no address of that name is known yet"
@@ -257,29 +257,20 @@ def another_address():
 
 def inside():
     """In the network of its own."""
-    counts = Counts()
     ip("link", "set", "lo", "up")
     mounts = subprocess.run(["unshare", "-m", "sh", "-c", "mount --bind /etc/hosts /etc/hosts"], stderr=subprocess.DEVNULL, check=False)
-    if mounts.returncode == 0 and all(os.path.exists(f"/etc/{it}") for it in ("hosts", "resolv.conf", "nsswitch.conf")):
-        for test in (nobody_waits, an_end_doesnt_wait, reloads_beside_silence, the_next_address, no_room_for_a_call, its_own, asked_again,
-                     another_address):
-            counts.run(test)
-        if has_six():
-            counts.run(of_six)
-    else:
+    if mounts.returncode != 0 or not all(os.path.exists(f"/etc/{it}") for it in ("hosts", "resolv.conf", "nsswitch.conf")):
         left_out("names that the test gives out", "its own can't stand in place of the system's")
-    print(f"{counts.passed} passed, {counts.failed} failed")
+        return Counts()
+    counts = tried(nobody_waits, an_end_doesnt_wait, reloads_beside_silence, the_next_address, no_room_for_a_call, its_own, asked_again,
+                   another_address)
+    return counts + tried(of_six) if has_six() else counts
 
 
 def main():
-    counts = Counts()
-    counts.run(the_longest)
-    counts.run(localhost)
-    if SYSTEM is not Windows:
-        own = tried_inside(os.path.realpath(__file__), "names that the test gives out")
-        counts.passed, counts.failed = counts.passed + own.passed, counts.failed + own.failed
-    return counts
+    counts = tried(the_longest, localhost)
+    return counts if SYSTEM is Windows else counts + tried_inside(__file__, "names that the test gives out")
 
 
-if __name__ == "__main__" and INSIDE in sys.argv[1:]:
-    inside()
+if __name__ == "__main__":
+    begin(main, inside)

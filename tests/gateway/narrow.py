@@ -2,15 +2,13 @@
 
 It runs in networks of its own (spaces.py), whose cards are as narrow as the configuration says. limits.py has floods by such a line, too.
 """
-import os
-import sys
-
-from attacks import OTHER_PORT, QUIET, TUNNEL_LINE, Playground, during, figures, flood, none
-from lab import LIMIT, Clock, Counts, left_out, played_anew, until
+from attacks import OTHER_PORT, QUIET, TUNNEL_LINE, Playground, during, flood, none
+from lab import LIMIT, Clock, played_anew, until
 from limits import CHAT, FIRST, FLOOD, LONGEST, SECONDS, Crowd, narrow, stands
 from players import MOST_LOST, NETWORK, NUMBERED, Party, Player
-from spaces import GATEWAY, INSIDE, STRANGERS, build_flood, tried_inside
+from spaces import GATEWAY, STRANGERS, build_flood
 from systems import SYSTEM
+from trying import begin, figures, tried, tried_on_own_system
 
 NARROW = 256  # kilobits a second
 LINES = 4  # networks that share a line
@@ -175,22 +173,13 @@ TESTS = [strangers_share_a_part, a_newcomer_comes_in, many_beside_long_packets, 
 
 def inside():
     """In the network of its own."""
-    counts = Counts()
     build_flood()
-    for test in TESTS:
-        counts.run(test)
-    print(f"{counts.passed} passed, {counts.failed} failed")
+    return tried(*TESTS)
 
 
 def main():
-    if SYSTEM.name != "Linux":
-        left_out("narrow lines", "they are tried on this machine's own system")
-        return Counts()
-    return tried_inside(os.path.realpath(__file__), "narrow lines")
+    return tried_on_own_system(__file__, "narrow lines")
 
 
 if __name__ == "__main__":
-    if sys.argv[1:] == [INSIDE]:
-        inside()
-    else:
-        main()
+    begin(main, inside)

@@ -9,8 +9,9 @@ import sys
 import tempfile
 import time
 
-from lab import AGAIN, EVERYONE, GAME, LIMIT, RIP, Client, Counts, Gateway, address, left_out, reaches, tunnels, until
-from systems import SYSTEM, Windows
+from lab import AGAIN, EVERYONE, GAME, LIMIT, RIP, Client, Gateway, address, reaches, tunnels, until
+from systems import SYSTEM
+from trying import begin, has_linux, tried
 
 UNREACHABLE = 16  # hops
 CTRL_C = b"\x03"
@@ -208,16 +209,12 @@ def typed():
 
 
 def main():
-    counts = Counts()
-    for test in (reports, lines_come, nobody_reads, somebody_reads_slowly, seconds_pass, told_to_end, typed):
-        counts.run(test)
-    if SYSTEM is Windows:
-        left_out("a capture into a pipe that nobody reads", "pipes have other names there")
-    else:
+    counts = tried(reports, lines_come, nobody_reads, somebody_reads_slowly, seconds_pass, told_to_end, typed)
+    if has_linux("a capture into a pipe that nobody reads", "pipes have other names there"):
         counts.run(nobody_reads_the_capture)
         counts.run(nobody_reads_the_fifo_yet)
     return counts
 
 
 if __name__ == "__main__":
-    main()
+    begin(main)

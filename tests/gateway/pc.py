@@ -6,9 +6,10 @@ import subprocess
 import tempfile
 import time
 
-from lab import AGAIN, GAME, Client, Counts, Gateway, address, comes_next, free_ports, left_out, packet, tunnels
+from lab import AGAIN, GAME, Client, Gateway, address, comes_next, free_ports, packet, tunnels
 from status import Watched
-from systems import SYSTEM, TOP, Windows
+from systems import TOP
+from trying import Counts, begin, has_linux, left_out
 
 SOURCE = os.path.join(TOP, "tests", "gateway", "pc", "boot.asm")
 PROGRAMS = ("qemu-system-i386", "qemu-system-x86_64")
@@ -136,22 +137,16 @@ def pinged():
 
 
 def main():
-    counts = Counts()
-    if not any(shutil.which(it) for it in PROGRAMS):
-        left_out("a PC in QEMU", f"no {PROGRAMS[0]}")
-    elif not shutil.which("nasm"):
-        left_out("a PC in QEMU", "no nasm")
-    else:
-        counts.run(datagrams)
-        counts.run(connections)
-        counts.run(of_any_kind)
-        counts.run(on_one_network)
-        if SYSTEM is Windows:
-            left_out("pings that a PC in QEMU answers", "the status socket is Linux' own")
-        else:
-            counts.run(pinged)
+    missing = [] if any(map(shutil.which, PROGRAMS)) else [PROGRAMS[0]]
+    missing += [] if shutil.which("nasm") else ["nasm"]
+    if missing:
+        left_out("a PC in QEMU", f"no {missing[0]}")
+        return Counts()
+    counts = tried(datagrams, connections, of_any_kind, on_one_network)
+    if has_linux("pings that a PC in QEMU answers", "the status socket is Linux' own"):
+        counts.run(pinged)
     return counts
 
 
 if __name__ == "__main__":
-    main()
+    begin(main)

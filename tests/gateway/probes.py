@@ -1,9 +1,9 @@
 """A gateway that runs asks stations whether they answer, and routers for their way."""
 import re
 
-from lab import EVERYONE, GATEWAY, NOBODY, TUNNEL, Client, Counts, address, left_out, packet, played_anew, reaches, socket_of, tunnels
+from lab import EVERYONE, GATEWAY, NOBODY, TUNNEL, Client, address, packet, played_anew, reaches, socket_of, tunnels
 from status import Watched, asked
-from systems import SYSTEM, Windows
+from trying import Counts, begin, has_linux, tried
 
 DIAGNOSTIC = 0x456
 MILLISECONDS = r"\d+\.\d{3} ms"
@@ -95,14 +95,10 @@ def traced():
 
 
 def main():
-    counts = Counts()
-    if SYSTEM is Windows:
-        left_out("pings and traces", "the status socket is Linux' own")
-        return counts
-    for test in (pinged, at_a_socket, traced):
-        counts.run(test)
-    return counts
+    if not has_linux("pings and traces"):
+        return Counts()
+    return tried(pinged, at_a_socket, traced)
 
 
 if __name__ == "__main__":
-    main()
+    begin(main)

@@ -2,9 +2,9 @@
 import random
 import subprocess
 
-from attacks import figures, named
-from lab import LIMIT, Counts
+from lab import LIMIT
 from systems import SYSTEM
+from trying import begin, figures, named, tried
 
 CALLS = 1_000_000
 
@@ -44,11 +44,8 @@ TESTS = (
 
 
 def main():
-    counts = Counts()
-    for test in TESTS:
-        counts.run(test)
-    return counts
+    return tried(*TESTS)
 
 
 if __name__ == "__main__":
-    main()
+    begin(main)

@@ -5,13 +5,14 @@ import json
 import os
 import tempfile
 
+from changed import Changed
 from frames import Station, Udp
-from lab import GAME, LIMIT, Client, Clock, Counts, address, free_ports, reaches, rip_response, until
+from lab import GAME, LIMIT, Client, Clock, address, free_ports, reaches, rip_response, until
 from links import STATION
-from reloading import Changed
 from status import answer_of
 from systems import SYSTEM
 from troubles import advertise, is_held, let_pass
+from trying import begin, tried
 
 WIDE = 10000000  # kilobits of a line, by which pings wait for a moment all the same
 LEARNED = 500  # routes, of which to say that they are gone takes more memory than to hear of each
@@ -186,7 +187,8 @@ def memory_to_take_leave():
 
 
 def main():
-    counts = Counts()
-    counts.run(memory_for_a_reload)
-    counts.run(memory_to_take_leave)
-    return counts
+    return tried(memory_for_a_reload, memory_to_take_leave)
+
+
+if __name__ == "__main__":
+    begin(main)

@@ -8,19 +8,21 @@ import select
 import signal
 import socket
 import subprocess
-import sys
 import tempfile
 
+from cards import has_cards, hears_all_frames, pair
+from changed import Changed, at, comes_in, comes_to, is_told_to_leave, nodes_on, port_in
 from events import Follower
-from frames import Packets, Station, Tcp, Udp
-from lab import (AGAIN, ALL_THERE_IS, EVERYONE, GAME, LIMIT, NOBODY, RIP, TUNNEL, Client, Clock, Counts, address, comes_next, free_ports,
-                 is_ping, left_out, packet, reaches, registration, rip_response, socket_of, tunnels, until)
+from frames import Packets, Station, Udp
+from lab import (AGAIN, ALL_THERE_IS, EVERYONE, GAME, LIMIT, NOBODY, RIP, TUNNEL, Client, Clock, address, comes_next, free_ports, is_ping,
+                 packet, reaches, registration, rip_response, socket_of, tunnels, until)
 from orders import is_farewell, told_until
-from segments import can, hears, hears_all_frames, pair, tells
+from segments import hears, tells
 from six import has_six
-from spaces import INSIDE, ip, tried_inside
-from status import Watched, advertise, answer_of, asked
-from systems import SYSTEM, TOP, Windows
+from spaces import ip
+from status import advertise, answer_of, asked
+from systems import SYSTEM, TOP
+from trying import Counts, begin, has_linux, left_out, tried, tried_inside
 
 TIMES = 20  # that the configuration is read anew while others play
 BETWEEN = 25  # packets from one time to the next
@@ -31,30 +33,6 @@ MANY = 180  # clients, routes and services: more than a piece of what is shown
 CUT = 50  # times that it is shortened, until that comes between two pieces
 LONGEST = 1424  # bytes of a datagram of the tunnel
 FLOOD = 300  # packets of a client, more than another receives at once where there are limits
-
-
-class Changed(Watched):
-    """A gateway whose configuration changes."""
-
-    def write(self, text):
-        with open(self.configuration, "w", encoding="utf-8") as it:
-            it.write(text)
-
-    def reload(self, text):
-        """It reads another configuration, which is right. Returns what it says it did."""
-        self.write(text)
-        return self.asked("reload")
-
-
-def at(number, port, more="", below=""):
-    return f"network {number:X} 1 1424 {more} dosbox {port}\n{below}"
-
-
-def comes_in(port):
-    """Whether who registers there comes in."""
-    it = Client(port, registers=False)
-    it.send(registration())
-    return it.hear(is_ping, AGAIN) is not None
 
 
 def source(name):
@@ -81,12 +59,6 @@ def nothing_changes():
         gate.told("was read again: nothing changed")
         assert reaches(a, b) and reaches(b, a)
         assert not is_told_to_leave(gate)
-
-
-def is_told_to_leave(gate):
-    """Whether any client left by now."""
-    gate.report()
-    return any(" leaves " in line for line in gate.lines)
 
 
 def wrong_file():
@@ -190,26 +162,6 @@ def limits():
         assert lost > 0 and gate.counted(0x10, dropped) == lost and f"{lost} copies of what it said" in gate.report()
         assert [it["dropped"] for it in gate.shown("clients")] == [lost, lost]
         assert not is_told_to_leave(gate)
-
-
-def nodes_on(gate, network):
-    """The links of a network as they are shown, each with the port that it took."""
-    return [it["link"] for it in gate.shown("links") if it["network"] == f"{network:08X}"]
-
-
-def port_in(link):
-    return int(re.search(r":(\d+)", link)[1])
-
-
-def comes_to(gate, link):
-    """Who comes to a link of the network 10: a DOSBox, or a PC in an emulator."""
-    if link.startswith("dosbox"):
-        return Client(port_in(link), gateway=gate.nodes[0x10])
-    connection = socket.create_connection(("127.0.0.1", port_in(link)))
-    pc = Station(Tcp(connection), "raw", 0x10, b"\2\0" + connection.getsockname()[1].to_bytes(4, "big"), gate.nodes[0x10])
-    pc.say(address(0x10, pc.gateway, GAME), b"I am here")
-    until(lambda: (link, "up") in ((it["link"], it["state"]) for it in gate.shown("links")), "its link is up")
-    return pc
 
 
 def all_hear(present):
@@ -581,35 +533,22 @@ def a_card_of_several_links():
 
 def inside():
     """In the network of its own."""
-    counts = Counts()
     ip("link", "set", "lo", "up")
-    if can(lambda: pair("v0", "v1")):
-        ip("link", "del", "v0")
-        counts.run(another_card)
-        if hears_all_frames():
-            counts.run(a_card_of_several_links)
-    else:
-        left_out("another card by a reload", "no pair of interfaces can be made")
-    print(f"{counts.passed} passed, {counts.failed} failed")
+    if has_cards():
+        return tried(another_card, *((a_card_of_several_links,) if hears_all_frames() else ()))
+    left_out("another card by a reload", "no pair of interfaces can be made")
+    return Counts()
 
 
 def main():
-    counts = Counts()
-    if SYSTEM is Windows:
-        left_out("reading the configuration anew", "it is Linux' own")
-        return counts
-    for test in (all_is_compared, nothing_changes, wrong_file, rules_for_clients, newcomers, limits, limits_of_a_link, a_line, shares,
-                 sockets, a_link_is_another, frames_on_another_link, networks_come_and_go, links_that_are_alike, a_node_of_several_links,
-                 another_address, a_link_is_taken, the_router_begins_anew, shown_while_links_go, shown_while_a_network_goes,
-                 shown_while_counts_go, followed, at_a_terminal):
-        counts.run(test)
-    own = tried_inside(os.path.realpath(__file__), "cards beside a reload")
-    counts.passed, counts.failed = counts.passed + own.passed, counts.failed + own.failed
-    return counts
+    if not has_linux("reading the configuration anew"):
+        return Counts()
+    counts = tried(all_is_compared, nothing_changes, wrong_file, rules_for_clients, newcomers, limits, limits_of_a_link, a_line, shares,
+                   sockets, a_link_is_another, frames_on_another_link, networks_come_and_go, links_that_are_alike, a_node_of_several_links,
+                   another_address, a_link_is_taken, the_router_begins_anew, shown_while_links_go, shown_while_a_network_goes,
+                   shown_while_counts_go, followed, at_a_terminal)
+    return counts + tried_inside(__file__, "cards beside a reload")
 
 
 if __name__ == "__main__":
-    if sys.argv[1:] == [INSIDE]:
-        inside()
-    else:
-        main()
+    begin(main, inside)

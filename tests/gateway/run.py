@@ -22,6 +22,7 @@ import orders
 import pc
 import probes
 import queues
+import refused
 import reload_memory
 import reloading
 import segments
@@ -35,11 +36,12 @@ import tunnel
 import unit
 import wires
 import words
-from lab import left_out
 from systems import SYSTEM, Windows
+from trying import Counts, left_out
 
 ALL = (counting, words, siphash, queues, unit, orders, status, events, probes, reloading, staying, tunnel, links, six, names, segments,
-       kinds, made_up, troubles, reload_memory, wires, houses, attacks, limits, complaints, asked, fair, slow_pc, narrow, dosbox, pc, bochs)
+       kinds, made_up, troubles, reload_memory, wires, refused, houses, attacks, limits, complaints, asked, fair, slow_pc, narrow, dosbox, pc,
+       bochs)
 TESTS = {it.__name__: it for it in ALL}
 
 
@@ -58,7 +60,7 @@ def chosen(names):
         return [TESTS[it] for it in names or TESTS]
     # (TAPs and interfaces are no links there, which the words tell)
     left_out("Windows: calls of the system that fail, and hours", "trouble.c stands in front of Linux' calls alone")
-    return [TESTS[it] for it in TESTS if it not in ("troubles", "reload_memory", "wires")]
+    return [TESTS[it] for it in TESTS if it not in ("troubles", "reload_memory", "wires", "refused")]
 
 
 def main(names):
@@ -72,10 +74,9 @@ def main(names):
     if not has_loopback():
         print("left out: gateway: all tests (no sockets on the loopback address)\n0 passed, 0 failed")
         return 0
-    counts = [it.main() for it in chosen(names)]
-    passed, failed = sum(it.passed for it in counts), sum(it.failed for it in counts)
-    print(f"{passed} passed, {failed} failed")
-    return 1 if failed else 0
+    counts = sum((it.main() for it in chosen(names)), Counts())
+    print(counts)
+    return 1 if counts.failed else 0
 
 
 if __name__ == "__main__":

@@ -1,15 +1,15 @@
 """Networks of several links: DOSBox, emulators' cards, TAPs and Ethernet as one cable."""
-import os
 import re
 import signal
-import sys
 import time
 
+from cards import has_bridges, has_cards, has_taps, hears_all_frames, pair
 from frames import Packets, Station, Udp, frame
-from lab import EVERYONE, GAME, LIMIT, Client, Clock, Counts, Gateway, address, fresh, is_routers, left_out, packet, reaches, until
-from spaces import INSIDE, ip, tried_inside
+from lab import EVERYONE, GAME, LIMIT, Client, Clock, Gateway, address, fresh, is_routers, packet, reaches, until
+from spaces import ip
 from status import Watched, advertise
 from systems import SYSTEM, Windows
+from trying import Counts, begin, left_out, tried, tried_inside
 
 NUMBER = 0x10
 PC, CARD = bytes.fromhex("020000000AA1"), bytes.fromhex("020000000BB2")
@@ -305,19 +305,6 @@ def links_change_while_it_runs():
 # ---- In a network of the test's own ----
 
 
-def pair(near, far):
-    ip("link", "add", near, "type", "veth", "peer", "name", far)
-    for name in (near, far):
-        ip("link", "set", name, "up")
-
-
-def hears_all_frames():
-    """Whether a card of several links can hear the frames for other nodes; that it can't is told."""
-    if SYSTEM.name == "aarch64":
-        left_out("cards as one of several links", "qemu-aarch64 doesn't hand on that a card is to hear all frames")
-    return SYSTEM.name != "aarch64"
-
-
 def cards_and_taps():
     """A DOSBox, a TAP and an Ethernet card are one cable: a card hears what is for a DOSBox, and frames of stations keep their nodes."""
     pair("s0", "s1")
@@ -372,52 +359,29 @@ def a_bridge_behind_its_back():
     ip("link", "del", "brs")
 
 
-def inside():
-    """In the network of its own."""
-    counts = Counts()
-    ip("link", "set", "lo", "up")
-    if os.path.exists("/dev/net/tun") and can(lambda: pair("s0", "s1")):
-        ip("link", "del", "s0")
-        if hears_all_frames():
-            counts.run(cards_and_taps)
-        if can(lambda: ip("link", "add", "brs", "type", "bridge")):
-            ip("link", "del", "brs")
-            counts.run(a_bridge_behind_its_back)
-        else:
-            left_out("a bridge behind the gateway's back", "none can be made")
-    else:
-        left_out("TAPs and cards as one cable", "none can be made")
-    print(f"{counts.passed} passed, {counts.failed} failed")
-
-
-def can(test):
-    try:
-        test()
-    except (AssertionError, OSError):
-        return False
-    return True
-
-
 TESTS = (a_call_finds_all, an_answer_goes_to_one, a_node_moves, two_with_one_node, nobody_takes_a_clients_name, the_router_is_a_station,
          each_client_is_sure)
 OF_LINUX = (stations_are_shown, links_change_while_it_runs, clients_are_sure_after_a_reload, shares_of_several_links, stations_age)
 
 
-def main():
-    counts = Counts()
-    for test in TESTS:
-        counts.run(test)
-    if SYSTEM is Windows:
-        return counts
-    for test in OF_LINUX:
-        counts.run(test)
-    own = tried_inside(os.path.realpath(__file__), "TAPs and cards as one cable")
-    counts.passed, counts.failed = counts.passed + own.passed, counts.failed + own.failed
+def inside():
+    """In the network of its own."""
+    ip("link", "set", "lo", "up")
+    if not has_taps() or not has_cards():
+        left_out("TAPs and cards as one cable", "none can be made")
+        return Counts()
+    counts = tried(*((cards_and_taps,) if hears_all_frames() else ()))
+    if has_bridges():
+        return counts + tried(a_bridge_behind_its_back)
+    left_out("a bridge behind the gateway's back", "none can be made")
     return counts
 
 
+def main():
+    if SYSTEM is Windows:
+        return tried(*TESTS)
+    return tried(*TESTS, *OF_LINUX) + tried_inside(__file__, "TAPs and cards as one cable")
+
+
 if __name__ == "__main__":
-    if sys.argv[1:] == [INSIDE]:
-        inside()
-    else:
-        main()
+    begin(main, inside)

@@ -1,8 +1,9 @@
 """The hash of which made-up nodes are made."""
 import subprocess
 
-from lab import LIMIT, Counts
+from lab import LIMIT
 from systems import SYSTEM
+from trying import begin, tried
 
 
 def vectors():
@@ -12,10 +13,8 @@ def vectors():
 
 
 def main():
-    counts = Counts()
-    counts.run(vectors)
-    return counts
+    return tried(vectors)
 
 
 if __name__ == "__main__":
-    main()
+    begin(main)

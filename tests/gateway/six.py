@@ -4,9 +4,10 @@ import random
 import socket
 
 from frames import Station, Tcp, Udp
-from lab import Client, Counts, Gateway, left_out, tunnels
+from lab import Client, Gateway, tunnels
 from links import STATION, both_ways, places_joined
 from systems import SYSTEM, Windows
+from trying import begin, left_out, tried
 
 OWN = "::1"
 ADDRESSES = 31  # that one gateway calls
@@ -107,11 +108,12 @@ def has_six():
 
 
 def main():
-    counts = Counts()
-    counts.run(as_they_are_written)
-    if not has_six():
-        left_out("links by IPv6", "no address of it here")
-        return counts
-    for test in (datagrams, connections, two_gateways, *(() if SYSTEM is Windows else (both_kinds,))):
-        counts.run(test)
+    counts = tried(as_they_are_written)
+    if has_six():
+        return counts + tried(datagrams, connections, two_gateways, *(() if SYSTEM is Windows else (both_kinds,)))
+    left_out("links by IPv6", "no address of it here")
     return counts
+
+
+if __name__ == "__main__":
+    begin(main)

@@ -2,21 +2,20 @@
 
 It runs in networks of its own (spaces.py). One PC reads as slowly as a DOSBox does; the others are counted by a clock that the test sets.
 """
-import os
 import re
 import socket
 import struct
 import sys
 import time
 
-from attacks import OTHER_PORT, QUIET, Playground, figures, flood, named, none
+from attacks import OTHER_PORT, QUIET, Playground, flood, none
 from fair import LASTS, STEP, dropped, say_up_to
 from frames import frame
-from lab import EVERYONE, GAME, RIP, ROOM, Clock, Counts, address, left_out, packet, played_anew, rip_response
+from lab import EVERYONE, GAME, RIP, ROOM, Clock, address, packet, played_anew, rip_response
 from limits import AT_ONCE, CHAT, FIRST, FLOOD, RATE, RECEIVED, SECONDS, are_answering, come, place_of
 from players import HELLO, NETWORK, Player, Slow
-from spaces import GATEWAY, INSIDE, build_flood, host, tried_inside
-from systems import SYSTEM
+from spaces import GATEWAY, build_flood, host
+from trying import begin, figures, named, tried, tried_on_own_system
 
 PC_PLACE = ("2.0.0.0", 0xAA1)
 PC_NODE = socket.inet_aton(PC_PLACE[0]) + struct.pack(">H", PC_PLACE[1])  # what a flood says to that place goes to this node
@@ -190,24 +189,13 @@ TESTS = [
 
 def inside():
     """In the network of its own."""
-    counts = Counts()
     build_flood()
-    for test in TESTS:
-        counts.run(test)
-    print(f"{counts.passed} passed, {counts.failed} failed")
+    return tried(*TESTS)
 
 
 def main():
-    if SYSTEM.name != "Linux":
-        left_out("what a PC receives", "it is tried on this machine's own system")
-        return Counts()
-    return tried_inside(os.path.realpath(__file__), "what a PC receives")
+    return tried_on_own_system(__file__, "what a PC receives")
 
 
 if __name__ == "__main__":
-    if sys.argv[1:] == [INSIDE]:
-        inside()
-    else:
-        ended = main()
-        print(f"{ended.passed} passed, {ended.failed} failed")
-        sys.exit(ended.failed > 0)
+    begin(main, inside)

@@ -16,13 +16,14 @@ import sys
 import time
 
 import driven
-from attacks import ADDRESSES, NOBODYS, PORTS, Playground, figures
+from attacks import ADDRESSES, NOBODYS, PORTS, Playground
 from frames import KINDS, Packets, frame
-from lab import EVERYONE, GAME, RIP, SAP, address, left_out, packet, rip_response, sap_response
+from lab import EVERYONE, GAME, RIP, SAP, address, packet, rip_response, sap_response
 from pair import OnWire, Pair
 from players import FAST, Player
-from spaces import GATEWAY, INSIDE, Field, Flood, build_flood, host, ip, own_addresses, way_inside
+from spaces import GATEWAY, Field, Flood, build_flood, host, ip, own_addresses
 from systems import SYSTEM
+from trying import INSIDE, all_but_last, figures, left_out, way_inside
 
 MINUTES = 10
 RATE = 5000  # datagrams a second of each flood
@@ -339,15 +340,6 @@ def inside(minutes):
 
 def begin(*words):
     return subprocess.Popen(words, stdout=subprocess.PIPE, stderr=subprocess.STDOUT, text=True)
-
-
-def all_but_last(run):
-    """Passes on what a program says, as it says it. Returns its last line."""
-    last = ""
-    for line in run.stdout:
-        print(last, end="", flush=True)
-        last = line
-    return last
 
 
 def main(minutes):

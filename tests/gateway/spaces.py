@@ -7,14 +7,10 @@ does behind a router.
 """
 import os
 import re
-import shutil
 import subprocess
-import sys
 
-from lab import Counts, left_out
 from systems import BUILD, TOP
 
-INSIDE = "--inside"
 GATEWAY = ("10.77.0.1", 2130)
 VICTIM = "10.78.0.9"
 # The first of many addresses: of the attacker, of nobody on the same Ethernet, and of strangers behind the victim.
@@ -153,31 +149,3 @@ class Flood:
 def build_flood():
     source = os.path.join(TOP, "tests", "gateway", "flood.c")
     subprocess.run(["cc", "-std=c99", "-O2", "-Wall", "-Wextra", "-pedantic", source, "-o", Flood.program], check=True)
-
-
-def way_inside(what):
-    """The words before a command that runs in a network of its own; None where none can be made, which is told."""
-    missing = [it for it in ("ip", "unshare", "nsenter") if not shutil.which(it)]
-    if missing:
-        left_out(what, f"no {missing[0]}")
-        return None
-    # (root needs no other user; who isn't is root in a namespace of his own)
-    for way in ["unshare", "-n"], ["unshare", "-rn"]:
-        if subprocess.run([*way, "true"], stderr=subprocess.DEVNULL, check=False).returncode == 0:
-            return way
-    left_out(what, "no network of the test's own can be made")
-    return None
-
-
-def tried_inside(script, what):
-    """Runs a script of tests in a network of its own, where one can be made: its word is then INSIDE. Returns what it counted."""
-    counts, way, last = Counts(), way_inside(what), ""
-    if way is None:
-        return counts
-    with subprocess.Popen([*way, sys.executable, script, INSIDE], stdout=subprocess.PIPE, text=True) as script_:
-        for line in script_.stdout:
-            print(last, end="", flush=True)
-            last = line
-    words = last.split()
-    counts.passed, counts.failed = (int(words[0]), int(words[2])) if len(words) == 4 else (0, 1)
-    return counts

@@ -12,9 +12,10 @@ import tempfile
 import time
 
 from frames import frame
-from lab import (ALL_THERE_IS, EVERYONE, GAME, LIMIT, NOBODY, Client, Counts, Gateway, address, left_out, packet, reaches,
-                 rip_response, text_of, tunnels, until)
-from systems import SYSTEM, Windows
+from lab import (ALL_THERE_IS, EVERYONE, GAME, LIMIT, NOBODY, Client, Gateway, address, packet, reaches, rip_response, text_of, tunnels,
+                 until)
+from systems import SYSTEM
+from trying import Counts, begin, has_linux, left_out, tried
 
 SECTIONS = ("links", "clients", "stations", "routes", "services", "counts")
 HOSTILE = [b'"', b"\\", b"\x1b[2J\x07", b"a b\tc\r\nd", b"\xff\xfe\x80", b"\x7f", b"</script>&'%s%n", b"\x01" * 47, bytes(range(1, 48)),
@@ -342,15 +343,11 @@ def nobody_reads():
 
 
 def main():
-    counts = Counts()
-    if SYSTEM is Windows:
-        left_out("the status socket", "it is Linux' own")
-        return counts
-    for test in (seen, a_field_a_column, all_of_it, as_the_report, hostile_names, full_tables, metrics, wrong_questions, who_may_ask,
-                 who_takes_nobody, many_ask, no_room_to_ask, nobody_reads):
-        counts.run(test)
-    return counts
+    if not has_linux("the status socket"):
+        return Counts()
+    return tried(seen, a_field_a_column, all_of_it, as_the_report, hostile_names, full_tables, metrics, wrong_questions, who_may_ask,
+                 who_takes_nobody, many_ask, no_room_to_ask, nobody_reads)
 
 
 if __name__ == "__main__":
-    main()
+    begin(main)

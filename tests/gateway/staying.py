@@ -1,15 +1,15 @@
 """What stays while the configuration is read anew: whoever is at a place that the file names still is heard there, and hears, on."""
 import json
-import os
 import socket
-import sys
 
+from cards import has_bridges, has_cards, has_taps, hears_all_frames, pair
+from changed import Changed, at, comes_to, is_told_to_leave, nodes_on
 from frames import Packets, Station, Tcp
-from lab import EVERYONE, GAME, Client, Clock, Counts, address, free_ports, left_out, reaches, reaches_again, until
-from reloading import FLOOD, Changed, at, comes_to, is_told_to_leave, nodes_on
-from segments import can, hears_all_frames, pair
-from spaces import INSIDE, ip, tried_inside
-from systems import SYSTEM, Windows
+from lab import EVERYONE, GAME, Client, Clock, address, free_ports, reaches, reaches_again, until
+from reloading import FLOOD
+from spaces import ip
+from systems import SYSTEM
+from trying import Counts, begin, has_linux, left_out, tried, tried_inside
 
 
 def one_link_and_several():
@@ -134,38 +134,24 @@ def links_that_are_one_cable():
 
 def inside():
     """In the network of its own."""
-    counts = Counts()
     ip("link", "set", "lo", "up")
-    if can(lambda: pair("v0", "v1")):
-        ip("link", "del", "v0")
-        if hears_all_frames():
-            counts.run(a_card_becomes_one_of_several)
-    else:
-        left_out("a card among several links by a reload", "no pair of interfaces can be made")
-    if os.path.exists("/dev/net/tun") and can(lambda: ip("link", "add", "br0", "type", "bridge")):
-        ip("link", "del", "br0")
-        counts.run(a_tap_stays)
-        counts.run(a_card_becomes_a_tap)
-        counts.run(links_that_are_one_cable)
-    else:
-        left_out("a TAP in its bridge beside a reload", "none can be made")
-    print(f"{counts.passed} passed, {counts.failed} failed")
-
-
-def main():
     counts = Counts()
-    if SYSTEM is Windows:
-        left_out("who stays beside a reload", "it is Linux' own")
-        return counts
-    for test in (one_link_and_several, other_kinds, a_higher_limit_of_a_link):
-        counts.run(test)
-    own = tried_inside(os.path.realpath(__file__), "cards and TAPs beside a reload")
-    counts.passed, counts.failed = counts.passed + own.passed, counts.failed + own.failed
+    if not has_cards():
+        left_out("a card among several links by a reload", "no pair of interfaces can be made")
+    elif hears_all_frames():
+        counts.run(a_card_becomes_one_of_several)
+    if has_taps() and has_bridges():
+        return counts + tried(a_tap_stays, a_card_becomes_a_tap, links_that_are_one_cable)
+    left_out("a TAP in its bridge beside a reload", "none can be made")
     return counts
 
 
+def main():
+    if not has_linux("who stays beside a reload"):
+        return Counts()
+    counts = tried(one_link_and_several, other_kinds, a_higher_limit_of_a_link)
+    return counts + tried_inside(__file__, "cards and TAPs beside a reload")
+
+
 if __name__ == "__main__":
-    if sys.argv[1:] == [INSIDE]:
-        inside()
-    else:
-        main()
+    begin(main, inside)

@@ -8,12 +8,13 @@ import tempfile
 import time
 
 from frames import Station, Tcp, Udp
-from lab import (ALL_THERE_IS, AGAIN, EVERYONE, GAME, LIMIT, Client, Clock, Counts, Gateway, address, comes_next, fresh,
-                 is_ping, reaches, reaches_again, registration, rip_response, sap_response, says, tunnels, until)
+from lab import (AGAIN, ALL_THERE_IS, EVERYONE, GAME, LIMIT, Client, Clock, Gateway, address, comes_next, fresh, is_ping, reaches,
+                 reaches_again, registration, rip_response, sap_response, says, tunnels, until)
 from links import STATION, connected, listening
 from orders import is_farewell
 from status import Watched, answer_of, processor_time
 from systems import SYSTEM
+from trying import begin, tried
 
 # Each call, the faults that it gives, and how many times it is let fail: the first time, the second, ..
 CALLS = [
@@ -570,13 +571,10 @@ def who_is_refused():
 
 
 def main():
-    counts = Counts()
-    for test in (each_fails, each_fails_for_a_while, cannot_wait, nobody_is_taken, no_room_to_receive, no_memory_for_a_second,
+    return tried(each_fails, each_fails_for_a_while, cannot_wait, nobody_is_taken, no_room_to_receive, no_memory_for_a_second,
                  one_is_refused, who_is_silent, who_left, stands_still, who_spoke_meanwhile, each_has_its_turn, what_was_heard_lately,
-                 interrupted, few_strangers, late_answers, who_is_refused, an_hour, full_tables, who_stays):
-        counts.run(test)
-    return counts
+                 interrupted, few_strangers, late_answers, who_is_refused, an_hour, full_tables, who_stays)
 
 
 if __name__ == "__main__":
-    main()
+    begin(main)

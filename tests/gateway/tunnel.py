@@ -6,10 +6,11 @@ import struct
 import subprocess
 import time
 
-from lab import (COOKIE, EVERYONE, GAME, GATEWAY, LIMIT, RIP, ROOM, SAP, TUNNEL, Client, Counts, Gateway, address, comes_next, free_ports,
-                 is_ping, is_routers, packet, reaches, reaches_again, registration, rip_response, sap_response, socket_of, tunnels, until,
+from lab import (COOKIE, EVERYONE, GAME, GATEWAY, LIMIT, RIP, ROOM, SAP, TUNNEL, Client, Gateway, address, comes_next, free_ports, is_ping,
+                 is_routers, packet, reaches, reaches_again, registration, rip_response, sap_response, socket_of, tunnels, until,
                  until_wine_lets_go)
 from systems import SYSTEM, TOP
+from trying import begin, tried
 
 DECODER = os.path.join(TOP, "crates", "ipxr", "out", "ipxr")  # (where it is built)
 IP_PKTINFO = 8  # as Linux numbers it
@@ -542,15 +543,11 @@ def counts_and_lines():
 
 
 def main():
-    counts = Counts()
-    for test in (two_clients, three_clients, seventy_clients, of_one_address, a_ping_is_lost, many_pings_are_lost,
-                 four_thousand_clients, allowed, trusted, strangers,
-                 allowed_is_not_trusted, cookies_of_places, cookies_of_runs, who_comes_and_leaves, shares, routers_elsewhere, starts_again,
-                 control_is_cleared, false_sources, ping, all_sizes, padding, nobody_there, neighbours, extended, flood, the_capture,
-                 counts_and_lines):
-        counts.run(test)
-    return counts
+    return tried(two_clients, three_clients, seventy_clients, of_one_address, a_ping_is_lost, many_pings_are_lost, four_thousand_clients,
+                 allowed, trusted, strangers, allowed_is_not_trusted, cookies_of_places, cookies_of_runs, who_comes_and_leaves, shares,
+                 routers_elsewhere, starts_again, control_is_cleared, false_sources, ping, all_sizes, padding, nobody_there, neighbours,
+                 extended, flood, the_capture, counts_and_lines)
 
 
 if __name__ == "__main__":
-    main()
+    begin(main)

@@ -5,8 +5,8 @@ import shutil
 import subprocess
 import tempfile
 
-from lab import Counts, left_out
-from systems import SYSTEM, TOP, Windows
+from systems import TOP
+from trying import Counts, begin, has_linux, left_out, tried
 
 MOST = 2.9  # of systemd's 10.0 for a service that may do everything
 
@@ -35,15 +35,12 @@ def knows_offline():
 
 
 def main():
-    counts = Counts()
-    if SYSTEM is Windows:
-        left_out("the unit for systemd", "there is none on Windows")
-    elif not knows_offline():
+    if has_linux("the unit for systemd", "there is none on Windows"):
+        if knows_offline():
+            return tried(little_is_allowed)
         left_out("the unit for systemd", "no systemd-analyze that judges files")
-    else:
-        counts.run(little_is_allowed)
-    return counts
+    return Counts()
 
 
 if __name__ == "__main__":
-    main()
+    begin(main)

@@ -1,49 +1,27 @@
 """Ethernet interfaces and TAPs, in a network of the test's own: nothing of this machine's network is touched."""
-import contextlib
-import errno
 import fcntl
-import json
-import os
 import re
-import resource
 import select
-import shutil
 import socket
 import struct
 import subprocess
-import sys
 import tempfile
 import time
 
+from cards import TUN, about, has_cards, has_taps, own_address, pair
 from frames import KINDS, Packets, Station, Tcp
-from lab import (AGAIN, GAME, Client, Counts, Gateway, address, comes_next, free_ports, is_routers, left_out, reaches, reaches_again, says,
-                 tunnels, until)
-from links import NO_LIMIT, both_ways, connected, listening, places_joined
-from spaces import tried_inside
+from lab import AGAIN, GAME, Client, Gateway, address, comes_next, free_ports, is_routers, reaches, tunnels, until
+from links import NO_LIMIT, STATION, both_ways, connected, listening, places_joined
+from spaces import ip
 from systems import SYSTEM
-from troubles import Trouble, ends_well, troubled
+from trying import Counts, begin, can, left_out, tried, tried_inside
 
-STATION = bytes.fromhex("020000000AA1")
-INSIDE = "--inside"
 ANY_PORTS = "32768 60999"  # as Linux begins
-NOBODY, GROUP = 65534, 64242  # numbers of a user and of a group that own nothing
-
-
-def ip(*words):
-    run = subprocess.run(["ip", *words], stdout=subprocess.DEVNULL, stderr=subprocess.PIPE, check=False)
-    assert run.returncode == 0, run.stderr.decode()
-
-
-def make_pair():
-    """A pair of interfaces, each the other's far end: v0 is the gateway's."""
-    ip("link", "add", "v0", "type", "veth", "peer", "name", "v1")
-    for name in ("v0", "v1"):
-        ip("link", "set", name, "up")
 
 
 def all_kinds():
     """Hosts on one cable, each by its kind of frame, are four networks: each reaches a DOSBox, and the other hosts."""
-    make_pair()
+    pair("v0", "v1")
     text = tunnels(1) + "".join(f"network {20 + k} 1 1490 interface v0 {kind}\n" for k, kind in enumerate(KINDS))
     with Gateway(text) as gate:
         node = gate.nodes[0x20]
@@ -63,7 +41,7 @@ def all_kinds():
 
 def a_short_mtu():
     """An interface whose MTU is less than LONGEST: what the MTU and the kind of frame leave room for comes, a byte more is not sent."""
-    make_pair()
+    pair("v0", "v1")
     ip("link", "set", "v0", "mtu", "1400")
     text = tunnels(1) + "".join(f"network {20 + k} 1 1490 interface v0 {kind}\n" for k, kind in enumerate(KINDS))
     with Gateway(text) as gate:
@@ -82,7 +60,7 @@ def a_short_mtu():
 
 def a_cable_is_pulled():
     """A cable that is pulled, a card that is switched off, and one that is taken out: the network is down; it comes back."""
-    make_pair()
+    pair("v0", "v1")
     with Gateway(tunnels(1) + "network 20 1 1490 interface v0 raw\n") as gate:
         far = Client(gate.ports[0x10])
         for name, why in (("v1", "no carrier"), ("v0", "it is switched off")):
@@ -97,7 +75,7 @@ def a_cable_is_pulled():
         while not gate.told("network 00000020 is down").endswith(": interface v0 raw: it isn't there"):
             pass
         gate.until("network 00000020 down")
-        make_pair()
+        pair("v0", "v1")
         gate.told("network 00000020 is up")
         host = Station(Packets("v1", "raw"), "raw", 0x20, STATION, gate.nodes[0x20])
         both_ways(gate, host, far)
@@ -109,7 +87,7 @@ def a_card_by_the_same_number():
     network of several links what is for others is heard there again, too."""
     (port,) = free_ports(1)
     below = f"network 20 1 1490 interface v0 raw\nnetwork 30 1 1424\nlink interface v0 llc\nlink dosbox 127.0.0.1:{port}\n"
-    make_pair()
+    pair("v0", "v1")
     with Gateway(tunnels(1) + below) as gate:
         far, near = Client(gate.ports[0x10]), Client(port, gateway=gate.nodes[0x30])
         for number in (300, 300):
@@ -126,22 +104,13 @@ def a_card_by_the_same_number():
     ip("link", "del", "v0")
 
 
-def about(name):
-    """What the system knows of an interface."""
-    return json.loads(subprocess.run(["ip", "-j", "link", "show", name], stdout=subprocess.PIPE, check=True).stdout)[0]
-
-
-def own_address(name):
-    return bytes.fromhex(about(name)["address"].replace(":", ""))
-
-
 def a_card_comes_later():
     """A card that isn't there yet is waited for, which is told. The gateway's node is its address then."""
     with Gateway(tunnels(1) + "network 20 1 1490 interface v0 raw\nnetwork 21 1 1490 interface v0 llc\n") as gate:
         assert gate.told("network 00000020 is down").endswith(": interface v0 raw: can't open the interface: No such device")
         made_up = gate.nodes[0x20]
         far = Client(gate.ports[0x10])
-        make_pair()
+        pair("v0", "v1")
         assert gate.told("network 00000021 has another node")
         assert gate.told("network 00000021 is up")
         assert made_up != gate.nodes[0x20] == gate.nodes[0x21] == own_address("v0")
@@ -156,7 +125,7 @@ def an_address_comes_later():
     with Gateway(text) as gate:
         assert gate.told("network 00000010 is down").endswith("can't take the address: Cannot assign requested address")
         assert gate.told("network 00000020 is down").endswith("can't take the addresses: Network is unreachable")
-        make_pair()
+        pair("v0", "v1")
         ip("addr", "add", "10.77.0.1/24", "dev", "v0")
         assert gate.told("network 00000010 is up") and gate.told("network 00000020 is up")
         assert Client(2130, "10.77.0.1", to="10.77.0.1").network == 0x10
@@ -175,7 +144,7 @@ def sources(wire):
 
 def another_own_address():
     """Where this machine has another address, as of a line that connects anew, a link at 0.0.0.0 sends and hears by that one."""
-    make_pair()
+    pair("v0", "v1")
     ip("addr", "add", "10.77.0.1/24", "dev", "v0")
     ip("neigh", "add", "10.77.0.9", "lladdr", about("v1")["address"], "dev", "v0", "nud", "permanent")
     with Gateway(tunnels(1) + "network 20 1 1490 qemu-udp 0.0.0.0:5001 10.77.0.9:5002 raw\n") as gate:
@@ -195,14 +164,14 @@ def another_own_address():
 
 def two_gateways():
     """Two gateways on one cable join the networks of two places."""
-    make_pair()
+    pair("v0", "v1")
     places_joined("interface v0 raw", "interface v1 raw")
     ip("link", "del", "v0")
 
 
 def a_new_address():
     """A card's new address is learned: stations find the gateway there, and its frames leave with it."""
-    make_pair()
+    pair("v0", "v1")
     new = bytes.fromhex("02005E000077")
     with Gateway(tunnels(1) + "network 20 1 1490 interface v0 raw\nnetwork 30 1 1490 qemu-tcp listen 0 raw\n") as gate:
         far = Client(gate.ports[0x10])
@@ -252,7 +221,7 @@ def nobody_but_itself():
 
 def a_dead_pc():
     """A PC whose machine is gone without a word gives way after a minute (here 3 seconds), whether or not something was under way."""
-    make_pair()
+    pair("v0", "v1")
     ways = (False, True)
     if SYSTEM.name != "Linux":
         left_out("a PC that is gone while something is under way", "qemu-aarch64 doesn't hand on what Linux knows of a connection")
@@ -296,41 +265,6 @@ def made_up_nodes():
     assert all(it[0] == 2 for it in first + other)
 
 
-def as_nobody(*groups):
-    """The words that start a program as a user who isn't root, in some groups."""
-    # (setpriv itself has root's rights still when it starts one)
-    groups = f"--groups={','.join(map(str, groups))}" if groups else "--clear-groups"
-    return ["setpriv", f"--reuid={NOBODY}", f"--regid={NOBODY}", groups, "sh", "-c", 'exec "$0" "$@"']
-
-
-def rights_of_a_group():
-    """Rights that a group alone has, as GATEWAY-REFERENCE.md gives them: a user in it has cards and TAPs; others can't start the gateway."""
-    make_pair()
-    text = "network 20 1 1490 interface v0 raw\n"
-    # (the device for TAPs is everybody's, as systems have it; it needs the right too)
-    if os.stat("/dev/net/tun").st_mode & 0o006 == 0o006:
-        text += "network 30 1 1490 tap ipx7 raw\n"
-    else:
-        left_out("TAPs by the rights of a group", "the device for them is root's alone")
-    with tempfile.TemporaryDirectory() as folder:
-        os.chmod(folder, 0o755)
-        program = shutil.copy(SYSTEM.delivered, os.path.join(folder, "ipxr-gateway"))
-        os.chmod(program, 0o750)
-        os.chown(program, 0, GROUP)
-        subprocess.run(["setcap", "cap_net_raw,cap_net_admin=ep", program], check=True)
-        with Gateway(text, program, before=as_nobody(GROUP)) as gate:
-            for network in gate.nodes:
-                gate.until(f"network {network:08X} up")
-        for groups, rights, why in (((), "cap_net_raw,cap_net_admin=ep", "Permission denied"), ((GROUP,), "=", "Operation not permitted")):
-            subprocess.run(["setcap", rights, program], check=True)
-            try:
-                with Gateway(text, program, before=as_nobody(*groups)):
-                    raise OSError("it starts without rights")
-            except AssertionError as stop:
-                assert why in str(stop), stop
-    ip("link", "del", "v0")
-
-
 def behind_tap(gate, kind, network):
     return Station(Packets("ipx0", kind), kind, network, STATION, gate.nodes[network])
 
@@ -358,49 +292,6 @@ def a_tap():
         both_ways(gate, behind_tap(gate, "raw", 0x20), far)
 
 
-# Each call that only cards and TAPs make, or make in another way, its fault, and how many times it is let fail.
-CALLS = [
-    ("open", errno.EMFILE, 1),
-    ("ioctl", errno.EPERM, 18),
-    ("ioctl", errno.ENODEV, 18),
-    ("socket", errno.EMFILE, 8),
-    ("bind", errno.ENODEV, 2),
-    ("read", errno.EIO, 3),
-    ("write", errno.EIO, 3),
-    ("recvmmsg", errno.ENETDOWN, 3),
-    ("send", errno.ENETDOWN, 3),
-    ("close", errno.EIO, 3),
-]
-
-
-def is_well(gate, far):
-    """Whether packets go there and back behind the TAP that is there now. Where the gateway couldn't switch it on, somebody else does."""
-    try:
-        ip("link", "set", "ipx0", "up")
-        station = behind_tap(gate, "snap", 0x30)
-        return says(station, far, b"there", AGAIN) and says(far, station, b"back", AGAIN)
-    except (AssertionError, OSError):
-        return False  # (it is just made again)
-
-
-def one_fails(name, fault, which):
-    """A run with a card and a TAP in which one call fails: it can't start, and says why; or it goes on."""
-    gate = troubled(tunnels(1) + "network 20 1 1490 interface v0 raw\nnetwork 30 1 1490 tap ipx0 snap\n", name, fault, which)
-    if gate is None:
-        return
-    gate.until_open(0x10)
-    far = Client(gate.ports[0x10])
-    gate.until("network 00000020 up")
-    host = Station(Packets("v1", "raw"), "raw", 0x20, STATION, gate.nodes[0x20])
-    assert reaches_again(host, far) and reaches_again(far, host), f"{name} {which}: the card"
-    until(lambda: is_well(gate, far), f"{name} {which}: the TAP")
-    ends_well(gate, f"{name} {which}")
-
-
-# What the system says where it can't answer now, and the calls that say it.
-UNANSWERED = [(name, fault) for name in ("ioctl", "socket", "open") for fault in (errno.EMFILE, errno.ENFILE, errno.ENOMEM, errno.ENOBUFS)]
-
-
 def seconds_of(gate):
     return int(re.search(r"(?m)^report after (\d+) s$", gate.report())[1])
 
@@ -411,87 +302,9 @@ def let_pass(gate, seconds):
     until(lambda: time.sleep(AGAIN) or seconds_of(gate) >= end, f"{seconds} seconds")
 
 
-@contextlib.contextmanager
-def no_more_files(gate):
-    """A gateway can open no file more meanwhile."""
-    process, (soft, hard) = gate.run.process(), resource.getrlimit(resource.RLIMIT_NOFILE)
-    there = {int(it) for it in os.listdir(f"/proc/{process}/fd")}
-    resource.prlimit(process, resource.RLIMIT_NOFILE, (min(set(range(len(there) + 1)) - there), hard))
-    try:
-        yield
-    finally:
-        resource.prlimit(process, resource.RLIMIT_NOFILE, (soft, hard))
-
-
-@contextlib.contextmanager
-def with_a_tap_in_a_bridge(**how):
-    """A gateway with a card and a TAP, which is in a bridge: both stay up, and the TAP stays there."""
-    make_pair()
-    ip("link", "add", "br0", "type", "bridge")
-    with Gateway(tunnels(1) + "network 20 1 1490 interface v0 raw\nnetwork 30 1 1490 tap ipx0 snap\n", **how) as gate:
-        for network in (0x20, 0x30):
-            gate.until(f"network {network:08X} up")
-        ip("link", "set", "ipx0", "master", "br0")
-        far, number, told = Client(gate.ports[0x10]), about("ipx0")["ifindex"], len(gate.lines)
-        yield gate
-        let_pass(gate, 2)
-        changes = [it for it in gate.lines[told:] if " is down: " in it or " is up: " in it]
-        assert not changes, changes
-        tap = about("ipx0")
-        assert tap["ifindex"] == number and tap.get("master") == "br0", tap
-        both_ways(gate, Station(Packets("v1", "raw"), "raw", 0x20, STATION, gate.nodes[0x20]), far)
-    for name in ("br0", "v0"):
-        ip("link", "del", name)
-
-
-def no_file_for_a_moment():
-    """Where no file can be opened for some seconds, a card and a TAP in a bridge stay up: nobody is told anything else."""
-    with with_a_tap_in_a_bridge() as gate, no_more_files(gate):
-        let_pass(gate, 3)
-
-
-def nobody_answers():
-    """The same where the system doesn't answer what it is asked about cards, for whatever reason."""
-    trouble = Trouble()
-    with with_a_tap_in_a_bridge(program=SYSTEM.troubled, environment=trouble.environment()) as gate:
-        for name, fault in UNANSWERED:
-            with trouble.fails(name, fault):
-                let_pass(gate, 2)
-
-
-def nobody_answers_of_one_that_is_off():
-    """Nor is a card up that was switched off, as long as the system doesn't answer."""
-    trouble = Trouble()
-    make_pair()
-    with Gateway("network 20 1 1490 interface v0 raw\n", SYSTEM.troubled, environment=trouble.environment()) as gate:
-        gate.until("network 00000020 up")
-        ip("link", "set", "v0", "down")
-        gate.told("network 00000020 is down")
-        told = len(gate.lines)
-        with trouble.fails("ioctl", errno.ENOMEM):
-            let_pass(gate, 2)
-        assert not any(" is up: " in it or " is down: " in it for it in gate.lines[told:]), gate.lines[told:]
-        ip("link", "set", "v0", "up")
-        gate.told("network 00000020 is up")
-    ip("link", "del", "v0")
-
-
-def a_node_stays():
-    """A made-up node stays where a card gets another address, so that the router starts afresh, and no file can be opened meanwhile."""
-    make_pair()
-    new = bytes.fromhex("02005E000078")
-    with Gateway("network 20 1 1490 interface v0 raw\nnetwork 30 1 1490 qemu-tcp listen 0 raw\n") as gate:
-        made_up = gate.nodes[0x30]
-        with no_more_files(gate):
-            ip("link", "set", "v0", "address", new.hex(":"))
-            assert gate.told("network 00000020 has another node") and gate.nodes[0x20] == new
-        assert f", node {made_up.hex().upper()}" in gate.report().partition("network 00000030 ")[2].split("\n")[0]
-    ip("link", "del", "v0")
-
-
 def what_waits_on_a_card():
     """Frames that wait on a card while the gateway stands still are heard: a thousand, as of neighbours with full tables and of players."""
-    make_pair()
+    pair("v0", "v1")
     with Gateway(tunnels(1, extra=NO_LIMIT) + "network 20 1 1490 interface v0 raw\n") as gate:
         far = Client(gate.ports[0x10])
         gate.until("network 00000020 up")
@@ -512,12 +325,12 @@ LIKE_A_FRAME = b"\x45\0\0\x50".ljust(12, b"\0") + b"\x81\x37" + b"\xff\xff\0\x1e
 
 def another_kind_of_card():
     """An interface that isn't Ethernet in the place of a card that was taken out isn't heard, which is told; a card is, later."""
-    make_pair()
+    pair("v0", "v1")
     with Gateway(tunnels(1) + "network 20 1 1490 interface v0 raw\n") as gate:
         far = Client(gate.ports[0x10])
         gate.until("network 00000020 up")
         ip("link", "del", "v0")
-        with open("/dev/net/tun", "r+b", buffering=0) as tun:
+        with open(TUN, "r+b", buffering=0) as tun:
             fcntl.ioctl(tun, TUNSETIFF, struct.pack("16sH22x", b"v0", IFF_TUN | IFF_NO_PI))
             ip("link", "set", "v0", "up")
             until(lambda: gate.told("network 00000020 is down").endswith(": it isn't Ethernet"), "it is told")
@@ -526,41 +339,16 @@ def another_kind_of_card():
                 let_pass(gate, 1)
                 tun.write(LIKE_A_FRAME)
             assert gate.counted(0x20, "in") == heard
-        make_pair()
+        pair("v0", "v1")
         gate.told("network 00000020 is up")
         both_ways(gate, Station(Packets("v1", "raw"), "raw", 0x20, STATION, gate.nodes[0x20]), far)
     ip("link", "del", "v0")
 
 
-def each_fails():
-    """Each call of the system that cards and TAPs make fails once: the gateway doesn't start and says why, or goes on."""
-    make_pair()
-    for name, fault, times in CALLS:
-        for which in range(1, times + 1):
-            one_fails(name, fault, which)
-    ip("link", "del", "v0")
-
-
-def can(test):
-    """Whether a thing can be done here."""
-    try:
-        test()
-    except (AssertionError, OSError):
-        return False
-    return True
-
-
-def can_give_rights():
-    """Whether files can be given rights here, that a program has which the system itself runs."""
-    with open("/proc/self/uid_map", encoding="ascii") as it:
-        is_root = it.read().split() == ["0", "0", "4294967295"]
-    return is_root and SYSTEM.name == "Linux" and all(map(shutil.which, ("setcap", "setpriv")))
-
-
 def inside():
     """In the network of its own."""
-    counts = Counts()
     ip("link", "set", "lo", "up")
+    counts = Counts()
     if subprocess.run([*as_machine(__file__), "true"], stderr=subprocess.DEVNULL, check=False).returncode == 0:
         counts.run(made_up_nodes)
     else:
@@ -569,42 +357,20 @@ def inside():
         counts.run(nobody_but_itself)
     else:
         left_out("a connection with itself", "the ports that the system gives can't be set")
-    has_pairs = can(lambda: ip("link", "add", "v0", "type", "veth", "peer", "name", "v1"))
-    if has_pairs:
-        ip("link", "del", "v0")
-        counts.run(all_kinds)
-        counts.run(a_short_mtu)
-        for test in (a_cable_is_pulled, a_card_by_the_same_number, a_card_comes_later, an_address_comes_later, another_own_address,
-                     two_gateways, a_new_address, a_node_stays, nobody_answers_of_one_that_is_off, what_waits_on_a_card, a_dead_pc):
-            counts.run(test)
-        if can_give_rights():
-            counts.run(rights_of_a_group)
-        else:
-            left_out("the rights of a group", "they want root, setcap and setpriv, and a gateway for this machine")
+    if has_cards():
+        counts += tried(all_kinds, a_short_mtu, a_cable_is_pulled, a_card_by_the_same_number, a_card_comes_later, an_address_comes_later,
+                        another_own_address, two_gateways, a_new_address, what_waits_on_a_card, a_dead_pc)
     else:
         left_out("interfaces", "no pair of them can be made")
-    if can(lambda: os.close(os.open("/dev/net/tun", os.O_RDWR))):
-        counts.run(a_tap)
-        if has_pairs:
-            counts.run(each_fails)
-            counts.run(another_kind_of_card)
-        if has_pairs and can(lambda: ip("link", "add", "br0", "type", "bridge")):
-            ip("link", "del", "br0")
-            counts.run(no_file_for_a_moment)
-            counts.run(nobody_answers)
-        else:
-            left_out("a TAP in a bridge", "no bridge can be made")
-    else:
-        left_out("TAPs", "the device for them can't be opened")
-    print(f"{counts.passed} passed, {counts.failed} failed")
+    if has_taps():
+        return counts + tried(a_tap, *((another_kind_of_card,) if has_cards() else ()))
+    left_out("TAPs", "the device for them can't be opened")
+    return counts
 
 
 def main():
-    return tried_inside(os.path.realpath(__file__), "interfaces and TAPs")
+    return tried_inside(__file__, "interfaces and TAPs")
 
 
 if __name__ == "__main__":
-    if sys.argv[1:] == [INSIDE]:
-        inside()
-    else:
-        main()
+    begin(main, inside)

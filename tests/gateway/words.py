@@ -5,8 +5,9 @@ import re
 import subprocess
 import tempfile
 
-from lab import LIMIT, Counts, Gateway, text_of, tunnels
+from lab import LIMIT, Gateway, text_of, tunnels
 from systems import BUILD, SYSTEM, TOP, Windows
+from trying import begin, tried
 
 HERE = os.path.join(TOP, "tests", "gateway")
 STDIN = "/dev/stdin"
@@ -200,14 +201,12 @@ def what_cannot_be_opened():
 
 
 def main():
-    counts = Counts()
-    for test in (each_wrong_line, nothing_is_opened, no_configuration, a_long_word, what_editors_write, the_command_line, the_version, no_words, the_example, what_is_right, as_many_links,
-                 one_rate_a_link, names_and_marks, what_cannot_be_opened):
-        counts.run(test)
+    counts = tried(each_wrong_line, nothing_is_opened, no_configuration, a_long_word, what_editors_write, the_command_line, the_version,
+                   no_words, the_example, what_is_right, as_many_links, one_rate_a_link, names_and_marks, what_cannot_be_opened)
     if SYSTEM is Windows:
         counts.run(status_on_windows)
     return counts
 
 
 if __name__ == "__main__":
-    main()
+    begin(main)
