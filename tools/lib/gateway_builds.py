@@ -1,0 +1,121 @@
+"""How the gateway is compiled, at the top of the repository: for each system, and as its tests want it: with calls of the system that fail,
+with a clock that the test sets, and on a made-up system."""
+import glob
+import os
+
+from telling import left_out, quietly, succeeds
+
+TESTS = "tests/gateway"
+CC, AARCH64, WINDOWS = "cc", "aarch64-linux-gnu-gcc", "x86_64-w64-mingw32-gcc"
+FLAGS = ["-std=c99", "-Wall", "-Wextra", "-pedantic", "-D_POSIX_C_SOURCE=200809L", "-Igateway"]
+SANITIZERS = ["-O1", "-g", "-fsanitize=address,undefined", "-fno-sanitize-recover=all"]
+# (Windows' own texts for the command line; neither a time nor a name of what was compiled where)
+FLAGS_OF_WINDOWS = ["-municode", "-s", "-Wl,--no-insert-timestamp"]
+
+# The calls of the system that tests/gateway/trouble.c stands in front of, and the one by which somebody wants a reload.
+TROUBLED = """
+    socket bind getsockname setsockopt getsockopt connect listen accept recv recvmmsg send sendto sendmmsg poll open close read write
+    ioctl fcntl clock_gettime fopen fdopen fwrite fflush getline malloc calloc realloc open_memstream getrandom
+    reload_for""".split()
+# The calls that tests/gateway/made_up stands in front of: memory, and what each packet passes.
+WATCHED = """
+    malloc calloc realloc free fclose gateway_open gateway_change tunnel_hear ether_hear status_hears loop_hears outgoing_copy
+    outgoing_own cable_send_all ipxr_packet ipxr_tunnel_hear ipxr_tunnel_receiver ipxr_segment_receiver""".split()
+
+
+def sources(*folders):
+    return [file for folder in folders for file in sorted(glob.glob(f"{folder}/*.c"))]
+
+
+def common_sources():
+    """What is the same on every system; beside it, each has its own in gateway/systems."""
+    return sources("gateway", "gateway/*")
+
+
+def wraps(calls):
+    return [f"-Wl,--wrap={it}" for it in calls]
+
+
+def builds(name, *more, compiler=CC, folder="build"):
+    """The gateway of a Linux, with more flags and files."""
+    return succeeds(compiler, *FLAGS, "-pthread", f"-I{folder}", "-Iinclude", *more, *common_sources(), *sources("gateway/systems/linux"),
+        f"{folder}/libipxr.a", "-o", f"{folder}/{name}")
+
+
+def builds_aarch64():
+    is_there = os.path.exists("build/aarch64/libipxr.a") or succeeds("tools/platforms", "aarch64")
+    return is_there and builds("ipxr-gateway", "-O2", "-static", compiler=AARCH64, folder="build/aarch64")
+
+
+def builds_windows():
+    folder = "build/windows"
+    is_there = os.path.exists(f"{folder}/libipxr.a") or succeeds("tools/platforms", "windows")
+    return is_there and succeeds(WINDOWS, *FLAGS, f"-I{folder}", "-Iinclude", "-O2", *FLAGS_OF_WINDOWS, *common_sources(), *sources("gateway/systems/windows"),
+        f"{folder}/libipxr.a", "-lws2_32", "-o", f"{folder}/ipxr-gateway.exe")
+
+
+# ---- For the tests ----
+
+
+def has_sanitizers():
+    """Whether programs with the sanitizers can be built and run here."""
+    made = "build/empty"
+    return quietly(CC, *SANITIZERS, "-x", "c", "-", "-o", made, input=b"int main(void) { return 0; }") and quietly(made)
+
+
+def builds_troubled(compiler, folder, flags):
+    """The builds with calls that fail, and a clock that the test sets."""
+    more = [*wraps(TROUBLED), f"{TESTS}/trouble.c"]
+    return builds("ipxr-gateway-troubled", *flags, *more, compiler=compiler, folder=folder) and \
+        builds("ipxr-gateway-fast", "-O2", *more, compiler=compiler, folder=folder)
+
+
+def builds_siphash(compiler, made, flags):
+    """The program that compares the hash with what was published."""
+    return succeeds(compiler, *FLAGS, *flags, f"{TESTS}/siphash.c", "gateway/siphash.c", "-o", made)
+
+
+def builds_limits(compiler, folder, flags, end=""):
+    """The programs that try the limits by a clock of their own."""
+    files = [*sources("gateway/limits"), "gateway/tunnel/roster.c", "gateway/siphash.c"]
+    return all(succeeds(compiler, *FLAGS, *flags, "-Ibuild", "-Iinclude", f"{TESTS}/{name}.c", *files, "-o", f"{folder}/{name}{end}")
+        for name in ("queues", "minutes"))
+
+
+def builds_made_up(flags):
+    """The gateway's own code on a made-up system. A file of tests/gateway/made_up/inside_*.c has one of the gateway's in it."""
+    made_up = f"{TESTS}/made_up"
+    files = [it for it in common_sources() if not os.path.exists(f"{made_up}/inside_{os.path.basename(it)}")]
+    return succeeds(CC, *FLAGS, "-pthread", "-Ibuild", "-Iinclude", *flags, *wraps(WATCHED), *sources(made_up), *files,
+        "build/libipxr.a", "-o", "build/made-up")
+
+
+def builds_sanitized():
+    """The gateway with the sanitizers as far as they are there; else none is left, which is told. Returns the flags for the tests' other
+    builds, or nothing where it isn't built."""
+    if has_sanitizers():
+        return SANITIZERS if builds("ipxr-gateway-sanitized", *SANITIZERS) else None
+    if os.path.exists("build/ipxr-gateway-sanitized"):
+        os.remove("build/ipxr-gateway-sanitized")
+    left_out("gateway: the sanitizers", "-fsanitize=address that runs")
+    return ["-O2"]
+
+
+def builds_for_tests():
+    """All builds that the tests of this machine's gateway want."""
+    flags = builds_sanitized()
+    return flags and builds_siphash(CC, "build/siphash", flags) and builds_limits(CC, "build", flags) and \
+        builds_troubled(CC, "build", flags) and builds_made_up(flags)
+
+
+def builds_for_aarch64():
+    folder, flags = "build/aarch64", ["-O2"]
+    return builds_aarch64() and builds_siphash(AARCH64, f"{folder}/siphash", flags) and builds_limits(AARCH64, folder, flags) and \
+        builds_troubled(AARCH64, folder, flags)
+
+
+def builds_for_windows():
+    folder, flags = "build/windows", ["-O2"]
+    return builds_windows() and builds_siphash(WINDOWS, f"{folder}/siphash.exe", flags) and \
+        builds_limits(WINDOWS, folder, flags, ".exe") and \
+        succeeds(WINDOWS, *FLAGS, *flags, f"{TESTS}/console.c", "-o", f"{folder}/console.exe")
