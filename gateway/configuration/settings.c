@@ -43,7 +43,7 @@ enum { LINK_COUNT = sizeof LINKS / sizeof *LINKS };
 
 /* The kinds of frames, and bytes of the longest packet in each; the first stands for the tunnel, and the last for all of them. */
 static const struct {
-    const char *word;
+    char word[KIND_ROOM];
     uint16_t longest;
 } KINDS[] = {{"", 1424}, {"ethernet2", 1500}, {"raw", 1500}, {"llc", 1497}, {"snap", 1492}, {"auto", 1492}};
 

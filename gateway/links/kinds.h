@@ -63,7 +63,8 @@ const kind_of_station *kinds_next(const kinds *it, size_t *index);
 /* How many are known. */
 size_t kinds_stations(const kinds *it);
 
-enum { KINDS_ROOM = 24 /* bytes of the words of all kinds, with the 0 behind */ };
+/* Bytes of a kind's word, and of the words of all kinds, each with a comma or the 0 behind. */
+enum { KIND_ROOM = 10, KINDS_ROOM = IPXR_FRAME_KINDS * KIND_ROOM };
 
 /* The words of the kinds in which a packet goes to all, a comma between two. */
 const char *kinds_words(const kinds *it, char words[KINDS_ROOM]);
