@@ -3,8 +3,13 @@
 #include <stdarg.h>
 #include <string.h>
 
+/* Where reading ends: a file that somebody named by mistake may be endless, and nobody is heard while it is read. */
+enum { LONGEST_LINE = LINE_ROOM - 1, LONGEST_FILE = 1 << 20, MOST_FAULTS = 1000 };
+
 /* Bytes of a word that are shown: who wrote a longer one knows it by these; and of their text, with the 0 behind. */
 enum { MOST_SHOWN = 100, SHOWN_ROOM = 4 * MOST_SHOWN + sizeof ".." };
+
+static const char BLANKS[] = " \t\r\n\v\f";
 
 /* The text of a word, or of how it begins. Bytes that a terminal doesn't show are there by number. */
 static const char *shown_word(const char *word, char text[SHOWN_ROOM])
@@ -34,6 +39,34 @@ bool reader_fault(reader *r, const char *word, const char *format, ...)
     va_end(rest);
     r->faults++;
     return false;
+}
+
+/* Whether what was read isn't too much; else that is told, and of the line nothing but its first word is left. */
+static bool is_little(reader *r, char *line, size_t length)
+{
+    bool is_cut = length == LONGEST_LINE && line[length - 1] != '\n';
+    if (!is_cut && r->bytes <= LONGEST_FILE && r->faults < MOST_FAULTS)
+        return true;
+    line[strcspn(line, BLANKS)] = '\0';
+    if (is_cut)
+        return reader_fault(r, line, "expected at most %d bytes in a line", LONGEST_LINE);
+    if (r->bytes > LONGEST_FILE)
+        return reader_fault(r, line, "expected at most %d bytes in all lines", LONGEST_FILE);
+    return reader_fault(r, line, "%d lines are wrong: nothing is read from here on", MOST_FAULTS);
+}
+
+size_t reader_line(reader *r, FILE *file, char line[LINE_ROOM])
+{
+    size_t length = 0;
+    int byte = 0;
+    while (length < LONGEST_LINE && byte != '\n' && (byte = getc(file)) != EOF)
+        line[length++] = (char)byte;
+    line[length] = '\0';
+    if (length == 0)
+        return 0;
+    r->line++;
+    r->bytes += length;
+    return is_little(r, line, length) ? length : 0;
 }
 
 /* Whether a text is of two bytes a character: by its mark, or since one of its first two bytes is 0. */
@@ -67,7 +100,6 @@ bool reader_ends(reader *r)
 
 bool reader_cut(reader *r, char *line)
 {
-    static const char BLANKS[] = " \t\r\n\v\f";
     char *rest;
     line[strcspn(line, "#")] = '\0';
     r->count = r->next = 0;

@@ -8,7 +8,7 @@
 
 #include "configuration/settings.h"
 
-enum { MOST_WORDS = 32 };
+enum { MOST_WORDS = 32, LINE_ROOM = (1 << 16) + 1 /* bytes of a line, and a 0 */ };
 
 /* The line that is being read. */
 typedef struct reader {
@@ -16,6 +16,7 @@ typedef struct reader {
     FILE *complaints;
     size_t faults;
     size_t line;               /* its number, from 1 */
+    size_t bytes;              /* how many were read */
     char *words[MOST_WORDS];
     size_t count;
     size_t next;               /* the word that is read next */
@@ -26,6 +27,10 @@ typedef struct reader {
     size_t first;              /* and from this one on among all */
     settings *into;
 } reader;
+
+/* Reads the next line, with its end, and a 0 behind it. Returns its length: 0 at the end of the file, where it fails, and where it is too
+ * long or has too many faults, which is told. */
+size_t reader_line(reader *r, FILE *file, char line[LINE_ROOM]);
 
 /* How the first line of a file begins, behind the mark of UTF-8 that some editors write there. Returns NULL where the file is UTF-16, which
  * is told: nothing of it can be read. */

@@ -425,25 +425,27 @@ static void read_line(reader *r, char *line)
         reader_fault(r, word, "expected network, link, extend, clients, allow, trust, rate, strangers or line");
 }
 
-/* Reads all lines; returns false where memory or the file fails. */
+static void read_text(reader *r, char *text, size_t length)
+{
+    if (strlen(text) != length)
+        reader_fault(r, text, "expected text, there is a byte 0 behind it");
+    else
+        read_line(r, text);
+}
+
+/* Reads all lines, as long as they aren't too much; returns false where the file fails. */
 static bool read_lines(reader *r, FILE *file)
 {
-    char *line = NULL, *text = NULL;
-    size_t room = 0, length;
-    ssize_t whole;
-    while (errno = 0, (whole = line_read(&line, &room, file)) >= 0) {
-        r->line++;
-        length = (size_t)whole;
+    char line[LINE_ROOM], *text;
+    size_t length;
+    errno = 0;
+    while ((length = reader_line(r, file, line)) > 0) {
         text = r->line == 1 ? reader_begin(r, line, &length) : line;
         if (text == NULL)
             break;
-        if (strlen(text) != length)
-            reader_fault(r, text, "expected text, there is a byte 0 behind it");
-        else
-            read_line(r, text);
+        read_text(r, text, length);
     }
-    free(line);
-    return !ferror(file) && errno == 0;
+    return !ferror(file);
 }
 
 size_t settings_read(settings *it, FILE *file, const char *name, FILE *complaints)

@@ -97,6 +97,14 @@ static void forget_household(household *it)
     memset(it, 0, sizeof *it);
 }
 
+static void forget(speaker *it)
+{
+    forget_household(&it->first);
+    account_forget(&it->handed);
+    account_forget(&it->advertised);
+    it->asked = it->answered = 0;
+}
+
 void speaker_leave(speaker *it)
 {
     speaker **before = &speakers;
@@ -104,7 +112,7 @@ void speaker_leave(speaker *it)
         return;
     line_end(&it->line);
     be_quiet(it);
-    forget_household(&it->first);
+    forget(it);
     if (it == &spare)
         return;
     while (*before != it)
@@ -125,12 +133,6 @@ void speakers_second(void)
     second(&spare);
     for (speaker *it = speakers; it != NULL; it = it->next)
         second(it);
-}
-
-static void forget(speaker *it)
-{
-    forget_household(&it->first);
-    it->asked = it->answered = it->handed = it->advertised = 0;
 }
 
 void speakers_forget(void)

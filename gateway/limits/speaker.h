@@ -6,6 +6,7 @@
 #include <stddef.h>
 #include <stdint.h>
 
+#include "limits/account.h"
 #include "limits/fair.h"
 #include "limits/limit.h"
 #include "limits/line.h"
@@ -31,8 +32,8 @@ typedef struct speaker {
     household first;  /* what all its clients receive; of other limits in a list behind it */
     meter asked;      /* of the router */
     meter answered;   /* by the gateway */
-    meter handed;     /* to the router */
-    meter advertised; /* of these, what routers tell */
+    account handed;     /* to the router */
+    account advertised; /* of these, what routers tell */
     line_use line;    /* what it uses of a line that is narrow */
     struct speaker *next;
 } speaker;

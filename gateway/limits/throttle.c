@@ -211,10 +211,17 @@ bool throttle_lets_answer(throttle *it, member *to)
 /* Whether an address may hand the router a packet now. (others make clients answer pings, and take none of what these say for that) */
 static bool lets_hand(throttle *it, speaker *from, const uint8_t *packet)
 {
-    bool lets = limit_has_room(is_of_pings(packet) ? &it->handed_with_pings : &it->handed, &from->handed, 1);
+    meter *used = account_of(&from->handed, &it->handed);
+    bool lets = limit_has_room(is_of_pings(packet) ? &it->handed_with_pings : &it->handed, used, 1);
     if (lets)
-        limit_count(&it->handed, &from->handed, 1);
+        limit_count(&it->handed, used, 1);
     return lets;
+}
+
+/* Whether an address, or a network of another kind, may tell the router what it advertises. */
+static bool lets_advertise(throttle *it, speaker *from)
+{
+    return limit_lets(&it->advertisements, account_of(&from->advertised, &it->advertisements), 1);
 }
 
 reason throttle_hands(throttle *it, member *from, const uint8_t *packet, size_t length)
@@ -225,7 +232,7 @@ reason throttle_hands(throttle *it, member *from, const uint8_t *packet, size_t 
         from->dropped[DROPPED_QUESTIONS]++;
         return TOO_MANY_QUESTIONS;
     }
-    if (is_of_routers(packet) && !is_question(packet, length) && !limit_lets(&it->advertisements, &from->speaks->advertised, 1)) {
+    if (is_of_routers(packet) && !is_question(packet, length) && !lets_advertise(it, from->speaks)) {
         from->dropped[DROPPED_ADVERTISEMENTS]++;
         return TOO_MANY_ADVERTISEMENTS;
     }
@@ -288,5 +295,5 @@ reason throttle_hears(throttle *it, speaker *from, const uint8_t *packet, size_t
         return REASONS;
     if (is_question(packet, length))
         return limit_lets(&it->questions, &from->asked, 1) ? REASONS : TOO_MANY_QUESTIONS;
-    return limit_lets(&it->advertisements, &from->advertised, 1) ? REASONS : TOO_MANY_ADVERTISEMENTS;
+    return lets_advertise(it, from) ? REASONS : TOO_MANY_ADVERTISEMENTS;
 }

@@ -7,7 +7,6 @@
 #include <stddef.h>
 #include <stdint.h>
 #include <stdio.h>
-#include <sys/types.h>
 
 /* The program, by the words of its command line in UTF-8. Each system's own main calls it, once sockets can be opened. Returns the exit
  * status. */
@@ -24,10 +23,6 @@ bool file_is_fifo(const char *name);
 
 /* Whether a file is one that somebody else reads while it is written, such as a pipe: to write there may have to wait for him. */
 bool file_waits(FILE *file);
-
-/* Reads a line with its end as getline does, into memory that is made or made larger. Returns its length; -1 at the end of the file, or
- * where there is a fault in errno. */
-ssize_t line_read(char **line, size_t *room, FILE *file);
 
 /* A file whose text lies in memory once it is closed; then it is the caller's to free. NULL where there is none. */
 FILE *text_open(char **text, size_t *length);

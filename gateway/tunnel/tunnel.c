@@ -349,6 +349,12 @@ static void carry(gateway *it, network *on, member *from, const uint8_t *packet,
         gateway_lose(on, NO_CLIENT);
 }
 
+/* Whether a client did what its ping asks for: it answered, or said anything where its address is trusted. */
+static bool has_replied(const member *from, int32_t said)
+{
+    return said == IPXR_ANSWERS || (from->is_trusted && said != IPXR_SAID_NOTHING);
+}
+
 /* (behind the tunnel, which has noted that a client answers: no limit drops that) */
 static void hear(gateway *it, network *on, const ipxr_sender *sender, const uint8_t *bytes, size_t length)
 {
@@ -360,7 +366,7 @@ static void hear(gateway *it, network *on, const ipxr_sender *sender, const uint
     member *from = roster_find(&on->roster, sender->place);
     reason why = why_lost(on, from != NULL, said, has_length(bytes, length));
     if (from != NULL) {
-        from->ping.waits = from->ping.waits && said != IPXR_ANSWERS;
+        from->ping.waits = from->ping.waits && !has_replied(from, said);
         answer_client(on, from);
     } else if (!answer_stranger(on, sender->place, said == IPXR_REGISTERS))
         why = TOO_MANY_STRANGERS;

@@ -149,7 +149,7 @@ def nobody_reads_the_fifo_yet():
     with tempfile.TemporaryDirectory() as folder:
         fifo = os.path.join(folder, "fifo")
         os.mkfifo(fifo)
-        with Gateway(tunnels(2), options=["--pcap", fifo]) as gate:
+        with Gateway(tunnels(2, extra="extend 4003\n"), options=["--pcap", fifo]) as gate:
             a, b = Client(gate.ports[0x10]), Client(gate.ports[0x20])
             early = b"said before somebody reads"
             a.say(address(0, EVERYONE, GAME), early)
@@ -157,14 +157,14 @@ def nobody_reads_the_fifo_yet():
             os.remove(gate.configuration)
             os.mkfifo(gate.configuration)
             gate.run.order(signal.SIGHUP)
-            gate.told(f"{gate.configuration}: ")
             assert is_routed(a, b, 1)
             reader = os.open(fifo, os.O_RDONLY)
             capture = read_all(reader)
             assert whole_frames(capture)[1] and early in capture, capture
             os.close(reader)
             gate.run.order(SYSTEM.end)
-            assert gate.run.wait(timeout=LIMIT) == 0
+            _, complaint = gate.run.communicate(timeout=LIMIT)
+            assert gate.run.returncode == 0 and b": expected a line that begins with network\n" in complaint, complaint
 
 
 def read_all(reader):

@@ -39,7 +39,6 @@ CALLS = [
     ("fopen", errno.EACCES, 2),
     ("fwrite", errno.ENOSPC, 4),
     ("fflush", errno.ENOSPC, 2),
-    ("getline", errno.ENOMEM, 3),
     ("malloc", errno.ENOMEM, 6),
     ("realloc", errno.ENOMEM, 3),
     ("getrandom", errno.ENOSYS, 1),

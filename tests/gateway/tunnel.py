@@ -6,12 +6,13 @@ import struct
 import subprocess
 import time
 
-from lab import (COOKIE, EVERYONE, GAME, GATEWAY, LIMIT, RIP, ROOM, SAP, TUNNEL, Client, Gateway, address, comes_next, free_ports, is_ping,
-                 is_routers, packet, reaches, reaches_again, registration, rip_response, sap_response, socket_of, tunnels, until,
-                 until_wine_lets_go)
+from lab import (AGAIN, COOKIE, EVERYONE, GAME, GATEWAY, LIMIT, RIP, ROOM, SAP, TUNNEL, Client, Gateway, address, comes_next,
+                 free_ports, is_ping, is_routers, packet, reaches, reaches_again, registration, rip_response, sap_response, socket_of,
+                 tunnels, until, until_wine_lets_go)
 from systems import SYSTEM, TOP
 from trying import begin, tried
 
+SPOKEN = 6  # words of a client that was silent
 DECODER = os.path.join(TOP, "crates", "ipxr", "out", "ipxr")  # (where it is built)
 IP_PKTINFO = 8  # as Linux numbers it
 
@@ -205,6 +206,22 @@ def trusted():
         for client, told in ((mute, "trusted, heard"), (a, "answered")):
             found = re.search(rf"(?m)^    {client.node.hex().upper()}, {told} (\d+) s ago$", report)
             assert found and int(found[1]) <= LIMIT, report
+
+
+def trusted_and_silent():
+    """Whoever is trusted and was silent is pinged until they speak, and no longer."""
+    with Gateway(tunnels(1, extra="trust 127.0.0.2\n")) as gate:
+        mute = Client(gate.ports[0x10], host="127.0.0.2", registers=False, answers=False)
+        mute.network = 0x10
+        mute.say(mute.at(), b"I am here")
+        until(lambda: mute.pings >= 3, "pings of one who is silent")
+        mute.say(mute.at(), b"I am still here")
+        time.sleep(AGAIN)
+        before = mute.pings
+        for _ in range(SPOKEN):
+            mute.say(mute.at(), b"and here")
+            time.sleep(AGAIN)
+        assert mute.pings == before, "who speaks is pinged"
 
 
 def strangers():
@@ -543,10 +560,10 @@ def counts_and_lines():
 
 
 def main():
-    return tried(two_clients, three_clients, seventy_clients, of_one_address, a_ping_is_lost, many_pings_are_lost, four_thousand_clients,
-                 allowed, trusted, strangers, allowed_is_not_trusted, cookies_of_places, cookies_of_runs, who_comes_and_leaves, shares,
-                 routers_elsewhere, starts_again, control_is_cleared, false_sources, ping, all_sizes, padding, nobody_there, neighbours,
-                 extended, flood, the_capture, counts_and_lines)
+    return tried(two_clients, three_clients, seventy_clients, of_one_address, a_ping_is_lost, many_pings_are_lost,
+                 four_thousand_clients, allowed, trusted, trusted_and_silent, strangers, allowed_is_not_trusted, cookies_of_places,
+                 cookies_of_runs, who_comes_and_leaves, shares, routers_elsewhere, starts_again, control_is_cleared, false_sources,
+                 ping, all_sizes, padding, nobody_there, neighbours, extended, flood, the_capture, counts_and_lines)
 
 
 if __name__ == "__main__":

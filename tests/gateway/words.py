@@ -11,6 +11,7 @@ from trying import begin, tried
 
 HERE = os.path.join(TOP, "tests", "gateway")
 STDIN = "/dev/stdin"
+LONGEST_FILE = 1 << 20
 
 
 def asked(*words, stdin=b"", folder=HERE):
@@ -57,8 +58,8 @@ def no_configuration():
 
 
 def a_long_word():
-    """A word or a line of fifty million bytes is told by how it begins, at once."""
-    begins, most = "A" * 100 + "..", 50_000_000
+    """A word or a line of sixty thousand bytes is told by how it begins."""
+    begins, most = "A" * 100 + "..", 60_000
     for text, told in ((b"network " + b"A" * most, f"'{begins}': expected the number of a network"),
                        (b"A" * most, f"'{begins}': expected network, link, "),
                        (b"A" * most + b"\0", f"'{begins}': expected text, there is a byte 0 behind it"),
@@ -66,6 +67,20 @@ def a_long_word():
                        (b"1 " * (most // 2), "'1': expected at most 32 words")):
         status, _, complaint = asked("--check", STDIN, stdin=text)
         assert status == 2 and complaint.startswith(f"{STDIN}:1: {told}") and complaint.count("\n") == 1, complaint[:1000]
+
+
+def too_much():
+    """A line, a file or a number of faults that is too much is told, and nothing behind it is read: a file may have no end."""
+    line, wrong = b"# 345678\n", b"wrong\n"
+    whole = line * (LONGEST_FILE // len(line))
+    assert asked("--check", STDIN, stdin=whole + b"network 10 1 1424 dosbox 0\n"[: LONGEST_FILE - len(whole)])[2].count("\n") == 1
+    for text, told in ((b"A" * 50_000_000, f":1: '{'A' * 100}..': expected at most 65536 bytes in a line"),
+                       (whole + line, f":{LONGEST_FILE // len(line) + 1}: '#': expected at most {LONGEST_FILE} bytes in all lines"),
+                       (wrong * 2000, ":1001: 'wrong': 1000 lines are wrong: nothing is read from here on")):
+        status, _, complaint = asked("--check", STDIN, stdin=text)
+        assert status == 2 and complaint.endswith(f"{STDIN}{told}\n") and complaint.count("\n") <= 1001, complaint[-1000:]
+    if SYSTEM is not Windows:
+        assert asked("--check", "/dev/zero")[0] == 2
 
 
 def what_editors_write():
@@ -201,8 +216,8 @@ def what_cannot_be_opened():
 
 
 def main():
-    counts = tried(each_wrong_line, nothing_is_opened, no_configuration, a_long_word, what_editors_write, the_command_line, the_version,
-                   no_words, the_example, what_is_right, as_many_links, one_rate_a_link, names_and_marks, what_cannot_be_opened)
+    counts = tried(each_wrong_line, nothing_is_opened, no_configuration, a_long_word, too_much, what_editors_write, the_command_line,
+                   the_version, no_words, the_example, what_is_right, as_many_links, one_rate_a_link, names_and_marks, what_cannot_be_opened)
     if SYSTEM is Windows:
         counts.run(status_on_windows)
     return counts

@@ -43,6 +43,8 @@ void orders_hear(void)
     on_signal(SIGUSR1, ask);
     /* (a connection that is lost is told by the call) */
     on_signal(SIGPIPE, SIG_IGN);
+    /* (so is a file that may not grow) */
+    on_signal(SIGXFSZ, SIG_IGN);
 }
 
 bool is_told_to_end(void)

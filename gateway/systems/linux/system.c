@@ -35,11 +35,6 @@ bool file_waits(FILE *file)
     return fstat(fileno(file), &about) == 0 && (S_ISFIFO(about.st_mode) || S_ISSOCK(about.st_mode) || isatty(fileno(file)));
 }
 
-ssize_t line_read(char **line, size_t *room, FILE *file)
-{
-    return getline(line, room, file);
-}
-
 FILE *text_open(char **text, size_t *length)
 {
     return open_memstream(text, length);
@@ -55,8 +50,20 @@ const char *fault_words(void)
     return strerror(errno);
 }
 
+/* Opens the first three files where they are closed: a link would take their numbers, and get what is said and complained of. */
+static void open_first_files(void)
+{
+    int opened;
+    do
+        opened = open("/dev/null", O_RDWR);
+    while (opened >= 0 && opened <= STDERR_FILENO);
+    if (opened > STDERR_FILENO)
+        close(opened);
+}
+
 int main(int count, char **words)
 {
+    open_first_files();
     setvbuf(stdout, NULL, _IOLBF, BUFSIZ);
     return gateway_main(count, words);
 }

@@ -40,37 +40,10 @@ bool file_waits(FILE *file)
     return GetFileType((HANDLE)_get_osfhandle(_fileno(file))) != FILE_TYPE_DISK;
 }
 
-/* Makes room for so many bytes. */
-static bool has_room(char **line, size_t *room, size_t wanted)
-{
-    if (wanted <= *room)
-        return true;
-    char *larger = realloc(*line, 2 * wanted);
-    if (larger == NULL)
-        return false;
-    *line = larger;
-    *room = 2 * wanted;
-    return true;
-}
-
 /* (nobody asks for one: there is no order to read a configuration anew) */
 FILE *text_open(char **text, size_t *length)
 {
     *text = NULL;
     *length = 0;
     return NULL;
-}
-
-ssize_t line_read(char **line, size_t *room, FILE *file)
-{
-    size_t length = 0;
-    for (int c = 0; c != '\n' && (c = getc(file)) != EOF;) {
-        if (!has_room(line, room, length + 2))
-            return -1;
-        (*line)[length++] = (char)c;
-    }
-    if (length == 0 || ferror(file))
-        return -1;
-    (*line)[length] = '\0';
-    return (ssize_t)length;
 }

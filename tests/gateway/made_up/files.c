@@ -69,6 +69,24 @@ static ssize_t take(void *with, const char *bytes, size_t count)
     return (ssize_t)count;
 }
 
+/* Gives nothing, and says why. */
+static ssize_t give_nothing(void *with, char *bytes, size_t count)
+{
+    (void)with;
+    (void)bytes;
+    (void)count;
+    return -1;
+}
+
+/* A configuration as it is, or one that can't be read. */
+static FILE *configuration(const char *text, const char *how)
+{
+    static const cookie_io_functions_t SPOILT = {.read = give_nothing};
+    if (fails(OF_READING))
+        return fopencookie(NULL, how, SPOILT);
+    return text[0] != '\0' ? fmemopen((char *)text, strlen(text), how) : fopen("/dev/null", how);
+}
+
 FILE *file_open(const char *name, const char *how)
 {
     static const cookie_io_functions_t DISK = {.write = take};
@@ -82,7 +100,7 @@ FILE *file_open(const char *name, const char *how)
     errno = ENOENT;
     if (strcmp(name, "made-up.conf") != 0)
         return NULL;
-    return noted(text[0] != '\0' ? fmemopen((char *)text, strlen(text), how) : fopen("/dev/null", how));
+    return noted(configuration(text, how));
 }
 
 FILE *file_open_at_once(const char *name)
@@ -101,11 +119,6 @@ bool file_is_fifo(const char *name)
 {
     (void)name;
     return the_play.seed % 4 == 1;
-}
-
-ssize_t line_read(char **line, size_t *room, FILE *file)
-{
-    return fails(OF_READING) ? -1 : getline(line, room, file);
 }
 
 FILE *text_open(char **text, size_t *length)

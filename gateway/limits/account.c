@@ -1,0 +1,40 @@
+#include "limits/account.h"
+
+#include <stdbool.h>
+#include <stdlib.h>
+#include <string.h>
+
+static bool is_of(const account *it, const limit *of)
+{
+    return it->of.between == of->between && it->of.burst == of->burst;
+}
+
+static account *new_account(const limit *of)
+{
+    account *it = malloc(sizeof *it);
+    if (it != NULL)
+        *it = (account){.of = *of};
+    return it;
+}
+
+meter *account_of(account *first, const limit *of)
+{
+    account *it = first;
+    if (it->of.between == 0)
+        it->of = *of;
+    while (!is_of(it, of) && it->next != NULL)
+        it = it->next;
+    if (!is_of(it, of) && (it->next = new_account(of)) != NULL)
+        it = it->next;
+    return &it->used;
+}
+
+void account_forget(account *first)
+{
+    account *next;
+    for (account *gone = first->next; gone != NULL; gone = next) {
+        next = gone->next;
+        free(gone);
+    }
+    memset(first, 0, sizeof *first);
+}
