@@ -4,7 +4,9 @@ import pty
 import re
 import select
 import signal
+import socket
 import struct
+import subprocess
 import sys
 import tempfile
 import time
@@ -167,11 +169,43 @@ def nobody_reads_the_fifo_yet():
             assert gate.run.returncode == 0 and b": expected a line that begins with network\n" in complaint, complaint
 
 
+def its_files_are_closed():
+    """Started without standard input, output and error, it gives their numbers to no link: a PC gets frames alone."""
+    with socket.create_server(("127.0.0.1", 0)) as server, tempfile.NamedTemporaryFile("w", encoding="ascii") as configuration:
+        configuration.write(f"network 10 1 1490 qemu-tcp connect {server.getsockname()[1]} raw\n")
+        configuration.flush()
+        run = subprocess.Popen(["sh", "-c", 'exec "$@" <&- >&- 2>&-', "sh", SYSTEM.program, "--log", configuration.name])
+        server.settimeout(LIMIT)
+        with server.accept()[0] as pc:
+            run.send_signal(signal.SIGUSR1)
+            said = read_all(pc.fileno())
+            run.terminate()
+            assert run.wait(timeout=LIMIT) == 0 and said and b"network" not in said + read_all(pc.fileno()), said
+
+
+def a_capture_may_not_grow():
+    """Where a file may not grow any more the capture ends, which is told, and it routes on."""
+    with tempfile.TemporaryDirectory() as folder:
+        options = ["--pcap", os.path.join(folder, "capture")]
+        with Gateway(tunnels(2, extra="extend 4003\n"), options=options, before=["sh", "-c", 'ulimit -f 1 && exec "$@"', "sh"]) as gate:
+            a, b = Client(gate.ports[0x10]), Client(gate.ports[0x20])
+            for k in range(10):
+                a.say(address(0, EVERYONE, GAME), b"%d " % k + bytes(LONG_WORD))
+                assert b.hear()[30:].startswith(b"%d " % k)
+            gate.report()
+            assert is_routed(a, b, 1)
+            gate.run.order(SYSTEM.end)
+            _, complaint = gate.run.communicate(timeout=LIMIT)
+            assert gate.run.returncode == 0 and complaint == b"ipxr-gateway: the capture ends: File too large\n", complaint
+
+
 def read_all(reader):
     """All that comes out of a pipe until nothing has come for a while."""
     pieces = []
     while select.select([reader], [], [], QUIET)[0]:
         pieces.append(os.read(reader, 1 << 20))
+        if not pieces[-1]:
+            break
     return b"".join(pieces)
 
 
@@ -210,9 +244,9 @@ def typed():
 
 def main():
     counts = tried(reports, lines_come, nobody_reads, somebody_reads_slowly, seconds_pass, told_to_end, typed)
-    if has_linux("a capture into a pipe that nobody reads", "pipes have other names there"):
-        counts.run(nobody_reads_the_capture)
-        counts.run(nobody_reads_the_fifo_yet)
+    if has_linux("captures into pipes, closed files and limits of files", "these are others there"):
+        for test in (nobody_reads_the_capture, nobody_reads_the_fifo_yet, its_files_are_closed, a_capture_may_not_grow):
+            counts.run(test)
     return counts
 
 
