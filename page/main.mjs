@@ -4,6 +4,7 @@ import { find, tell } from "./dom.mjs";
 import { read, written } from "./address.mjs";
 import { CapturePane } from "./pane_capture.mjs";
 import { copied } from "./copying.mjs";
+import { isText } from "./file_kinds.mjs";
 import { fromBase64 } from "./bytes.mjs";
 import { InternetPane } from "./pane_internet.mjs";
 import { isOfInternet } from "./script.mjs";
@@ -110,8 +111,7 @@ class Page {
     // A capture or a script, by what it holds.
     async take(file) {
         const bytes = new Uint8Array(await file.arrayBuffer());
-        const isText = bytes.subarray(0, HEAD).every((it) => it >= 32 || [9, 10, 13].includes(it));
-        const text = isText ? new TextDecoder().decode(bytes) : "";
+        const text = isText(bytes.subarray(0, HEAD)) ? new TextDecoder().decode(bytes) : "";
         const name = text ? (isOfInternet(text) ? "internet" : "router") : "capture";
         this.begun.add(name);
         this.show(name);

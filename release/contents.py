@@ -16,7 +16,7 @@ PLACES = {"build/web/libipxr.wasm": "examples/embed/web/libipxr.wasm", "build/ip
 # With what of the page tools/picture draws, and reads captures.
 DRAWING = "drawing hops internet_map ladder layout moments reasons records script side_by_side timeline traces".split()
 READING = "bytes capture conversations filter pcap pcapng unanswered wrong_file".split()
-MODULES = [f"page/{it}.mjs" for it in [*DRAWING, *READING, "wrong_line"]]
+MODULES = [f"page/{it}.mjs" for it in [*DRAWING, *READING, "file_kinds", "wrong_line"]]
 # What writes packets for scripts, beside the module over the library, which lies among the examples.
 WRITING = ["packet", "packet.mjs", "packet_data.mjs", "packet_scripts.mjs", "packet_words.mjs"]
 OTHERS = "explain explain.mjs files.mjs json output_lines.py pcap.py picture picture.mjs program.mjs to-pcap".split()

@@ -1,5 +1,6 @@
 // What the tools for scripts read and write: files, what a file is that is no script, and faults in a line.
 import { readFileSync, readdirSync } from "node:fs";
+import { isCapture, known, said } from "../page/file_kinds.mjs";
 import { parsed } from "../page/script.mjs";
 import { wrongLine } from "../page/wrong_line.mjs";
 
@@ -35,35 +36,19 @@ export function watchOutput(name) {
 
 // ---- What a file is ----
 
-const begins = (content, digits) => content.subarray(0, digits.length / 2).toString("hex") === digits;
-// How captures begin that are read.
-const MAGICS = ["d4c3b2a1", "a1b2c3d4", "4d3cb2a1", "a1b23c4d", "0a0d0d0a"];
-// How files begin that are taken for scripts, what they are, and what to do.
-const OTHERS = [
-    ["1f8b", "a gzip file: unpack it first"], ["504b0304", "a zip file: unpack it first"],
-    ["efbbbf", "UTF-8 with a byte order mark: save it without one"],
-    ["fffe", "UTF-16: save it as UTF-8"], ["feff", "UTF-16: save it as UTF-8"],
-];
-
-const HEAD = 512;
-// Whether a file begins as text.
-export const isText = (content) => !/[^\t\n\r -~]/.test(content.toString("latin1", 0, HEAD));
-export const isCapture = (content) => MAGICS.some((it) => begins(content, it));
-
 // What a file is that is no script, where its beginning tells.
 function kindOf(content) {
-    if (isCapture(content)) return "a capture: tools/picture draws it, and ipxr decode reads pcap";
-    const known = OTHERS.find(([digits]) => begins(content, digits));
+    if (isCapture(content)) return ["a capture", "tools/picture draws it, and ipxr decode reads pcap"];
     // (text in UTF-16 without a mark: each letter of ASCII has a byte of 0)
     const isWide = content.length > 1 && (content[0] === 0) !== (content[1] === 0);
-    return known?.[1] ?? (isWide ? "UTF-16: save it as UTF-8" : "");
+    return known(content) ?? (isWide ? ["UTF-16", "save it as UTF-8"] : null);
 }
 
 // The first wrong line of a script, explained; or nothing.
 export function explained(content, isInternet) {
     const found = wrongLine(content, isInternet);
-    const kind = found?.fault === "text" ? kindOf(content) : "";
-    return found && { ...found, text: kind ? `this is ${kind}` : found.text };
+    const kind = found?.fault === "text" ? kindOf(content) : null;
+    return found && { ...found, text: kind ? said(kind) : found.text };
 }
 
 // Refuses what is no script: a line of it is wrong before any line acts.

@@ -2,12 +2,13 @@
 import { writeFileSync } from "node:fs";
 import { basename } from "node:path";
 import { fileURLToPath } from "node:url";
-import { contentOf, Fault, isCapture, isText, namesIn, seeScript, watchOutput } from "./files.mjs";
+import { contentOf, Fault, namesIn, seeScript, watchOutput } from "./files.mjs";
 import { played, run } from "./program.mjs";
 import { drawLadder, ofRecords, ofSteps, packetsOf } from "../page/ladder.mjs";
 import { drawMoments, mapAt } from "../page/side_by_side.mjs";
 import { sentences } from "../page/traces.mjs";
 import { answered, questions } from "../page/hops.mjs";
+import { isCapture, isText } from "../page/file_kinds.mjs";
 import { captureOf } from "../page/pcap.mjs";
 import { isOfInternet } from "../page/script.mjs";
 import { openCapture } from "../page/capture.mjs";

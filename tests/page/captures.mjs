@@ -171,7 +171,7 @@ await check("a file that is no capture is named by its first bytes", () => {
         [file("TRSNIFF data    ", 0x1a),
             "this is a capture of the Sniffer: save it as pcap with a program that reads it, such as Wireshark"],
         [file("port 00000010"), "this is text: scripts belong to the panes Internet and Router"],
-        [file(0xff, 0xfe, "s", 0), "this is text in UTF-16: save it as UTF-8"],
+        [file(0xff, 0xfe, "s", 0), "this is UTF-16: save it as UTF-8"],
         [file(0, 1, 2, 3, 4), "this is no capture that is known here; it begins with 00 01 02 03"],
     ];
     for (const [bytes, words] of wanted) assert.equal(wrongFile(bytes, "record 0: Magic"), words);
