@@ -5,6 +5,11 @@ PROGRAM = crates/ipxr/out/ipxr
 MINUTES ?= 60
 SOAK ?= 10
 
+# All prove and build in crates/ and build/, so one begins where another has ended, whatever -j says. What they run is no part of this make,
+# and isn't told of its words: a make that a test runs, or a compiler that looks for other jobs, would go by them.
+.NOTPARALLEL:
+unexport MAKEFLAGS MFLAGS
+
 .PHONY: run try show build embed aarch64 windows portable wasm page web gateway test edits fuzz soak bench dist release-test install
 
 # What builds from the sources, or proves them, says first if there is no toolchain.

@@ -1,9 +1,10 @@
 """What the commands that build say of a tree: that it is built wherever it was copied to, and what is missing."""
 import os
+import re
 import shutil
 import tempfile
 
-from trying import TOP, differs, run, tell
+from trying import TOP, differs, run, tell, text_of
 
 # In the toolchain's place: it says what it was asked for, and ends as the file beside it says.
 TOOLCHAIN = """#!/bin/sh
@@ -74,8 +75,10 @@ WORDS = {
     "api --help": "usage", "pages --help": "usage", "sized": "a folder that is there", "sized --help": "a folder that is there",
     "sized nowhere": "a folder that is there",
     "build --help": "usage", "show --help": "usage", "portable --help": "usage", "portable test nobody": "usage", "wasm --help": "usage",
-    "web --help": "usage", "page --help": "usage",
+    "web --help": "usage", "page --help": "usage", "gateway test nobody": "there is no test nobody",
 }
+# What has more words says them all, and ends with 2.
+MANY_WORDS = ["embed --help", "embed tests", "gateway --help", "gateway build", "platforms", "platforms --help"]
 # The same of what needs the toolchain.
 BUILDERS = ["build", "sized .", "show", "wasm", "web", "lib/modules.py ipxr", "lib/modules.py ipx_c"]
 
@@ -92,9 +95,58 @@ def try_words(folder):
         if not status or words not in text or text.count("\n") != 1 or os.listdir(f"{folder}/here"):
             wrong.append(f"    tools/{line}: status {status}, {text[:300]} {os.listdir(f'{folder}/here')}\n")
     tell("what builds ends with a line where its words are wrong, and without the toolchain", "".join(wrong))
+    ends = {it: run(f"{TOP}/tools/{it.split()[0]}", *it.split()[1:], cwd=f"{folder}/here", env=asked) for it in MANY_WORDS}
+    wrong = [f"    tools/{it}: status {status}, {text}\n" for it, (status, text) in ends.items() if status != 2 or "Builds" not in text]
+    tell("what has more words says them where they are wrong", "".join(wrong))
+
+
+# In the place of what make and dev/test run: it notes that it begins, what it is told of this and that it ends, and counts.
+NOTING = """#!/bin/sh
+for word in MAKEFLAGS MFLAGS PORTS CPU IPXR; do
+    env | grep -q "^$word=" && told="$told $word"
+done
+echo "$(basename "$0")$told begins" >>"$NOTED"
+sleep 0.1
+echo "$(basename "$0") ends" >>"$NOTED"
+echo "1 passed, 0 failed"
+"""
+PLAYED = re.compile(r'played\("([^"]+)"')
+
+
+def put_command(place, text):
+    put(place, text)
+    os.chmod(place, 0o755)
+
+
+def noted(folder, *words):
+    """What is noted where make runs with words, as of whoever begins it on several processors."""
+    asked = {**os.environ, "PATH": f"{folder}/bin:{os.environ['PATH']}", "NOTED": f"{folder}/noted"}
+    put(f"{folder}/noted", "")
+    status, text = run("make", "-j4", *words, cwd=f"{folder}/tree", env=asked)
+    with open(f"{folder}/noted", encoding="utf-8") as it:
+        return (status, it.read().splitlines()) if not status else (status, text)
+
+
+def try_under_make(folder):
+    """What make runs is told sizes, and no word of make's own, and runs one after the other; what make test runs is told no sizes either."""
+    put_command(f"{folder}/bin/rt", NOTING)
+    for file in ("Makefile", "dev/test", "dev/edit_rounds.py"):
+        put_command(f"{folder}/tree/{file}", text_of(file))
+    shutil.copytree(f"{TOP}/tools/lib", f"{folder}/tree/tools/lib")
+    put(f"{folder}/tree/crates.txt", "")
+    played = {*PLAYED.findall(text_of("dev/test"))}
+    for tool in {*played, "tools/build", "tools/install"}:
+        put_command(f"{folder}/tree/{tool}", NOTING)
+    wanted = [line for tool in ("build", "gateway", "install") for line in (f"{tool} PORTS begins", f"{tool} ends")]
+    tell("make -j4 install PORTS=8: one after the other", differs(noted(folder, "install", "PORTS=8"), (0, wanted)))
+    status, lines = noted(folder, "test", "PORTS=8", "CPU=x86-64-v3", "IPXR=another")
+    begun = [it for it in lines if it.endswith("begins")]
+    names = {it.split()[0] for it in begun}
+    is_right = not status and names >= {os.path.basename(it) for it in played} and all(it.count(" ") == 1 for it in begun)
+    tell("make -j4 test PORTS=8 tries what is delivered", "" if is_right else f"    status {status}, {lines}")
 
 
 def try_all():
-    for attempt in (try_copied, try_missing, try_words):
+    for attempt in (try_copied, try_missing, try_words, try_under_make):
         with tempfile.TemporaryDirectory() as folder:
             attempt(folder)
