@@ -127,7 +127,7 @@ first_of [] = None
 first_of (Some why ∷ checks) = Some why
 first_of (None ∷ checks) = first_of checks
 
--- the fifteen checks of a packet that comes on a port, over the ports that are up and the routes that are held
+-- the checks of a packet that comes on a port, over the ports that are up and the routes that are held
 abbrev pub checks : List Port → List ℕ → List RouteOffer → Port → Parts → List (Option Why)
 checks ports up routes port p =
     when (is_own_echo port p.header) OwnEcho
@@ -159,7 +159,7 @@ malformed bytes = elim (packet_of bytes) [ Ok p ↦ None | Err fault ↦ Some (M
 abbrev pub packet_checks : List Port → List ℕ → List RouteOffer → Port → List ℕ → List (Option Why)
 packet_checks ports up routes port bytes = elim (packet_of bytes) [ Ok p ↦ checks ports up routes port p | Err fault ↦ [] ]
 
--- why bytes that come on a port are dropped, if they are: the first of all eighteen checks
+-- why bytes that come on a port are dropped, if they are: the first of all checks
 abbrev pub why : List Port → List ℕ → List RouteOffer → Bool → ℕ → List ℕ → Option Why
 why ports up routes running number bytes =
     first_of

@@ -1,6 +1,6 @@
 //! The verdict on bytes that came on a port: heard, sent on, or dropped.
 //!
-//! Eighteen checks are made in this order, and the first that holds decides: the router is stopped; the bytes are no packet;
+//! Checks are made in this order, and the first that holds decides: the router is stopped; the bytes are no packet;
 //! the checks of a packet, which are also made of one that is only to be sent on; of a near packet, it is of type
 //! 20 or for a socket without a process, its source is on another network, its data are no routing information or no
 //! service advertising, or they answer a query for the nearest service; and last, the port on which it came is down.
