@@ -314,7 +314,7 @@ IPXR_CALL uint8_t ipxr_frame_read(const uint8_t *frame, size_t length, size_t *f
 
 /* Writes the frame in which a packet is sent to a node from a node: its type, or its length and header, the packet, and zeros up
  * to IPXR_SHORTEST_FRAME. Returns its length; the rest of the buffer stays as it was. Returns 0, and writes nothing, if `kind` is
- * none of the four, header and packet are more than 1,500 bytes, the frame is longer than `room`, or a raw frame would carry a
+ * none of these, header and packet are more than 1,500 bytes, the frame is longer than `room`, or a raw frame would carry a
  * packet with a checksum, since nobody would recognize it as IPX. */
 IPXR_CALL size_t ipxr_frame_write(uint8_t kind, const uint8_t to[6], const uint8_t from[6], const uint8_t *packet, size_t length,
                                   uint8_t *frame, size_t room);
