@@ -2,6 +2,7 @@
 pub mod AdvertisedIsHeld
 pub mod BroadcastEachSecond
 pub mod ForwardsDiffer
+pub mod NearestIsOneOfThem
 pub mod NothingGoesBack
 pub mod PagesAreHeard
 pub mod PagesReadAgain

@@ -9,8 +9,8 @@ use Rattle.ipx_router.specs.Numbers.{most_ticks, period, unreachable}
 use Rattle.ipx_router.specs.Outgoing.{port_to}
 use Rattle.ipx_router.specs.Port.{Port, port_at, numbers, is_up}
 use Rattle.ipx_router.specs.declared.route_offer.RouteOffer.{RouteOffer}
+use Rattle.ipx_internet.specs.Gone.{most_ticks_gone}
 use Rattle.ipx_internet.specs.Internet.{Internet, Place, IsPlace, ports_of, port_of, network_of, places}
-use Rattle.ipx_internet.specs.Ticks.{most_ticks_gone}
 
 -- how far a network is: how many routers are between, and in ticks what the last one's port on it costs, and each port on which a router
 -- advertises the way

@@ -20,8 +20,12 @@ pub mod Weight
 pub mod Rounds
 -- InternetWeight
 pub mod InternetWeight
--- Ticks
+-- Ticks, busy or not
 pub mod Ticks
+pub mod BusyTick
+-- Ups, Gone
+pub mod Ups
+pub mod Gone
 -- Meanwhile
 pub mod Meanwhile
 -- Announces

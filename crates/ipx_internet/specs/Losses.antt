@@ -3,9 +3,9 @@ use Rattle.std.specs.Prelude.{◌≡◌, ℕ, ◌<◌, List, [], length}
 use Rattle.std.specs.List.{AllByRecursion}
 use Rattle.ipx_router.specs.History.{Event, History, Stop, PortDown}
 use Rattle.ipx_router.specs.Port.{port_at}
+use Rattle.ipx_internet.specs.Gone.{IsGone}
 use Rattle.ipx_internet.specs.Internet.{Internet, ports_of}
 use Rattle.ipx_internet.specs.Run.{Step, Happens, Settles, begun, run_of}
-use Rattle.ipx_internet.specs.Ticks.{IsGone}
 
 module _ (net : Internet) (last : List History) where
   -- a router stops, or a port of it goes down that is on a network on which no port is up in the end

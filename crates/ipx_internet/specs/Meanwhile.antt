@@ -1,5 +1,5 @@
 -- Time that passes while anything else happens too, and what may not happen to something that is to be gone.
-use Rattle.std.specs.Prelude.{◌≡◌, ◌≢◌, ℕ, ◌<◌, ◌||◌, not, if◌then◌else◌, List, [], ◌∷◌, length, Option, None, Some, IfSome, Ok, Err}
+use Rattle.std.specs.Prelude.{◌≡◌, ◌≢◌, ℕ, ◌<◌, ◌||◌, not, if◌then◌else◌, List, [], ◌∷◌, Option, None, Some, IfSome, Ok, Err}
 use Rattle.std.specs.List.{AllByRecursion}
 use Rattle.ipx_wire.specs.Packet.{Parts, packet_of}
 use Rattle.ipx_wire.specs.declared.address.Address.{Address}
@@ -12,9 +12,9 @@ use Rattle.ipx_router.specs.Heard.{Heard, HeardRip, HeardSap, heard_in}
 use Rattle.ipx_router.specs.History.{Event, Packet, Second}
 use Rattle.ipx_router.specs.Numbers.{rip_socket, sap_socket, unreachable}
 use Rattle.ipx_router.specs.Why.{is_propagated, is_for_rip, is_for_sap}
+use Rattle.ipx_internet.specs.Gone.{IsGone}
 use Rattle.ipx_internet.specs.Internet.{Internet}
-use Rattle.ipx_internet.specs.Run.{Step, Happens, Settles, IsStep, Run, stepped, run_of}
-use Rattle.ipx_internet.specs.Ticks.{seconds_of, IsGone}
+use Rattle.ipx_internet.specs.Run.{Step, Happens, Settles, Run, stepped, run_of}
 
 -- ---- what may be heard of a packet, near or far
 
@@ -79,12 +79,6 @@ SaysOnly Says Settles = Unit
 -- ---- ticks
 
 module _ (net : Internet) (most_routes most_services : ℕ) where
-  -- anything happens, packets of hosts too; each router has one second, and in the end nothing waits
-  pub record IsBusyTick (run : Run) (steps : List Step) : Type 0 where
-    pub happens : AllByRecursion (IsStep net) steps
-    pub each : (router : ℕ) → router < length net → seconds_of router steps ≡ 1
-    pub quiet : (run_of net most_routes most_services run steps).waiting ≡ []
-
   -- before the first step and after each, no router has a port up on that network
   abbrev pub StaysGone : Network → Run → List Step → Type 0
   StaysGone network run [] = IsGone net run.histories network

@@ -8,11 +8,12 @@ use Rattle.ipx_router.specs.Heard.{Heard, HeardRip, HeardSap}
 use Rattle.ipx_router.specs.History.{Packet}
 use Rattle.ipx_router.specs.Numbers.{period}
 use Rattle.ipx_router.specs.Port.{is_up}
+use Rattle.ipx_internet.specs.Gone.{most_ticks_gone}
 use Rattle.ipx_internet.specs.Internet.{Internet, Place, ports_of, network_of}
 use Rattle.ipx_internet.specs.Queue.{history_of}
 use Rattle.ipx_internet.specs.Run.{Step, Happens, Settles, Run, stepped}
 use Rattle.ipx_internet.specs.Servers.{Announcer, Server, at_hops}
-use Rattle.ipx_internet.specs.Ticks.{ticked, most_ticks_gone}
+use Rattle.ipx_internet.specs.Ticks.{ticked}
 
 -- a response of that host names the service, with its address and this host's hops
 abbrev pub Announces : Server → Announcer → Heard → Type 0

@@ -1,15 +1,10 @@
 -- Time that passes in an internet: ticks, in each of which every router has one second, in any order, and deliveries happen in
 -- between, until nothing waits.
-use Rattle.std.specs.Prelude.{◌≡◌, ℕ, ◌*◌, ◌<◌, ◌==◌, ◌&&◌, Bool, true, false, List, [], ◌∷◌, ◌++◌, length, map, replicate}
+use Rattle.std.specs.Prelude.{◌≡◌, ℕ, ◌<◌, ◌==◌, ◌&&◌, Bool, true, false, List, [], ◌∷◌, ◌++◌, length, map, replicate}
 use Rattle.std.specs.List.{AllByRecursion, filter}
-use Rattle.ipx_wire.specs.Crossed.{is_among}
-use Rattle.ipx_wire.specs.declared.network.Network.{Network}
-use Rattle.ipx_table.specs.Alive.{lifetime}
-use Rattle.ipx_router.specs.Numbers.{unreachable}
-use Rattle.ipx_router.specs.History.{History, Second, is_second, ports_up}
-use Rattle.ipx_router.specs.Port.{port_at, numbers}
-use Rattle.ipx_internet.specs.Internet.{Internet, ports_of}
-use Rattle.ipx_internet.specs.Queue.{history_of}
+use Rattle.ipx_router.specs.History.{Second, is_second}
+use Rattle.ipx_router.specs.Port.{numbers}
+use Rattle.ipx_internet.specs.Internet.{Internet}
 use Rattle.ipx_internet.specs.Run.{Step, Happens, Settles, Run, run_of}
 
 -- the step is a second of that router
@@ -55,19 +50,3 @@ a_tick routers deliveries = a_tick_by (numbers routers) deliveries
 pub record IsOrder (net : Internet) (order : List ℕ) : Type 0 where
   pub there : AllByRecursion (λ router. router < length net) order
   pub once : (router : ℕ) → router < length net → length (filter (λ other. other == router) order) ≡ 1
-
--- the ticks after which what is gone is gone everywhere: the lifetime of an offer for each number of hops that is reachable
-abbrev pub most_ticks_gone : ℕ
-most_ticks_gone = unreachable * lifetime
-
--- the ports of a router that are up
-abbrev pub ups : Internet → List History → ℕ → List ℕ
-ups net histories router = ports_up (ports_of net router) (history_of histories router)
-
--- their networks
-abbrev pub networks_up : Internet → List History → ℕ → List Network
-networks_up net histories router = map (λ number. (port_at (ports_of net router) number).network) (ups net histories router)
-
--- no router has a port up on that network; a stopped router has none up
-abbrev pub IsGone : Internet → List History → Network → Type 0
-IsGone net histories network = (router : ℕ) → is_among network (networks_up net histories router) ≡ false

@@ -15,7 +15,7 @@ use Rattle.ipx_internet.specs.Internet.{Internet, ports_of}
 use Rattle.ipx_internet.specs.Least.{way_of, least_route}
 use Rattle.ipx_internet.specs.Moment.{Moment, StandsFor, net_at}
 use Rattle.ipx_internet.specs.Queue.{Queued, history_of}
-use Rattle.ipx_internet.specs.Ticks.{ups}
+use Rattle.ipx_internet.specs.Ups.{ups}
 use Rattle.least_ways.specs.Right.{HasLeastWays}
 
 module _ (most_routes most_services : ℕ) (old new : Moment) (histories : List History)

@@ -22,14 +22,16 @@ use Rattle.ipx_router.specs.History.{History, Second, Packet, running}
 use Rattle.ipx_router.specs.Port.{is_up, own_services}
 use Rattle.ipx_router.proofs.histories.OneEventMore.{none_up}
 use Rattle.ipx_router.proofs.port_values.PortOfEachNumber.{ports_up-within}
+use Rattle.ipx_internet.specs.BusyTick.{IsBusyTick}
 use Rattle.ipx_internet.specs.Internet.{Place, ports_of, network_of}
-use Rattle.ipx_internet.specs.Meanwhile.{LeavesPorts, SaysOnly, IsBusyTick, EachTick}
+use Rattle.ipx_internet.specs.Meanwhile.{LeavesPorts, SaysOnly, EachTick}
 use Rattle.ipx_internet.specs.Queue.{history_of}
 use Rattle.ipx_internet.specs.Regular.{IsListedName, most_ticks_known, IsHeard, HeardInSteps, HeardInTicks, AreInTime}
 use Rattle.ipx_internet.specs.Rounds.{IsDelivery}
 use Rattle.ipx_internet.specs.Run.{Step, Happens, Settles, Run, Waiting, forgotten, run_of}
 use Rattle.ipx_internet.specs.Servers.{Announcer, NamesOnly, at_hops, known_of, SaysNoFalse}
-use Rattle.ipx_internet.specs.Ticks.{seconds_of, ticked, ups}
+use Rattle.ipx_internet.specs.Ticks.{seconds_of, ticked}
+use Rattle.ipx_internet.specs.Ups.{ups}
 use Rattle.ipx_internet.proofs.examples.Hosts.{server, said, start, names, bytes, says, names_it, the_host, one_voice, room}
 use Rattle.ipx_internet.proofs.examples.Neighbours.{second_fewest}
 use Rattle.ipx_internet.proofs.examples.Premises.{are}

@@ -24,7 +24,7 @@ use Rattle.ipx_internet.specs.Nearest.{LeadsElsewhere, IsAnswered}
 use Rattle.ipx_internet.specs.Queue.{history_of, sends_at}
 use Rattle.ipx_internet.specs.Run.{Run, run_of}
 use Rattle.ipx_internet.specs.Servers.{Announcer, at_hops}
-use Rattle.ipx_internet.specs.Ticks.{ups}
+use Rattle.ipx_internet.specs.Ups.{ups}
 use Rattle.ipx_internet.proofs.examples.Hosts.{server, said, start, tick, the_host}
 use Rattle.ipx_internet.proofs.examples.Meanwhile.{are_bytes}
 use Rattle.ipx_internet.proofs.examples.Waiting.{segment}

@@ -12,12 +12,13 @@ use Rattle.ipx_wire.specs.Sap.{sap_of}
 use Rattle.ipx_router.specs.History.{PortDown, PortUp}
 use Rattle.ipx_router.specs.Outgoing.{route_to}
 use Rattle.ipx_internet.specs.Gains.{IsOfGains}
+use Rattle.ipx_internet.specs.Gone.{IsGone}
 use Rattle.ipx_internet.specs.Least.{Way, least_route, way_of}
 use Rattle.ipx_internet.specs.Losses.{AreLosses}
 use Rattle.ipx_internet.specs.Real.{next}
 use Rattle.ipx_internet.specs.Run.{Step, Happens, Settles, Run, begun, run_of}
 use Rattle.ipx_internet.specs.Tables.{routes_of, AreReal}
-use Rattle.ipx_internet.specs.Ticks.{ups, networks_up, IsGone}
+use Rattle.ipx_internet.specs.Ups.{ups, networks_up}
 use Rattle.ipx_internet.proofs.examples.Leasts.{way}
 use Rattle.ipx_internet.proofs.examples.Waiting.{segment, after}
 use Rattle.ipx_internet.proofs.examples.Words.{network, at}

@@ -23,13 +23,15 @@ use Rattle.ipx_router.specs.Port.{is_local, own_services, every_server}
 use Rattle.ipx_router.proofs.bytes.ReadInOneWay.{one_read}
 use Rattle.ipx_router.specs.declared.service_offer.ServiceOffer.{ServiceOffer}
 use Rattle.ipx_internet.specs.Announces.{AsksApart, service_of}
+use Rattle.ipx_internet.specs.BusyTick.{IsBusyTick}
 use Rattle.ipx_internet.specs.Internet.{ports_of}
-use Rattle.ipx_internet.specs.Meanwhile.{message_of, LeavesPorts, SaysOnly, IsBusyTick}
+use Rattle.ipx_internet.specs.Meanwhile.{message_of, LeavesPorts, SaysOnly}
 use Rattle.ipx_internet.specs.Queue.{history_of}
 use Rattle.ipx_internet.specs.Regular.{HasRoomFor, HaveOneVoice, IsListedName, HeardInTicks}
 use Rattle.ipx_internet.specs.Run.{Step, Happens, Settles, Run, begun, run_of}
 use Rattle.ipx_internet.specs.Servers.{Announcer, NamesOnly, Server, at_hops, IsAnnouncedOn, IsSilentOf, SaysAsAnnounced, IsForHere, SaysNoFalse, IsServed, announced, passed_on, IsAway, beside}
-use Rattle.ipx_internet.specs.Ticks.{seconds_of, ups}
+use Rattle.ipx_internet.specs.Ticks.{seconds_of}
+use Rattle.ipx_internet.specs.Ups.{ups}
 use Rattle.ipx_internet.proofs.examples.Meanwhile.{are_bytes}
 use Rattle.ipx_internet.proofs.examples.Waiting.{segment}
 use Rattle.ipx_internet.proofs.examples.Words.{network, node, port_on, at}

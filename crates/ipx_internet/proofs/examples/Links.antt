@@ -15,7 +15,7 @@ use Rattle.ipx_internet.specs.Internet.{ports_of}
 use Rattle.ipx_internet.specs.Least.{Way, least_route, way_of}
 use Rattle.ipx_internet.specs.Queue.{history_of}
 use Rattle.ipx_internet.specs.Run.{Happens, Settles, Run, begun, run_of}
-use Rattle.ipx_internet.specs.Ticks.{ups}
+use Rattle.ipx_internet.specs.Ups.{ups}
 use Rattle.ipx_internet.proofs.examples.Leasts.{way}
 use Rattle.ipx_internet.proofs.examples.Waiting.{segment, after}
 use Rattle.ipx_internet.proofs.examples.Words.{network}

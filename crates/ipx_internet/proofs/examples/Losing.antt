@@ -20,7 +20,8 @@ use Rattle.ipx_internet.specs.Least.{Way, is_on, least, least_route, way_of, Has
 use Rattle.ipx_internet.specs.Queue.{history_of}
 use Rattle.ipx_internet.specs.Run.{AreHistories}
 use Rattle.ipx_internet.specs.Tables.{routes_of, AreRight}
-use Rattle.ipx_internet.specs.Ticks.{AreTicks, ups}
+use Rattle.ipx_internet.specs.Ticks.{AreTicks}
+use Rattle.ipx_internet.specs.Ups.{ups}
 use Rattle.ipx_internet.proofs.examples.Changes.{lost}
 use Rattle.ipx_internet.proofs.examples.Meanwhile.{all_small, are_bytes}
 use Rattle.ipx_internet.proofs.examples.Premises.{ticks, left, are_by}

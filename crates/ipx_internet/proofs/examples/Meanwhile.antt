@@ -18,9 +18,12 @@ use Rattle.ipx_wire.specs.declared.rip.RipEntry.{RipEntry}
 use Rattle.ipx_router.specs.Heard.{HeardRip}
 use Rattle.ipx_router.specs.History.{History, Second, Packet, PortDown}
 use Rattle.ipx_router.specs.Port.{own_address}
-use Rattle.ipx_internet.specs.Meanwhile.{message_of, IsWithoutRoute, SaysOnly, IsBusyTick, StaysGone, TellsNoRoute, LeavesPorts}
+use Rattle.ipx_internet.specs.BusyTick.{IsBusyTick}
+use Rattle.ipx_internet.specs.Gone.{IsGone}
+use Rattle.ipx_internet.specs.Meanwhile.{message_of, IsWithoutRoute, SaysOnly, StaysGone, TellsNoRoute, LeavesPorts}
 use Rattle.ipx_internet.specs.Run.{Step, Happens, Settles, begun, run_of}
-use Rattle.ipx_internet.specs.Ticks.{seconds_of, networks_up, IsGone}
+use Rattle.ipx_internet.specs.Ticks.{seconds_of}
+use Rattle.ipx_internet.specs.Ups.{networks_up}
 use Rattle.ipx_internet.proofs.examples.Ticks.{said, before, networks}
 use Rattle.ipx_internet.proofs.examples.Waiting.{segment}
 use Rattle.ipx_internet.proofs.examples.Words.{network, port_on, plain, node}

@@ -18,7 +18,7 @@ use Rattle.ipx_internet.specs.Internet.{Internet, network_of, ports_of}
 use Rattle.ipx_internet.specs.Queue.{history_of}
 use Rattle.ipx_internet.specs.Run.{run_of}
 use Rattle.ipx_internet.specs.Servers.{Announcer, IsAway, IsFewest, beside, beyond}
-use Rattle.ipx_internet.specs.Ticks.{ups}
+use Rattle.ipx_internet.specs.Ups.{ups}
 use Rattle.ipx_internet.proofs.examples.Hosts.{server, said, start, tick, offer, the_host}
 use Rattle.ipx_internet.proofs.examples.Waiting.{segment}
 use Rattle.ipx_internet.proofs.examples.Words.{port_on, at}

@@ -20,13 +20,16 @@ use Rattle.ipx_router.specs.Outgoing.{is_own_port}
 use Rattle.ipx_router.specs.Why.{is_own_echo}
 use Rattle.ipx_internet.specs.Announces.{AsksApart}
 use Rattle.ipx_internet.specs.Arriving.{IsOfHost}
+use Rattle.ipx_internet.specs.BusyTick.{IsBusyTick}
+use Rattle.ipx_internet.specs.Gone.{most_ticks_gone}
 use Rattle.ipx_internet.specs.Internet.{ports_of, port_of}
 use Rattle.ipx_internet.specs.Least.{least, least_route, ticks_right}
-use Rattle.ipx_internet.specs.Meanwhile.{SaysOnly, IsBusyTick, EachTick}
+use Rattle.ipx_internet.specs.Meanwhile.{SaysOnly, EachTick}
 use Rattle.ipx_internet.specs.Queue.{history_of}
 use Rattle.ipx_internet.specs.Real.{IsReal}
 use Rattle.ipx_internet.specs.Run.{Step, Settles, AreHistories, Run, begun, run_of}
-use Rattle.ipx_internet.specs.Ticks.{seconds_of, IsOfTick, AreTicks, a_tick, ups, most_ticks_gone}
+use Rattle.ipx_internet.specs.Ticks.{seconds_of, IsOfTick, AreTicks, a_tick}
+use Rattle.ipx_internet.specs.Ups.{ups}
 use Rattle.ipx_internet.proofs.examples.Leasts.{way}
 use Rattle.ipx_internet.proofs.examples.Meanwhile.{are_bytes}
 use Rattle.ipx_internet.proofs.examples.Servers.{announcement, tick}

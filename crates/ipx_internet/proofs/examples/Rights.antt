@@ -20,7 +20,8 @@ use Rattle.ipx_internet.specs.Internet.{Internet, IsInternet, NodesDiffer, ports
 use Rattle.ipx_internet.specs.Least.{Way, least, least_route, way_of, ticks_right, AreCheap, HasRoom, FifteenSuffice, most_ticks_right}
 use Rattle.ipx_internet.specs.Queue.{history_of}
 use Rattle.ipx_internet.specs.Run.{Step, Run, begun}
-use Rattle.ipx_internet.specs.Ticks.{a_tick, ticked, ups}
+use Rattle.ipx_internet.specs.Ticks.{a_tick, ticked}
+use Rattle.ipx_internet.specs.Ups.{ups}
 use Rattle.ipx_internet.proofs.examples.Leasts.{all, costly, way}
 use Rattle.ipx_internet.proofs.examples.Waiting.{segment, after}
 use Rattle.ipx_internet.proofs.examples.Words.{network, port_on}

@@ -18,11 +18,13 @@ use Rattle.ipx_router.specs.Numbers.{period}
 use Rattle.ipx_router.specs.History.{Second, Packet}
 use Rattle.ipx_router.specs.Port.{numbers}
 use Rattle.ipx_router.specs.declared.service_offer.ServiceOffer.{ServiceOffer}
+use Rattle.ipx_internet.specs.BusyTick.{IsBusyTick}
 use Rattle.ipx_internet.specs.Least.{FifteenSuffice}
-use Rattle.ipx_internet.specs.Meanwhile.{TellsNoRoute, LeavesPorts, SaysOnly, IsBusyTick, EachTick}
+use Rattle.ipx_internet.specs.Meanwhile.{TellsNoRoute, LeavesPorts, SaysOnly, EachTick}
 use Rattle.ipx_internet.specs.Run.{Step, Happens, Settles, IsStep, Run, begun, stepped, run_of}
-use Rattle.ipx_internet.specs.Ticks.{seconds_of, AreTicks, a_tick, ticked, ups}
+use Rattle.ipx_internet.specs.Ticks.{seconds_of, AreTicks, a_tick, ticked}
 use Rattle.ipx_internet.specs.Upkeep.{has, HaveTheServices, ServicesStay, steps_of}
+use Rattle.ipx_internet.specs.Ups.{ups}
 use Rattle.ipx_internet.proofs.examples.Premises.{started, ticks, a_period, left, are_by, each_once, bytes}
 use Rattle.ipx_internet.proofs.examples.Rights.{made}
 use Rattle.ipx_internet.proofs.examples.Servers.{server, announcement}

@@ -15,11 +15,13 @@ use Rattle.ipx_table.specs.Alive.{lifetime}
 use Rattle.ipx_router.specs.Facts.{routes_held, offers}
 use Rattle.ipx_router.specs.History.{History, Start, Second, Packet}
 use Rattle.ipx_router.specs.Port.{own_address, everyone}
+use Rattle.ipx_internet.specs.Gone.{IsGone}
 use Rattle.ipx_internet.specs.Internet.{ports_of}
 use Rattle.ipx_internet.specs.Queue.{history_of}
 use Rattle.ipx_internet.specs.Real.{IsReal, next, led_over}
 use Rattle.ipx_internet.specs.Run.{Run, begun, run_of}
-use Rattle.ipx_internet.specs.Ticks.{seconds_of, IsTick, a_tick, a_tick_by, IsOrder, ups, IsGone}
+use Rattle.ipx_internet.specs.Ticks.{seconds_of, IsTick, a_tick, a_tick_by, IsOrder}
+use Rattle.ipx_internet.specs.Ups.{ups}
 use Rattle.ipx_internet.proofs.examples.Waiting.{segment}
 use Rattle.ipx_internet.proofs.examples.Words.{network, port_on, route, at}
 

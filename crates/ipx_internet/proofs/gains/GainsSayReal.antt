@@ -33,10 +33,10 @@ use Rattle.ipx_internet.specs.Real.{IsReal, next, farther}
 use Rattle.ipx_internet.proofs.gains.OwnPacketsSayReal.{AnyService, RealSaid, FineHeard, IsOwn, rip_page_own, sap_page_own, request_own, query_own}
 use Rattle.ipx_internet.proofs.lists.EachElement.{all_then, all-append, all-filter, all-flat_map}
 use Rattle.ipx_internet.proofs.packets.AdvertisedIsHeld.{told_all, news_told}
+use Rattle.ipx_internet.proofs.packets.NearestIsOneOfThem.{either, nearest_all}
 use Rattle.ipx_internet.proofs.packets.PagesReadAgain.{IsRipPage, IsSapPage, Tellable, everyone_is, every_server_is, rip_pages, sap_pages}
 use Rattle.ipx_internet.proofs.packets.SentOnOrReply.{Layouts}
 use Rattle.ipx_internet.proofs.places.OneReceiverOfANode.{ports_at}
-use Rattle.ipx_internet.proofs.ticks.SaysFineOrSoonEnded.{either, nearest_all}
 
 module _ (net : Internet) (laws : Layouts) (is : IsInternet net) (up : ℕ → List ℕ) (most_routes most_services router : ℕ) where
   abbrev ports : List Port

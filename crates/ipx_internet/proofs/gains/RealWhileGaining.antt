@@ -33,13 +33,14 @@ use Rattle.ipx_router.proofs.tables.HeldWasOffered.{came_in, heard_up}
 use Rattle.ipx_router.proofs.tables.OffersOfAMessage.{facts_from-more}
 use Rattle.ipx_router.proofs.verdicts.HeardIsAsLayoutsAllow.{heard_is}
 use Rattle.ipx_internet.specs.Gains.{IsGain, IsOfGains}
+use Rattle.ipx_internet.specs.Gone.{most_ticks_gone}
 use Rattle.ipx_internet.specs.Internet.{Internet, Place, IsInternet, ports_of, port_of}
 use Rattle.ipx_internet.specs.Queue.{Delivery, Queued, deliveries_of, history_of, with_event, sends_at, queued, settled_one}
 use Rattle.ipx_internet.specs.Real.{IsReal, next, farther}
 use Rattle.ipx_internet.specs.Rounds.{IsDelivery}
 use Rattle.ipx_internet.specs.Run.{Step, Happens, Settles, AreHistories, Run, begun, forgotten, stepped, run_of}
 use Rattle.ipx_internet.specs.Tables.{AreReal}
-use Rattle.ipx_internet.specs.Ticks.{most_ticks_gone, ups}
+use Rattle.ipx_internet.specs.Ups.{ups}
 use Rattle.ipx_internet.proofs.deliveries.QueueOfARun.{events, deliveries}
 use Rattle.ipx_internet.proofs.deliveries.WaitsAfterDelivery.{there}
 use Rattle.ipx_internet.proofs.gains.GainsSayReal.{IsSaid, introduces, port_up_says, heard_says}

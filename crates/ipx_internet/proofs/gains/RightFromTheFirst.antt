@@ -8,12 +8,13 @@ use Rattle.ipx_router.specs.History.{History}
 use Rattle.ipx_router.specs.Port.{is_up}
 use Rattle.ipx_router.specs.Routes.{network_order}
 use Rattle.ipx_router.specs.declared.route_offer.RouteOffer.{RouteOffer}
+use Rattle.ipx_internet.specs.Gone.{most_ticks_gone}
 use Rattle.ipx_internet.specs.Internet.{Place, ports_of}
 use Rattle.ipx_internet.specs.Least.{Way, is_on, is_up_on, least_route, way_of}
 use Rattle.ipx_internet.specs.Queue.{history_of}
 use Rattle.ipx_internet.specs.Real.{IsReal}
 use Rattle.ipx_internet.specs.Tables.{AreReal, AreRight}
-use Rattle.ipx_internet.specs.Ticks.{ups, most_ticks_gone}
+use Rattle.ipx_internet.specs.Ups.{ups}
 use Rattle.ipx_internet.proofs.gains.MoreUpIsNoWorse.{own_too, no_worse}
 use Rattle.ipx_internet.proofs.gains.RealWhileGaining.{RealAt, real_more, real_held}
 use Rattle.ipx_internet.proofs.gains.RightWhenQuiet.{HasRight, GoodNow}

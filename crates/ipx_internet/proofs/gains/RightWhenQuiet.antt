@@ -7,10 +7,11 @@ use Rattle.ipx_router.specs.History.{History}
 use Rattle.ipx_router.specs.Outgoing.{route_to}
 use Rattle.ipx_router.specs.Routes.{network_order}
 use Rattle.ipx_router.specs.declared.route_offer.RouteOffer.{RouteOffer}
+use Rattle.ipx_internet.specs.Gone.{most_ticks_gone}
 use Rattle.ipx_internet.specs.Internet.{Place, ports_of}
 use Rattle.ipx_internet.specs.Least.{Way, is_on, is_up_on, least_route, way_of}
 use Rattle.ipx_internet.specs.Queue.{history_of}
-use Rattle.ipx_internet.specs.Ticks.{most_ticks_gone, ups}
+use Rattle.ipx_internet.specs.Ups.{ups}
 use Rattle.ipx_internet.proofs.tables.Given.{Given}
 use Rattle.ipx_internet.proofs.tables.GoodRoutesStay.{right_way}
 use Rattle.ipx_internet.proofs.tables.LastWords.{WantsOf, Sources, known_by, IsGood}

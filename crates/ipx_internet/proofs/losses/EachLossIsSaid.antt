@@ -37,8 +37,8 @@ use Rattle.ipx_router.proofs.tables.HeldFitsFields.{held_routes_fit, held_servic
 use Rattle.ipx_router.proofs.tables.OffersOfAMessage.{facts_from-more}
 use Rattle.ipx_router.proofs.telling.ToldFitsFields.{told_fits, told_services_fit, dead_fits, down_fits, direct_fits}
 use Rattle.ipx_router.proofs.verdicts.HeardPassesAllChecks.{heard_passes}
+use Rattle.ipx_internet.specs.Gone.{IsGone}
 use Rattle.ipx_internet.specs.Internet.{Internet}
-use Rattle.ipx_internet.specs.Ticks.{IsGone}
 use Rattle.ipx_internet.proofs.lists.EachElement.{all_of, all_then, all-append, all-map}
 use Rattle.ipx_internet.proofs.lists.FoundInAList.{nothing, it_is}
 use Rattle.ipx_internet.proofs.lists.SomeElement.{AnyIs, any_then, any-map, any-sorted, number_any}

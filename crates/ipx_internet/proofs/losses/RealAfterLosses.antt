@@ -10,11 +10,12 @@ use Rattle.ipx_router.specs.Port.{is_up}
 use Rattle.ipx_router.specs.Routes.{network_order}
 use Rattle.ipx_router.specs.declared.route_offer.RouteOffer.{RouteOffer}
 use Rattle.ipx_router.proofs.tables.HeldCameByPortsUp.{held_routes_up}
+use Rattle.ipx_internet.specs.Gone.{IsGone}
 use Rattle.ipx_internet.specs.Internet.{Internet, IsInternet, ports_of, port_of, network_of}
 use Rattle.ipx_internet.specs.Queue.{Queued, history_of}
 use Rattle.ipx_internet.specs.Real.{IsReal, IsTaken, next, farther}
 use Rattle.ipx_internet.specs.Tables.{routes_of, AreReal}
-use Rattle.ipx_internet.specs.Ticks.{IsGone, ups, networks_up}
+use Rattle.ipx_internet.specs.Ups.{ups, networks_up}
 use Rattle.ipx_internet.proofs.lists.SomeElement.{AnyIs, found_with}
 use Rattle.ipx_internet.proofs.losses.EachLossIsSaid.{Says, Direct, Learned}
 use Rattle.ipx_internet.proofs.losses.LossesGoOn.{Losing, Stem}

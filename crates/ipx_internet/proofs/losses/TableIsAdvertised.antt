@@ -16,7 +16,7 @@ use Rattle.ipx_internet.specs.Queue.{history_of}
 use Rattle.ipx_internet.specs.Real.{IsReal, next, farther}
 use Rattle.ipx_internet.specs.Run.{AreHistories}
 use Rattle.ipx_internet.specs.Tables.{routes_of, AreReal, AreRight}
-use Rattle.ipx_internet.specs.Ticks.{ups}
+use Rattle.ipx_internet.specs.Ups.{ups}
 use Rattle.ipx_internet.proofs.lists.FoundInAList.{nothing, it_is}
 use Rattle.ipx_internet.proofs.lists.SomeElement.{found_with}
 use Rattle.ipx_internet.proofs.losses.EachLossIsSaid.{Direct, Learned}

@@ -19,7 +19,7 @@ use Rattle.ipx_router.specs.Numbers.{unreachable}
 use Rattle.ipx_router.specs.Port.{is_up}
 use Rattle.ipx_router.proofs.lists.EachElement.{all_both}
 use Rattle.ipx_router.proofs.tables.HeldWasOffered.{all_in_order, all_offers}
-use Rattle.ipx_internet.specs.Ticks.{most_ticks_gone}
+use Rattle.ipx_internet.specs.Gone.{most_ticks_gone}
 use Rattle.ipx_internet.proofs.lists.EachElement.{all_of, all_then, all-append, all-map, all-filter}
 use Rattle.ipx_internet.proofs.records.KeptOrOffered.{OffersOf}
 

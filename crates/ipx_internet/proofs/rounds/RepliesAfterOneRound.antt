@@ -48,6 +48,7 @@ use Rattle.ipx_internet.proofs.deliveries.WaitsAfterDelivery.{keeps_histories, a
 use Rattle.ipx_internet.proofs.lists.EachElement.{all_of, all_then, all-append, all-filter}
 use Rattle.ipx_internet.proofs.lists.FoundInAList.{nothing, it_is}
 use Rattle.ipx_internet.proofs.packets.AdvertisedIsHeld.{told_all, told_services_all}
+use Rattle.ipx_internet.proofs.packets.NearestIsOneOfThem.{either, nearest_all}
 use Rattle.ipx_internet.proofs.packets.PagesReadAgain.{IsRipPage, IsSapPage, Tellable, rip_pages, sap_pages}
 use Rattle.ipx_internet.proofs.packets.ResponsesAskNothing.{IsAnswering}
 use Rattle.ipx_internet.proofs.packets.SentOnOrReply.{Layouts, IsCast, IsOnward, not_onward, rip_reply, sap_reply, unsaid, said, answered}
@@ -57,7 +58,6 @@ use Rattle.ipx_internet.proofs.rounds.ChangesAreOneHopMore.{Live, news_farther, 
 use Rattle.ipx_internet.proofs.rounds.OneHopMoreARound.{Ebbs, at_all, ebbs_still}
 use Rattle.ipx_internet.proofs.rounds.OneRound.{sents, sent_for, each_delivery, Steps, Holds, rounded}
 use Rattle.ipx_internet.proofs.rounds.RepliesTellChanges.{IsTold, told_moves, news_told, tells_says}
-use Rattle.ipx_internet.proofs.ticks.SaysFineOrSoonEnded.{nearest_all, either}
 use Rattle.ipx_internet.proofs.trees.RunIsALog.{histories_more}
 
 -- ---- a broadcast

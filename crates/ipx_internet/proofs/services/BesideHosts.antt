@@ -7,14 +7,16 @@ use Rattle.ipx_router.specs.History.{History}
 use Rattle.ipx_router.specs.Numbers.{unreachable, period}
 use Rattle.ipx_router.specs.Port.{is_up}
 use Rattle.ipx_router.specs.declared.service_offer.ServiceOffer.{ServiceOffer}
+use Rattle.ipx_internet.specs.BusyTick.{IsBusyTick}
+use Rattle.ipx_internet.specs.Gone.{most_ticks_gone}
 use Rattle.ipx_internet.specs.Internet.{Internet, Place, IsInternet, NodesDiffer, ports_of, network_of}
 use Rattle.ipx_internet.specs.Least.{most_ticks_right}
-use Rattle.ipx_internet.specs.Meanwhile.{LeavesPorts, SaysOnly, IsBusyTick, EachTick}
+use Rattle.ipx_internet.specs.Meanwhile.{LeavesPorts, SaysOnly, EachTick}
 use Rattle.ipx_internet.specs.Queue.{history_of}
 use Rattle.ipx_internet.specs.Regular.{HasRoomFor, IsListedName, AreInTime}
 use Rattle.ipx_internet.specs.Run.{Step, Run}
 use Rattle.ipx_internet.specs.Servers.{Announcer, Server, at_hops, known_of, SaysNoFalse, NamesOnly, IsAway, beside, IsFewest}
-use Rattle.ipx_internet.specs.Ticks.{ticked, most_ticks_gone}
+use Rattle.ipx_internet.specs.Ticks.{ticked}
 use Rattle.ipx_internet.proofs.packets.SentOnOrReply.{Layouts}
 use Rattle.ipx_internet.proofs.services.ExactWords.{NearerRight}
 use Rattle.ipx_internet.proofs.services.FewestHops.{no_nearer}

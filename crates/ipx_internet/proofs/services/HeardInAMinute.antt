@@ -22,13 +22,15 @@ use Rattle.ipx_router.proofs.bounds.PacketsOfEachEvent.{service_total}
 use Rattle.ipx_router.proofs.tables.HeldWasOffered.{heard_up}
 use Rattle.ipx_router.proofs.tables.OffersOfAMessage.{facts_from-more}
 use Rattle.ipx_internet.specs.Internet.{Internet, Place, IsInternet, NodesDiffer, ports_of}
-use Rattle.ipx_internet.specs.Meanwhile.{LeavesPorts, SaysOnly, IsBusyTick, EachTick}
+use Rattle.ipx_internet.specs.Meanwhile.{LeavesPorts, SaysOnly, EachTick}
 use Rattle.ipx_internet.specs.Queue.{history_of, with_event}
 use Rattle.ipx_internet.specs.Regular.{HasRoomFor, Announces}
 use Rattle.ipx_internet.specs.Log.{Reception}
 use Rattle.ipx_internet.specs.Run.{Step, Happens, Settles, IsStep, Run, Waiting, forgotten, stepped, run_of}
 use Rattle.ipx_internet.specs.Servers.{Announcer, Server, at_hops, known_of, SaysNoFalse, NamesOnly, IsFewest}
-use Rattle.ipx_internet.specs.Ticks.{seconds_of, ticked, most_ticks_gone}
+use Rattle.ipx_internet.specs.Ticks.{seconds_of, ticked}
+use Rattle.ipx_internet.specs.BusyTick.{IsBusyTick}
+use Rattle.ipx_internet.specs.Gone.{most_ticks_gone}
 use Rattle.ipx_internet.proofs.lists.EachElement.{all-append}
 use Rattle.ipx_internet.proofs.lists.FoundInAList.{nothing, it_is}
 use Rattle.ipx_internet.proofs.lists.SomeElement.{AnyIs, any_in_front, any_behind}

@@ -28,17 +28,20 @@ use Rattle.ipx_router.proofs.tables.HeldFitsFields.{held_routes_fit, held_servic
 use Rattle.ipx_router.proofs.tables.HeldWasOffered.{source_of, heard_up}
 use Rattle.ipx_router.proofs.telling.ToldFitsFields.{told_fits, told_services_fit}
 use Rattle.ipx_router.proofs.verdicts.HeardIsAsLayoutsAllow.{heard_is}
+use Rattle.ipx_internet.specs.BusyTick.{IsBusyTick}
 use Rattle.ipx_internet.specs.Internet.{Internet, IsInternet, ports_of}
-use Rattle.ipx_internet.specs.Meanwhile.{AsksElsewhere, LeavesPorts, SaysOnly, IsBusyTick, EachTick}
+use Rattle.ipx_internet.specs.Meanwhile.{AsksElsewhere, LeavesPorts, SaysOnly, EachTick}
 use Rattle.ipx_internet.specs.Queue.{Delivery, Queued, deliveries_of, history_of, with_event, sends_at, queued, settled_one}
 use Rattle.ipx_internet.specs.Rounds.{IsDelivery}
 use Rattle.ipx_internet.specs.Run.{Step, Happens, Settles, IsStep, AreHistories, Run, Waiting, forgotten, stepped, run_of}
 use Rattle.ipx_internet.specs.Servers.{Server, SaysNoFalse, NamesOnly}
-use Rattle.ipx_internet.specs.Ticks.{seconds_of, ticked, ups}
+use Rattle.ipx_internet.specs.Ticks.{seconds_of, ticked}
+use Rattle.ipx_internet.specs.Ups.{ups}
 use Rattle.ipx_internet.proofs.deliveries.QueueOfARun.{events, deliveries}
 use Rattle.ipx_internet.proofs.deliveries.WaitsAfterDelivery.{there}
 use Rattle.ipx_internet.proofs.lists.EachElement.{all_of, all_then, all-append, all-filter}
 use Rattle.ipx_internet.proofs.packets.BroadcastEachSecond.{all_cast}
+use Rattle.ipx_internet.proofs.packets.NearestIsOneOfThem.{either, nearest_all}
 use Rattle.ipx_internet.proofs.packets.PagesReadAgain.{IsRipPage, IsSapPage, Tellable, rip_pages, sap_pages}
 use Rattle.ipx_internet.proofs.packets.SentOnOrReply.{Layouts, IsCast, IsOnward, unsaid, said_so, all_news}
 use Rattle.ipx_internet.proofs.packets.SentOnSaysTheSame.{heard_message}
@@ -48,7 +51,6 @@ use Rattle.ipx_internet.proofs.rounds.OneRound.{each_delivery}
 use Rattle.ipx_internet.proofs.services.ServedOrSoonEnded.{Endures, at_begin, event_endures, services_said, changes_said, services_of, AreExact}
 use Rattle.ipx_internet.proofs.services.SpokenOfAServer.{at, Told, Waits, ServiceSaid, IsOwnServices, IsSpoken, host_waits, routes_silent, cast_spoken, spoken_waits}
 use Rattle.ipx_internet.proofs.ticks.BusyTickAfterTick.{each_so, own_seconds, passed_more}
-use Rattle.ipx_internet.proofs.ticks.SaysFineOrSoonEnded.{either, nearest_all}
 use Rattle.ipx_internet.proofs.ticks.TickAfterTick.{second_there}
 use Rattle.ipx_internet.proofs.trees.RunIsALog.{histories_more}
 

@@ -9,13 +9,15 @@ use Rattle.ipx_router.specs.Facts.{services_held, offers}
 use Rattle.ipx_router.specs.Numbers.{unreachable, period}
 use Rattle.ipx_router.specs.Port.{is_up}
 use Rattle.ipx_router.specs.declared.service_offer.ServiceOffer.{ServiceOffer}
+use Rattle.ipx_internet.specs.BusyTick.{IsBusyTick}
+use Rattle.ipx_internet.specs.Gone.{most_ticks_gone}
 use Rattle.ipx_internet.specs.Internet.{Internet, Place, IsInternet, NodesDiffer, ports_of, port_of, network_of}
-use Rattle.ipx_internet.specs.Meanwhile.{LeavesPorts, SaysOnly, IsBusyTick, EachTick}
+use Rattle.ipx_internet.specs.Meanwhile.{LeavesPorts, SaysOnly, EachTick}
 use Rattle.ipx_internet.specs.Queue.{history_of}
 use Rattle.ipx_internet.specs.Regular.{HasRoomFor, IsListedName, AreInTime, most_ticks_known, NoneNearer}
 use Rattle.ipx_internet.specs.Run.{Step, Run}
 use Rattle.ipx_internet.specs.Servers.{Server, at_hops, known_of, SaysNoFalse, NamesOnly, IsAway, beside, beyond, IsFewest}
-use Rattle.ipx_internet.specs.Ticks.{ticked, most_ticks_gone}
+use Rattle.ipx_internet.specs.Ticks.{ticked}
 use Rattle.ipx_internet.proofs.lists.EachElement.{holds_of}
 use Rattle.ipx_internet.proofs.packets.SentOnOrReply.{Layouts}
 use Rattle.ipx_internet.proofs.services.BesideHosts.{parted}

@@ -5,13 +5,15 @@ use Rattle.ipx_router.specs.Facts.{services_held, offers}
 use Rattle.ipx_router.specs.Numbers.{unreachable, period}
 use Rattle.ipx_router.specs.Port.{Port, is_up}
 use Rattle.ipx_router.specs.declared.service_offer.ServiceOffer.{ServiceOffer}
+use Rattle.ipx_internet.specs.BusyTick.{IsBusyTick}
+use Rattle.ipx_internet.specs.Gone.{most_ticks_gone}
 use Rattle.ipx_internet.specs.Internet.{Internet, Place, IsInternet, NodesDiffer, ports_of, port_of, network_of}
-use Rattle.ipx_internet.specs.Meanwhile.{LeavesPorts, SaysOnly, IsBusyTick, EachTick}
+use Rattle.ipx_internet.specs.Meanwhile.{LeavesPorts, SaysOnly, EachTick}
 use Rattle.ipx_internet.specs.Queue.{history_of}
 use Rattle.ipx_internet.specs.Rounds.{IsDelivery}
 use Rattle.ipx_internet.specs.Run.{Step, Run, Waiting}
 use Rattle.ipx_internet.specs.Servers.{Server, at_hops, known_of, SaysNoFalse, NamesOnly, IsFewest}
-use Rattle.ipx_internet.specs.Ticks.{most_ticks_gone, ups}
+use Rattle.ipx_internet.specs.Ups.{ups}
 use Rattle.ipx_internet.proofs.lists.SomeElement.{AnyIs}
 use Rattle.ipx_internet.proofs.packets.SentOnOrReply.{Layouts}
 use Rattle.ipx_internet.proofs.services.FewestHops.{Link, held_elsewhere}

@@ -19,11 +19,11 @@ use Rattle.ipx_router.specs.Services.{service_reading, service_order}
 use Rattle.ipx_router.specs.declared.service_offer.ServiceOffer.{ServiceOffer}
 use Rattle.ipx_router.proofs.bounds.PacketsOfEachEvent.{service_total}
 use Rattle.ipx_internet.specs.Announces.{service_of}
+use Rattle.ipx_internet.specs.Gone.{most_ticks_gone}
 use Rattle.ipx_internet.specs.Internet.{Internet, Place, NodesDiffer, IsPlace, ports_of, port_of, network_of}
 use Rattle.ipx_internet.specs.Least.{Way}
 use Rattle.ipx_internet.specs.Regular.{HasRoomFor, IsListedName}
 use Rattle.ipx_internet.specs.Servers.{Announcer, Server, IsOf, at_hops, IsAnnouncedOn, IsServed, IsFewest}
-use Rattle.ipx_internet.specs.Ticks.{most_ticks_gone}
 use Rattle.ipx_internet.proofs.lists.EachElement.{all_then, all_mapped, all_at, holds_of}
 use Rattle.ipx_internet.proofs.lists.SomeElement.{found_with}
 use Rattle.ipx_internet.proofs.records.BestIsKept.{AreBest, IsSteady, HasPlace, records, known}

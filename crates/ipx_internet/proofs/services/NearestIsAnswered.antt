@@ -19,13 +19,14 @@ use Rattle.ipx_router.specs.Told.{farther, is_service_told, told_services}
 use Rattle.ipx_router.specs.declared.service_offer.ServiceOffer.{ServiceOffer}
 use Rattle.ipx_router.proofs.port_values.PortOfEachNumber.{ports_up-within}
 use Rattle.ipx_router.proofs.tables.HeldWasOffered.{heard_up}
+use Rattle.ipx_internet.specs.BusyTick.{IsBusyTick}
+use Rattle.ipx_internet.specs.Gone.{most_ticks_gone}
 use Rattle.ipx_internet.specs.Internet.{Internet, IsInternet, ports_of, network_of}
-use Rattle.ipx_internet.specs.Meanwhile.{LeavesPorts, SaysOnly, IsBusyTick}
+use Rattle.ipx_internet.specs.Meanwhile.{LeavesPorts, SaysOnly}
 use Rattle.ipx_internet.specs.Nearest.{LeadsElsewhere, IsAnswered}
 use Rattle.ipx_internet.specs.Queue.{history_of, sends_at}
 use Rattle.ipx_internet.specs.Run.{Step, Run, run_of}
 use Rattle.ipx_internet.specs.Servers.{Server, at_hops, known_of, SaysNoFalse, NamesOnly, IsServed, announced, passed_on}
-use Rattle.ipx_internet.specs.Ticks.{most_ticks_gone}
 use Rattle.ipx_internet.proofs.lists.EachElement.{all_then, all_passed, holds_of}
 use Rattle.ipx_internet.proofs.lists.SomeElement.{AnyIs, any_then, any_and_all, any-filter, the_one}
 use Rattle.ipx_internet.proofs.packets.SentOnOrReply.{Layouts, said_so}

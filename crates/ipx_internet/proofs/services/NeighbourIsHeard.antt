@@ -18,12 +18,14 @@ use Rattle.ipx_router.specs.declared.service_offer.ServiceOffer.{ServiceOffer}
 use Rattle.ipx_router.proofs.histories.OneEventMore.{present_run-more, seconds_stay, ports_stay, none_up}
 use Rattle.ipx_router.proofs.port_values.PortOfEachNumber.{ports_up-within, one_up}
 use Rattle.ipx_internet.specs.Internet.{Internet, Place, IsInternet, IsPlace, NodesDiffer, ports_of, port_of, network_of}
-use Rattle.ipx_internet.specs.Meanwhile.{LeavesPorts, IsBusyTick, EachTick}
+use Rattle.ipx_internet.specs.Meanwhile.{LeavesPorts, EachTick}
 use Rattle.ipx_internet.specs.Queue.{Delivery, Queued, deliveries_of, history_of, with_event, sends_at, queued}
 use Rattle.ipx_internet.specs.Log.{Reception}
 use Rattle.ipx_internet.specs.Run.{Step, Happens, Settles, IsStep, AreHistories, Run, Waiting, forgotten, stepped, run_of}
 use Rattle.ipx_internet.specs.Servers.{Announcer, Server, at_hops}
-use Rattle.ipx_internet.specs.Ticks.{seconds_of, ups}
+use Rattle.ipx_internet.specs.Ticks.{seconds_of}
+use Rattle.ipx_internet.specs.BusyTick.{IsBusyTick}
+use Rattle.ipx_internet.specs.Ups.{ups}
 use Rattle.ipx_internet.proofs.deliveries.QueueOfARun.{events, deliveries}
 use Rattle.ipx_internet.proofs.lists.SomeElement.{AnyIs, any_then, any_in_front, any_behind, number_any}
 use Rattle.ipx_internet.proofs.packets.PagesAreHeard.{heard_services}

@@ -14,13 +14,16 @@ use Rattle.ipx_router.specs.Told.{farther}
 use Rattle.ipx_router.specs.declared.service_offer.ServiceOffer.{ServiceOffer}
 use Rattle.ipx_router.proofs.bounds.PacketsOfEachEvent.{service_total}
 use Rattle.ipx_router.proofs.lists.EachElement.{all_both}
+use Rattle.ipx_internet.specs.BusyTick.{IsBusyTick}
+use Rattle.ipx_internet.specs.Gone.{most_ticks_gone}
 use Rattle.ipx_internet.specs.Internet.{Internet, IsInternet, ports_of}
-use Rattle.ipx_internet.specs.Meanwhile.{message_of, LeavesPorts, SaysOnly, IsBusyTick, EachTick}
+use Rattle.ipx_internet.specs.Meanwhile.{message_of, LeavesPorts, SaysOnly, EachTick}
 use Rattle.ipx_internet.specs.Queue.{history_of}
 use Rattle.ipx_internet.specs.Rounds.{IsDelivery}
 use Rattle.ipx_internet.specs.Run.{Step, Happens, Settles, AreHistories, Run, run_of}
 use Rattle.ipx_internet.specs.Servers.{Server, IsOf, at_hops, SaysNoFalse, NamesOnly, IsServed, IsAway, announced, passed_on, beside, beyond}
-use Rattle.ipx_internet.specs.Ticks.{ticked, most_ticks_gone, ups}
+use Rattle.ipx_internet.specs.Ticks.{ticked}
+use Rattle.ipx_internet.specs.Ups.{ups}
 use Rattle.ipx_internet.proofs.lists.EachElement.{all_of, all_then}
 use Rattle.ipx_internet.proofs.packets.SentOnOrReply.{Layouts}
 use Rattle.ipx_internet.proofs.records.RecordsGrowOld.{at_last, old_held, IsOldHeld}

@@ -7,12 +7,13 @@ use Rattle.ipx_router.specs.Facts.{service_facts, services_held, offers}
 use Rattle.ipx_router.specs.Services.{service_reading, service_order}
 use Rattle.ipx_router.specs.declared.service_offer.ServiceOffer.{ServiceOffer}
 use Rattle.ipx_router.proofs.bounds.PacketsOfEachEvent.{service_total}
+use Rattle.ipx_internet.specs.BusyTick.{IsBusyTick}
+use Rattle.ipx_internet.specs.Gone.{most_ticks_gone}
 use Rattle.ipx_internet.specs.Internet.{Internet, IsInternet, ports_of}
-use Rattle.ipx_internet.specs.Meanwhile.{LeavesPorts, SaysOnly, IsBusyTick, EachTick}
+use Rattle.ipx_internet.specs.Meanwhile.{LeavesPorts, SaysOnly, EachTick}
 use Rattle.ipx_internet.specs.Queue.{history_of}
 use Rattle.ipx_internet.specs.Run.{Step, IsStep, AreHistories, Run, forgotten, stepped, run_of}
 use Rattle.ipx_internet.specs.Servers.{Server, IsOf, at_hops, known_of, SaysNoFalse, NamesOnly, IsServed}
-use Rattle.ipx_internet.specs.Ticks.{most_ticks_gone}
 use Rattle.ipx_internet.proofs.lists.FoundInAList.{nothing, it_is}
 use Rattle.ipx_internet.proofs.lists.SomeElement.{AnyIs, any_then, found_with, find_any}
 use Rattle.ipx_internet.proofs.packets.SentOnOrReply.{Layouts}

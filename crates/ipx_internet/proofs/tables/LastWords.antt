@@ -18,11 +18,11 @@ use Rattle.ipx_router.specs.Heard.{Heard, HeardRip, HeardSap}
 use Rattle.ipx_router.specs.History.{History, seconds_run}
 use Rattle.ipx_router.specs.Port.{is_up, own_address}
 use Rattle.ipx_router.specs.declared.route_offer.RouteOffer.{RouteOffer}
+use Rattle.ipx_internet.specs.Gone.{most_ticks_gone}
 use Rattle.ipx_internet.specs.Internet.{Place, ports_of, port_of, network_of}
 use Rattle.ipx_internet.specs.Least.{Way, is_on, way_of, most_ticks_right}
 use Rattle.ipx_internet.specs.Meanwhile.{message_of}
 use Rattle.ipx_internet.specs.Queue.{Delivery, Queued, history_of}
-use Rattle.ipx_internet.specs.Ticks.{most_ticks_gone}
 use Rattle.ipx_internet.proofs.lists.EachElement.{all_then, all-append}
 use Rattle.ipx_internet.proofs.lists.FoundInAList.{nothing, it_is}
 use Rattle.ipx_internet.proofs.lists.SomeElement.{AnyIs}

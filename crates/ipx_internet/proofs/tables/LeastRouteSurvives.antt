@@ -14,10 +14,10 @@ use Rattle.ipx_router.specs.Port.{Port, takes_no_route}
 use Rattle.ipx_router.specs.Routes.{route_rules, route_reading, network_order}
 use Rattle.ipx_router.specs.declared.route_offer.RouteOffer.{RouteOffer}
 use Rattle.ipx_router.proofs.bounds.PacketsOfEachEvent.{network_total}
+use Rattle.ipx_internet.specs.Gone.{most_ticks_gone}
 use Rattle.ipx_internet.specs.Internet.{Place, ports_of, port_of}
 use Rattle.ipx_internet.specs.Least.{Way, is_on}
 use Rattle.ipx_internet.specs.Real.{IsReal}
-use Rattle.ipx_internet.specs.Ticks.{most_ticks_gone}
 use Rattle.ipx_internet.proofs.lists.EachElement.{all_of}
 use Rattle.ipx_internet.proofs.lists.SomeElement.{AnyIs, found_with}
 use Rattle.ipx_internet.proofs.records.BestIsKept.{AreBest, HasPlace, State, Comes, records as records_of, known as known_of, offers_keep, offers_come, offers_any}

@@ -10,7 +10,7 @@ use Rattle.ipx_router.proofs.port_values.PortOfEachNumber.{members, one_up, port
 use Rattle.ipx_internet.specs.Internet.{Internet, Place, IsPlace, ports_of, port_of, network_of, places}
 use Rattle.ipx_internet.specs.Least.{Way, is_better, better_of, best, is_on, is_up_on, own_way, neighbours, by_port, way_by, nearest, ways_within}
 use Rattle.ipx_internet.specs.Queue.{history_of}
-use Rattle.ipx_internet.specs.Ticks.{ups}
+use Rattle.ipx_internet.specs.Ups.{ups}
 use Rattle.ipx_internet.proofs.lists.EachElement.{all_passed}
 use Rattle.ipx_internet.proofs.lists.FoundInAList.{nothing, it_is}
 use Rattle.ipx_internet.proofs.lists.HowManyPass.{length-numbers}

@@ -25,11 +25,11 @@ use Rattle.ipx_router.proofs.bytes.SentIsBytes.{relayed_bytes}
 use Rattle.ipx_internet.specs.Arriving.{IsOfHost, IsAllowed, IsShort, Arrives, EndsOn}
 use Rattle.ipx_internet.specs.Delivery.{receives, delivered}
 use Rattle.ipx_internet.specs.Different.{AreDifferent}
+use Rattle.ipx_internet.specs.Gone.{most_ticks_gone}
 use Rattle.ipx_internet.specs.Internet.{Internet, Place, IsInternet, NodesDiffer, IsPlace, ports_of, port_of, network_of, places}
 use Rattle.ipx_internet.specs.Least.{Way, is_on, is_up_on, by_port, way_by, ways_within, least as least_of, neighbours, AreCheap, HasRoom, FifteenSuffice, most_ticks_right}
 use Rattle.ipx_internet.specs.Queue.{history_of}
 use Rattle.ipx_internet.specs.Run.{Run}
-use Rattle.ipx_internet.specs.Ticks.{most_ticks_gone}
 use Rattle.ipx_internet.specs.Traced.{routers_after}
 use Rattle.ipx_internet.specs.Tree.{Router, Copy, router_now, net_of, router_at, sent_on, forwards, receivers, children, levels, joined, tree_to}
 use Rattle.ipx_internet.proofs.lists.EachElement.{all_then, holds_of}

@@ -11,12 +11,13 @@ use Rattle.ipx_router.specs.History.{History, seconds_run}
 use Rattle.ipx_router.specs.Port.{is_up}
 use Rattle.ipx_router.specs.Routes.{network_order}
 use Rattle.ipx_router.specs.declared.route_offer.RouteOffer.{RouteOffer}
+use Rattle.ipx_internet.specs.Gone.{most_ticks_gone}
 use Rattle.ipx_internet.specs.Internet.{Place, ports_of}
 use Rattle.ipx_internet.specs.Least.{Way, way_of, most_ticks_right}
 use Rattle.ipx_internet.specs.Queue.{Delivery, Queued, history_of}
 use Rattle.ipx_internet.specs.Rounds.{IsDelivery}
 use Rattle.ipx_internet.specs.Run.{Step, Run, Waiting, forgotten, run_of}
-use Rattle.ipx_internet.specs.Ticks.{ticked, most_ticks_gone}
+use Rattle.ipx_internet.specs.Ticks.{ticked}
 use Rattle.ipx_internet.proofs.packets.RoutesOrSilence.{Silent}
 use Rattle.ipx_internet.proofs.tables.DeliveryKeepsRight.{delivery_rights}
 use Rattle.ipx_internet.proofs.tables.Given.{Given}

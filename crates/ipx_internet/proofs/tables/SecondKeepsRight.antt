@@ -26,12 +26,12 @@ use Rattle.ipx_router.proofs.tables.OffersOfAMessage.{facts_from-more}
 use Rattle.ipx_router.proofs.port_values.PortOfEachNumber.{port-all, ports_up-within}
 use Rattle.ipx_router.proofs.sending.OwnPacketsAreValid.{Writable}
 use Rattle.ipx_router.proofs.telling.ToldFitsFields.{told_fits}
+use Rattle.ipx_internet.specs.Gone.{most_ticks_gone}
 use Rattle.ipx_internet.specs.Internet.{Place, ports_of}
 use Rattle.ipx_internet.specs.Least.{Way, most_ticks_right}
 use Rattle.ipx_internet.specs.Queue.{Delivery, Queued, deliveries_of, history_of, with_event, sends_at, queued}
 use Rattle.ipx_internet.specs.Real.{IsReal}
 use Rattle.ipx_internet.specs.Rounds.{IsDelivery}
-use Rattle.ipx_internet.specs.Ticks.{most_ticks_gone}
 use Rattle.ipx_internet.proofs.lists.EachElement.{all_of, all_then, all-append}
 use Rattle.ipx_internet.proofs.lists.SomeElement.{number_any, AnyIs}
 use Rattle.ipx_internet.proofs.places.OneReceiverOfANode.{ports_at}

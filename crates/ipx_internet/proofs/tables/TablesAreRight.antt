@@ -11,13 +11,14 @@ use Rattle.ipx_router.specs.Outgoing.{route_to}
 use Rattle.ipx_router.specs.Routes.{route_reading, network_order}
 use Rattle.ipx_router.specs.declared.route_offer.RouteOffer.{RouteOffer}
 use Rattle.ipx_router.proofs.bounds.PacketsOfEachEvent.{network_total}
+use Rattle.ipx_internet.specs.Gone.{most_ticks_gone}
 use Rattle.ipx_internet.specs.Internet.{Internet, Place, ports_of, port_of}
 use Rattle.ipx_internet.specs.Least.{Way, is_on, least_route, way_of, ticks_right, most_ticks_right}
 use Rattle.ipx_internet.specs.Meanwhile.{EachTick}
 use Rattle.ipx_internet.specs.Queue.{history_of}
 use Rattle.ipx_internet.specs.Real.{IsReal}
 use Rattle.ipx_internet.specs.Run.{Step, Run, run_of}
-use Rattle.ipx_internet.specs.Ticks.{ticked, most_ticks_gone}
+use Rattle.ipx_internet.specs.Ticks.{ticked}
 use Rattle.ipx_internet.proofs.lists.EachElement.{all_then}
 use Rattle.ipx_internet.proofs.lists.FoundInAList.{nothing}
 use Rattle.ipx_internet.proofs.places.OneReceiverOfANode.{same_number}

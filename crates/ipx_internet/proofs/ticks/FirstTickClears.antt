@@ -3,12 +3,15 @@ use Rattle.std.proofs.Common.{◌≡◌, sym, ◌∙◌, subst, refl, ℕ, ◌+�
 use Rattle.std.specs.List.{AllByRecursion}
 use Rattle.ipx_router.specs.History.{Event, History, Start, Stop, Second, Packet, PortDown, PortUp, is_start, is_stop, takes_down, brings_up, ports_up}
 use Rattle.ipx_router.proofs.histories.OneEventMore.{ports_stay}
+use Rattle.ipx_internet.specs.BusyTick.{IsBusyTick}
+use Rattle.ipx_internet.specs.Gone.{most_ticks_gone}
 use Rattle.ipx_internet.specs.Internet.{Internet, IsInternet, ports_of}
-use Rattle.ipx_internet.specs.Meanwhile.{LeavesPorts, IsBusyTick}
+use Rattle.ipx_internet.specs.Meanwhile.{LeavesPorts}
 use Rattle.ipx_internet.specs.Queue.{Delivery, Queued, history_of, with_event, settled_one}
 use Rattle.ipx_internet.specs.Rounds.{IsDelivery}
 use Rattle.ipx_internet.specs.Run.{Step, Happens, Settles, IsStep, AreHistories, Run, forgotten, stepped, run_of}
-use Rattle.ipx_internet.specs.Ticks.{AreTicks, ticked, most_ticks_gone, ups}
+use Rattle.ipx_internet.specs.Ticks.{AreTicks, ticked}
+use Rattle.ipx_internet.specs.Ups.{ups}
 use Rattle.ipx_internet.proofs.deliveries.QueueOfARun.{deliveries}
 use Rattle.ipx_internet.proofs.packets.SentOnOrReply.{Layouts}
 use Rattle.ipx_internet.proofs.ticks.BusyTickAfterTick.{each_so}

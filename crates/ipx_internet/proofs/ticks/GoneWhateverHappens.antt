@@ -19,11 +19,14 @@ use Rattle.ipx_router.specs.Routes.{route_reading, network_order}
 use Rattle.ipx_router.specs.Services.{service_reading, service_order}
 use Rattle.ipx_router.specs.declared.service_offer.ServiceOffer.{ServiceOffer}
 use Rattle.ipx_router.proofs.bounds.PacketsOfEachEvent.{network_total, service_total}
+use Rattle.ipx_internet.specs.BusyTick.{IsBusyTick}
+use Rattle.ipx_internet.specs.Gone.{most_ticks_gone, IsGone}
 use Rattle.ipx_internet.specs.Internet.{Internet, IsInternet, ports_of}
-use Rattle.ipx_internet.specs.Meanwhile.{AreWithout, IsWithoutRoute, AsksElsewhere, IsWithoutService, SaysOnly, IsBusyTick, StaysGone, EachTick}
+use Rattle.ipx_internet.specs.Meanwhile.{AreWithout, IsWithoutRoute, AsksElsewhere, IsWithoutService, SaysOnly, StaysGone, EachTick}
 use Rattle.ipx_internet.specs.Queue.{history_of}
 use Rattle.ipx_internet.specs.Run.{Step, AreHistories, Run, stepped, run_of}
-use Rattle.ipx_internet.specs.Ticks.{ticked, most_ticks_gone, ups, networks_up, IsGone}
+use Rattle.ipx_internet.specs.Ticks.{ticked}
+use Rattle.ipx_internet.specs.Ups.{ups, networks_up}
 use Rattle.ipx_internet.proofs.lists.EachElement.{all_of, all_then}
 use Rattle.ipx_internet.proofs.packets.SentOnOrReply.{Layouts}
 use Rattle.ipx_internet.proofs.records.RecordsGrowOld.{at_last}

@@ -12,9 +12,11 @@ use Rattle.ipx_router.proofs.bounds.PacketsOfEachEvent.{service_total}
 use Rattle.ipx_internet.specs.Internet.{Internet, IsInternet, ports_of}
 use Rattle.ipx_internet.specs.Queue.{history_of}
 use Rattle.ipx_internet.specs.Run.{Step, Run, AreHistories, begun, forgotten, stepped, run_of}
-use Rattle.ipx_internet.specs.Meanwhile.{IsBusyTick, EachTick}
-use Rattle.ipx_internet.specs.Ticks.{AreTicks, ticked, most_ticks_gone}
+use Rattle.ipx_internet.specs.Meanwhile.{EachTick}
+use Rattle.ipx_internet.specs.Ticks.{AreTicks, ticked}
 use Rattle.ipx_internet.specs.Upkeep.{ServicesStay, steps_of}
+use Rattle.ipx_internet.specs.BusyTick.{IsBusyTick}
+use Rattle.ipx_internet.specs.Gone.{most_ticks_gone}
 use Rattle.ipx_internet.proofs.lists.EachElement.{all_of}
 use Rattle.ipx_internet.proofs.packets.SentOnOrReply.{Layouts}
 use Rattle.ipx_internet.proofs.records.RecordsGrowOld.{at_last, where_none}

@@ -9,11 +9,12 @@ use Rattle.ipx_router.specs.Facts.{routes_held, offers}
 use Rattle.ipx_router.specs.History.{History}
 use Rattle.ipx_router.specs.Routes.{route_rules, route_reading, network_order}
 use Rattle.ipx_router.proofs.bounds.PacketsOfEachEvent.{network_total}
+use Rattle.ipx_internet.specs.Gone.{most_ticks_gone}
 use Rattle.ipx_internet.specs.Internet.{Internet, IsInternet, ports_of}
 use Rattle.ipx_internet.specs.Queue.{history_of}
 use Rattle.ipx_internet.specs.Real.{IsReal}
 use Rattle.ipx_internet.specs.Run.{AreHistories, begun}
-use Rattle.ipx_internet.specs.Ticks.{most_ticks_gone, ups}
+use Rattle.ipx_internet.specs.Ups.{ups}
 use Rattle.ipx_internet.proofs.lists.EachElement.{all_then}
 use Rattle.ipx_internet.proofs.packets.SentOnOrReply.{Layouts}
 use Rattle.ipx_internet.proofs.ticks.RealOrSoonEnded.{Endures}

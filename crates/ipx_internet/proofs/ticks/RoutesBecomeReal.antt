@@ -11,11 +11,12 @@ use Rattle.ipx_router.specs.Routes.{route_reading, network_order}
 use Rattle.ipx_router.specs.declared.route_offer.RouteOffer.{RouteOffer}
 use Rattle.ipx_router.proofs.bounds.PacketsOfEachEvent.{network_total}
 use Rattle.ipx_router.proofs.tables.HeldCameByPortsUp.{held_routes_up}
+use Rattle.ipx_internet.specs.Gone.{most_ticks_gone, IsGone}
 use Rattle.ipx_internet.specs.Internet.{Internet, Place, IsInternet, ports_of}
 use Rattle.ipx_internet.specs.Queue.{history_of}
 use Rattle.ipx_internet.specs.Real.{IsReal, next, farther, led_over}
 use Rattle.ipx_internet.specs.Run.{Run}
-use Rattle.ipx_internet.specs.Ticks.{most_ticks_gone, ups, networks_up, IsGone}
+use Rattle.ipx_internet.specs.Ups.{ups, networks_up}
 use Rattle.ipx_internet.proofs.lists.EachElement.{all_then}
 use Rattle.ipx_internet.proofs.packets.SentOnOrReply.{Layouts}
 use Rattle.ipx_internet.proofs.records.RecordsGrowOld.{at_last}

@@ -18,7 +18,7 @@ use Rattle.ipx_router.specs.News.{news, news_services}
 use Rattle.ipx_router.specs.Port.{Port, IsPort, port_at, is_up, reply_to}
 use Rattle.ipx_router.specs.Relays.{Sent}
 use Rattle.ipx_router.specs.Routes.{route_reading, network_order}
-use Rattle.ipx_router.specs.Sends.{Holding, holding, sends, is_periodic, rip_sends, rip_broadcast, sap_broadcast, routes_request, services_query, introduction, asked, of_kind, is_nearer, nearest_of, second_on, stop_on, news_on, port_down_on, port_up_on, heard_sends}
+use Rattle.ipx_router.specs.Sends.{Holding, holding, sends, is_periodic, rip_sends, rip_broadcast, sap_broadcast, routes_request, services_query, introduction, asked, of_kind, nearest_of, second_on, stop_on, news_on, port_down_on, port_up_on, heard_sends}
 use Rattle.ipx_router.specs.Services.{service_reading, service_order}
 use Rattle.ipx_router.specs.Told.{told, told_services, told_at, direct_entry, entry_of, by_network, by_name, network_before, name_before, dead, farther, dead_service}
 use Rattle.ipx_router.specs.declared.route_offer.RouteOffer.{RouteOffer}
@@ -36,17 +36,13 @@ use Rattle.ipx_router.proofs.tables.HeldWasOffered.{source_of}
 use Rattle.ipx_router.proofs.telling.ToldFitsFields.{told_at_fits, direct_fits, dead_fits, down_fits, told_fits, told_services_fit}
 use Rattle.ipx_internet.proofs.lists.EachElement.{all_then, all-append, all-map, all-filter, all-flat_map}
 use Rattle.ipx_internet.proofs.packets.AdvertisedIsHeld.{told_all, news_told, told_services_all, news_services_told}
+use Rattle.ipx_internet.proofs.packets.NearestIsOneOfThem.{either, nearest_all}
 use Rattle.ipx_internet.proofs.packets.PagesReadAgain.{Tellable}
 use Rattle.ipx_internet.proofs.packets.SentOnOrReply.{Layouts, IsOnward, unsaid, said}
 use Rattle.ipx_internet.proofs.packets.SentOnSaysTheSame.{heard_message, sent_on_message}
 use Rattle.ipx_internet.proofs.records.RecordsGrowOld.{IsOldHeld, passed, old_held}
 use Rattle.ipx_internet.proofs.ticks.FineOrSoonEnded.{IsFineService, farther_fine, RipSaid, Said, EventTells, FineRoute, FineService, Abides}
 use Rattle.ipx_internet.proofs.ticks.OwnPagesSayFine.{Entry, Named, Say, entries_tell, services_tell, rip_broadcast_tells, sap_broadcast_tells, broadcasts_tell, request_tells, query_tells}
-
--- one of two lists, and the nearest service of a list
-pub either : (P : Service → Type 0) (c : Bool) (xs ys : List Service) → AllByRecursion P xs → AllByRecursion P ys → AllByRecursion P (if c then xs else ys)
-either P true xs ys one two = one
-either P false xs ys one two = two
 
 -- a list where a test holds, or where it doesn't
 where_so : {X : Type 0} (P : X → Type 0) (c : Bool) (xs : List X) → (c ≡ true → AllByRecursion P xs) → AllByRecursion P (if c then xs else [])
@@ -56,20 +52,6 @@ where_so P false xs all = tt
 or_not : {X : Type 0} (P : X → Type 0) (c : Bool) (xs : List X) → AllByRecursion P xs → AllByRecursion P (if c then [] else xs)
 or_not P true xs all = tt
 or_not P false xs all = all
-
-pub nearest_all : (P : Service → Type 0) (services : List Service) → AllByRecursion P services → AllByRecursion P (nearest_of services)
-nearest_all P [] all = tt
-nearest_all P (service ∷ services) all = by (nearest_of services) (nearest_all P services all.1)
-  where
-    by : (found : List Service) → AllByRecursion P found → AllByRecursion P (elim found [
-      | [] ↦ service ∷ []
-      | ◌∷◌ best rest ↦ if is_nearer best service then best ∷ [] else service ∷ []
-    ])
-    by [] some = (all.0, tt)
-    by (best ∷ rest) some = elim (cases_Bool (is_nearer best service)) [
-      | inl e ↦ rw e (some.0, tt)
-      | inr e ↦ rw e (all.0, tt)
-    ]
 
 module _ (IsFine : Network → Type 0) (IsServed : Service → Type 0) (begun : ℕ) (ports : List Port) (most_routes most_services : ℕ) where
   abbrev E : RipEntry → Type 0

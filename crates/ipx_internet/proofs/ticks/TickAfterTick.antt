@@ -15,12 +15,14 @@ use Rattle.ipx_router.specs.Sends.{Holding, holding}
 use Rattle.ipx_router.specs.Told.{told}
 use Rattle.ipx_router.proofs.lists.EachElement.{all_both}
 use Rattle.ipx_router.proofs.tables.HeldWasOffered.{heard_up}
+use Rattle.ipx_internet.specs.BusyTick.{IsBusyTick}
 use Rattle.ipx_internet.specs.Internet.{Internet, Place, IsInternet, ports_of, port_of}
-use Rattle.ipx_internet.specs.Meanwhile.{TellsNoRoute, LeavesPorts, SaysOnly, IsBusyTick, EachTick}
+use Rattle.ipx_internet.specs.Meanwhile.{TellsNoRoute, LeavesPorts, SaysOnly, EachTick}
 use Rattle.ipx_internet.specs.Queue.{Delivery, Queued, deliveries_of, history_of, with_event, sends_at, queued, settled_one}
 use Rattle.ipx_internet.specs.Rounds.{IsDelivery}
 use Rattle.ipx_internet.specs.Run.{Step, Happens, Settles, IsStep, AreHistories, Run, Waiting, forgotten, stepped, run_of}
-use Rattle.ipx_internet.specs.Ticks.{seconds_of, IsOfTick, IsTick, ticked, AreTicks, ups}
+use Rattle.ipx_internet.specs.Ticks.{seconds_of, IsOfTick, IsTick, ticked, AreTicks}
+use Rattle.ipx_internet.specs.Ups.{ups}
 use Rattle.ipx_internet.proofs.deliveries.QueueOfARun.{events, deliveries}
 use Rattle.ipx_internet.proofs.deliveries.WaitsAfterDelivery.{there}
 use Rattle.ipx_internet.proofs.lists.EachElement.{all_of, all_then, all-append}

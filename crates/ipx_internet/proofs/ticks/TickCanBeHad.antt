@@ -6,8 +6,8 @@ use Rattle.std.proofs.lemmas.List.Elements.{filter-append}
 use Rattle.ipx_wire.specs.Piece.{IsBytes}
 use Rattle.ipx_router.specs.History.{Event, History, Start, Stop, Second, Packet, PortDown, PortUp, IsOnPort, IsOfBytes}
 use Rattle.ipx_router.specs.Port.{numbers}
+use Rattle.ipx_internet.specs.BusyTick.{IsBusyTick}
 use Rattle.ipx_internet.specs.Internet.{Internet, IsInternet, ports_of}
-use Rattle.ipx_internet.specs.Meanwhile.{IsBusyTick}
 use Rattle.ipx_internet.specs.Queue.{Delivery, Queued, deliveries_of, history_of, sends_at, queued, settled_one}
 use Rattle.ipx_internet.specs.Rounds.{IsDelivery, handed_out, most_rounds}
 use Rattle.ipx_internet.specs.Run.{Step, Happens, Settles, IsStep, AreHistories, Waiting, Run, forgotten, stepped, run_of}

@@ -28,8 +28,9 @@ use Rattle.ipx_internet.specs.Internet.{Internet, Place, IsInternet, ports_of, p
 use Rattle.ipx_internet.specs.Queue.{Delivery, Queued, deliveries_of, history_of, with_event, sends_at}
 use Rattle.ipx_internet.specs.Rounds.{IsDelivery}
 use Rattle.ipx_internet.specs.Run.{Step, Happens, Settles, AreHistories, Waiting, Run, happens}
-use Rattle.ipx_internet.specs.Ticks.{seconds_of, ups}
+use Rattle.ipx_internet.specs.Ticks.{seconds_of}
 use Rattle.ipx_internet.specs.Upkeep.{EndsThere, IsOfUpkeep, has, HaveTheSame, TablesStay, sent_by, all_pages}
+use Rattle.ipx_internet.specs.Ups.{ups}
 use Rattle.ipx_internet.proofs.deliveries.QueueOfARun.{events}
 use Rattle.ipx_internet.proofs.deliveries.WaitsAfterDelivery.{there}
 use Rattle.ipx_internet.proofs.lists.EachElement.{all_of, all_then, all-append, all_mapped, rising_differ}

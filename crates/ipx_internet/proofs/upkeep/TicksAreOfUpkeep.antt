@@ -2,8 +2,9 @@
 use Rattle.std.proofs.Common.{◌≡◌, refl, sym, ◌∙◌, ℕ, ◌<◌, List, [], ◌∷◌, length, arith, true≢false}
 use Rattle.std.specs.List.{AllByRecursion}
 use Rattle.ipx_router.specs.History.{Start, Stop, Second, Packet, PortDown, PortUp}
+use Rattle.ipx_internet.specs.BusyTick.{IsBusyTick}
 use Rattle.ipx_internet.specs.Internet.{Internet}
-use Rattle.ipx_internet.specs.Meanwhile.{IsBusyTick, EachTick}
+use Rattle.ipx_internet.specs.Meanwhile.{EachTick}
 use Rattle.ipx_internet.specs.Run.{Step, Happens, Settles, Run, run_of}
 use Rattle.ipx_internet.specs.Ticks.{seconds_of, IsOfTick, AreTicks}
 use Rattle.ipx_internet.specs.Upkeep.{IsOfUpkeep, steps_of}

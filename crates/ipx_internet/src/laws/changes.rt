@@ -10,7 +10,8 @@ ghost use Rattle.ipx_internet.specs.Least.{AreCheap, HasRoom, FifteenSuffice};
 ghost use Rattle.ipx_internet.specs.Losses.{AreLosses};
 ghost use Rattle.ipx_internet.specs.Run.{Step, AreHistories, begun, run_of};
 ghost use Rattle.ipx_internet.specs.Tables.{AreReal, AreRight};
-ghost use Rattle.ipx_internet.specs.Ticks.{AreTicks, ticked, ups};
+ghost use Rattle.ipx_internet.specs.Ticks.{AreTicks, ticked};
+ghost use Rattle.ipx_internet.specs.Ups.{ups};
 
 /// What is lost is forgotten at once, everywhere. Where all tables are right and every route is of a real way, routers stop, and ports go
 /// down on networks that are lost, so that in the end no port is up there. Nothing else happens but deliveries, and in the end nothing

@@ -8,16 +8,18 @@ ghost use Rattle.ipx_router.specs.Numbers.{period};
 ghost use Rattle.ipx_router.specs.Port.{Port, IsPort, is_up};
 ghost use Rattle.ipx_router.specs.Sends.{holding};
 ghost use Rattle.ipx_router.specs.Told.{told, told_services};
+ghost use Rattle.ipx_internet.specs.BusyTick.{IsBusyTick};
 ghost use Rattle.ipx_internet.specs.Departure.{departures};
 ghost use Rattle.ipx_internet.specs.Internet.{Internet, IsInternet, NodesDiffer, ports_of};
 ghost use Rattle.ipx_internet.specs.Least.{networks_of, AreCheap, HasRoom, FifteenSuffice, most_ticks_right};
-ghost use Rattle.ipx_internet.specs.Meanwhile.{TellsNoRoute, LeavesPorts, SaysOnly, IsBusyTick, EachTick};
+ghost use Rattle.ipx_internet.specs.Meanwhile.{TellsNoRoute, LeavesPorts, SaysOnly, EachTick};
 ghost use Rattle.ipx_internet.specs.Queue.{history_of};
 ghost use Rattle.ipx_internet.specs.Real.{IsReal};
 ghost use Rattle.ipx_internet.specs.Run.{Step, AreHistories, Run, begun};
 ghost use Rattle.ipx_internet.specs.Tables.{AreReal};
-ghost use Rattle.ipx_internet.specs.Ticks.{seconds_of, AreTicks, ticked, ups};
+ghost use Rattle.ipx_internet.specs.Ticks.{seconds_of, AreTicks, ticked};
 ghost use Rattle.ipx_internet.specs.Upkeep.{IsOfUpkeep, has, TablesStay, ServicesStay, steps_of, sent_by, all_pages, upkeep_packets, upkeep_bytes};
+ghost use Rattle.ipx_internet.specs.Ups.{ups};
 
 /// What it costs to keep tables as they are. While they stay, each port that is up sends, in any 60 seconds of its router, once the pages of
 /// all that the router advertises there, and nothing else (`pages`). Nothing leaves on another port (`ups_alone`).

@@ -11,16 +11,19 @@ ghost use Rattle.ipx_router.specs.Numbers.{most_routers, period};
 ghost use Rattle.ipx_router.specs.Outgoing.{route_to};
 ghost use Rattle.ipx_router.specs.Port.{is_up};
 ghost use Rattle.ipx_internet.specs.Arriving.{IsOfHost, IsShort, Arrives};
+ghost use Rattle.ipx_internet.specs.BusyTick.{IsBusyTick};
+ghost use Rattle.ipx_internet.specs.Gone.{most_ticks_gone};
 ghost use Rattle.ipx_internet.specs.Internet.{Internet, Place, IsInternet, NodesDiffer, IsPlace, network_of, ports_of};
 ghost use Rattle.ipx_internet.specs.Least.{Way, least, AreCheap, HasRoom, FifteenSuffice, least_route, way_of, most_ticks_right};
-ghost use Rattle.ipx_internet.specs.Meanwhile.{TellsNoRoute, LeavesPorts, SaysOnly, IsBusyTick, EachTick};
+ghost use Rattle.ipx_internet.specs.Meanwhile.{TellsNoRoute, LeavesPorts, SaysOnly, EachTick};
 ghost use Rattle.ipx_internet.specs.Queue.{history_of};
 ghost use Rattle.ipx_internet.specs.Real.{IsReal, led_over};
 ghost use Rattle.ipx_internet.specs.Rounds.{IsDelivery};
 ghost use Rattle.ipx_internet.specs.Run.{Step, AreHistories, Run, begun};
-ghost use Rattle.ipx_internet.specs.Ticks.{ticked, most_ticks_gone, ups};
+ghost use Rattle.ipx_internet.specs.Ticks.{ticked};
 ghost use Rattle.ipx_internet.specs.Traced.{routers_after};
 ghost use Rattle.ipx_internet.specs.Tree.{root};
+ghost use Rattle.ipx_internet.specs.Ups.{ups};
 
 /// Every route is of a real way after 2,880 ticks also while hosts speak, as in `real`: packets of any kind come from outside, near or far,
 /// with true or forged senders. But nobody starts or stops, no port goes down or comes up, and nothing that may be heard of such a packet is

@@ -9,16 +9,19 @@ ghost use Rattle.ipx_router.specs.Heard.{HeardSap};
 ghost use Rattle.ipx_router.specs.History.{History, Packet};
 ghost use Rattle.ipx_router.specs.Numbers.{every_service, unreachable};
 ghost use Rattle.ipx_router.specs.Port.{is_up};
+ghost use Rattle.ipx_internet.specs.BusyTick.{IsBusyTick};
+ghost use Rattle.ipx_internet.specs.Gone.{most_ticks_gone};
 ghost use Rattle.ipx_internet.specs.Internet.{Internet, Place, IsInternet, NodesDiffer, ports_of, network_of};
 ghost use Rattle.ipx_internet.specs.Least.{most_ticks_right};
-ghost use Rattle.ipx_internet.specs.Meanwhile.{LeavesPorts, SaysOnly, IsBusyTick, EachTick};
+ghost use Rattle.ipx_internet.specs.Meanwhile.{LeavesPorts, SaysOnly, EachTick};
 ghost use Rattle.ipx_internet.specs.Nearest.{LeadsElsewhere, IsAnswered};
 ghost use Rattle.ipx_internet.specs.Queue.{history_of, sends_at};
 ghost use Rattle.ipx_internet.specs.Regular.{HaveOneVoice, HasRoomFor, IsListedName, AreInTime, NoneNearer, most_ticks_known};
 ghost use Rattle.ipx_internet.specs.Rounds.{IsDelivery};
 ghost use Rattle.ipx_internet.specs.Run.{Step, AreHistories, Run, begun, run_of};
 ghost use Rattle.ipx_internet.specs.Servers.{Announcer, Server, IsOf, at_hops, known_of, SaysNoFalse, NamesOnly, IsServed, IsAway, IsFewest};
-ghost use Rattle.ipx_internet.specs.Ticks.{ticked, most_ticks_gone, ups};
+ghost use Rattle.ipx_internet.specs.Ticks.{ticked};
+ghost use Rattle.ipx_internet.specs.Ups.{ups};
 
 /// What routers have of a service becomes true of it, whatever they had before: after 2,880 ticks each router has it as a host announces it
 /// on one of its networks, or as a neighbour passes it on that may know it so (`real`). So it has the service's address, and as many hops

@@ -1,9 +1,10 @@
 use Rattle.std.proofs.Common.{◌≡◌, refl, subst, ℕ, suc, ◌+◌, ◌≤◌, [], ◌∷◌, length, Some, None, arith}
 use Rattle.ipx_internet.specs.Least.{ticks_right}
 use Rattle.ipx_internet.specs.Run.{begun, run_of}
-use Rattle.ipx_internet.specs.Ticks.{ticked, ups}
+use Rattle.ipx_internet.specs.Ticks.{ticked}
 use Rattle.ipx_internet.specs.Traced.{routers_after}
 use Rattle.ipx_internet.specs.Tree.{tree_to}
+use Rattle.ipx_internet.specs.Ups.{ups}
 use Rattle.ipx_internet.proofs.laws.arrives.Goals as goal
 use Rattle.ipx_internet.proofs.packets.SentOnOrReply.{Layouts}
 use Rattle.ipx_internet.proofs.tables.AnyTablesBecomeRight.{from_any, from_run}

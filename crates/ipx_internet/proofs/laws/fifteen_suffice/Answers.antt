@@ -1,4 +1,4 @@
-use Rattle.ipx_internet.specs.Ticks.{ups}
+use Rattle.ipx_internet.specs.Ups.{ups}
 use Rattle.ipx_internet.proofs.laws.fifteen_suffice.Goals as goal
 use Rattle.ipx_internet.proofs.tables.FifteenHopsSuffice.{of_few_routers, of_equal_costs}
 use Rattle.ipx_internet.proofs.tables.LeastWays.{ups_within}

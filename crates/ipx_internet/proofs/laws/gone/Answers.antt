@@ -5,7 +5,8 @@ use Rattle.ipx_internet.specs.Internet.{Internet, IsInternet, ports_of}
 use Rattle.ipx_internet.specs.Meanwhile.{IsWithoutService}
 use Rattle.ipx_internet.specs.Queue.{history_of}
 use Rattle.ipx_internet.specs.Run.{Step, AreHistories, begun}
-use Rattle.ipx_internet.specs.Ticks.{AreTicks, ticked, ups}
+use Rattle.ipx_internet.specs.Ticks.{AreTicks, ticked}
+use Rattle.ipx_internet.specs.Ups.{ups}
 use Rattle.ipx_internet.proofs.laws.gone.Goals as goal
 use Rattle.ipx_internet.proofs.packets.SentOnOrReply.{Layouts}
 use Rattle.ipx_internet.proofs.ticks.GoneWhateverHappens.{no_such_service, none_left, no_records}

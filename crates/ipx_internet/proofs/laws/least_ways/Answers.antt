@@ -1,4 +1,4 @@
-use Rattle.ipx_internet.specs.Ticks.{ups}
+use Rattle.ipx_internet.specs.Ups.{ups}
 use Rattle.ipx_internet.proofs.laws.least_ways.Goals as goal
 use Rattle.ipx_internet.proofs.tables.ComputedIsLeast.{least_is, none_beats_least}
 use Rattle.ipx_internet.proofs.tables.LeastWays.{ups_within}

@@ -2,7 +2,8 @@ use Rattle.std.proofs.Common.{refl, ℕ, List, length}
 use Rattle.ipx_router.specs.History.{History}
 use Rattle.ipx_internet.specs.Internet.{Internet, IsInternet}
 use Rattle.ipx_internet.specs.Run.{Step, AreHistories, begun}
-use Rattle.ipx_internet.specs.Ticks.{AreTicks, ticked, ups}
+use Rattle.ipx_internet.specs.Ticks.{AreTicks, ticked}
+use Rattle.ipx_internet.specs.Ups.{ups}
 use Rattle.ipx_internet.proofs.laws.real.Goals as goal
 use Rattle.ipx_internet.proofs.packets.SentOnOrReply.{Layouts}
 use Rattle.ipx_internet.proofs.ticks.RoutesBecomeReal.{all_real, all_on, none_over}

@@ -1,11 +1,13 @@
 use Rattle.std.proofs.Common.{◌≡◌, sym, subst, ◌+◌, ◌≤◌, [], ◌∷◌, ◌++◌, length, arith}
 use Rattle.ipx_router.specs.Facts.{routes_held, offers}
 use Rattle.ipx_router.specs.Outgoing.{route_to}
+use Rattle.ipx_internet.specs.Gone.{most_ticks_gone}
 use Rattle.ipx_internet.specs.Internet.{ports_of}
 use Rattle.ipx_internet.specs.Least.{least_route, ticks_right}
 use Rattle.ipx_internet.specs.Queue.{history_of}
 use Rattle.ipx_internet.specs.Run.{Run, begun, run_of}
-use Rattle.ipx_internet.specs.Ticks.{ticked, ups, most_ticks_gone}
+use Rattle.ipx_internet.specs.Ticks.{ticked}
+use Rattle.ipx_internet.specs.Ups.{ups}
 use Rattle.ipx_internet.proofs.laws.right.Goals as goal
 use Rattle.ipx_internet.proofs.packets.SentOnOrReply.{Layouts}
 use Rattle.ipx_internet.proofs.tables.AnyTablesBecomeRight.{from_any, from_real, from_run}

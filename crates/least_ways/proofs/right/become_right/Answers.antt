@@ -6,7 +6,8 @@ use Rattle.ipx_internet.specs.Moment.{StandsFor, net_at}
 use Rattle.ipx_internet.specs.Passed.{HasTicked}
 use Rattle.ipx_internet.specs.Queue.{Delivery}
 use Rattle.ipx_internet.specs.Run.{begun, forgotten}
-use Rattle.ipx_internet.specs.Ticks.{ticked, ups}
+use Rattle.ipx_internet.specs.Ticks.{ticked}
+use Rattle.ipx_internet.specs.Ups.{ups}
 use Rattle.least_ways.specs.Right.{HasLeastWays}
 use Rattle.least_ways.specs.declared.right.TheConstants.{SECONDS}
 use Rattle.least_ways.proofs.TablesInMemory.{are_least}

@@ -5,7 +5,7 @@ use Rattle.ipx_internet.specs.Least.{least_route, way_of}
 use Rattle.ipx_internet.specs.Queue.{Queued}
 use Rattle.ipx_internet.specs.Run.{Waiting, begun, forgotten, run_of}
 use Rattle.ipx_internet.specs.Tables.{routes_of}
-use Rattle.ipx_internet.specs.Ticks.{ups}
+use Rattle.ipx_internet.specs.Ups.{ups}
 use Rattle.ipx_internet.proofs.laws.changes.gains.Goals as goal
 use Rattle.ipx_internet.proofs.gains.RealWhileGaining.{gained, all_real}
 use Rattle.ipx_internet.proofs.packets.SentOnOrReply.{Layouts}

@@ -8,7 +8,7 @@ use Rattle.ipx_internet.specs.Losses.{AreLosses}
 use Rattle.ipx_internet.specs.Queue.{Queued}
 use Rattle.ipx_internet.specs.Run.{Step, Run, Waiting, AreHistories, begun, forgotten, run_of}
 use Rattle.ipx_internet.specs.Tables.{AreReal, AreRight, routes_of}
-use Rattle.ipx_internet.specs.Ticks.{ups}
+use Rattle.ipx_internet.specs.Ups.{ups}
 use Rattle.ipx_internet.proofs.laws.changes.losses.Goals as goal
 use Rattle.ipx_internet.proofs.losses.LossesGoOn.{Losing, steps_lose}
 use Rattle.ipx_internet.proofs.losses.RealAfterLosses.{all_real}

@@ -5,14 +5,17 @@ use Rattle.ipx_router.specs.History.{History}
 use Rattle.ipx_router.specs.Numbers.{period}
 use Rattle.ipx_router.specs.Port.{is_up}
 use Rattle.ipx_router.proofs.port_values.PortOfEachNumber.{one_up}
+use Rattle.ipx_internet.specs.BusyTick.{IsBusyTick}
 use Rattle.ipx_internet.specs.Departure.{departures}
+use Rattle.ipx_internet.specs.Gone.{most_ticks_gone}
 use Rattle.ipx_internet.specs.Internet.{Internet, IsInternet, NodesDiffer, ports_of}
 use Rattle.ipx_internet.specs.Least.{AreCheap, HasRoom, FifteenSuffice, most_ticks_right}
-use Rattle.ipx_internet.specs.Meanwhile.{IsBusyTick, EachTick}
+use Rattle.ipx_internet.specs.Meanwhile.{EachTick}
 use Rattle.ipx_internet.specs.Run.{Step, Run, AreHistories, begun}
 use Rattle.ipx_internet.specs.Tables.{AreReal}
-use Rattle.ipx_internet.specs.Ticks.{IsTick, AreTicks, ticked, ups, most_ticks_gone}
+use Rattle.ipx_internet.specs.Ticks.{IsTick, AreTicks, ticked}
 use Rattle.ipx_internet.specs.Upkeep.{IsOfUpkeep, has, TablesStay, ServicesStay, steps_of, sent_by, all_pages}
+use Rattle.ipx_internet.specs.Ups.{ups}
 use Rattle.ipx_internet.proofs.laws.costs.tables_stay.Goals as goal
 use Rattle.ipx_internet.proofs.laws.costs.tables_stay.Goals.{After-upkeep}
 use Rattle.ipx_internet.proofs.packets.SentOnOrReply.{Layouts}

@@ -17,8 +17,9 @@ use Rattle.ipx_router.proofs.telling.ToldFitsFields.{told_services_fit}
 use Rattle.ipx_internet.specs.Internet.{Internet, IsInternet, ports_of}
 use Rattle.ipx_internet.specs.Queue.{history_of}
 use Rattle.ipx_internet.specs.Run.{AreHistories, Waiting, Run}
-use Rattle.ipx_internet.specs.Ticks.{seconds_of, ups}
+use Rattle.ipx_internet.specs.Ticks.{seconds_of}
 use Rattle.ipx_internet.specs.Upkeep.{all_pages, has}
+use Rattle.ipx_internet.specs.Ups.{ups}
 use Rattle.ipx_internet.proofs.laws.costs.upkeep.Goals as goal
 use Rattle.ipx_internet.proofs.lists.EachElement.{all_then, rising_differ}
 use Rattle.ipx_internet.proofs.packets.SentOnOrReply.{Layouts}

@@ -4,7 +4,7 @@ use Rattle.ipx_internet.specs.Internet.{ports_of}
 use Rattle.ipx_internet.specs.Queue.{history_of}
 use Rattle.ipx_internet.specs.Regular.{IsListedName}
 use Rattle.ipx_internet.specs.Run.{begun, run_of}
-use Rattle.ipx_internet.specs.Ticks.{ups}
+use Rattle.ipx_internet.specs.Ups.{ups}
 use Rattle.ipx_internet.proofs.laws.services.beside.Goals as goal
 use Rattle.ipx_internet.proofs.packets.SentOnOrReply.{Layouts}
 use Rattle.ipx_internet.proofs.services.BesideHosts.{has}

@@ -7,7 +7,8 @@ use Rattle.ipx_internet.specs.Queue.{history_of}
 use Rattle.ipx_internet.specs.Regular.{IsListedName}
 use Rattle.ipx_internet.specs.Run.{begun, run_of}
 use Rattle.ipx_internet.specs.Servers.{at_hops, known_of}
-use Rattle.ipx_internet.specs.Ticks.{ticked, ups}
+use Rattle.ipx_internet.specs.Ticks.{ticked}
+use Rattle.ipx_internet.specs.Ups.{ups}
 use Rattle.ipx_internet.proofs.laws.services.everywhere.Goals as goal
 use Rattle.ipx_internet.proofs.packets.SentOnOrReply.{Layouts}
 use Rattle.ipx_internet.proofs.services.HeardAtAStep.{at_prefix}

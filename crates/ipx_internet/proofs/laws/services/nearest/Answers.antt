@@ -3,13 +3,15 @@ use Rattle.std.specs.List.{AllByRecursion}
 use Rattle.std.proofs.lemmas.List.{length-append}
 use Rattle.ipx_router.specs.Facts.{services_held, offers}
 use Rattle.ipx_router.proofs.port_values.PortOfEachNumber.{ports_up-within}
+use Rattle.ipx_internet.specs.BusyTick.{IsBusyTick}
 use Rattle.ipx_internet.specs.Internet.{ports_of}
-use Rattle.ipx_internet.specs.Meanwhile.{LeavesPorts, SaysOnly, IsBusyTick}
+use Rattle.ipx_internet.specs.Meanwhile.{LeavesPorts, SaysOnly}
 use Rattle.ipx_internet.specs.Queue.{history_of}
 use Rattle.ipx_internet.specs.Regular.{IsListedName}
 use Rattle.ipx_internet.specs.Run.{begun, run_of}
 use Rattle.ipx_internet.specs.Servers.{SaysNoFalse, NamesOnly, at_hops, known_of}
-use Rattle.ipx_internet.specs.Ticks.{ticked, ups}
+use Rattle.ipx_internet.specs.Ticks.{ticked}
+use Rattle.ipx_internet.specs.Ups.{ups}
 use Rattle.ipx_internet.proofs.laws.services.nearest.Goals as goal
 use Rattle.ipx_internet.proofs.packets.SentOnOrReply.{Layouts}
 use Rattle.ipx_internet.proofs.services.BesideHosts.{parted}

@@ -1,6 +1,7 @@
 use Rattle.std.proofs.Common.{refl, ◌∷◌, length}
 use Rattle.ipx_internet.specs.Run.{begun}
-use Rattle.ipx_internet.specs.Ticks.{ticked, ups}
+use Rattle.ipx_internet.specs.Ticks.{ticked}
+use Rattle.ipx_internet.specs.Ups.{ups}
 use Rattle.ipx_internet.proofs.laws.services.served.Goals as goal
 use Rattle.ipx_internet.proofs.packets.SentOnOrReply.{Layouts}
 use Rattle.ipx_internet.proofs.services.ServicesBecomeReal.{all_real, all_away, none_known, from_quiet, from_any, AnyName, names_any}
