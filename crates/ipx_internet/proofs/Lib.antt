@@ -1,15 +1,10 @@
 pub mod deliveries
 pub mod examples
-pub mod gains
 pub mod lists
-pub mod losses
 pub mod packets
 pub mod places
 pub mod records
 pub mod rounds
-pub mod services
-pub mod tables
 pub mod ticks
 pub mod trees
-pub mod upkeep
 pub mod weights

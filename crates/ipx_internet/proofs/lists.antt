@@ -2,6 +2,4 @@
 pub mod EachElement
 pub mod FoundInAList
 pub mod HowManyPass
-pub mod SameElementsInOrder
-pub mod SomeElement
 pub mod SortedByNumber

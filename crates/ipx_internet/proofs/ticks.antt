@@ -1,17 +1,3 @@
--- Ticks, quiet or busy: how old what is held can be, what of it is real, and what ends.
-pub mod AfterEachStep
-pub mod BusyTickAfterTick
-pub mod FineOrSoonEnded
-pub mod FirstTickClears
-pub mod GoneWhateverHappens
-pub mod LogsDontMatter
-pub mod NoServiceInTicks
-pub mod OwnPagesSayFine
-pub mod RealFromTheFirst
-pub mod RealOrSoonEnded
-pub mod RoutesBecomeReal
-pub mod SaysFineOrSoonEnded
+-- Ticks that can be had, and that pass in memory.
 pub mod SecondIsATick
-pub mod ServicesWereAnnounced
-pub mod TickAfterTick
 pub mod TickCanBeHad

@@ -9,8 +9,6 @@ pub mod Different
 -- Queue, Run
 pub mod Queue
 pub mod Run
--- Departure
-pub mod Departure
 -- Tree, Most
 pub mod Tree
 pub mod Most
@@ -23,31 +21,6 @@ pub mod InternetWeight
 -- Ticks, busy or not
 pub mod Ticks
 pub mod BusyTick
--- Ups, Gone
-pub mod Ups
-pub mod Gone
--- Meanwhile
-pub mod Meanwhile
--- Announces
-pub mod Announces
--- Servers, Regular
-pub mod Servers
-pub mod Regular
--- Nearest
-pub mod Nearest
--- Upkeep
-pub mod Upkeep
--- Real
-pub mod Real
--- Least
-pub mod Least
--- Tables
-pub mod Tables
--- Losses, Gains
-pub mod Losses
-pub mod Gains
--- Arriving
-pub mod Arriving
 -- Moment, Settled, Refused
 pub mod Batches
 pub mod Moment

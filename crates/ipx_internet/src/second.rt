@@ -13,7 +13,7 @@ use ipx_router::Event;
 
 impl<const P: usize, const R: usize, const S: usize> Internet<P, R, S> {
     /// Gives each router a second, by their numbers. Then it makes deliveries, in the order of the queue: as many as the limit says, or as
-    /// there are. If the answer is `Quiet`, this was a tick, of which the laws of `laws` speak. If memory runs out it stops.
+    /// there are. If the answer is `Quiet`, this was a tick, of which `ipx_laws` speaks. If memory runs out it stops.
     pub fn second(&mut self, limit: usize) -> Result<Settled, InternetFault>
         ensures net { net_at self.new ≡ net_at self.old }
         ensures passed { OnOk result (HasPassed R S (a_tick (length self.old.routers) limit) self.old self.new) }

@@ -12,10 +12,10 @@ use Rattle.ipx_router.specs.Port.{Port}
 use Rattle.ipx_router.specs.Stands.{State}
 use Rattle.ipx_router.specs.declared.route_offer.RouteOffer.{RouteOffer}
 use Rattle.ipx_internet.specs.Internet.{Internet, ports_of}
-use Rattle.ipx_internet.specs.Least.{way_of, least_route}
 use Rattle.ipx_internet.specs.Moment.{Moment, StandsFor, net_at}
 use Rattle.ipx_internet.specs.Queue.{Queued, history_of}
-use Rattle.ipx_internet.specs.Ups.{ups}
+use Rattle.ipx_laws.specs.Least.{way_of, least_route}
+use Rattle.ipx_laws.specs.Ups.{ups}
 use Rattle.least_ways.specs.Right.{HasLeastWays}
 
 module _ (most_routes most_services : ℕ) (old new : Moment) (histories : List History)

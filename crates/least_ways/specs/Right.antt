@@ -6,9 +6,9 @@ use Rattle.ipx_router.specs.Facts.{offers}
 use Rattle.ipx_router.specs.History.{History}
 use Rattle.ipx_router.specs.Outgoing.{route_to}
 use Rattle.ipx_router.specs.Stands.{State}
-use Rattle.ipx_internet.specs.Least.{way_of, least_route}
 use Rattle.ipx_internet.specs.Moment.{Moment, StandsFor, net_at}
-use Rattle.ipx_internet.specs.Ups.{ups}
+use Rattle.ipx_laws.specs.Least.{way_of, least_route}
+use Rattle.ipx_laws.specs.Ups.{ups}
 
 -- in each table in memory the route to a network is one of the least way over the ports that were up at first, and there is none where there
 -- is no way

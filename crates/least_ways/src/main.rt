@@ -1,7 +1,7 @@
 //! Two routers that share a network, for 49 minutes: then the tables in memory have the routes of the least ways.
 //!
 //! That is the contract of `become_right` (`src/right.rt`). Before it, `come_to_rest` (`src/rest.rt`) delivers what waits after the routers'
-//! starts, until nothing waits. Their proofs rest on the public calls of `Internet` and on its laws alone, so they show how to cite them.
+//! starts, until nothing waits. Their proofs rest on the public calls of `Internet` and on laws alone, so they show how to cite them.
 //! What `become_right` asks for beyond that is seen by reading of this internet, and isn't proved here: it has two routers, each port costs
 //! one tick, and a table has room for 50 routes.
 #![tactic(auto)]

@@ -1,9 +1,9 @@
 //! Seconds that pass, and what the tables are then.
 ghost use Rattle.std.specs.Prelude.{◌≡◌, ◌≤◌, true, [], length, IfOk};
 ghost use Rattle.ipx_router.specs.Numbers.{most_routers};
-ghost use Rattle.ipx_internet.specs.Least.{AreCheap, HasRoom};
 ghost use Rattle.ipx_internet.specs.Moment.{net_at};
 ghost use Rattle.ipx_internet.specs.Passed.{HasTicked};
+ghost use Rattle.ipx_laws.specs.Least.{AreCheap, HasRoom};
 ghost use Rattle.least_ways.specs.Right.{HasLeastWays};
 
 use ipx_internet::{Internet, InternetFault, Settled};
@@ -21,8 +21,8 @@ pub fn become_right<const P: usize, const R: usize, const S: usize>(
     ensures right { IfOk result (λ all. all ≡ true → length (net_at internet.old) ≤ most_routers → AreCheap (net_at internet.old)
         → HasRoom (net_at internet.old) R → internet.old.queue ≡ [] → HasLeastWays R S internet.old internet.new) }
 {
-    ipx_internet::laws::right();
-    ipx_internet::laws::fifteen_suffice();
+    ipx_laws::laws::right();
+    ipx_laws::laws::fifteen_suffice();
     let _ = internet.len();
     pass(internet, SECONDS, limit)
 }

@@ -1,7 +1,7 @@
 //! From switching on to the first packet: a client finds the nearest server and the way to it, and its packet gets there.
 //!
 //! `examples/first-packet.internet` plays the same story as a script, with a drawing of the networks. Each step names the law
-//! of `ipx_internet::laws` on which a program may rely there: the law holds of every internet, the step is one example.
+//! of `ipx_laws` on which a program may rely there: the law holds of every internet, the step is one example.
 
 use crate::internet::row;
 use crate::same::same;

@@ -1,13 +1,13 @@
 use Rattle.std.proofs.Common.{◌≡◌, subst, ◌≤◌, true, List, [], length, arith}
 use Rattle.std.proofs.lemmas.Result.{IfOk-weaker}
 use Rattle.ipx_router.specs.Numbers.{most_routers}
-use Rattle.ipx_internet.specs.Least.{AreCheap, HasRoom, least_route, ticks_right}
 use Rattle.ipx_internet.specs.Moment.{StandsFor, net_at}
 use Rattle.ipx_internet.specs.Passed.{HasTicked}
 use Rattle.ipx_internet.specs.Queue.{Delivery}
 use Rattle.ipx_internet.specs.Run.{begun, forgotten}
 use Rattle.ipx_internet.specs.Ticks.{ticked}
-use Rattle.ipx_internet.specs.Ups.{ups}
+use Rattle.ipx_laws.specs.Least.{AreCheap, HasRoom, least_route, ticks_right}
+use Rattle.ipx_laws.specs.Ups.{ups}
 use Rattle.least_ways.specs.Right.{HasLeastWays}
 use Rattle.least_ways.specs.declared.right.TheConstants.{SECONDS}
 use Rattle.least_ways.proofs.TablesInMemory.{are_least}

@@ -1,0 +1,10 @@
+pub mod examples
+pub mod gains
+pub mod lists
+pub mod losses
+pub mod packets
+pub mod records
+pub mod services
+pub mod tables
+pub mod ticks
+pub mod upkeep

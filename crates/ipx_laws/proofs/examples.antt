@@ -1,0 +1,20 @@
+-- Worked examples: each is checked by computing it.
+pub mod Announcing
+pub mod Arrivals
+pub mod Asking
+pub mod Changes
+pub mod Crowded
+pub mod Horizons
+pub mod Hosts
+pub mod Leasts
+pub mod Links
+pub mod Losing
+pub mod Meanwhile
+pub mod Needed
+pub mod Neighbours
+pub mod Premises
+pub mod Rights
+pub mod Servers
+pub mod Staying
+pub mod Ticks
+pub mod Upkeep

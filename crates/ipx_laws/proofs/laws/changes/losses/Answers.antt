@@ -1,0 +1,80 @@
+use Rattle.std.proofs.Common.{◌≡◌, sym, ap, subst, ℕ, List, [], map, option_map, arith}
+use Rattle.ipx_wire.specs.declared.network.Network.{Network}
+use Rattle.ipx_router.specs.History.{History}
+use Rattle.ipx_router.specs.Outgoing.{route_to}
+use Rattle.ipx_internet.specs.Internet.{Internet, IsInternet}
+use Rattle.ipx_internet.specs.Queue.{Queued}
+use Rattle.ipx_internet.specs.Run.{Step, Run, Waiting, AreHistories, begun, forgotten, run_of}
+use Rattle.ipx_internet.proofs.packets.SentOnOrReply.{Layouts}
+use Rattle.ipx_laws.specs.Least.{AreCheap, FifteenSuffice, least_route, way_of}
+use Rattle.ipx_laws.specs.Losses.{AreLosses}
+use Rattle.ipx_laws.specs.Tables.{AreReal, AreRight, routes_of}
+use Rattle.ipx_laws.specs.Ups.{ups}
+use Rattle.ipx_laws.proofs.laws.changes.losses.Goals as goal
+use Rattle.ipx_laws.proofs.losses.LossesGoOn.{Losing, steps_lose}
+use Rattle.ipx_laws.proofs.losses.RealAfterLosses.{all_real}
+use Rattle.ipx_laws.proofs.losses.TableIsAdvertised.{at_first}
+use Rattle.ipx_laws.proofs.ticks.LogsDontMatter.{same_ticks, same_ticked}
+
+-- the laws of packets and routers
+layouts : goal.After-right → Layouts
+layouts c = record {
+  readings = record {
+    packet_read = c.readings.ensures.packet_read;
+    packet_front = c.readings.ensures.packet_front;
+    rip_read = c.readings.ensures.rip_read;
+    sap_read = c.service_readings.ensures.sap_read;
+  };
+  again = record {
+    rip_packet_again = c.reread.ensures.rip_packet;
+    rip_again = c.reread.ensures.rip;
+    query_packet_again = c.reread.ensures.query_packet;
+    query_again = c.reread.ensures.query;
+    sap_packet_again = c.reread.ensures.sap_packet;
+    sap_again = c.reread.ensures.sap;
+    forwarded_again = c.reread.ensures.forwarded;
+    propagated_again = c.reread.ensures.propagated;
+  };
+  layouts = c.packets.ensures.layouts;
+  bytes = c.packets.ensures.bytes;
+}
+
+module _ (c : goal.After-right) (net : Internet) (most_routes most_services : ℕ) (histories : List History) (steps : List Step) (is : IsInternet net)
+    (suffice : (network : Network) → FifteenSuffice net (ups net histories) network) (cheap : AreCheap net) (are : AreHistories net histories)
+    (real : AreReal net most_routes histories (ups net histories)) (right : AreRight net most_routes histories (ups net histories))
+    (losses : AreLosses net most_routes most_services histories steps) where
+  abbrev after : Run
+  after = run_of net most_routes most_services (begun histories) steps
+
+  -- where nothing waits
+  losing : Losing net (layouts c) is most_routes most_services after.histories (record { histories = after.histories; queue = [] })
+  losing =
+      subst (λ (ws : List Waiting).
+      Losing net (layouts c) is most_routes most_services after.histories (record { histories = after.histories; queue = map (λ w. w.delivery) ws })) losses.quiet
+      (steps_lose net (layouts c) is most_routes most_services after.histories (begun histories) steps losses.losses
+      (at_first net (layouts c) is cheap most_routes most_services after.histories histories are suffice real right))
+
+  real_then : AreReal net most_routes after.histories (ups net after.histories)
+  real_then = all_real net (layouts c) is most_routes most_services after.histories losing
+
+  -- without what was received
+  same : forgotten after ≡ forgotten (begun after.histories)
+  same = ap (λ (ws : List Waiting). record { histories = after.histories; queue = map (λ w. w.delivery) ws }) losses.quiet
+
+pub returns-clause-real : goal.returns-clause-real
+returns-clause-real c net most_routes most_services histories steps is suffice cheap are real right losses =
+    real_then c net most_routes most_services histories steps is suffice cheap are real right losses
+
+pub returns-clause-right : goal.returns-clause-right
+returns-clause-right c net most_routes most_services histories steps ticks is differ suffice cheap room are real right losses suffice_last enough passes router network
+    inside =
+    let then_run = after c net most_routes most_services histories steps is suffice cheap are real right losses in
+    let last = then_run.histories in
+    let equal = same c net most_routes most_services histories steps is suffice cheap are real right losses in
+    let lost = losing c net most_routes most_services histories steps is suffice cheap are real right losses in
+    let soon = c.right.ensures.soon net last router network in
+    subst (λ (hs : List History). option_map way_of (route_to (routes_of net most_routes hs router) network.0) ≡ least_route net (ups net last) router network)
+    (sym (ap (λ (q : Queued). q.histories) (same_ticked net most_routes most_services then_run (begun last) ticks equal)))
+    (c.right.ensures.sooner net most_routes most_services last ticks router network is differ (suffice_last network) cheap room lost.are
+    (real_then c net most_routes most_services histories steps is suffice cheap are real right losses)
+    (same_ticks net most_routes most_services then_run (begun last) ticks equal passes) inside (omega (arith, soon, enough)))

@@ -1,0 +1,163 @@
+use Rattle.std.proofs.Common.{◌≡◌, refl, sym, ◌∙◌, subst, ℕ, ◌+◌, ◌<◌, ◌≤◌, true, List, ◌++◌, length, arith}
+use Rattle.std.specs.List.{AllByRecursion}
+use Rattle.ipx_wire.specs.declared.network.Network.{Network}
+use Rattle.ipx_router.specs.History.{History}
+use Rattle.ipx_router.specs.Numbers.{period}
+use Rattle.ipx_router.specs.Port.{is_up}
+use Rattle.ipx_router.proofs.port_values.PortOfEachNumber.{one_up}
+use Rattle.ipx_internet.specs.BusyTick.{IsBusyTick}
+use Rattle.ipx_internet.specs.Internet.{Internet, IsInternet, NodesDiffer, ports_of}
+use Rattle.ipx_internet.specs.Run.{Step, Run, AreHistories, begun}
+use Rattle.ipx_internet.specs.Ticks.{IsTick, AreTicks, ticked}
+use Rattle.ipx_internet.proofs.packets.SentOnOrReply.{Layouts}
+use Rattle.ipx_internet.proofs.trees.RunIsALog.{router_there}
+use Rattle.ipx_laws.specs.Departure.{departures}
+use Rattle.ipx_laws.specs.Gone.{most_ticks_gone}
+use Rattle.ipx_laws.specs.Least.{AreCheap, HasRoom, FifteenSuffice, most_ticks_right}
+use Rattle.ipx_laws.specs.Meanwhile.{EachTick}
+use Rattle.ipx_laws.specs.Tables.{AreReal}
+use Rattle.ipx_laws.specs.Upkeep.{IsOfUpkeep, has, TablesStay, ServicesStay, steps_of, sent_by, all_pages}
+use Rattle.ipx_laws.specs.Ups.{ups}
+use Rattle.ipx_laws.proofs.laws.costs.tables_stay.Goals as goal
+use Rattle.ipx_laws.proofs.laws.costs.tables_stay.Goals.{After-upkeep}
+use Rattle.ipx_laws.proofs.tables.AnyTablesBecomeRight.{from_any, from_real}
+use Rattle.ipx_laws.proofs.tables.LeastWays.{ups_within}
+use Rattle.ipx_laws.proofs.tables.TablesAreRight.{parts_of}
+use Rattle.ipx_laws.proofs.ticks.GoneWhateverHappens.{each_then}
+use Rattle.ipx_laws.proofs.ticks.NoServiceInTicks.{NoService, stays_none, from_any as none_from_any, at_once}
+use Rattle.ipx_laws.proofs.ticks.TickAfterTick.{IsCalmTick, CalmTicks, Rests, calm_ticks, quiet_ticks, rested}
+use Rattle.ipx_laws.proofs.upkeep.TablesStayInTicks.{tables_stay_in}
+use Rattle.ipx_laws.proofs.upkeep.TicksAreOfUpkeep.{are_of_upkeep, seconds_in}
+
+-- the laws of packets and routers
+layouts : After-upkeep → Layouts
+layouts c = record {
+  readings = record {
+    packet_read = c.readings.ensures.packet_read;
+    packet_front = c.readings.ensures.packet_front;
+    rip_read = c.readings.ensures.rip_read;
+    sap_read = c.service_readings.ensures.sap_read;
+  };
+  again = record {
+    rip_packet_again = c.reread.ensures.rip_packet;
+    rip_again = c.reread.ensures.rip;
+    query_packet_again = c.reread.ensures.query_packet;
+    query_again = c.reread.ensures.query;
+    sap_packet_again = c.reread.ensures.sap_packet;
+    sap_again = c.reread.ensures.sap;
+    forwarded_again = c.reread.ensures.forwarded;
+    propagated_again = c.reread.ensures.propagated;
+  };
+  layouts = c.packets.ensures.layouts;
+  bytes = c.packets.ensures.bytes;
+}
+
+module _ (c : After-upkeep) (net : Internet) (most_routes most_services : ℕ) (histories : List History) (ticks further : List (List Step)) (is : IsInternet net)
+    (differ : NodesDiffer net) (suffice : (network : Network) → FifteenSuffice net (ups net histories) network) (cheap : AreCheap net) (room : HasRoom net most_routes)
+    (are : AreHistories net histories) where
+  abbrev run : Run
+  run = ticked net most_routes most_services (begun histories) ticks
+
+  abbrev Calm : List (List Step) → Type 0
+  Calm = CalmTicks net most_routes most_services (begun histories)
+
+  abbrev Services : Type 0
+  Services = ServicesStay net most_routes most_services run.histories run (steps_of further)
+
+  abbrev Tables : Type 0
+  Tables = TablesStay net most_routes most_services run.histories run (steps_of further)
+
+  -- from any tables, and from real routes
+  stay_then : Calm (ticks ++ further) → most_ticks_right ≤ length ticks → Services → Tables
+  stay_then calm long services =
+      let parts = parts_of net most_routes most_services (IsCalmTick net most_routes most_services) (begun histories) ticks further calm in
+      tables_stay_in net (layouts c) is differ cheap (ups net histories) (ups_within net histories) most_routes most_services room suffice
+      (λ ports history. c.tables.ensures.routes_rise ports most_routes history) (length ticks) long run further
+      (λ network. from_any net (layouts c) is differ cheap most_routes most_services room network histories are (suffice network) ticks parts.0 (omega (arith, long)))
+      parts.1 services
+
+  stay_sooner : AreReal net most_routes histories (ups net histories) → Calm (ticks ++ further) → period ≤ length ticks → Services → Tables
+  stay_sooner real calm long services =
+      let parts = parts_of net most_routes most_services (IsCalmTick net most_routes most_services) (begun histories) ticks further calm in
+      tables_stay_in net (layouts c) is differ cheap (ups net histories) (ups_within net histories) most_routes most_services room suffice
+      (λ ports history. c.tables.ensures.routes_rise ports most_routes history) (length ticks + most_ticks_gone) (omega (arith, long)) run further
+      (λ network. from_real net (layouts c) is differ cheap most_routes most_services room network histories are (suffice network) ticks parts.0 real)
+      parts.1 services
+
+  -- ---- what is sent in a minute
+
+  module _ (all_calm : Calm (ticks ++ further)) where
+    abbrev both_calm : Calm ticks × CalmTicks net most_routes most_services run further
+    both_calm = parts_of net most_routes most_services (IsCalmTick net most_routes most_services) (begun histories) ticks further all_calm
+
+    rests : Rests net (layouts c) is most_routes most_services (ups net histories) (length ticks) run
+    rests = rested net (layouts c) is most_routes most_services (ups net histories) (begun histories) ticks are (λ router. refl) refl both_calm.0
+
+    minute_then : (router number : ℕ) → AllByRecursion (IsOfUpkeep net) (steps_of further) → length further ≡ period → is_up (ups net histories router) number ≡ true
+        → Tables → sent_by router number (departures net most_routes most_services run (steps_of further))
+        ≡ all_pages (ports_of net router) (has net most_routes most_services run.histories router) number
+    minute_then router number of_upkeep sixty on stay =
+        let place = one_up (λ j. j < length (ports_of net router)) (ups net histories router) number (ups_within net histories router) on in
+        let inside = router_there net router number place in
+        let on_now : is_up (ups net run.histories router) number ≡ true =
+        subst (λ (us : List ℕ). is_up us number ≡ true) (sym (rests.routers router inside).ups) on in
+        c.upkeep.ensures.pages net most_routes most_services run (steps_of further) router number is rests.are rests.quiet of_upkeep stay
+        (seconds_in net most_routes most_services router inside run further (all_busy run further both_calm.1) ∙ sixty) on_now
+      where
+        all_busy : (now : Run) (later : List (List Step)) → CalmTicks net most_routes most_services now later
+            → EachTick net most_routes most_services (IsBusyTick net most_routes most_services) now later
+        all_busy = each_then net most_routes most_services (IsCalmTick net most_routes most_services) (IsBusyTick net most_routes most_services) (λ now steps tick. tick.busy)
+
+  -- ---- where nothing but ticks happens
+
+  module _ (passes : AreTicks net most_routes most_services (begun histories) (ticks ++ further)) where
+    abbrev parts : AreTicks net most_routes most_services (begun histories) ticks × AreTicks net most_routes most_services run further
+    parts = parts_of net most_routes most_services (IsTick net most_routes most_services) (begun histories) ticks further passes
+
+    calm : Calm (ticks ++ further)
+    calm = quiet_ticks net most_routes most_services (layouts c) is (begun histories) (ticks ++ further) passes
+
+    alone_then : most_ticks_right ≤ length ticks → Tables
+    alone_then long =
+        stay_then calm long (stays_none net (layouts c) is most_routes most_services (length ticks + 0) (omega (arith, long)) run further
+        (none_from_any net (layouts c) is most_routes most_services histories are ticks parts.0) parts.1)
+
+    alone_soon : AreReal net most_routes histories (ups net histories) → NoService net (layouts c) is most_routes most_services histories → period ≤ length ticks → Tables
+    alone_soon real none long =
+        stay_sooner real calm long (stays_none net (layouts c) is most_routes most_services (length ticks + most_ticks_gone) (omega (arith, long)) run further
+        (at_once net (layouts c) is most_routes most_services histories are none ticks parts.0) parts.1)
+
+    ticks_of_upkeep : AllByRecursion (IsOfUpkeep net) (steps_of further)
+    ticks_of_upkeep = are_of_upkeep net most_routes most_services run further parts.1
+
+pub returns-clause-stay : goal.returns-clause-stay
+returns-clause-stay c net most_routes most_services histories ticks further is differ suffice cheap room are busy leave say long services =
+    stay_then c net most_routes most_services histories ticks further is differ suffice cheap room are
+    (calm_ticks net most_routes most_services (begun histories) (ticks ++ further) busy leave say) long services
+
+pub returns-clause-sooner : goal.returns-clause-sooner
+returns-clause-sooner c net most_routes most_services histories ticks further is differ suffice cheap room are real busy leave say long services =
+    stay_sooner c net most_routes most_services histories ticks further is differ suffice cheap room are real
+    (calm_ticks net most_routes most_services (begun histories) (ticks ++ further) busy leave say) long services
+
+pub returns-clause-alone : goal.returns-clause-alone
+returns-clause-alone c net most_routes most_services histories ticks further is differ suffice cheap room are passes long =
+    alone_then c net most_routes most_services histories ticks further is differ suffice cheap room are passes long
+
+pub returns-clause-alone_sooner : goal.returns-clause-alone_sooner
+returns-clause-alone_sooner c net most_routes most_services histories ticks further is differ suffice cheap room are real none passes long =
+    alone_soon c net most_routes most_services histories ticks further is differ suffice cheap room are passes real none long
+
+pub returns-clause-minute : goal.returns-clause-minute
+returns-clause-minute c net most_routes most_services histories ticks further router number is differ suffice cheap room are passes long sixty on =
+    minute_then c net most_routes most_services histories ticks further is differ suffice cheap room are
+    (calm c net most_routes most_services histories ticks further is differ suffice cheap room are passes) router number
+    (ticks_of_upkeep c net most_routes most_services histories ticks further is differ suffice cheap room are passes) sixty on
+    (alone_then c net most_routes most_services histories ticks further is differ suffice cheap room are passes long)
+
+pub returns-clause-minute_meanwhile : goal.returns-clause-minute_meanwhile
+returns-clause-minute_meanwhile c net most_routes most_services histories ticks further router number is differ suffice cheap room are busy leave say of_upkeep sixty long on
+    services =
+    let all_calm = calm_ticks net most_routes most_services (begun histories) (ticks ++ further) busy leave say in
+    minute_then c net most_routes most_services histories ticks further is differ suffice cheap room are all_calm router number of_upkeep sixty on
+    (stay_then c net most_routes most_services histories ticks further is differ suffice cheap room are all_calm long services)

@@ -1,0 +1,57 @@
+use Rattle.std.proofs.Common.{refl, ◌∷◌, length}
+use Rattle.ipx_internet.specs.Run.{begun}
+use Rattle.ipx_internet.specs.Ticks.{ticked}
+use Rattle.ipx_internet.proofs.packets.SentOnOrReply.{Layouts}
+use Rattle.ipx_laws.specs.Ups.{ups}
+use Rattle.ipx_laws.proofs.laws.services.served.Goals as goal
+use Rattle.ipx_laws.proofs.services.ServicesBecomeReal.{all_real, all_away, none_known, from_quiet, from_any, AnyName, names_any}
+
+-- the laws of packets and routers
+layouts : goal.After-packets → Layouts
+layouts c = record {
+  readings = record {
+    packet_read = c.readings.ensures.packet_read;
+    packet_front = c.readings.ensures.packet_front;
+    rip_read = c.readings.ensures.rip_read;
+    sap_read = c.service_readings.ensures.sap_read;
+  };
+  again = record {
+    rip_packet_again = c.reread.ensures.rip_packet;
+    rip_again = c.reread.ensures.rip;
+    query_packet_again = c.reread.ensures.query_packet;
+    query_again = c.reread.ensures.query;
+    sap_packet_again = c.reread.ensures.sap_packet;
+    sap_again = c.reread.ensures.sap;
+    forwarded_again = c.reread.ensures.forwarded;
+    propagated_again = c.reread.ensures.propagated;
+  };
+  layouts = c.packets.ensures.layouts;
+  bytes = c.packets.ensures.bytes;
+}
+
+pub returns-clause-real : goal.returns-clause-real
+returns-clause-real c net most_routes most_services server histories ticks router is are busy leave say long within =
+    all_real net (layouts c) is most_routes most_services (ups net histories) server AnyName (length ticks) (ticked net most_routes most_services (begun histories) ticks)
+    (from_quiet net (layouts c) is most_routes most_services server AnyName (begun histories) ticks are refl busy leave say (names_any net server ticks)) long router within
+
+pub returns-clause-away : goal.returns-clause-away
+returns-clause-away c net most_routes most_services server histories ticks router is are busy leave say long within =
+    all_away net (layouts c) is most_routes most_services (ups net histories) server AnyName (length ticks) (ticked net most_routes most_services (begun histories) ticks)
+    (from_quiet net (layouts c) is most_routes most_services server AnyName (begun histories) ticks are refl busy leave say (names_any net server ticks)) long router within
+
+pub returns-clause-none : goal.returns-clause-none
+returns-clause-none c net most_routes most_services server histories ticks router is are busy leave say long within no_way =
+    none_known net (layouts c) is most_routes most_services (ups net histories) server AnyName (length ticks) (ticked net most_routes most_services (begun histories) ticks)
+    (from_quiet net (layouts c) is most_routes most_services server AnyName (begun histories) ticks are refl busy leave say (names_any net server ticks)) long router within no_way
+
+pub returns-clause-whatever_waits : goal.returns-clause-whatever_waits
+returns-clause-whatever_waits c net most_routes most_services server run first ticks router is are waits busy leave say long within =
+    all_real net (layouts c) is most_routes most_services (ups net run.histories) server AnyName (length ticks)
+    (ticked net most_routes most_services run (first ∷ ticks))
+    (from_any net (layouts c) is most_routes most_services server AnyName run first ticks are waits busy leave say (names_any net server ticks)) long router within
+
+pub returns-clause-whatever_waits_away : goal.returns-clause-whatever_waits_away
+returns-clause-whatever_waits_away c net most_routes most_services server run first ticks router is are waits busy leave say long within =
+    all_away net (layouts c) is most_routes most_services (ups net run.histories) server AnyName (length ticks)
+    (ticked net most_routes most_services run (first ∷ ticks))
+    (from_any net (layouts c) is most_routes most_services server AnyName run first ticks are waits busy leave say (names_any net server ticks)) long router within

@@ -1,0 +1,84 @@
+-- From where ticks begin that make all tables right: from any tables, from a run in which anything waits, and from real routes.
+use Rattle.std.proofs.Common.{◌≡◌, refl, subst, ℕ, suc, ◌+◌, ◌<◌, ◌≤◌, List, [], ◌∷◌, length, inl, inr, arith}
+use Rattle.std.specs.List.{AllByRecursion}
+use Rattle.std.proofs.lemmas.Bool.{cases_lt}
+use Rattle.ipx_wire.specs.declared.network.Network.{Network}
+use Rattle.ipx_router.specs.Facts.{routes_held, offers}
+use Rattle.ipx_router.specs.History.{History}
+use Rattle.ipx_internet.specs.BusyTick.{IsBusyTick}
+use Rattle.ipx_internet.specs.Internet.{Internet, IsInternet, NodesDiffer, ports_of}
+use Rattle.ipx_internet.specs.Queue.{history_of}
+use Rattle.ipx_internet.specs.Rounds.{IsDelivery}
+use Rattle.ipx_internet.specs.Run.{Step, Run, AreHistories, begun, run_of}
+use Rattle.ipx_internet.specs.Ticks.{ticked}
+use Rattle.ipx_internet.proofs.packets.SentOnOrReply.{Layouts}
+use Rattle.ipx_laws.specs.Gone.{most_ticks_gone}
+use Rattle.ipx_laws.specs.Least.{AreCheap, HasRoom, FifteenSuffice}
+use Rattle.ipx_laws.specs.Meanwhile.{LeavesPorts}
+use Rattle.ipx_laws.specs.Real.{IsReal}
+use Rattle.ipx_laws.specs.Ups.{ups}
+use Rattle.ipx_laws.proofs.tables.Given.{Given, given_of}
+use Rattle.ipx_laws.proofs.tables.LeastWays.{ups_within}
+use Rattle.ipx_laws.proofs.tables.RightWithinAMinute.{AtRest, at_first, ticks_rest_right}
+use Rattle.ipx_laws.proofs.ticks.FirstTickClears.{begins_after}
+use Rattle.ipx_laws.proofs.ticks.RealFromTheFirst.{rests_at_once}
+use Rattle.ipx_laws.proofs.ticks.TickAfterTick.{CalmTicks, Rests, tick_rests, quiet_rests}
+
+module _ (given : Given) where
+  open given use {net, laws, is, up, most_routes, most_services}
+
+  abbrev Rest : ℕ → Run → Type 0
+  Rest = AtRest given
+
+  climbs : (so_far : ℕ) (run : Run) (ticks : List (List Step)) → Rests net laws is most_routes most_services up so_far run → CalmTicks net most_routes most_services run ticks
+      → so_far ≤ most_ticks_gone → most_ticks_gone ≤ length ticks + so_far → Rest (length ticks + so_far) (ticked net most_routes most_services run ticks)
+  climbs so_far run [] rests are few long =
+      let same : so_far ≡ 0 + so_far = omega arith in
+      subst (λ (n : ℕ). Rest n run) same (at_first given so_far run few rests)
+  climbs so_far run (steps ∷ ticks) rests are few long = elim (cases_lt so_far most_ticks_gone) [
+    | inl less ↦
+        let next = run_of net most_routes most_services run steps in
+        let same : length ticks + suc so_far ≡ length (steps ∷ ticks) + so_far = omega arith in
+        subst (λ (n : ℕ). Rest n (ticked net most_routes most_services next ticks)) same
+        (climbs (suc so_far) next ticks (tick_rests net laws is most_routes most_services up so_far run steps rests are.0) are.1 (omega (arith, less)) (omega (arith, long)))
+    | inr full ↦
+        ticks_rest_right given so_far full run (steps ∷ ticks)
+        (at_first given so_far run few rests) are
+  ]
+
+  from_none : (run : Run) (ticks : List (List Step)) → Rests net laws is most_routes most_services up 0 run → CalmTicks net most_routes most_services run ticks
+      → most_ticks_gone ≤ length ticks → Rest (length ticks) (ticked net most_routes most_services run ticks)
+  from_none run ticks rests are long =
+      let count : length ticks + 0 ≡ length ticks = omega arith in
+      subst (λ (n : ℕ). Rest n (ticked net most_routes most_services run ticks)) count (climbs 0 run ticks rests are (omega arith) (omega (arith, long)))
+
+module _ (net : Internet) (laws : Layouts) (is : IsInternet net) (differ : NodesDiffer net) (cheap : AreCheap net) (most_routes most_services : ℕ)
+    (room : HasRoom net most_routes) (network : Network) where
+  module _ (histories : List History) (are : AreHistories net histories) (suffice : FifteenSuffice net (ups net histories) network) (ticks : List (List Step))
+      (calm : CalmTicks net most_routes most_services (begun histories) ticks) where
+    -- whatever is held
+    pub from_any : most_ticks_gone ≤ length ticks
+        → AtRest (given_of net laws is differ cheap (ups net histories) (ups_within net histories) most_routes most_services room network suffice) (length ticks)
+        (ticked net most_routes most_services (begun histories) ticks)
+    from_any long =
+        from_none (given_of net laws is differ cheap (ups net histories) (ups_within net histories) most_routes most_services room network suffice) (begun histories) ticks
+        (quiet_rests net laws is most_routes most_services (ups net histories) (begun histories) are (λ router. refl) refl) calm long
+
+    -- where all routes are real
+    pub from_real : ((other : ℕ) → other < length net
+        → AllByRecursion (IsReal net (ups net histories) other) (offers (routes_held (ports_of net other) most_routes (history_of histories other))))
+        → AtRest (given_of net laws is differ cheap (ups net histories) (ups_within net histories) most_routes most_services room network suffice) (length ticks + most_ticks_gone)
+        (ticked net most_routes most_services (begun histories) ticks)
+    from_real real =
+        climbs (given_of net laws is differ cheap (ups net histories) (ups_within net histories) most_routes most_services room network suffice) most_ticks_gone
+        (begun histories) ticks (rests_at_once net laws is most_routes most_services histories are real) calm (omega arith) (omega arith)
+
+  -- whatever waits: the first tick ends with nothing that waits
+  pub from_run : (run : Run) → AreHistories net run.histories → AllByRecursion (λ w. IsDelivery net w.delivery) run.waiting
+      → (suffice : FifteenSuffice net (ups net run.histories) network) (first : List Step) (ticks : List (List Step)) → IsBusyTick net most_routes most_services run first
+      → AllByRecursion LeavesPorts first → CalmTicks net most_routes most_services (run_of net most_routes most_services run first) ticks → most_ticks_gone ≤ length ticks
+      → AtRest (given_of net laws is differ cheap (ups net run.histories) (ups_within net run.histories) most_routes most_services room network suffice) (length ticks)
+      (ticked net most_routes most_services (run_of net most_routes most_services run first) ticks)
+  from_run run are waits suffice first ticks busy leaves calm long =
+      from_none (given_of net laws is differ cheap (ups net run.histories) (ups_within net run.histories) most_routes most_services room network suffice)
+      (run_of net most_routes most_services run first) ticks (begins_after net laws is most_routes most_services run are waits first busy leaves) calm long

@@ -1,0 +1,114 @@
+-- Whatever waits when ticks begin: the first of them ends with nothing that waits, and with the ports as they were.
+use Rattle.std.proofs.Common.{◌≡◌, sym, ◌∙◌, subst, refl, ℕ, ◌+◌, ◌<◌, ◌≤◌, false, List, [], ◌∷◌, length, map, arith}
+use Rattle.std.specs.List.{AllByRecursion}
+use Rattle.ipx_router.specs.History.{Event, History, Start, Stop, Second, Packet, PortDown, PortUp, is_start, is_stop, takes_down, brings_up, ports_up}
+use Rattle.ipx_router.proofs.histories.OneEventMore.{ports_stay}
+use Rattle.ipx_internet.specs.BusyTick.{IsBusyTick}
+use Rattle.ipx_internet.specs.Internet.{Internet, IsInternet, ports_of}
+use Rattle.ipx_internet.specs.Queue.{Delivery, Queued, history_of, with_event, settled_one}
+use Rattle.ipx_internet.specs.Rounds.{IsDelivery}
+use Rattle.ipx_internet.specs.Run.{Step, Happens, Settles, IsStep, AreHistories, Run, forgotten, stepped, run_of}
+use Rattle.ipx_internet.specs.Ticks.{AreTicks, ticked}
+use Rattle.ipx_internet.proofs.deliveries.QueueOfARun.{deliveries}
+use Rattle.ipx_internet.proofs.packets.SentOnOrReply.{Layouts}
+use Rattle.ipx_internet.proofs.ticks.TickCanBeHad.{Sound, step_sound, steps_sound, sound_run}
+use Rattle.ipx_internet.proofs.trees.RunIsALog.{router_there}
+use Rattle.ipx_laws.specs.Gone.{most_ticks_gone}
+use Rattle.ipx_laws.specs.Meanwhile.{LeavesPorts}
+use Rattle.ipx_laws.specs.Ups.{ups}
+use Rattle.ipx_laws.proofs.ticks.BusyTickAfterTick.{each_so}
+use Rattle.ipx_laws.proofs.ticks.TickAfterTick.{Rests, quiet_rests, ticks_rest, quiet_tick, quiet_ticks}
+
+module _ (net : Internet) (laws : Layouts) (is : IsInternet net) (most_routes most_services : ℕ) where
+  -- ---- ports
+
+  module _ (up : ℕ → List ℕ) where
+    abbrev pub Stay : List History → Type 0
+    Stay histories = (router : ℕ) → ups net histories router ≡ up router
+
+    -- an event that changes no port
+    stay_so : (histories : List History) (router : ℕ) (event : Event) → router < length histories → is_start event ≡ false → is_stop event ≡ false
+        → ((port : ℕ) → takes_down port event ≡ false) → ((port : ℕ) → brings_up port event ≡ false) → Stay histories → Stay (with_event histories router event)
+    stay_so histories router event listed no_start on untaken unbrought stay other =
+        each_so (λ k h. ports_up (ports_of net k) h ≡ up k) histories router event listed other
+        (λ same. ports_stay (ports_of net router) (history_of histories router) event no_start on untaken unbrought ∙ stay router) (λ off. stay other)
+
+    pub record Kept (q : Queued) : Type 0 where
+      pub sound : Sound net laws is most_routes most_services q
+      pub stay : Stay q.histories
+
+    happens_stay : (histories : List History) (router : ℕ) (event : Event) → AreHistories net histories → router < length net → LeavesPorts (Happens router event)
+        → Stay histories → Stay (with_event histories router event)
+    happens_stay histories router Second are within leaves stay =
+        let each = are.each in
+        stay_so histories router Second (omega (arith, each, within)) refl refl (λ port. refl) (λ port. refl) stay
+    happens_stay histories router (Packet number bytes) are within leaves stay =
+        let each = are.each in
+        stay_so histories router (Packet number bytes) (omega (arith, each, within)) refl refl (λ port. refl) (λ port. refl) stay
+    happens_stay histories router Start are within leaves stay = absurd leaves
+    happens_stay histories router Stop are within leaves stay = absurd leaves
+    happens_stay histories router (PortDown number) are within leaves stay = absurd leaves
+    happens_stay histories router (PortUp number) are within leaves stay = absurd leaves
+
+    settles_stay : (histories : List History) (queue : List Delivery) → Kept (record { histories = histories; queue = queue })
+        → Stay (settled_one net most_routes most_services (record { histories = histories; queue = queue })).histories
+    settles_stay histories [] kept = kept.stay
+    settles_stay histories (d ∷ queue) kept =
+        let each = kept.sound.are.each in
+        let there = router_there net d.to.router d.to.port kept.sound.waits.0.place in
+        stay_so histories d.to.router (Packet d.to.port d.bytes) (omega (arith, each, there)) refl refl (λ port. refl) (λ port. refl) kept.stay
+
+    step_stays : (run : Run) (step : Step) → IsStep net step → LeavesPorts step → Kept (forgotten run) → Stay (stepped net most_routes most_services run step).histories
+    step_stays run (Happens router event) is_step leaves kept = happens_stay run.histories router event kept.sound.are is_step.0 leaves kept.stay
+    step_stays run Settles is_step leaves kept =
+        subst (λ (q : Queued). Stay q.histories) (sym (deliveries net most_routes most_services run))
+        (settles_stay run.histories (map (λ w. w.delivery) run.waiting) kept)
+
+    pub steps_keep : (run : Run) (steps : List Step) → AllByRecursion (IsStep net) steps → AllByRecursion LeavesPorts steps → Kept (forgotten run)
+        → Kept (forgotten (run_of net most_routes most_services run steps))
+    steps_keep run [] all leave kept = kept
+    steps_keep run (step ∷ steps) all leave kept =
+        steps_keep (stepped net most_routes most_services run step) steps all.1 leave.1 (record {
+          sound = step_sound net laws is most_routes most_services run step all.0 kept.sound;
+          stay = step_stays run step all.0 leave.0 kept;
+        })
+
+  module _ (run : Run) (are : AreHistories net run.histories) (waits : AllByRecursion (λ w. IsDelivery net w.delivery) run.waiting) where
+    begins : Sound net laws is most_routes most_services (forgotten run)
+    begins = sound_run net laws is most_routes most_services run are waits
+
+    -- ---- ticks
+
+    pub begins_after : (first : List Step) → IsBusyTick net most_routes most_services run first → AllByRecursion LeavesPorts first
+        → Rests net laws is most_routes most_services (ups net run.histories) 0 (run_of net most_routes most_services run first)
+    begins_after first busy leaves =
+        let next = run_of net most_routes most_services run first in
+        let kept = steps_keep (ups net run.histories) run first busy.happens leaves (record { sound = begins; stay = λ router. refl }) in
+        quiet_rests net laws is most_routes most_services (ups net run.histories) next kept.sound.are kept.stay busy.quiet
+
+    pub rests_from : (first : List Step) (ticks : List (List Step)) → AreTicks net most_routes most_services run (first ∷ ticks)
+        → Rests net laws is most_routes most_services (ups net run.histories) (length ticks) (ticked net most_routes most_services run (first ∷ ticks))
+    rests_from first ticks passes =
+        let next = run_of net most_routes most_services run first in
+        let calm = quiet_tick net most_routes most_services laws is run first passes.0 in
+        let count : length ticks + 0 ≡ length ticks = omega arith in
+        subst (λ (n : ℕ). Rests net laws is most_routes most_services (ups net run.histories) n (ticked net most_routes most_services next ticks)) count
+        (ticks_rest net laws is most_routes most_services (ups net run.histories) 0 next ticks (begins_after first calm.busy calm.leaves)
+        (quiet_ticks net most_routes most_services laws is next ticks passes.1))
+
+    pub record RestsLong (last : Run) : Type 0 where
+      pub count : ℕ
+      pub long : most_ticks_gone ≤ count
+      pub rests : Rests net laws is most_routes most_services (ups net run.histories) count last
+
+    -- after one tick more than where nothing waits
+    pub rests_later : (ticks : List (List Step)) → AreTicks net most_routes most_services run ticks → most_ticks_gone < length ticks
+        → RestsLong (ticked net most_routes most_services run ticks)
+    rests_later [] passes long = absurd (omega (arith, long))
+    rests_later (first ∷ ticks) passes long = record { count = length ticks; long = omega (arith, long); rests = rests_from first ticks passes }
+
+    -- ---- busy ticks
+
+    pub are_after : (first : List Step) → IsBusyTick net most_routes most_services run first
+        → AreHistories net (run_of net most_routes most_services run first).histories
+    are_after first tick = (steps_sound net laws is most_routes most_services run first tick.happens begins).are

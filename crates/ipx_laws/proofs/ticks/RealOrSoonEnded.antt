@@ -1,0 +1,239 @@
+-- What a router has and says while time passes and packets come: routes are of real ways, or so old that they soon end, and what it says of
+-- them too.
+use Rattle.std.proofs.Common.{◌≡◌, ◌≢◌, refl, sym, ◌∙◌, subst, ◌⊎◌, ℕ, suc, ◌+◌, ◌*◌, ◌<◌, ◌≤◌, ◌==◌, true, false, List, [], ◌∷◌, ◌++◌, map, Option, Some, None, Ok, inl, inr, arith, append-nil, true≢false}
+use Rattle.std.specs.List.{AllByRecursion}
+use Rattle.std.proofs.lemmas.Bool.{cases_Bool, eqb-false}
+use Rattle.ipx_table.specs.Facts.{Fact}
+use Rattle.ipx_wire.specs.Packet.{Parts, packet_of}
+use Rattle.ipx_wire.specs.declared.rip.Operation.TheVariants.{Response}
+use Rattle.ipx_wire.specs.declared.rip.RipEntry.{RipEntry}
+use Rattle.ipx_table.specs.Alive.{lifetime}
+use Rattle.ipx_router.specs.Facts.{route_offer, routes_offered, routes_heard, heard_after, route_facts, route_facts_of, routes_held, offers}
+use Rattle.ipx_router.specs.Heard.{Heard, HeardRip, heard_in}
+use Rattle.ipx_router.specs.History.{History, Second, Packet, running, ports_up}
+use Rattle.ipx_router.specs.News.{news}
+use Rattle.ipx_router.specs.Numbers.{unreachable}
+use Rattle.ipx_router.specs.Port.{Port, port_at, is_up, takes_no_route, own_address}
+use Rattle.ipx_router.specs.Routes.{route_reading, network_order}
+use Rattle.ipx_router.specs.Told.{told, told_at, direct_entry, entry_of, dead}
+use Rattle.ipx_router.specs.declared.route_offer.RouteOffer.{RouteOffer}
+use Rattle.ipx_router.proofs.bounds.PacketsOfEachEvent.{network_total}
+use Rattle.ipx_router.proofs.lists.EachElement.{all_both}
+use Rattle.ipx_router.proofs.histories.OneEventMore.{ports_stay, none_up}
+use Rattle.ipx_router.proofs.tables.OffersOfAMessage.{facts_from-more}
+use Rattle.ipx_router.proofs.tables.HeldWasOffered.{came_in, heard_up}
+use Rattle.ipx_router.proofs.tables.HeldCameByPortsUp.{held_routes_up}
+use Rattle.ipx_internet.specs.Internet.{Internet, Place, ports_of, port_of, network_of}
+use Rattle.ipx_internet.specs.Queue.{Delivery}
+use Rattle.ipx_internet.specs.Rounds.{IsDelivery}
+use Rattle.ipx_internet.proofs.lists.EachElement.{all_then}
+use Rattle.ipx_internet.proofs.lists.FoundInAList.{it_is}
+use Rattle.ipx_internet.proofs.packets.AdvertisedIsHeld.{told_all, news_told}
+use Rattle.ipx_internet.proofs.records.KeptOrOffered.{OffersOf}
+use Rattle.ipx_laws.specs.Meanwhile.{message_of, TellsNoRoute}
+use Rattle.ipx_laws.specs.Real.{IsReal, next, farther}
+use Rattle.ipx_laws.proofs.packets.RoutesOrSilence.{Silent, IsOwnPage, own_heard, near_in, silent_offers}
+use Rattle.ipx_laws.proofs.packets.SentOnSaysTheSame.{heard_message}
+use Rattle.ipx_laws.proofs.records.RecordsGrowOld.{Aged, IsOldOffer, IsOldHeld, at_first, where_none, after_second, after_offers, old_held}
+
+module _ (net : Internet) (up : ℕ → List ℕ) where
+  -- ---- what is said
+
+  -- a port that receives what is sent on a port that is up
+  pub record Reaches (from to : Place) : Type 0 where
+    pub other : to.router ≢ from.router
+    pub network : network_of net to ≡ network_of net from
+    pub on : is_up (up from.router) from.port ≡ true
+
+  -- and hears of such an entry: the port is up, and its router takes routes to that network
+  pub record Hears (to : Place) (e : RipEntry) : Type 0 where
+    pub up_here : is_up (up to.router) to.port ≡ true
+    pub wanted : takes_no_route (ports_of net to.router) e.network ≡ false
+
+  -- an entry that is sent on a port, when so many ticks have begun: if it is alive, then whoever learns of it has a route of a real
+  -- way, or it was said soon enough
+  abbrev pub RouteSaid : ℕ → Place → RipEntry → Type 0
+  RouteSaid begun from e =
+      e.hops < unreachable
+      → ((to : Place) → Reaches from to → Hears to e → IsReal net up to.router (route_offer to.port (port_of net from).node e)) ⊎ (begun ≤ lifetime * e.hops)
+
+  -- what a port says that reaches another one: a page of such entries, or what tells of no route
+  abbrev pub Comes : (Place → RipEntry → Type 0) → Place → List ℕ → Type 0
+  Comes P to bytes = ((from : Place) × Reaches from to × IsOwnPage (P from) (port_of net from) bytes) ⊎ Silent bytes
+
+  -- what waits for a port
+  pub record Arrives (begun : ℕ) (d : Delivery) : Type 0 where
+    pub delivery : IsDelivery net d
+    pub says : Comes (RouteSaid begun) d.to d.bytes
+
+  module _ (most_routes router : ℕ) where
+    abbrev pub ports : List Port
+    ports = ports_of net router
+
+    abbrev RoutesAged : ℕ → List (Fact RouteOffer) → Type 0
+    RoutesAged = Aged route_reading network_order network_total most_routes (map (λ p. p.route_share) ports) (λ r. r.hops) (λ r. refl) (IsReal net up router)
+
+    -- what a router has that had so many seconds
+    pub record Endures (had : ℕ) (history : History) : Type 0 where
+      pub routes : RoutesAged had (route_facts ports history)
+      pub ups : ports_up ports history ≡ up router
+
+    pub at_begin : (history : History) → ports_up ports history ≡ up router → Endures 0 history
+    at_begin history same = record {
+      routes =
+          at_first route_reading network_order network_total most_routes (map (λ p. p.route_share) ports) (λ r. r.hops) (λ r. refl) (IsReal net up router)
+          (route_facts ports history);
+      ups = same;
+    }
+
+    -- ---- a second
+
+    module _ (had : ℕ) (history : History) (endures : Endures had history) where
+      -- nothing is held by a port that isn't up
+      no_port : (ups : List ℕ) (port : ℕ) → ups ≡ [] → is_up ups port ≡ true → ⊥
+      no_port ups port none on =
+          let none_on : is_up [] port ≡ true = subst (λ (us : List ℕ). is_up us port ≡ true) none on in
+          true≢false (sym none_on)
+
+      second_routes : RoutesAged (suc had) (route_facts ports (history ++ Second ∷ []))
+      second_routes =
+          let facts = route_facts ports history in
+          subst (λ (fs : List (Fact RouteOffer)). RoutesAged (suc had) fs) (sym (facts_from-more (route_facts_of ports) [] history Second))
+          (elim (cases_Bool (running history)) [
+            | inl runs ↦
+                rw runs (after_second route_reading network_order network_total most_routes (map (λ p. p.route_share) ports) (λ r. r.hops) (λ r. refl)
+                (IsReal net up router) had facts endures.routes)
+            | inr stopped ↦
+                let none = none_up ports history stopped in
+                rw stopped (subst (λ (fs : List (Fact RouteOffer)). RoutesAged (suc had) fs) (sym (append-nil facts))
+                (where_none route_reading network_order network_total most_routes (map (λ p. p.route_share) ports) (λ r. r.hops) (λ r. refl) (IsReal net up router)
+                (suc had) facts
+                (all_then (λ r. is_up (ports_up ports history) r.port ≡ true) (λ r. ⊥) (λ r on. no_port (ports_up ports history) r.port none on)
+                (offers (routes_held ports most_routes history)) (held_routes_up ports most_routes history))))
+          ])
+
+      pub second_endures : Endures (suc had) (history ++ Second ∷ [])
+      second_endures = record {
+        routes = second_routes;
+        ups = ports_stay ports history Second refl refl (λ port. refl) (λ port. refl) ∙ endures.ups;
+      }
+
+    -- a router with a port up runs
+    pub runs_where : (port had : ℕ) (history : History) → is_up (up router) port ≡ true → Endures had history → running history ≡ true
+    runs_where port had history here endures = elim (cases_Bool (running history)) [
+      | inl runs ↦ runs
+      | inr stopped ↦ absurd (no_port had history endures (up router) port (sym endures.ups ∙ none_up ports history stopped) here)
+    ]
+
+    -- ---- a packet
+
+    module _ (had begun : ℕ) (number : ℕ) (bytes : List ℕ) (late : had ≤ begun) (says : Comes (RouteSaid begun) (record { router = router; port = number }) bytes) where
+      abbrev RouteOld : RouteOffer → Type 0
+      RouteOld =
+          IsOldOffer route_reading network_order network_total most_routes (map (λ p. p.route_share) ports) (λ r. r.hops) (λ r. refl) (IsReal net up router) had
+
+      routes_old : (from : Place) → Reaches from (record { router = router; port = number }) → is_up (up router) number ≡ true → (entries : List RipEntry)
+          → AllByRecursion (RouteSaid begun from) entries → AllByRecursion (OffersOf RouteOld) (routes_offered ports number (port_of net from).node entries)
+      routes_old from reaches on [] all = tt
+      routes_old from reaches on (e ∷ entries) all = elim (cases_Bool (takes_no_route ports e.network)) [
+        | inl none ↦ rw none (routes_old from reaches on entries all.1)
+        | inr taken ↦ rw taken ((λ near. one taken (all.0 near)), routes_old from reaches on entries all.1)
+      ]
+        where
+          one : takes_no_route ports e.network ≡ false
+              → ((to : Place) → Reaches from to → Hears to e → IsReal net up to.router (route_offer to.port (port_of net from).node e)) ⊎ (begun ≤ lifetime * e.hops)
+              → IsReal net up router (route_offer number (port_of net from).node e) ⊎ (had ≤ lifetime * e.hops)
+          one wanted (inl real) = inl (real (record { router = router; port = number }) reaches (record { up_here = on; wanted = wanted }))
+          one wanted (inr soon) = inr (omega (arith, soon, late))
+
+      abbrev OldHeard : Heard → Type 0
+      OldHeard m = AllByRecursion (OffersOf RouteOld) (routes_heard ports number (Some m))
+
+      silent_old : (m : Heard) → TellsNoRoute m → OldHeard m
+      silent_old m silent = subst (λ (fs : List (Fact RouteOffer)). AllByRecursion (OffersOf RouteOld) fs) (sym (silent_offers ports number m silent)) tt
+
+      page_old : is_up (up router) number ≡ true → (p : Parts) (m : Heard) → packet_of bytes ≡ Ok p → heard_in p ≡ Some m → message_of bytes ≡ Some m
+          → Comes (RouteSaid begun) (record { router = router; port = number }) bytes → OldHeard m
+      page_old on p m read e message (inr silent) = silent_old m (silent m message)
+      page_old on p m read e message (inl (from, reaches, own)) =
+          let port = port_of net from in
+          elim (own_heard (RouteSaid begun from) port bytes own p m read e) [
+            | inl page ↦
+                it_is OldHeard m (HeardRip (own_address port) (record { operation = Response; entries = own.page.page })) page
+                (routes_old from reaches on own.page.page own.page.each)
+            | inr silent ↦ silent_old m silent
+          ]
+
+      module _ (history : History) (endures : Endures had history) where
+        abbrev heard_now : Option Heard
+        heard_now = heard_after ports history number bytes
+
+        old_heard : (o : Option Heard) → heard_now ≡ o → AllByRecursion (OffersOf RouteOld) (routes_heard ports number o)
+        old_heard None e = tt
+        old_heard (Some m) e =
+            let came = came_in ports (ports_up ports history) number (running history) bytes m e in
+            let on = subst (λ (us : List ℕ). is_up us number ≡ true) endures.ups (heard_up ports (ports_up ports history) number (running history) bytes m e) in
+            page_old on came.packet m came.read (near_in (port_at ports number) came.packet m came.near) (heard_message ports history number bytes m e) says
+
+        pub packet_endures : Endures had (history ++ Packet number bytes ∷ [])
+        packet_endures = record {
+          routes =
+              subst (λ (fs : List (Fact RouteOffer)). RoutesAged had fs) (sym (facts_from-more (route_facts_of ports) [] history (Packet number bytes)))
+              (after_offers route_reading network_order network_total most_routes (map (λ p. p.route_share) ports) (λ r. r.hops) (λ r. refl) (IsReal net up router)
+              had (routes_heard ports number heard_now) (route_facts ports history) (old_heard heard_now refl) endures.routes);
+          ups = ports_stay ports history (Packet number bytes) refl refl (λ port. refl) (λ port. refl) ∙ endures.ups;
+        }
+
+    -- ---- what it says
+
+    module _ (had begun : ℕ) (soon : begun ≤ had + 1) (history : History) (endures : Endures had history) where
+      abbrev place : ℕ → Place
+      place j = record { router = router; port = j }
+
+      abbrev RouteHeld : RouteOffer → Type 0
+      RouteHeld r =
+          IsOldHeld route_reading network_order network_total most_routes (map (λ p. p.route_share) ports) (λ r. r.hops) (λ r. refl) (IsReal net up router) had r
+          × (is_up (up router) r.port ≡ true)
+
+      routes_are : AllByRecursion RouteHeld (offers (routes_held ports most_routes history))
+      routes_are =
+          let all = offers (routes_held ports most_routes history) in
+          all_both
+          (IsOldHeld route_reading network_order network_total most_routes (map (λ p. p.route_share) ports) (λ r. r.hops) (λ r. refl) (IsReal net up router) had)
+          (λ r. is_up (up router) r.port ≡ true) all
+          (old_held route_reading network_order network_total most_routes (map (λ p. p.route_share) ports) (λ r. r.hops) (λ r. refl) (IsReal net up router) had
+          (route_facts ports history) endures.routes)
+          (subst (λ (us : List ℕ). AllByRecursion (λ r. is_up us r.port ≡ true) all) endures.ups (held_routes_up ports most_routes history))
+
+      -- the network of another port
+      beside : (j other : ℕ) → is_up (up router) other ≡ true → (other == j) ≡ false
+          → RouteSaid begun (place j) (told_at (port_at ports j).cost (direct_entry ports other))
+      beside j other on apart near =
+          inl (λ to reaches hears. next (place j) other on (eqb-false other j apart)
+          (record { other = reaches.other; here = hears.up_here; there = reaches.on; network = reaches.network; wanted = hears.wanted; offer = refl }))
+
+      -- a route that was learned elsewhere
+      learned_said : (j : ℕ) (r : RouteOffer) → RouteHeld r → (r.port == j) ≡ false → RouteSaid begun (place j) (told_at (port_at ports j).cost (entry_of r))
+      learned_said j r held apart near = by held.0.0
+        where
+          e : RipEntry
+          e = told_at (port_at ports j).cost (entry_of r)
+
+          by : IsReal net up router r ⊎ (had < lifetime * (r.hops + 1))
+              → ((to : Place) → Reaches (place j) to → Hears to e → IsReal net up to.router (route_offer to.port (port_of net (place j)).node e)) ⊎ (begun ≤ lifetime * e.hops)
+          by (inr old) = inr (omega (arith, old, soon))
+          by (inl real) =
+              inl (λ to reaches hears. farther (place j) r (eqb-false r.port j apart)
+              (record { other = reaches.other; here = hears.up_here; there = reaches.on; network = reaches.network; wanted = hears.wanted; offer = refl }) near real)
+
+      ended_said : (j : ℕ) (e : RipEntry) → RouteSaid begun (place j) (dead e)
+      ended_said j e near = absurd (omega (arith, near))
+
+      pub routes_said : (j : ℕ) → AllByRecursion (RouteSaid begun (place j)) (told ports (up router) (offers (routes_held ports most_routes history)) j)
+      routes_said j =
+          told_all ports (up router) (λ j. RouteSaid begun (place j)) RouteHeld beside learned_said ended_said (offers (routes_held ports most_routes history)) routes_are j
+
+      pub changes_said : (before : List RouteOffer) (j : ℕ) → AllByRecursion (RouteSaid begun (place j)) (news ports before (offers (routes_held ports most_routes history)) j)
+      changes_said before j =
+          news_told ports (up router) (λ j. RouteSaid begun (place j)) RouteHeld beside learned_said ended_said before (offers (routes_held ports most_routes history))
+          routes_are j

@@ -1,0 +1,26 @@
+-- Departure
+pub mod Departure
+-- Ups, Gone
+pub mod Ups
+pub mod Gone
+-- Meanwhile
+pub mod Meanwhile
+-- Announces
+pub mod Announces
+-- Servers, Regular
+pub mod Servers
+pub mod Regular
+-- Nearest
+pub mod Nearest
+-- Real
+pub mod Real
+-- Least
+pub mod Least
+-- Tables, Losses, Gains
+pub mod Tables
+pub mod Losses
+pub mod Gains
+-- Arriving
+pub mod Arriving
+-- Upkeep
+pub mod Upkeep

@@ -1,0 +1,253 @@
+//! What holds of services while hosts announce them, in every internet.
+ghost use Rattle.std.specs.Prelude.{◌≡◌, ◌≢◌, ℕ, suc, ◌<◌, ◌≤◌, true, List, [], ◌∷◌, ◌++◌, length, Some, slice_get};
+ghost use Rattle.std.specs.List.{AllByRecursion};
+ghost use Rattle.ipx_wire.specs.Piece.{IsBytes};
+ghost use Rattle.ipx_wire.specs.declared.address.Address.{Address};
+ghost use Rattle.ipx_wire.specs.declared.sap.Sap.TheVariants.{Query};
+ghost use Rattle.ipx_router.specs.Facts.{heard_after, services_held, offers};
+ghost use Rattle.ipx_router.specs.Heard.{HeardSap};
+ghost use Rattle.ipx_router.specs.History.{History, Packet};
+ghost use Rattle.ipx_router.specs.Numbers.{every_service, unreachable};
+ghost use Rattle.ipx_router.specs.Port.{is_up};
+ghost use Rattle.ipx_internet.specs.BusyTick.{IsBusyTick};
+ghost use Rattle.ipx_internet.specs.Internet.{Internet, Place, IsInternet, NodesDiffer, ports_of, network_of};
+ghost use Rattle.ipx_internet.specs.Queue.{history_of, sends_at};
+ghost use Rattle.ipx_internet.specs.Rounds.{IsDelivery};
+ghost use Rattle.ipx_internet.specs.Run.{Step, AreHistories, Run, begun, run_of};
+ghost use Rattle.ipx_internet.specs.Ticks.{ticked};
+ghost use Rattle.ipx_laws.specs.Gone.{most_ticks_gone};
+ghost use Rattle.ipx_laws.specs.Least.{most_ticks_right};
+ghost use Rattle.ipx_laws.specs.Meanwhile.{LeavesPorts, SaysOnly, EachTick};
+ghost use Rattle.ipx_laws.specs.Nearest.{LeadsElsewhere, IsAnswered};
+ghost use Rattle.ipx_laws.specs.Regular.{HaveOneVoice, HasRoomFor, IsListedName, AreInTime, NoneNearer, most_ticks_known};
+ghost use Rattle.ipx_laws.specs.Servers.{Announcer, Server, IsOf, at_hops, known_of, SaysNoFalse, NamesOnly, IsServed, IsAway, IsFewest};
+ghost use Rattle.ipx_laws.specs.Ups.{ups};
+
+/// What routers have of a service becomes true of it, whatever they had before: after 2,880 ticks each router has it as a host announces it
+/// on one of its networks, or as a neighbour passes it on that may know it so (`real`). So it has the service's address, and as many hops
+/// as a way to one of those hosts, fewer than 16 (`away`): nobody has it nearer than it is. A router without such a way hasn't got it
+/// (`none`).
+///
+/// In these ticks seconds pass, deliveries happen, and packets come from outside; nobody starts or stops, and no port goes down or comes
+/// up. A service is known by its type and its name. A packet from outside that names it comes where a host announces it: its source has
+/// that host's node, its destination is that network (0 means it too), and address and hops are as that host announces them. No request for
+/// routes is answered to the socket of SAP. Hosts may say anything else, and nothing is asked of how many routers there are, of nodes,
+/// costs or room. Whatever waits when the ticks begin, one tick more is enough, in which hosts may say anything (`whatever_waits`,
+/// `whatever_waits_away`).
+pub fn served()
+    ensures real { (net : Internet) (most_routes most_services : ℕ) (server : Server) (histories : List History) (ticks : List (List Step)) (router : ℕ)
+        → IsInternet net → AreHistories net histories
+        → EachTick net most_routes most_services (IsBusyTick net most_routes most_services) (begun histories) ticks
+        → AllByRecursion (AllByRecursion LeavesPorts) ticks → AllByRecursion (AllByRecursion (SaysNoFalse net server)) ticks
+        → most_ticks_gone ≤ length ticks → router < length net
+        → AllByRecursion (λ s. IsOf server s.service → IsServed net (ups net histories) server router s)
+        (offers (services_held (ports_of net router) most_services (history_of (ticked net most_routes most_services (begun histories) ticks).histories router))) }
+    ensures away { (net : Internet) (most_routes most_services : ℕ) (server : Server) (histories : List History) (ticks : List (List Step)) (router : ℕ)
+        → IsInternet net → AreHistories net histories
+        → EachTick net most_routes most_services (IsBusyTick net most_routes most_services) (begun histories) ticks
+        → AllByRecursion (AllByRecursion LeavesPorts) ticks → AllByRecursion (AllByRecursion (SaysNoFalse net server)) ticks
+        → most_ticks_gone ≤ length ticks → router < length net
+        → AllByRecursion
+        (λ s. IsOf server s.service → (s.service ≡ at_hops server s.service.hops) × (s.service.hops < unreachable)
+        × IsAway net (ups net histories) server router s.service.hops)
+        (offers (services_held (ports_of net router) most_services (history_of (ticked net most_routes most_services (begun histories) ticks).histories router))) }
+    ensures none { (net : Internet) (most_routes most_services : ℕ) (server : Server) (histories : List History) (ticks : List (List Step)) (router : ℕ)
+        → IsInternet net → AreHistories net histories
+        → EachTick net most_routes most_services (IsBusyTick net most_routes most_services) (begun histories) ticks
+        → AllByRecursion (AllByRecursion LeavesPorts) ticks → AllByRecursion (AllByRecursion (SaysNoFalse net server)) ticks
+        → most_ticks_gone ≤ length ticks → router < length net
+        → ((hops : ℕ) → IsAway net (ups net histories) server router hops → hops < unreachable → ⊥)
+        → AllByRecursion (λ s. IsOf server s.service → ⊥)
+        (offers (services_held (ports_of net router) most_services (history_of (ticked net most_routes most_services (begun histories) ticks).histories router))) }
+    ensures whatever_waits { (net : Internet) (most_routes most_services : ℕ) (server : Server) (run : Run) (first : List Step) (ticks : List (List Step)) (router : ℕ)
+        → IsInternet net → AreHistories net run.histories → AllByRecursion (λ w. IsDelivery net w.delivery) run.waiting
+        → EachTick net most_routes most_services (IsBusyTick net most_routes most_services) run (first ∷ ticks)
+        → AllByRecursion (AllByRecursion LeavesPorts) (first ∷ ticks) → AllByRecursion (AllByRecursion (SaysNoFalse net server)) ticks
+        → most_ticks_gone ≤ length ticks → router < length net
+        → AllByRecursion (λ s. IsOf server s.service → IsServed net (ups net run.histories) server router s)
+        (offers (services_held (ports_of net router) most_services (history_of (ticked net most_routes most_services run (first ∷ ticks)).histories router))) }
+    ensures whatever_waits_away { (net : Internet) (most_routes most_services : ℕ) (server : Server) (run : Run) (first : List Step) (ticks : List (List Step)) (router : ℕ)
+        → IsInternet net → AreHistories net run.histories → AllByRecursion (λ w. IsDelivery net w.delivery) run.waiting
+        → EachTick net most_routes most_services (IsBusyTick net most_routes most_services) run (first ∷ ticks)
+        → AllByRecursion (AllByRecursion LeavesPorts) (first ∷ ticks) → AllByRecursion (AllByRecursion (SaysNoFalse net server)) ticks
+        → most_ticks_gone ≤ length ticks → router < length net
+        → AllByRecursion
+        (λ s. IsOf server s.service → (s.service ≡ at_hops server s.service.hops) × (s.service.hops < unreachable)
+        × IsAway net (ups net run.histories) server router s.service.hops)
+        (offers (services_held (ports_of net router) most_services (history_of (ticked net most_routes most_services run (first ∷ ticks)).histories router))) }
+{
+    ipx_wire::laws::readings();
+    ipx_wire::laws::service_readings();
+    ipx_wire::laws::reread();
+    ipx_router::laws::packets();
+}
+
+/// A router beside the nearest of the hosts that announce a service has it, at its address, with that host's hops, fewer than 16, from the
+/// 2,940th tick on, whatever it had before: 60 ticks after what routers have of it is true (`served`), the time in which each host is heard
+/// once (`has`). Of two hosts that are as near it is one. Whatever waits when the ticks begin, one tick more is enough, in which hosts may
+/// say anything (`whatever_waits`).
+///
+/// Beside `served` it asks for this. Each host that announces the service is heard in any 60 of these ticks, on every port of its network
+/// that is up, and one node on one network says one number of hops. Packets from outside name listed services alone, this one among them,
+/// and every table has room for all that are listed, and so has the share of each port. The router has a port up on that host's network,
+/// and no host says the service with fewer hops.
+pub fn beside()
+    ensures has { (net : Internet) (most_routes most_services : ℕ) (server : Server) (names : List (ℕ × List ℕ)) (histories : List History) (ticks : List (List Step))
+        (place : Place) (which : ℕ) (host : Announcer)
+        → IsInternet net → AreHistories net histories → HaveOneVoice server → HasRoomFor net most_services names → IsListedName names (server.kind, server.name)
+        → EachTick net most_routes most_services (IsBusyTick net most_routes most_services) (begun histories) ticks
+        → AllByRecursion (AllByRecursion LeavesPorts) ticks → AllByRecursion (AllByRecursion (SaysNoFalse net server)) ticks
+        → AllByRecursion (AllByRecursion (SaysOnly (NamesOnly (IsListedName names)))) ticks
+        → AreInTime net most_routes most_services server (ups net histories) (begun histories) ticks → most_ticks_right ≤ length ticks
+        → place.router < length net → is_up (ups net histories place.router) place.port ≡ true
+        → slice_get server.announcers which ≡ Some host → network_of net place ≡ host.network → host.hops < unreachable
+        → ((number : ℕ) (other : Announcer) → slice_get server.announcers number ≡ Some other → host.hops ≤ other.hops)
+        → known_of server (offers (services_held (ports_of net place.router) most_services
+        (history_of (ticked net most_routes most_services (begun histories) ticks).histories place.router)))
+        ≡ Some (at_hops server host.hops) }
+    ensures whatever_waits { (net : Internet) (most_routes most_services : ℕ) (server : Server) (names : List (ℕ × List ℕ)) (run : Run) (first : List Step)
+        (ticks : List (List Step)) (place : Place) (which : ℕ) (host : Announcer)
+        → IsInternet net → AreHistories net run.histories → AllByRecursion (λ w. IsDelivery net w.delivery) run.waiting
+        → HaveOneVoice server → HasRoomFor net most_services names → IsListedName names (server.kind, server.name)
+        → EachTick net most_routes most_services (IsBusyTick net most_routes most_services) run (first ∷ ticks)
+        → AllByRecursion (AllByRecursion LeavesPorts) (first ∷ ticks) → AllByRecursion (AllByRecursion (SaysNoFalse net server)) ticks
+        → AllByRecursion (AllByRecursion (SaysOnly (NamesOnly (IsListedName names)))) ticks
+        → AreInTime net most_routes most_services server (ups net run.histories) (run_of net most_routes most_services run first) ticks
+        → most_ticks_right ≤ length ticks
+        → place.router < length net → is_up (ups net run.histories place.router) place.port ≡ true
+        → slice_get server.announcers which ≡ Some host → network_of net place ≡ host.network
+        → host.hops < unreachable → ((number : ℕ) (other : Announcer) → slice_get server.announcers number ≡ Some other → host.hops ≤ other.hops)
+        → known_of server (offers (services_held (ports_of net place.router) most_services
+        (history_of (ticked net most_routes most_services run (first ∷ ticks)).histories place.router)))
+        ≡ Some (at_hops server host.hops) }
+{
+    ipx_wire::laws::readings();
+    ipx_wire::laws::service_readings();
+    ipx_wire::laws::reread();
+    ipx_router::laws::packets();
+}
+
+/// Each router with a way to a service of fewer than 16 hops comes to have the service, at its address and with the fewest hops of all its
+/// ways there, whatever it had before. It has it after 2,880 ticks, in which what is false of it goes (`served`), 60 for each hop that it has
+/// more than `nearest`, and 60 more, where each host says at least `nearest` hops (`has`). From then on it keeps it: it has it at the end of
+/// each tick and after each step in one, so wherever nothing waits (`meanwhile`). Whatever waits when the ticks begin, one tick more is
+/// enough, in which hosts may say anything (`whatever_waits`, `whatever_waits_meanwhile`).
+///
+/// It asks for what `beside` asks of hosts and of room, and that ports of two routers on one network have different nodes. Nothing is asked
+/// of costs, nor of how many routers there are. A router without such a way hasn't got the service (`served`, `none`).
+pub fn everywhere()
+    ensures has { (net : Internet) (most_routes most_services : ℕ) (server : Server) (names : List (ℕ × List ℕ)) (nearest : ℕ) (histories : List History) (ticks : List (List Step))
+        (router hops : ℕ)
+        → IsInternet net → NodesDiffer net → AreHistories net histories
+        → HaveOneVoice server → HasRoomFor net most_services names → IsListedName names (server.kind, server.name)
+        → NoneNearer server nearest
+        → EachTick net most_routes most_services (IsBusyTick net most_routes most_services) (begun histories) ticks
+        → AllByRecursion (AllByRecursion LeavesPorts) ticks → AllByRecursion (AllByRecursion (SaysNoFalse net server)) ticks
+        → AllByRecursion (AllByRecursion (SaysOnly (NamesOnly (IsListedName names)))) ticks
+        → AreInTime net most_routes most_services server (ups net histories) (begun histories) ticks → most_ticks_known nearest hops ≤ length ticks
+        → router < length net → hops < unreachable → IsFewest net (ups net histories) server router hops
+        → known_of server (offers (services_held (ports_of net router) most_services
+        (history_of (ticked net most_routes most_services (begun histories) ticks).histories router)))
+        ≡ Some (at_hops server hops) }
+    ensures meanwhile { (net : Internet) (most_routes most_services : ℕ) (server : Server) (names : List (ℕ × List ℕ)) (nearest : ℕ) (histories : List History)
+        (ticks : List (List Step)) (steps rest : List Step) (router hops : ℕ)
+        → IsInternet net → NodesDiffer net → AreHistories net histories
+        → HaveOneVoice server → HasRoomFor net most_services names → IsListedName names (server.kind, server.name)
+        → NoneNearer server nearest
+        → EachTick net most_routes most_services (IsBusyTick net most_routes most_services) (begun histories) (ticks ++ (steps ++ rest) ∷ [])
+        → AllByRecursion (AllByRecursion LeavesPorts) (ticks ++ (steps ++ rest) ∷ [])
+        → AllByRecursion (AllByRecursion (SaysNoFalse net server)) (ticks ++ (steps ++ rest) ∷ [])
+        → AllByRecursion (AllByRecursion (SaysOnly (NamesOnly (IsListedName names)))) (ticks ++ (steps ++ rest) ∷ [])
+        → AreInTime net most_routes most_services server (ups net histories) (begun histories) (ticks ++ (steps ++ rest) ∷ [])
+        → most_ticks_known nearest hops ≤ length ticks
+        → router < length net → hops < unreachable → IsFewest net (ups net histories) server router hops
+        → known_of server (offers (services_held (ports_of net router) most_services
+        (history_of (run_of net most_routes most_services (ticked net most_routes most_services (begun histories) ticks) steps).histories router)))
+        ≡ Some (at_hops server hops) }
+    ensures whatever_waits { (net : Internet) (most_routes most_services : ℕ) (server : Server) (names : List (ℕ × List ℕ)) (nearest : ℕ) (run : Run) (first : List Step)
+        (ticks : List (List Step)) (router hops : ℕ)
+        → IsInternet net → NodesDiffer net → AreHistories net run.histories → AllByRecursion (λ w. IsDelivery net w.delivery) run.waiting
+        → HaveOneVoice server → HasRoomFor net most_services names → IsListedName names (server.kind, server.name)
+        → NoneNearer server nearest
+        → EachTick net most_routes most_services (IsBusyTick net most_routes most_services) run (first ∷ ticks)
+        → AllByRecursion (AllByRecursion LeavesPorts) (first ∷ ticks) → AllByRecursion (AllByRecursion (SaysNoFalse net server)) ticks
+        → AllByRecursion (AllByRecursion (SaysOnly (NamesOnly (IsListedName names)))) ticks
+        → AreInTime net most_routes most_services server (ups net run.histories) (run_of net most_routes most_services run first) ticks
+        → most_ticks_known nearest hops ≤ length ticks
+        → router < length net → hops < unreachable → IsFewest net (ups net run.histories) server router hops
+        → known_of server (offers (services_held (ports_of net router) most_services
+        (history_of (ticked net most_routes most_services run (first ∷ ticks)).histories router)))
+        ≡ Some (at_hops server hops) }
+    ensures whatever_waits_meanwhile { (net : Internet) (most_routes most_services : ℕ) (server : Server) (names : List (ℕ × List ℕ)) (nearest : ℕ) (run : Run) (first : List Step)
+        (ticks : List (List Step)) (steps rest : List Step) (router hops : ℕ)
+        → IsInternet net → NodesDiffer net → AreHistories net run.histories → AllByRecursion (λ w. IsDelivery net w.delivery) run.waiting
+        → HaveOneVoice server → HasRoomFor net most_services names → IsListedName names (server.kind, server.name)
+        → NoneNearer server nearest
+        → EachTick net most_routes most_services (IsBusyTick net most_routes most_services) run (first ∷ ticks ++ (steps ++ rest) ∷ [])
+        → AllByRecursion (AllByRecursion LeavesPorts) (first ∷ ticks ++ (steps ++ rest) ∷ [])
+        → AllByRecursion (AllByRecursion (SaysNoFalse net server)) (ticks ++ (steps ++ rest) ∷ [])
+        → AllByRecursion (AllByRecursion (SaysOnly (NamesOnly (IsListedName names)))) (ticks ++ (steps ++ rest) ∷ [])
+        → AreInTime net most_routes most_services server (ups net run.histories) (run_of net most_routes most_services run first) (ticks ++ (steps ++ rest) ∷ [])
+        → most_ticks_known nearest hops ≤ length ticks
+        → router < length net → hops < unreachable → IsFewest net (ups net run.histories) server router hops
+        → known_of server (offers (services_held (ports_of net router) most_services
+        (history_of (run_of net most_routes most_services (ticked net most_routes most_services run (first ∷ ticks)) steps).histories router)))
+        ≡ Some (at_hops server hops) }
+{
+    ipx_wire::laws::readings();
+    ipx_wire::laws::service_readings();
+    ipx_wire::laws::reread();
+    ipx_router::laws::packets();
+}
+
+/// A query for the nearest server of a type is answered with one, by each router that has a way to such a service. It comes to a port of the
+/// router, at any moment when the router has the service by `everywhere`, with fewer than 15 hops. Then the router sends one packet to
+/// whoever asked, with one service alone. That is of the type asked for, and of no more hops than this service as the router advertises it:
+/// one more than the fewest of its ways (`answered`). It doesn't answer with a service on the network where it may have learned it, so no way
+/// that is as short begins on that port's network (`LeadsElsewhere`): there the host answers itself, or a router that is nearer. FFFFh asks
+/// for every type and is left out. Whatever waits when the ticks begin, one tick more is enough (`whatever_waits`).
+pub fn nearest()
+    ensures answered { (net : Internet) (most_routes most_services : ℕ) (server : Server) (names : List (ℕ × List ℕ)) (nearest : ℕ) (histories : List History)
+        (ticks : List (List Step)) (steps rest : List Step) (hops : ℕ) (place : Place) (source : Address) (bytes : List ℕ)
+        → IsInternet net → NodesDiffer net → AreHistories net histories
+        → HaveOneVoice server → HasRoomFor net most_services names → IsListedName names (server.kind, server.name)
+        → NoneNearer server nearest
+        → EachTick net most_routes most_services (IsBusyTick net most_routes most_services) (begun histories) (ticks ++ (steps ++ rest) ∷ [])
+        → AllByRecursion (AllByRecursion LeavesPorts) (ticks ++ (steps ++ rest) ∷ [])
+        → AllByRecursion (AllByRecursion (SaysNoFalse net server)) (ticks ++ (steps ++ rest) ∷ [])
+        → AllByRecursion (AllByRecursion (SaysOnly (NamesOnly (IsListedName names)))) (ticks ++ (steps ++ rest) ∷ [])
+        → AreInTime net most_routes most_services server (ups net histories) (begun histories) (ticks ++ (steps ++ rest) ∷ [])
+        → most_ticks_known nearest hops ≤ length ticks
+        → place.router < length net → suc hops < unreachable → IsFewest net (ups net histories) server place.router hops
+        → server.kind ≢ every_service → LeadsElsewhere net (ups net histories) server place hops → IsBytes bytes
+        → heard_after (ports_of net place.router)
+        (history_of (run_of net most_routes most_services (ticked net most_routes most_services (begun histories) ticks) steps).histories place.router) place.port bytes
+        ≡ Some (HeardSap source (Query true server.kind))
+        → IsAnswered (ports_of net place.router) place.port source server.kind (suc hops)
+        (sends_at net most_routes most_services (run_of net most_routes most_services (ticked net most_routes most_services (begun histories) ticks) steps).histories
+        place.router (Packet place.port bytes)) }
+    ensures whatever_waits { (net : Internet) (most_routes most_services : ℕ) (server : Server) (names : List (ℕ × List ℕ)) (nearest : ℕ) (run : Run) (first : List Step)
+        (ticks : List (List Step)) (steps rest : List Step) (hops : ℕ) (place : Place) (source : Address) (bytes : List ℕ)
+        → IsInternet net → NodesDiffer net → AreHistories net run.histories → AllByRecursion (λ w. IsDelivery net w.delivery) run.waiting
+        → HaveOneVoice server → HasRoomFor net most_services names → IsListedName names (server.kind, server.name)
+        → NoneNearer server nearest
+        → EachTick net most_routes most_services (IsBusyTick net most_routes most_services) run (first ∷ ticks ++ (steps ++ rest) ∷ [])
+        → AllByRecursion (AllByRecursion LeavesPorts) (first ∷ ticks ++ (steps ++ rest) ∷ [])
+        → AllByRecursion (AllByRecursion (SaysNoFalse net server)) (ticks ++ (steps ++ rest) ∷ [])
+        → AllByRecursion (AllByRecursion (SaysOnly (NamesOnly (IsListedName names)))) (ticks ++ (steps ++ rest) ∷ [])
+        → AreInTime net most_routes most_services server (ups net run.histories) (run_of net most_routes most_services run first) (ticks ++ (steps ++ rest) ∷ [])
+        → most_ticks_known nearest hops ≤ length ticks
+        → place.router < length net → suc hops < unreachable → IsFewest net (ups net run.histories) server place.router hops
+        → server.kind ≢ every_service → LeadsElsewhere net (ups net run.histories) server place hops → IsBytes bytes
+        → heard_after (ports_of net place.router)
+        (history_of (run_of net most_routes most_services (ticked net most_routes most_services run (first ∷ ticks)) steps).histories place.router) place.port bytes
+        ≡ Some (HeardSap source (Query true server.kind))
+        → IsAnswered (ports_of net place.router) place.port source server.kind (suc hops)
+        (sends_at net most_routes most_services (run_of net most_routes most_services (ticked net most_routes most_services run (first ∷ ticks)) steps).histories
+        place.router (Packet place.port bytes)) }
+{
+    ipx_wire::laws::readings();
+    ipx_wire::laws::service_readings();
+    ipx_wire::laws::reread();
+    ipx_router::laws::packets();
+}
