@@ -1,13 +1,13 @@
 -- Who is among the clients, and how many there are.
-use Rattle.std.proofs.Common.{◌≡◌, ◌∙◌, refl, sym, ap, ap₂, subst, arith, ℕ, ◌<◌, ◌≤◌, ◌⊎◌, Bool, true, false, ◌&&◌, ◌||◌, not, nat_lt, if◌then◌else◌, inl, inr, List, [], ◌∷◌, ◌++◌, length, filter, length-append}
-use Rattle.std.proofs.lemmas.Bool.{cases_Bool, false≢true, ltb-true, lt-ltb}
+use Rattle.std.proofs.Common.{◌≡◌, ◌∙◌, refl, sym, ap, ap₂, arith, ℕ, ◌<◌, ◌≤◌, ◌⊎◌, Bool, true, false, ◌&&◌, not, nat_lt, if◌then◌else◌, inl, inr, List, [], ◌∷◌, ◌++◌, length, filter, length-append}
+use Rattle.std.proofs.lemmas.Bool.{cases_Bool, lt-ltb}
 use Rattle.std.proofs.lemmas.List.Folds.{list_any-append}
 use Rattle.std.proofs.Math.Bool.{or-true}
 use Rattle.ipx_wire.specs.declared.node.Node.{Node}
 use Rattle.ipx_tunnel.specs.declared.sender.Sender.{Sender}
 use Rattle.ipx_tunnel.specs.declared.setting.Setting.{Setting}
 use Rattle.ipx_tunnel.specs.Places.{same_node, same_address, is_among, of_address}
-use Rattle.ipx_tunnel.specs.Events.{Event, Datagram, Second, Send, History}
+use Rattle.ipx_tunnel.specs.Events.{Event, Datagram, History}
 use Rattle.ipx_tunnel.specs.Clients.{lasts, is_there, is_open, newcomers, clients, seconds_left}
 use Rattle.ipx_tunnel.specs.Laws.{copies, is_client, IsThereThrough}
 use Rattle.ipx_tunnel.proofs.Members.{count-append, count-filter, count_few, no_copies, among-filter, of_same_address}
@@ -16,21 +16,13 @@ use Rattle.ipx_tunnel.proofs.Standing.{there_now}
 
 -- ---- who comes in
 
-all_three : (among few fewer : Bool) → (not among && few && fewer) ≡ true → (among ≡ false) × (few ≡ true) × (fewer ≡ true)
-all_three false true true is = (refl, refl, refl)
-all_three false true false is = absurd (false≢true is)
-all_three false false fewer is = absurd (false≢true is)
-all_three true few fewer is = absurd (false≢true is)
-
 -- nobody comes in, or one place for which there is room
 abbrev Coming : Setting → List Node → List Node → Type 0
 Coming setting before new = (new ≡ []) ⊎ ((place : Node) × (new ≡ place ∷ []) × (is_open setting place before ≡ true))
 
 come_by : (setting : Setting) (before : List Node) (place : Node) (counts room : Bool) → is_open setting place before ≡ room
     → Coming setting before (if counts && room then place ∷ [] else [])
-come_by setting before place true true is = inr (place, refl, is)
-come_by setting before place true false is = inl refl
-come_by setting before place false room is = inl refl
+come_by setting before place counts room is = grind arith
 
 module _ (setting : Setting) where
   pub record Room (place : Node) (before : List Node) : Type 0 where
@@ -39,28 +31,17 @@ module _ (setting : Setting) where
     pub fewer : of_address place before < setting.share
 
   pub room_of : (place : Node) (before : List Node) → is_open setting place before ≡ true → Room place before
-  room_of place before is =
-      let each = all_three (is_among place before) (nat_lt (length before) setting.capacity) (nat_lt (of_address place before) setting.share) is in
-      record {
-        new = each.0;
-        few = ltb-true (length before) setting.capacity each.1;
-        fewer = ltb-true (of_address place before) setting.share each.2;
-      }
+  room_of place before is = grind arith
 
   coming : (before : List Node) (event : Event) → Coming setting before (newcomers setting before event)
-  coming before (Datagram from bytes) = come_by setting before from.place (nat_lt 0 (lasts setting from.place (Datagram from bytes))) _ refl
-  coming before Second = inl refl
-  coming before (Send to bytes) = inl refl
+  coming before event = grind (arith, come_by)
 
   -- ---- how many there are
 
   module _ (P : List Node → Type 0) (before kept new : List Node) where
     -- what holds of those that stay, and with one more for which there is room, holds of the next clients
     by_coming : Coming setting before new → P (kept ++ []) → ((place : Node) → Room place before → P (kept ++ place ∷ [])) → P (kept ++ new)
-    by_coming coming stay one = elim coming [
-      | inl none ↦ subst (λ (l : List Node). P (kept ++ l)) (sym none) stay
-      | inr some ↦ subst (λ (l : List Node). P (kept ++ l)) (sym some.1) (one some.0 (room_of some.0 before some.2))
-    ]
+    by_coming coming stay one = grind arith
 
   pub once : (history : History) (place : Node) → copies place (clients setting history) ≤ 1
   once [] place = omega arith
@@ -83,13 +64,7 @@ module _ (setting : Setting) where
 
   pub capacity : (history : History) → length (clients setting history) ≤ setting.capacity
   capacity [] = omega arith
-  capacity (event ∷ earlier) =
-      let before = clients setting earlier in
-      let stays = λ (p : Node). is_there setting p (event ∷ earlier) in
-      let kept = filter stays before in
-      by_coming (λ l. length l ≤ setting.capacity) before kept (newcomers setting before event) (coming before event)
-      (omega (arith, count_few stays before, capacity earlier, length-append kept []))
-      (λ new room. omega (arith, count_few stays before, room.few, length-append kept (new ∷ [])))
+  capacity (event ∷ earlier) = grind (arith, capacity earlier, by_coming, coming, count_few, length-append)
 
   pub share : (history : History) (place : Node) → of_address place (clients setting history) ≤ setting.share
   share [] place = omega arith
@@ -114,28 +89,16 @@ module _ (setting : Setting) where
 
   pub stays_on : (event : Event) (earlier : History) (place : Node) → is_client setting place earlier ≡ true → is_there setting place (event ∷ earlier) ≡ true
       → is_client setting place (event ∷ earlier) ≡ true
-  stays_on event earlier place client there =
-      let stays = λ (p : Node). is_there setting p (event ∷ earlier) in
-      list_any-append (λ p. same_node p place) (filter stays (clients setting earlier)) (newcomers setting (clients setting earlier) event)
-      ∙ ap (λ (b : Bool). b || is_among place (newcomers setting (clients setting earlier) event))
-      (among-filter stays place (clients setting earlier) ∙ ap₂ (λ (a b : Bool). a && b) client there)
+  stays_on event earlier place client there = grind (arith, list_any-append, among-filter)
 
   pub stays_through : (place : Node) (events : List Event) (history : History) → is_client setting place history ≡ true
       → IsThereThrough setting place events history → is_client setting place (events ++ history) ≡ true
   stays_through place [] history client there = client
-  stays_through place (event ∷ events) history client there =
-      stays_on event (events ++ history) place (stays_through place events history client there.1) there.0
+  stays_through place (event ∷ events) history client there = grind (arith, stays_through place events history client there.1, stays_on)
 
   comes_in : (from : Sender) (bytes : List ℕ) (earlier : History) → nat_lt 0 (lasts setting from.place (Datagram from bytes)) ≡ true
       → is_open setting from.place (clients setting earlier) ≡ true → is_client setting from.place (Datagram from bytes ∷ earlier) ≡ true
-  comes_in from bytes earlier counts room =
-      let kept = filter (λ p. is_there setting p (Datagram from bytes ∷ earlier)) (clients setting earlier) in
-      let new : newcomers setting (clients setting earlier) (Datagram from bytes) ≡ from.place ∷ [] =
-      ap₂ (λ (a b : Bool). if a && b then from.place ∷ [] else []) counts room in
-      let one : is_among from.place (newcomers setting (clients setting earlier) (Datagram from bytes)) ≡ true =
-      ap (is_among from.place) new ∙ ap (λ (b : Bool). b || false) (same_itself from.place) in
-      list_any-append (λ p. same_node p from.place) kept (newcomers setting (clients setting earlier) (Datagram from bytes))
-      ∙ ap (λ (b : Bool). is_among from.place kept || b) one ∙ or-true (is_among from.place kept)
+  comes_in from bytes earlier counts room = grind (arith, same_itself, list_any-append, or-true)
 
   pub comes : (from : Sender) (bytes : List ℕ) (earlier : History) → nat_lt 0 (lasts setting from.place (Datagram from bytes)) ≡ true
       → length (clients setting earlier) < setting.capacity → of_address from.place (clients setting earlier) < setting.share

@@ -1,20 +1,17 @@
 -- What a copy for another network says.
-use Rattle.std.proofs.Common.{◌≡◌, ◌≢◌, ◌∙◌, refl, sym, ap, ap₂, arith, ℕ, ◌+◌, ◌-◌, ◌<◌, ◌≤◌, ◌==◌, Bool, true, false, ◌&&◌, ◌||◌, not, inl, inr, List, ◌++◌, length, take, drop, get_or-take, length-append, length-drop, length-take-le, Result, Ok, Err}
+use Rattle.std.proofs.Common.{◌≡◌, ◌≢◌, ◌∙◌, refl, sym, ap, ap₂, arith, ℕ, ◌+◌, ◌-◌, ◌<◌, ◌≤◌, ◌==◌, Bool, true, false, ◌&&◌, inl, inr, List, ◌++◌, length, take, drop, length-append, length-drop, length-take-le, Result, Ok, Err, rules}
 use Rattle.std.specs.Prelude.{slice_index}
 use Rattle.std.specs.Int.{to_be_bytes, from_be_bytes, w16, w32}
 use Rattle.std.proofs.lemmas.Bool.{cases_eq, ne_eqb, false≢true}
-use Rattle.std.proofs.lemmas.List.{take_at, drop_at, drop-drop, drop-take, append_assoc, drop-append-le, take-append-le, get_or_append_left}
-use Rattle.std.proofs.lemmas.Nat.{from_be_bytes-to_be_bytes_4}
+use Rattle.std.proofs.lemmas.List.{drop_at, drop-drop, drop-take, append_assoc, drop-append-le, take-append-le}
 use Rattle.ipx_wire.specs.Header.{length_field}
-use Rattle.ipx_wire.specs.Numbers.{local_network, all_routes, propagated_type}
 use Rattle.ipx_wire.specs.Packet.{Parts, packet_of}
 use Rattle.ipx_wire.specs.Piece.{piece}
 use Rattle.ipx_wire.specs.declared.header.Header.{Header}
 use Rattle.ipx_wire.specs.declared.network.Network.{Network}
 use Rattle.ipx_wire.specs.declared.packet.PacketFault.{PacketFault}
 use Rattle.ipx_wire.specs.declared.socket.Socket.{Socket}
-use Rattle.ipx_tunnel.specs.Places.{is_here, same_node, broadcast}
-use Rattle.ipx_tunnel.specs.Extend.{network_place, network_end, is_named, is_extended_by, is_extended_in, is_extended, extended, with_network}
+use Rattle.ipx_tunnel.specs.Extend.{network_place, network_end, is_extended_by, is_extended_in, is_extended, extended, with_network}
 use Rattle.ipx_tunnel.specs.Laws.{IsOrdinary}
 use Rattle.ipx_tunnel.proofs.Packets.{SameFields, reads, is_read, same_header, piece_within}
 
@@ -31,11 +28,6 @@ module _ (bytes middle : List ℕ) (four : length middle ≡ 4) (long : network_
   six : length (take 6 bytes) ≡ 6
   six = length-take-le 6 bytes (omega (arith, long))
 
-  network_of : piece copy 6 4 ≡ middle
-  network_of =
-      ap (take 4) (ap (drop 6) in_parts ∙ drop_at (take 6 bytes) (middle ++ drop 10 bytes) 6 six)
-      ∙ take_at middle (drop 10 bytes) 4 four
-
   before : (place count : ℕ) → place + count ≤ 6 → piece copy place count ≡ piece bytes place count
   before place count fits =
       let room : count ≤ length (drop place (take 6 bytes)) = omega (arith, length-drop place (take 6 bytes), six, fits) in
@@ -45,10 +37,7 @@ module _ (bytes middle : List ℕ) (four : length middle ≡ 4) (long : network_
       ∙ piece_within bytes 6 place count fits
 
   byte_before : (place : ℕ) → place < 6 → slice_index copy place ≡ slice_index bytes place
-  byte_before place fits =
-      ap (λ (l : List ℕ). slice_index l place) in_parts
-      ∙ get_or_append_left (take 6 bytes) (middle ++ drop 10 bytes) 0 place (omega (arith, six, fits))
-      ∙ get_or-take 6 bytes place 0 fits
+  byte_before place fits = grind arith
 
   rest : drop 10 copy ≡ drop 10 bytes
   rest = drop_at (take 6 bytes ++ middle) (drop 10 bytes) 10 (omega (arith, length-append (take 6 bytes) middle, six, four))
@@ -82,8 +71,7 @@ module _ (bytes middle : List ℕ) (four : length middle ≡ 4) (long : network_
 
 -- the number of the network is read from the copy
 number_copy : (to : Network) (bytes : List ℕ) → IsOrdinary to → network_end ≤ length bytes → from_be_bytes w32 (piece (extended to bytes) 6 4) ≡ to.0
-number_copy to bytes ordinary long =
-    ap (from_be_bytes w32) (network_of bytes (to_be_bytes w32 to.0) refl long) ∙ from_be_bytes-to_be_bytes_4 to.0 (omega (arith, ordinary.ordinary))
+number_copy to bytes ordinary long = grind arith
 
 pub copy_reads : (to : Network) (bytes : List ℕ) (packet : Parts) → IsOrdinary to → packet_of bytes ≡ Ok packet → packet_of (extended to bytes) ≡ Ok (with_network to packet)
 copy_reads to bytes packet ordinary is =
@@ -102,60 +90,25 @@ copy_reads to bytes packet ordinary is =
 number_of : (a b : ℕ) → (a == b) ≡ true → a ≡ b
 number_of a b is = elim (cases_eq a b) [ inl e ↦ e | inr other ↦ absurd (false≢true (sym (ne_eqb a b other) ∙ is)) ]
 
-second_of_five : (a b c d e : Bool) → b ≡ false → (a && b && c && d && e) ≡ false
-second_of_five true b c d e is = rw is refl
-second_of_five false b c d e is = refl
-
-third_of_five : (a b c d e : Bool) → c ≡ false → (a && b && c && d && e) ≡ false
-third_of_five true true c d e is = rw is refl
-third_of_five true false c d e is = refl
-third_of_five false b c d e is = refl
-
 third_holds : (a b c d e : Bool) → (a && b && c && d && e) ≡ true → c ≡ true
-third_holds true true true d e is = refl
-third_holds true true false d e is = absurd (false≢true is)
-third_holds true false c d e is = absurd (false≢true is)
-third_holds false b c d e is = absurd (false≢true is)
+third_holds a b c d e is = grind arith
 
 -- ---- copied once
-
-not_here : (to other : Network) → IsOrdinary to → other.0 ≢ to.0 → is_here other to ≡ false
-not_here to other ordinary different =
-    ap₂ (λ (a b : Bool). a || b)
-    (ap₂ (λ (a b : Bool). a || b) (ne_eqb to.0 local_network (λ e. omega (arith, e, ordinary.some))) (ne_eqb to.0 all_routes (λ e. omega (arith, e, ordinary.ordinary))))
-    (ne_eqb to.0 other.0 (λ e. different (sym e)))
 
 -- the source is a network from which the copy is not taken, or the copy isn't for the network where it is heard
 refused : (from to other : Network) (named : List Socket) (h : Header) → h.destination.network.0 ≡ to.0 → h.source.network.0 ≡ from.0
     → IsOrdinary to → from.0 ≢ to.0 → is_extended_by other named h ≡ false
-refused from to other named h copied source ordinary different =
-    let to_all = same_node h.destination.node broadcast in
-    let here = is_here other h.destination.network in
-    let own = h.source.network.0 == other.0 in
-    let asked = is_named named h.destination.socket in
-    let carried = h.kind == propagated_type in
-    elim (cases_eq other.0 to.0) [
-      | inl same ↦ third_of_five to_all here own asked (not carried)
-          (ne_eqb h.source.network.0 other.0 (λ e. different (sym source ∙ e ∙ same)))
-      | inr apart ↦ second_of_five to_all here own asked (not carried)
-          (ap (λ (n : ℕ). let m : Network = record { 0 = n } in is_here other m) copied ∙ not_here to other ordinary apart)
-    ]
+refused from to other named h copied source ordinary different = grind arith
 
 never_again : (from to other : Network) (named : List Socket) (bytes : List ℕ) (packet : Parts) → IsOrdinary to → packet_of bytes ≡ Ok packet
     → packet.header.source.network.0 ≡ from.0 → from.0 ≢ to.0 → is_extended other named (extended to bytes) ≡ false
-never_again from to other named bytes packet ordinary is source different =
-    ap (is_extended_in other named) (copy_reads to bytes packet ordinary is)
-    ∙ refused from to other named (with_network to packet).header refl source ordinary different
+never_again from to other named bytes packet ordinary is source different = search (rules, copy_reads, refused)
 
 -- what is copied came from the network
 came : (from to other : Network) (sockets named : List Socket) (bytes : List ℕ) (r : Result Parts PacketFault) → packet_of bytes ≡ r → is_extended_in from sockets r ≡ true
     → IsOrdinary to → from.0 ≢ to.0 → is_extended other named (extended to bytes) ≡ false
 came from to other sockets named bytes (Err fault) read is ordinary different = absurd (false≢true is)
-came from to other sockets named bytes (Ok packet) read is ordinary different =
-    let h = packet.header in
-    let own = third_holds (same_node h.destination.node broadcast) (is_here from h.destination.network) (h.source.network.0 == from.0)
-    (is_named sockets h.destination.socket) (not (h.kind == propagated_type)) is in
-    never_again from to other named bytes packet ordinary read (number_of h.source.network.0 from.0 own) different
+came from to other sockets named bytes (Ok packet) read is ordinary different = search (rules, third_holds, never_again, number_of)
 
 pub copied_once : (from to other : Network) (sockets named : List Socket) (bytes : List ℕ) → is_extended from sockets bytes ≡ true
     → IsOrdinary to → from.0 ≢ to.0 → is_extended other named (extended to bytes) ≡ false

@@ -1,10 +1,10 @@
 -- Since when a place is there.
-use Rattle.std.proofs.Common.{◌≡◌, ◌≢◌, ◌∙◌, refl, sym, ap, subst, arith, ℕ, ◌+◌, ◌-◌, ◌<◌, ◌≤◌, ◌⊎◌, Bool, true, false, not, ◌||◌, nat_lt, if◌then◌else◌, inl, inr, List, [], ◌∷◌, ◌++◌, filter}
+use Rattle.std.proofs.Common.{◌≡◌, ◌≢◌, ◌∙◌, refl, sym, ap, subst, arith, ℕ, ◌+◌, ◌-◌, ◌<◌, ◌≤◌, ◌⊎◌, Bool, true, nat_lt, if◌then◌else◌, inl, inr, List, [], ◌∷◌, ◌++◌, filter, rules}
 use Rattle.std.specs.List.{AllByRecursion}
 use Rattle.std.proofs.lemmas.Bool.{cases_Bool, false≢true, ltb-true, lt-ltb}
 use Rattle.ipx_wire.specs.declared.node.Node.{Node}
 use Rattle.ipx_tunnel.specs.declared.said.Said.{Said}
-use Rattle.ipx_tunnel.specs.declared.said.Said.TheVariants.{Nothing, Registers, Answers, Speaks}
+use Rattle.ipx_tunnel.specs.declared.said.Said.TheVariants.{Nothing, Answers}
 use Rattle.ipx_tunnel.specs.declared.sender.Sender.{Sender}
 use Rattle.ipx_tunnel.specs.declared.setting.Setting.{Setting}
 use Rattle.ipx_tunnel.specs.Numbers.{answer_lasts, trust_lasts}
@@ -21,68 +21,26 @@ use Rattle.ipx_tunnel.proofs.Nodes.{same_is, same_itself}
 -- what counts is an answer, or said by somebody trusted
 says_who : (is_trusted : Bool) (s : Said) (left passed : ℕ) → 0 < left → left + passed ≡ lasts_by is_trusted s
     → ((s ≡ Answers) × (passed < answer_lasts)) ⊎ ((is_trusted ≡ true) × (s ≢ Nothing) × (passed < trust_lasts))
-says_who true Nothing left passed some is = absurd (omega arith)
-says_who true Registers left passed some is = inr (refl, (λ e. cc), omega arith)
-says_who true Answers left passed some is = inr (refl, (λ e. cc), omega arith)
-says_who true (Speaks header) left passed some is = inr (refl, (λ e. cc), omega arith)
-says_who false Nothing left passed some is = absurd (omega arith)
-says_who false Registers left passed some is = absurd (omega arith)
-says_who false Answers left passed some is = inl (refl, omega arith)
-says_who false (Speaks header) left passed some is = absurd (omega arith)
+says_who is_trusted s left passed some is = grind arith
 
 -- whatever counts does so for 30 seconds at least
 least : (is_trusted : Bool) (s : Said) → nat_lt 0 (lasts_by is_trusted s) ≡ true → answer_lasts ≤ lasts_by is_trusted s
-least true Nothing some = absurd (false≢true some)
-least true Registers some = omega arith
-least true Answers some = omega arith
-least true (Speaks header) some = omega arith
-least false Nothing some = absurd (false≢true some)
-least false Registers some = absurd (false≢true some)
-least false Answers some = omega arith
-least false (Speaks header) some = absurd (false≢true some)
-
-least_of : (is_sender is_trusted : Bool) (s : Said) → nat_lt 0 (if is_sender then lasts_by is_trusted s else 0) ≡ true
-    → answer_lasts ≤ (if is_sender then lasts_by is_trusted s else 0)
-least_of true is_trusted s some = least is_trusted s some
-least_of false is_trusted s some = absurd (false≢true some)
+least is_trusted s some = grind arith
 
 least_answer : (is_trusted : Bool) (s : Said) → s ≡ Answers → answer_lasts ≤ lasts_by is_trusted s
-least_answer true s is = rw is (omega arith)
-least_answer false s is = rw is (omega arith)
+least_answer is_trusted s is = grind arith
 
 -- what counts for a place came from there
 counts_sender : (is_sender : Bool) (lasts : ℕ) → nat_lt 0 (if is_sender then lasts else 0) ≡ true → (is_sender ≡ true) × ((if is_sender then lasts else 0) ≡ lasts)
-counts_sender true lasts some = (refl, refl)
-counts_sender false lasts some = absurd (false≢true some)
+counts_sender is_sender lasts some = grind arith
 
 -- whatever somebody trusted says does so for 180
 trusted_says : (s : Said) → s ≢ Nothing → trust_lasts ≤ lasts_by true s
-trusted_says Nothing some = absurd (some refl)
-trusted_says Registers some = omega arith
-trusted_says Answers some = omega arith
-trusted_says (Speaks header) some = omega arith
-
-counts_something : (s : Said) → nat_lt 0 (lasts_by true s) ≡ true → s ≢ Nothing
-counts_something Nothing some = absurd (false≢true some)
-counts_something Registers some = λ e. cc
-counts_something Answers some = λ e. cc
-counts_something (Speaks header) some = λ e. cc
-
-trusted_of : (is_sender is_trusted : Bool) (s : Said) → (not is_sender || is_trusted) ≡ true → nat_lt 0 (if is_sender then lasts_by is_trusted s else 0) ≡ true
-    → trust_lasts ≤ (if is_sender then lasts_by is_trusted s else 0)
-trusted_of true true s trusted some = trusted_says s (counts_something s some)
-trusted_of true false s trusted some = absurd (false≢true trusted)
-trusted_of false is_trusted s trusted some = absurd (false≢true some)
-
-later_by : (n least lasts left passed : ℕ) → n ≤ least → (nat_lt 0 lasts ≡ true → least ≤ lasts) → n ≤ left + passed
-    → n ≤ (if nat_lt 0 lasts then lasts else left) + passed
-later_by n least lasts left passed few long enough =
-    elim (cases_Bool (nat_lt 0 lasts)) [ inl e ↦ rw e (omega (arith, long e, few)) | inr e ↦ rw e enough ]
+trusted_says s some = grind arith
 
 lasts_now : (least : ℕ) (is_sender : Bool) (lasts left : ℕ) → 0 < least → is_sender ≡ true → least ≤ lasts
     → least ≤ (if nat_lt 0 (if is_sender then lasts else 0) then (if is_sender then lasts else 0) else left)
-lasts_now least true lasts left some is long = rw (lt-ltb 0 lasts (omega (arith, some, long))) long
-lasts_now least false lasts left some is long = absurd (false≢true is)
+lasts_now least is_sender lasts left some is long = grind arith
 
 module _ (setting : Setting) (place : Node) where
   -- ---- the event that counts
@@ -180,16 +138,14 @@ module _ (setting : Setting) (place : Node) where
   each_answer : (later : History) → Lasting answer_lasts later
   unfolding Lasting
   each_answer [] = tt
-  each_answer (Datagram from bytes ∷ later) =
-      (least_of (same_node place from.place) from.is_trusted (said setting.network from bytes), each_answer later)
+  each_answer (Datagram from bytes ∷ later) = grind (arith, each_answer later)
   each_answer (Second ∷ later) = ((λ e. absurd (false≢true e)), each_answer later)
   each_answer (Send to bytes ∷ later) = ((λ e. absurd (false≢true e)), each_answer later)
 
   each_trusted : (later : History) → IsAlwaysTrusted place later → Lasting trust_lasts later
   unfolding Lasting
   each_trusted [] all = tt
-  each_trusted (Datagram from bytes ∷ later) all =
-      (trusted_of (same_node place from.place) from.is_trusted (said setting.network from bytes) all.0, each_trusted later all.1)
+  each_trusted (Datagram from bytes ∷ later) all = grind (arith, each_trusted later all.1)
   each_trusted (Second ∷ later) all = ((λ e. absurd (false≢true e)), each_trusted later all.1)
   each_trusted (Send to bytes ∷ later) all = ((λ e. absurd (false≢true e)), each_trusted later all.1)
 
@@ -198,9 +154,7 @@ module _ (setting : Setting) (place : Node) where
       → n ≤ seconds_left setting place (later ++ history) + seconds later
   unfolding Lasting
   left_later n least few [] history all enough = omega arith
-  left_later n least few (Datagram from bytes ∷ later) history all enough =
-      later_by n least (lasts setting place (Datagram from bytes)) (seconds_left setting place (later ++ history)) (seconds later) few
-      all.0 (left_later n least few later history all.1 enough)
+  left_later n least few (Datagram from bytes ∷ later) history all enough = grind (arith, left_later n least few later history all.1 enough)
   left_later n least few (Second ∷ later) history all enough = omega (arith, left_later n least few later history all.1 enough)
   left_later n least few (Send to bytes ∷ later) history all enough = left_later n least few later history all.1 enough
 
@@ -217,9 +171,7 @@ module _ (setting : Setting) (place : Node) where
       ap (λ (h : History). is_there setting place h) is ∙ lt-ltb 0 (seconds_left setting place (later ++ Datagram from bytes ∷ earlier)) enough
 
   pub answered_there : (history : History) → Answered setting place history → is_there setting place history ≡ true
-  answered_there history a =
-      still_there answer_lasts history a.later a.from a.bytes a.earlier a.event a.sender (omega arith)
-      (least_answer a.from.is_trusted (said setting.network a.from a.bytes) a.said) (each_answer a.later) a.recent
+  answered_there history a = search (rules, still_there, least_answer, each_answer)
 
   pub trusted_there : (history : History) → IsAlwaysTrusted place history → Trusted setting place history → is_there setting place history ≡ true
   trusted_there history all a =
@@ -242,12 +194,6 @@ module _ (setting : Setting) (place : Node) where
 
   pub own_alone : (history : History) → seconds_left setting place history ≡ seconds_left setting place (filter (concerns place) history)
   own_alone [] = refl
-  own_alone (Datagram from bytes ∷ earlier) =
-      let rest = own_alone earlier in
-      let l = lasts_by from.is_trusted (said setting.network from bytes) in
-      elim (cases_Bool (same_node place from.place)) [
-        | inl same ↦ rw (same, same) (ap (λ (n : ℕ). if nat_lt 0 l then l else n) rest)
-        | inr other ↦ rw other rest
-      ]
+  own_alone (Datagram from bytes ∷ earlier) = grind (arith, own_alone earlier)
   own_alone (Second ∷ earlier) = ap (λ (n : ℕ). n - 1) (own_alone earlier)
   own_alone (Send to bytes ∷ earlier) = own_alone earlier

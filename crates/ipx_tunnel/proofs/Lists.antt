@@ -1,7 +1,7 @@
 -- Lists that are mapped and filtered.
-use Rattle.std.proofs.Common.{◌≡◌, ◌∙◌, refl, sym, ap, ap₂, arith, ℕ, ◌+◌, ◌<◌, ◌≤◌, Bool, true, false, ◌||◌, cond, inl, inr, List, [], ◌∷◌, ◌++◌, length, map, filter, take, drop, get_or, set, length-set}
+use Rattle.std.proofs.lemmas.Grind.{common_steps}
+use Rattle.std.proofs.Common.{◌≡◌, ◌∙◌, refl, sym, ap, ap₂, arith, ℕ, ◌+◌, ◌<◌, ◌≤◌, Bool, true, ◌||◌, cond, List, [], ◌∷◌, ◌++◌, length, map, filter, take, drop, get_or, set, length-set}
 use Rattle.std.specs.List.{list_any, AllByRecursion, refill}
-use Rattle.std.proofs.lemmas.Bool.{cases_Bool}
 use Rattle.std.proofs.lemmas.List.{map_more, map-append, length-map, take_at, take_more_set, drop-set-lt, drop_more, take_all}
 use Rattle.std.proofs.lemmas.List.Elements.{filter_more}
 
@@ -9,22 +9,16 @@ pub any-map : {X Y : Type 0} (p : Y → Bool) (f : X → Y) (xs : List X) → li
 any-map p f [] = refl
 any-map p f (x ∷ xs) = ap (λ b. p (f x) || b) (any-map p f xs)
 
-filter-map_by : {X Y : Type 0} (f : X → Y) (x : X) (xs : List X) (b : Bool) → cond b (f x ∷ map f xs) (map f xs) ≡ map f (cond b (x ∷ xs) xs)
-filter-map_by f x xs true = refl
-filter-map_by f x xs false = refl
-
 pub filter-map : {X Y : Type 0} (p : Y → Bool) (f : X → Y) (xs : List X) → filter p (map f xs) ≡ map f (filter (λ x. p (f x)) xs)
 filter-map p f [] = refl
-filter-map p f (x ∷ xs) =
-    ap (λ l. cond (p (f x)) (f x ∷ l) l) (filter-map p f xs) ∙ filter-map_by f x (filter (λ y. p (f y)) xs) (p (f x))
+filter-map p f (x ∷ xs) = grind (arith, filter-map p f xs)
 
 pub map-map : {X Y Z : Type 0} (g : Y → Z) (f : X → Y) (xs : List X) → map g (map f xs) ≡ map (λ x. g (f x)) xs
 map-map g f [] = refl
 map-map g f (x ∷ xs) = ap (λ l. g (f x) ∷ l) (map-map g f xs)
 
 pub map-agree : {X Y : Type 0} (f g : X → Y) → ((x : X) → f x ≡ g x) → (xs : List X) → map f xs ≡ map g xs
-map-agree f g same [] = refl
-map-agree f g same (x ∷ xs) = ap₂ (λ y l. y ∷ l) (same x) (map-agree f g same xs)
+map-agree f g same xs = grind arith
 
 -- a loop that writes to each element what a function makes of it
 pub record MapsInPlace {X : Type 0} (f : X → X) (xs ys : List X) (i : ℕ) : Type 0 where
@@ -46,32 +40,24 @@ mapped_more {f = f} {xs = xs} {ys = ys} {i = i} m within d y is =
     }
 
 pub mapped_all : {X : Type 0} {f : X → X} {xs ys : List X} {i : ℕ} → MapsInPlace f xs ys i → length xs ≤ i → ys ≡ map f xs
-mapped_all {f = f} {xs = xs} {ys = ys} {i = i} m all =
-    sym (take_all i ys (omega (arith, m.long))) ∙ m.front ∙ ap (map f) (take_all i xs all)
+mapped_all {f = f} {xs = xs} {ys = ys} {i = i} m all = grind (arith, take_all)
 
 pub map-one : {X Y : Type 0} (f : X → Y) (x : X) (b : Bool) → map f (cond b (x ∷ []) []) ≡ cond b (f x ∷ []) []
-map-one f x true = refl
-map-one f x false = refl
+map-one f x b = grind arith
 
 -- the elements of a vector after that
 pub refilled : {X : Type 0} (f : X → X) (xs lent written : List X) → lent ≡ xs → written ≡ map f lent → refill (length xs) xs written ≡ map f xs
-refilled f xs lent written is done =
-    let same : written ≡ map f xs = done ∙ ap (map f) is in
-    take_at written (drop (length written) xs) (length xs) (ap length same ∙ length-map xs f) ∙ same
+refilled f xs lent written is done = grind (arith, take_at, length-map)
 
 -- a loop that keeps what passes a test, as a function makes it
 pub kept_more : {X Y : Type 0} (p : X → Bool) (f : X → Y) (xs : List X) (i : ℕ) (x : X) → i < length xs → x ≡ get_or xs i x
     → map f (filter p (take (i + 1) xs)) ≡ map f (filter p (take i xs)) ++ cond (p x) (f x ∷ []) []
-kept_more p f xs i x within is =
-    ap (map f) (filter_more p xs i x within ∙ ap (λ y. filter p (take i xs) ++ cond (p y) (y ∷ []) []) (sym is))
-    ∙ map-append f (filter p (take i xs)) (cond (p x) (x ∷ []) [])
-    ∙ ap (λ l. map f (filter p (take i xs)) ++ l) (map-one f x (p x))
+kept_more p f xs i x within is = grind (arith, common_steps, filter_more, map-append, map-one)
 
 -- ---- what holds of each element
 
 pub each-append : {X : Type 0} (P : X → Type 0) (xs ys : List X) → AllByRecursion P xs → AllByRecursion P ys → AllByRecursion P (xs ++ ys)
-each-append P [] ys one two = two
-each-append P (x ∷ xs) ys one two = (one.0, each-append P xs ys one.1 two)
+each-append P xs ys one two = grind (arith, common_steps)
 
 pub each-before : {X : Type 0} (P : X → Type 0) (xs ys : List X) → AllByRecursion P (xs ++ ys) → AllByRecursion P xs
 each-before P [] ys all = tt
@@ -79,11 +65,7 @@ each-before P (x ∷ xs) ys all = (all.0, each-before P xs ys all.1)
 
 pub each-filter : {X : Type 0} (p : X → Bool) (xs : List X) → AllByRecursion (λ x. p x ≡ true) (filter p xs)
 each-filter p [] = tt
-each-filter p (x ∷ xs) =
-    elim (cases_Bool (p x)) [
-      | inl e ↦ rw e (e, each-filter p xs)
-      | inr e ↦ rw e (each-filter p xs)
-    ]
+each-filter p (x ∷ xs) = grind (arith, each-filter p xs)
 
 pub each-weaker : {X : Type 0} (P Q : X → Type 0) → ((x : X) → P x → Q x) → (xs : List X) → AllByRecursion P xs → AllByRecursion Q xs
 each-weaker P Q step [] all = tt

@@ -1,12 +1,10 @@
 -- Places in a list of places.
-use Rattle.std.proofs.Common.{◌≡◌, ◌∙◌, refl, sym, ap, ap₂, arith, ℕ, suc, ◌+◌, ◌≤◌, Bool, true, false, ◌&&◌, ◌||◌, not, if◌then◌else◌, inl, inr, List, [], ◌∷◌, ◌++◌, length, filter, take, replicate, length-append}
+use Rattle.std.proofs.Common.{◌≡◌, ◌∙◌, refl, sym, ap, arith, ℕ, suc, ◌+◌, ◌≤◌, Bool, true, false, ◌&&◌, ◌||◌, not, if◌then◌else◌, inl, inr, List, [], ◌∷◌, ◌++◌, length, filter, replicate, length-append, rules}
 use Rattle.std.specs.List.{AllByRecursion}
 use Rattle.std.proofs.lemmas.Bool.{cases_Bool, false≢true}
-use Rattle.std.proofs.lemmas.Cmp.{nat_list_eq_equiv}
 use Rattle.std.proofs.lemmas.List.Elements.{filter-append, filter_agree}
 use Rattle.std.proofs.Math.Bool.{and-false}
 use Rattle.ipx_wire.specs.declared.node.Node.{Node}
-use Rattle.ipx_tunnel.specs.Numbers.{address_size}
 use Rattle.ipx_tunnel.specs.Places.{same_node, same_address, is_among, of_address}
 use Rattle.ipx_tunnel.specs.Laws.{copies}
 use Rattle.ipx_tunnel.proofs.Nodes.{same_is}
@@ -18,24 +16,16 @@ count-append p xs ys = ap length (filter-append p xs ys) ∙ length-append (filt
 
 pub count-filter : {X : Type 0} (p q : X → Bool) (xs : List X) → length (filter p (filter q xs)) ≤ length (filter p xs)
 count-filter p q [] = omega arith
-count-filter p q (x ∷ xs) =
-    let fewer = count-filter p q xs in
-    elim (cases_Bool (q x)) [
-      | inl qx ↦ elim (cases_Bool (p x)) [ inl px ↦ rw (qx, px) (omega (arith, fewer)) | inr px ↦ rw (qx, px) fewer ]
-      | inr qx ↦ elim (cases_Bool (p x)) [ inl px ↦ rw (qx, px) (omega (arith, fewer)) | inr px ↦ rw (qx, px) fewer ]
-    ]
+count-filter p q (x ∷ xs) = grind (arith, count-filter p q xs)
 
 pub count_few : {X : Type 0} (p : X → Bool) (xs : List X) → length (filter p xs) ≤ length xs
 count_few p [] = omega arith
-count_few p (x ∷ xs) =
-    let fewer = count_few p xs in
-    elim (cases_Bool (p x)) [ inl px ↦ rw px (omega (arith, fewer)) | inr px ↦ rw px (omega (arith, fewer)) ]
+count_few p (x ∷ xs) = grind (arith, count_few p xs)
 
 -- ---- one place
 
 none_of : (b : Bool) → ◌≡◌ {A = ℕ} 0 (if b then 0 else 0)
-none_of true = refl
-none_of false = refl
+none_of b = grind arith
 
 -- what is asked of a place has one answer for all nodes that are the same
 copies-filter : (f : Node → Bool) (place : Node) (xs : List Node) → copies place (filter f xs) ≡ (if f place then copies place xs else 0)
@@ -72,16 +62,10 @@ some_copies place (x ∷ xs) some =
 
 -- a place that stands at most once stands once where it stands
 pub copies_one : (place : Node) (xs : List Node) → copies place xs ≤ 1 → copies place xs ≡ (if is_among place xs then 1 else 0)
-copies_one place xs few = elim (cases_Bool (is_among place xs)) [
-  | inl some ↦ rw some (omega (arith, some_copies place xs some))
-  | inr none ↦ rw none (no_copies place xs none)
-]
+copies_one place xs few = grind (arith, some_copies, no_copies)
 
 passed_by : (passes stands : Bool) (count : ℕ) → count ≡ (if stands then 1 else 0) → (if passes then count else 0) ≡ (if stands && passes then 1 else 0)
-passed_by true true count is = is
-passed_by true false count is = is
-passed_by false true count is = refl
-passed_by false false count is = refl
+passed_by passes stands count is = grind arith
 
 pub copies_passed : (f : Node → Bool) (place : Node) (xs : List Node) → copies place xs ≤ 1
     → copies place (filter f xs) ≡ (if is_among place xs && f place then 1 else 0)
@@ -124,18 +108,10 @@ others_fewer place (x ∷ xs) some =
 -- all that are the same as a place are this place, as often as it stands there
 pub alone : (place : Node) (xs : List Node) → filter (λ p. same_node p place) xs ≡ replicate (copies place xs) place
 alone place [] = refl
-alone place (x ∷ xs) =
-    elim (cases_Bool (same_node x place)) [
-      | inl same ↦ rw same (ap₂ (λ (p : Node) (l : List Node). p ∷ l) (same_is x place same) (alone place xs))
-      | inr other ↦ rw other (alone place xs)
-    ]
+alone place (x ∷ xs) = search (rules, alone place xs, same_is)
 
 -- ---- addresses
 
 -- who has the same address is counted alike
 pub of_same_address : (a b : Node) (xs : List Node) → same_address a b ≡ true → of_address b xs ≡ of_address a xs
-of_same_address a b xs same =
-    ap length (filter_agree (λ x. same_address x b) (λ x. same_address x a) (λ x.
-    nat_list_eq_equiv.symm (take address_size x.0) (take address_size b.0)
-    ∙ sym (nat_list_eq_equiv.congr (take address_size a.0) (take address_size b.0) (take address_size x.0) same)
-    ∙ nat_list_eq_equiv.symm (take address_size a.0) (take address_size x.0)) xs)
+of_same_address a b xs same = search (rules, filter_agree)

@@ -1,5 +1,5 @@
 -- Packets that are read from parts of others.
-use Rattle.std.proofs.Common.{◌≡◌, ◌∙◌, refl, sym, ap, ap₂, arith, ℕ, ◌+◌, ◌-◌, ◌≤◌, Bool, true, false, if◌then◌else◌, nat_lt, inl, inr, List, length, take, drop, get_or-take, length-take-le, Ok, Err}
+use Rattle.std.proofs.Common.{◌≡◌, ◌∙◌, refl, sym, ap, ap₂, arith, ℕ, ◌+◌, ◌-◌, ◌≤◌, Bool, false, if◌then◌else◌, nat_lt, inl, inr, List, length, take, drop, get_or-take, length-take-le, Ok, Err}
 use Rattle.std.specs.Prelude.{slice_index}
 use Rattle.std.specs.Int.{from_be_bytes, w16, w32}
 use Rattle.std.proofs.lemmas.Bool.{cases_lt, lt-ltb, le-ltb, false≢true}
@@ -16,10 +16,7 @@ use Rattle.ipx_wire.specs.declared.packet.PacketFault.TheVariants.{Short, Length
 
 read_by : (short small beyond : Bool) (p packet : Parts) → (if short then Err Short else if small then Err LengthSmall else if beyond then Err LengthBeyond else Ok p) ≡ Ok packet
     → (short ≡ false) × (small ≡ false) × (beyond ≡ false) × (packet ≡ p)
-read_by true small beyond p packet is = cc
-read_by false true beyond p packet is = cc
-read_by false false true p packet is = cc
-read_by false false false p packet is = (refl, refl, refl, cc)
+read_by short small beyond p packet is = grind arith
 
 read_all : (short small beyond : Bool) (p : Parts) → short ≡ false → small ≡ false → beyond ≡ false
     → (if short then Err Short else if small then Err LengthSmall else if beyond then Err LengthBeyond else Ok p) ≡ Ok p
@@ -39,21 +36,11 @@ pub record Reads (bytes : List ℕ) (packet : Parts) : Type 0 where
 
 pub reads : (bytes : List ℕ) (packet : Parts) → packet_of bytes ≡ Ok packet → Reads bytes packet
 unfolding packet_of
-reads bytes packet is =
-    let read = read_by (nat_lt (length bytes) 30) (nat_lt (length_field bytes) 30) (nat_lt (length bytes) (length_field bytes)) (parts_at bytes (length_field bytes)) packet is in
-    record {
-      long = not_less (length_field bytes) 30 read.1;
-      within = not_less (length bytes) (length_field bytes) read.2;
-      parts = read.3;
-    }
+reads bytes packet is = grind (arith, read_by, not_less)
 
 pub is_read : (bytes : List ℕ) (n : ℕ) → length_field bytes ≡ n → 30 ≤ n → n ≤ length bytes → packet_of bytes ≡ Ok (parts_at bytes n)
 unfolding packet_of
-is_read bytes n is long within =
-    read_all (nat_lt (length bytes) 30) (nat_lt (length_field bytes) 30) (nat_lt (length bytes) (length_field bytes)) (parts_at bytes (length_field bytes))
-    (le-ltb (length bytes) 30 (omega (arith, long, within))) (le-ltb (length_field bytes) 30 (omega (arith, is, long)))
-    (le-ltb (length bytes) (length_field bytes) (omega (arith, is, within)))
-    ∙ ap (λ (m : ℕ). Ok (parts_at bytes m)) is
+is_read bytes n is long within = grind (arith, read_all, le-ltb)
 
 pub length_is : (bytes : List ℕ) → (header_at bytes).length ≡ length_field bytes
 unfolding header_at
@@ -76,18 +63,7 @@ pub record SameFields (a b : List ℕ) : Type 0 where
 pub same_header : (a b : List ℕ) (to : Network) → SameFields a b → from_be_bytes w32 (piece a 6 4) ≡ to.0
     → header_at a ≡ record (header_at b) { destination = record (header_at b).destination { network = to } }
 unfolding header_at address_at
-same_header a b to same network = λ i. record {
-  checksum = from_be_bytes w16 (same.checksum i);
-  length = from_be_bytes w16 (same.count i);
-  control = same.control i;
-  kind = same.kind i;
-  destination = record { network = record { 0 = network i }; node = record { 0 = same.to_node i }; socket = record { 0 = from_be_bytes w16 (same.to_socket i) } };
-  source = record {
-    network = record { 0 = from_be_bytes w32 (same.from_network i) };
-    node = record { 0 = same.from_node i };
-    socket = record { 0 = from_be_bytes w16 (same.from_socket i) };
-  };
-}
+same_header a b to same network = grind arith
 
 pub to_network : (bytes : List ℕ) → (header_at bytes).destination.network.0 ≡ from_be_bytes w32 (piece bytes 6 4)
 unfolding header_at address_at

@@ -1,12 +1,11 @@
 -- How long a place was silent.
-use Rattle.std.proofs.Common.{◌≡◌, ◌∙◌, refl, sym, ap, ap₂, arith, ℕ, ◌-◌, ◌%◌, ◌<◌, ◌≤◌, ◌==◌, Bool, true, false, ◌&&◌, nat_lt, if◌then◌else◌, inl, inr, List, [], ◌∷◌, ◌++◌, length, filter, map, replicate}
+use Rattle.std.proofs.Common.{◌≡◌, ◌∙◌, refl, ap, ap₂, arith, ℕ, ◌-◌, ◌%◌, ◌<◌, ◌≤◌, ◌==◌, Bool, true, false, ◌&&◌, nat_lt, if◌then◌else◌, inl, inr, List, [], ◌∷◌, ◌++◌, length, filter, map, replicate}
 use Rattle.std.specs.List.{AllByRecursion}
-use Rattle.std.proofs.lemmas.Bool.{cases_Bool, cases_eq, false≢true, ne_eqb, lt-ltb, ltb-true}
+use Rattle.std.proofs.lemmas.Bool.{cases_Bool, lt-ltb, ltb-true}
 use Rattle.std.proofs.lemmas.List.{length-map}
 use Rattle.ipx_wire.specs.declared.node.Node.{Node}
 use Rattle.ipx_tunnel.specs.declared.own.Own.{Own}
 use Rattle.ipx_tunnel.specs.declared.said.Said.{Said}
-use Rattle.ipx_tunnel.specs.declared.said.Said.TheVariants.{Nothing, Registers, Answers, Speaks}
 use Rattle.ipx_tunnel.specs.declared.sender.Sender.{Sender}
 use Rattle.ipx_tunnel.specs.declared.setting.Setting.{Setting}
 use Rattle.ipx_tunnel.specs.Numbers.{ping_every}
@@ -23,30 +22,11 @@ use Rattle.ipx_tunnel.proofs.Standing.{each_there}
 
 -- ---- numbers
 
--- whatever counts does so for a multiple of five seconds
-in_fives : (is_trusted : Bool) (s : Said) → lasts_by is_trusted s % ping_every ≡ 0
-in_fives true Nothing = refl
-in_fives true Registers = refl
-in_fives true Answers = refl
-in_fives true (Speaks header) = refl
-in_fives false Nothing = refl
-in_fives false Registers = refl
-in_fives false Answers = refl
-in_fives false (Speaks header) = refl
-
 fives_of : (is_sender is_trusted : Bool) (s : Said) → (if is_sender then lasts_by is_trusted s else 0) % ping_every ≡ 0
-fives_of true is_trusted s = in_fives is_trusted s
-fives_of false is_trusted s = refl
-
-same_test : (a b : ℕ) → (a ≡ 0 → b ≡ 0) → (b ≡ 0 → a ≡ 0) → (a == 0) ≡ (b == 0)
-same_test a b one other = elim (cases_eq a 0) [
-  | inl e ↦ ap (λ (n : ℕ). n == 0) (e ∙ sym (one e))
-  | inr not_a ↦ ne_eqb a 0 not_a ∙ sym (ne_eqb b 0 (λ e. not_a (other e)))
-]
+fives_of is_sender is_trusted s = grind arith
 
 left_in_fives : (n passed : ℕ) → n % ping_every ≡ 0 → passed ≤ n → ((n - passed) % ping_every == 0) ≡ (passed % ping_every == 0)
-left_in_fives n passed fives within =
-    same_test ((n - passed) % ping_every) (passed % ping_every) (λ e. omega (arith, fives, within, e)) (λ e. omega (arith, fives, within, e))
+left_in_fives n passed fives within = grind arith
 
 -- ---- silence
 
@@ -72,14 +52,10 @@ module _ (setting : Setting) (place : Node) (from : Sender) (bytes : List ℕ) (
   cookie_since (Send to sent ∷ later) silence = cookie_since later silence.1
 
 one_or_none : (ping : Node → Own) (place : Node) (due : Bool) → map ping (replicate (if due then 1 else 0) place) ≡ (if due then ping place ∷ [] else [])
-one_or_none ping place true = refl
-one_or_none ping place false = refl
+one_or_none ping place due = grind arith
 
 no_time : (lasts : ℕ) → nat_lt 0 lasts ≡ false → lasts ≡ 0
-no_time lasts none = elim (cases_eq lasts 0) [
-  | inl e ↦ e
-  | inr some ↦ absurd (false≢true (sym none ∙ lt-ltb 0 lasts (omega (arith, some))))
-]
+no_time lasts none = grind arith
 
 module _ (setting : Setting) (place : Node) where
   -- one event more, which doesn't count
@@ -95,20 +71,12 @@ module _ (setting : Setting) (place : Node) where
   }
 
   pub cookie_last : (history : History) (last : LastHeard setting place history) → cookie setting place history ≡ last.from.cookies.current
-  cookie_last history last =
-      ap (cookie setting place) last.event ∙ cookie_since setting place last.from last.bytes last.earlier last.counts last.later last.silence
+  cookie_last history last = grind (arith, cookie_since)
 
   -- a client is silent at a second just when that is a multiple of five seconds after it was heard
   silent_last : (history : History) (last : LastHeard setting place history) → is_there setting place history ≡ true
       → is_silent setting history place ≡ (seconds last.later % ping_every == 0)
-  silent_last history last there =
-      let l = lasts setting place (Datagram last.from last.bytes) in
-      let left : seconds_left setting place history ≡ l - seconds last.later =
-      ap (seconds_left setting place) last.event ∙ left_since setting place last.from last.bytes last.earlier last.counts last.later last.silence in
-      let some : 0 < seconds_left setting place history = ltb-true 0 (seconds_left setting place history) there in
-      ap (λ (n : ℕ). n % ping_every == 0) left
-      ∙ left_in_fives l (seconds last.later)
-      (fives_of (same_node place last.from.place) last.from.is_trusted (said setting.network last.from last.bytes)) (omega (arith, left, some))
+  silent_last history last there = grind (arith, left_since, ltb-true, left_in_fives, fives_of)
 
   pub pinged : (history : History) (last : LastHeard setting place (Second ∷ history)) → is_client setting place (Second ∷ history) ≡ true
       → own_to place (own setting (Second ∷ history)) ≡ (if seconds last.later % ping_every == 0 then 1 else 0)

@@ -1,41 +1,22 @@
 -- What a tunnel keeps stands for one event more.
-use Rattle.std.proofs.Common.{◌≡◌, ◌∙◌, refl, sym, ap, ap₂, subst, ℕ, Bool, true, false, ◌&&◌, not, nat_lt, if◌then◌else◌, inl, inr, List, [], ◌∷◌, ◌++◌, map, filter}
+use Rattle.std.proofs.Common.{◌≡◌, ◌∙◌, refl, sym, ap, ap₂, ℕ, Bool, true, false, ◌&&◌, not, nat_lt, if◌then◌else◌, inl, inr, List, [], ◌∷◌, ◌++◌, map, filter, arith, rules}
 use Rattle.std.specs.List.{AllByRecursion}
-use Rattle.std.proofs.lemmas.Bool.{cases_Bool, false≢true}
+use Rattle.std.proofs.lemmas.Bool.{cases_Bool}
 use Rattle.std.proofs.lemmas.List.{append-nil, map-append}
 use Rattle.ipx_wire.specs.declared.node.Node.{Node}
 use Rattle.ipx_tunnel.specs.declared.client.Client.{Client}
 use Rattle.ipx_tunnel.specs.declared.sender.Sender.{Sender}
 use Rattle.ipx_tunnel.specs.declared.setting.Setting.{Setting}
-use Rattle.ipx_tunnel.specs.Places.{same_node}
 use Rattle.ipx_tunnel.specs.Events.{Datagram, Second, Send, History}
 use Rattle.ipx_tunnel.specs.Says.{said}
-use Rattle.ipx_tunnel.specs.Clients.{lasts_by, lasts, seconds_left, is_there, cookie, is_open, newcomers, clients}
+use Rattle.ipx_tunnel.specs.Clients.{lasts_by, lasts, is_there, is_open, newcomers, clients}
 use Rattle.ipx_tunnel.specs.Own.{ping_to, own}
 use Rattle.ipx_tunnel.specs.Stands.{State, Stands, client_at}
-use Rattle.ipx_tunnel.specs.inside.Kept.{places_of, fresh, refreshed, admitted, with_heard, later, stays, pings_now}
+use Rattle.ipx_tunnel.specs.inside.Kept.{places_of, fresh, refreshed, admitted, later, stays, pings_now}
 use Rattle.ipx_tunnel.proofs.Lists.{filter-map, map-map, map-agree, map-one, each-append, each-filter, each-weaker, filter-each}
 use Rattle.ipx_tunnel.proofs.Nodes.{same_itself}
 
 -- ---- one place, over plain values
-
--- what lasts no time changes nothing
-unchanged : (lasts left : ℕ) (place now kept : Node) → nat_lt 0 lasts ≡ false
-    → ◌≡◌ {A = Client} (record { place = place; cookie = if nat_lt 0 lasts then now else kept; seconds_left = if nat_lt 0 lasts then lasts else left })
-    (record { place = place; cookie = kept; seconds_left = left })
-unchanged lasts left place now kept none = rw none refl
-
--- who was heard is refreshed, and nobody else
-refreshed_or : (is_sender : Bool) (lasts left : ℕ) (place now kept : Node) → nat_lt 0 lasts ≡ true
-    → ◌≡◌ {A = Client}
-    (if is_sender then record { place = place; cookie = now; seconds_left = lasts } else record { place = place; cookie = kept; seconds_left = left })
-    (record {
-      place = place;
-      cookie = if nat_lt 0 (if is_sender then lasts else 0) then now else kept;
-      seconds_left = if nat_lt 0 (if is_sender then lasts else 0) then (if is_sender then lasts else 0) else left;
-    })
-refreshed_or true lasts left place now kept some = rw some refl
-refreshed_or false lasts left place now kept some = refl
 
 -- who is there stays there through what is said
 pub there_more : (lasts left : ℕ) → nat_lt 0 left ≡ true → nat_lt 0 (if nat_lt 0 lasts then lasts else left) ≡ true
@@ -51,18 +32,11 @@ fresh_by : (is_sender : Bool) (lasts left : ℕ) (place now kept : Node) → is_
       cookie = if nat_lt 0 (if is_sender then lasts else 0) then now else kept;
       seconds_left = if nat_lt 0 (if is_sender then lasts else 0) then (if is_sender then lasts else 0) else left;
     })
-fresh_by true lasts left place now kept is some = rw some refl
-fresh_by false lasts left place now kept is some = absurd (false≢true is)
+fresh_by is_sender lasts left place now kept is some = grind arith
 
 -- who comes in is there
 newcomer : (P : Node → Type 0) (place : Node) (some is_open : Bool) → (some ≡ true → P place) → AllByRecursion P (if some && is_open then place ∷ [] else [])
-newcomer P place true true there = (there refl, tt)
-newcomer P place true false there = tt
-newcomer P place false is_open there = tt
-
-none_for : (is_sender : Bool) (lasts : ℕ) → nat_lt 0 lasts ≡ false → nat_lt 0 (if is_sender then lasts else 0) ≡ false
-none_for true lasts none = none
-none_for false lasts none = refl
+newcomer P place some is_open there = grind arith
 
 module _ (setting : Setting) where
   -- a place's own word lasts as long as what it says
@@ -74,11 +48,7 @@ module _ (setting : Setting) where
 
   pub each_there : (history : History) → AllByRecursion (λ place. is_there setting place history ≡ true) (clients setting history)
   each_there [] = tt
-  each_there (Datagram from bytes ∷ earlier) =
-      each-append _ _ _ (each-filter (λ place. is_there setting place (Datagram from bytes ∷ earlier)) (clients setting earlier))
-      (newcomer (λ place. is_there setting place (Datagram from bytes ∷ earlier) ≡ true) from.place
-      (nat_lt 0 (lasts setting from.place (Datagram from bytes))) (is_open setting from.place (clients setting earlier))
-      (there_now (lasts setting from.place (Datagram from bytes)) (seconds_left setting from.place earlier)))
+  each_there (Datagram from bytes ∷ earlier) = search (rules, each-append, each-filter, newcomer, there_now)
   each_there (Second ∷ earlier) = each-append _ _ _ (each-filter (λ place. is_there setting place (Second ∷ earlier)) (clients setting earlier)) tt
   each_there (Send to bytes ∷ earlier) = each-append _ _ _ (each-filter (λ place. is_there setting place (Send to bytes ∷ earlier)) (clients setting earlier)) tt
 
@@ -86,12 +56,7 @@ module _ (setting : Setting) where
 
   pub clients_heard : (from : Sender) (bytes : List ℕ) (earlier : History)
       → clients setting (Datagram from bytes ∷ earlier) ≡ clients setting earlier ++ newcomers setting (clients setting earlier) (Datagram from bytes)
-  clients_heard from bytes earlier =
-      let there = λ (place : Node). is_there setting place (Datagram from bytes ∷ earlier) in
-      let all : AllByRecursion (λ place. there place ≡ true) (clients setting earlier) =
-      each-weaker (λ place. is_there setting place earlier ≡ true) (λ place. there place ≡ true)
-      (λ place. there_more (lasts setting place (Datagram from bytes)) (seconds_left setting place earlier)) (clients setting earlier) (each_there earlier) in
-      ap (λ l. l ++ newcomers setting (clients setting earlier) (Datagram from bytes)) (filter-each there (clients setting earlier) all)
+  clients_heard from bytes earlier = grind (arith, each-weaker, there_more, each_there, filter-each)
 
   pub clients_second : (earlier : History) → clients setting (Second ∷ earlier) ≡ filter (λ place. is_there setting place (Second ∷ earlier)) (clients setting earlier)
   clients_second earlier = append-nil _
@@ -107,22 +72,16 @@ module _ (setting : Setting) where
 
   quiet : (from : Sender) (bytes : List ℕ) (earlier : History) → nat_lt 0 (lasts_by from.is_trusted (said setting.network from bytes)) ≡ false
       → (place : Node) → client_at setting earlier place ≡ client_at setting (Datagram from bytes ∷ earlier) place
-  quiet from bytes earlier none place =
-      sym (unchanged (lasts setting place (Datagram from bytes)) (seconds_left setting place earlier) place from.cookies.current (cookie setting place earlier)
-      (none_for (same_node place from.place) (lasts_by from.is_trusted (said setting.network from bytes)) none))
+  quiet from bytes earlier none place = grind arith
 
   heard : (from : Sender) (bytes : List ℕ) (earlier : History) → nat_lt 0 (lasts_by from.is_trusted (said setting.network from bytes)) ≡ true
       → (place : Node) → refreshed from (lasts_by from.is_trusted (said setting.network from bytes)) (client_at setting earlier place)
       ≡ client_at setting (Datagram from bytes ∷ earlier) place
-  heard from bytes earlier some place =
-      refreshed_or (same_node place from.place) (lasts_by from.is_trusted (said setting.network from bytes)) (seconds_left setting place earlier)
-      place from.cookies.current (cookie setting place earlier) some
+  heard from bytes earlier some place = grind arith
 
   fresh_is : (from : Sender) (bytes : List ℕ) (earlier : History) → nat_lt 0 (lasts_by from.is_trusted (said setting.network from bytes)) ≡ true
       → fresh from (lasts_by from.is_trusted (said setting.network from bytes)) ≡ client_at setting (Datagram from bytes ∷ earlier) from.place
-  fresh_is from bytes earlier some =
-      fresh_by (same_node from.place from.place) (lasts_by from.is_trusted (said setting.network from bytes)) (seconds_left setting from.place earlier)
-      from.place from.cookies.current (cookie setting from.place earlier) (same_itself from.place) some
+  fresh_is from bytes earlier some = grind (arith, fresh_by, same_itself)
 
   pub stands_heard : (from : Sender) (bytes : List ℕ) (earlier : History)
       → admitted setting from (lasts_by from.is_trusted (said setting.network from bytes)) (map (client_at setting earlier) (clients setting earlier))
@@ -164,65 +123,42 @@ module _ (setting : Setting) where
   pub stands_second : (earlier : History)
       → filter stays (map later (map (client_at setting earlier) (clients setting earlier)))
       ≡ map (client_at setting (Second ∷ earlier)) (clients setting (Second ∷ earlier))
-  stands_second earlier =
-      ap (filter stays) (later-at earlier (clients setting earlier))
-      ∙ filter-map stays (client_at setting (Second ∷ earlier)) (clients setting earlier)
-      ∙ ap (map (client_at setting (Second ∷ earlier))) (sym (clients_second earlier))
+  stands_second earlier = grind (arith, later-at, filter-map, clients_second)
 
   pub left_second : (earlier : History)
       → places_of (filter (λ c. not (stays c)) (map later (map (client_at setting earlier) (clients setting earlier))))
       ≡ filter (λ place. not (is_there setting place (Second ∷ earlier))) (clients setting earlier)
-  left_second earlier =
-      ap (λ l. places_of (filter (λ c. not (stays c)) l)) (later-at earlier (clients setting earlier))
-      ∙ ap places_of (filter-map (λ c. not (stays c)) (client_at setting (Second ∷ earlier)) (clients setting earlier))
-      ∙ places-at (Second ∷ earlier) (filter (λ place. not (is_there setting place (Second ∷ earlier))) (clients setting earlier))
+  left_second earlier = grind (arith, later-at, filter-map, places-at)
 
   pub pings_second : (earlier : History)
       → map (λ c. ping_to setting.network c.place c.cookie) (filter pings_now (map (client_at setting (Second ∷ earlier)) (clients setting (Second ∷ earlier))))
       ≡ own setting (Second ∷ earlier)
-  pings_second earlier =
-      ap (map (λ (c : Client). ping_to setting.network c.place c.cookie)) (filter-map pings_now (client_at setting (Second ∷ earlier)) (clients setting (Second ∷ earlier)))
-      ∙ map-map (λ (c : Client). ping_to setting.network c.place c.cookie) (client_at setting (Second ∷ earlier)) _
+  pings_second earlier = grind (arith, filter-map, map-map)
 
 -- the same, of whole tunnels
 pub stands_after : (before after : State) (from : Sender) (bytes : List ℕ) (history : History) (lasts : ℕ)
     → after.setting ≡ before.setting → lasts ≡ lasts_by from.is_trusted (said before.setting.network from bytes)
     → after.clients ≡ admitted before.setting from lasts before.clients → Stands before history → Stands after (Datagram from bytes ∷ history)
-stands_after before after from bytes history lasts same counts done stands =
-    let s = before.setting in
-    let is : after.clients ≡ map (client_at s (Datagram from bytes ∷ history)) (clients s (Datagram from bytes ∷ history)) =
-    done ∙ ap₂ (λ (n : ℕ) (l : List Client). admitted s from n l) counts stands ∙ stands_heard s from bytes history in
-    subst (λ (t : Setting). after.clients ≡ map (client_at t (Datagram from bytes ∷ history)) (clients t (Datagram from bytes ∷ history))) (sym same) is
+stands_after before after from bytes history lasts same counts done stands = grind (arith, stands_heard)
 
 pub stands_later : (before after : State) (history : History) → after.setting ≡ before.setting → after.clients ≡ filter stays (map later before.clients)
     → Stands before history → Stands after (Second ∷ history)
-stands_later before after history same done stands =
-    let s = before.setting in
-    let is : after.clients ≡ map (client_at s (Second ∷ history)) (clients s (Second ∷ history)) =
-    done ∙ ap (λ (l : List Client). filter stays (map later l)) stands ∙ stands_second s history in
-    subst (λ (t : Setting). after.clients ≡ map (client_at t (Second ∷ history)) (clients t (Second ∷ history))) (sym same) is
+stands_later before after history same done stands = grind (arith, stands_second)
 
 -- what is kept after somebody was heard
 pub admitted_new : (setting : Setting) (from : Sender) (lasts : ℕ) (clients : List Client) → nat_lt 0 lasts ≡ true → is_open setting from.place (places_of clients) ≡ true
     → map (refreshed from lasts) clients ++ fresh from lasts ∷ [] ≡ admitted setting from lasts clients
-admitted_new setting from lasts clients some new =
-    sym (ap (λ (b : Bool). if b then with_heard setting from lasts clients else clients) some
-    ∙ ap (λ (b : Bool). map (refreshed from lasts) clients ++ (if b then fresh from lasts ∷ [] else [])) new)
+admitted_new setting from lasts clients some new = grind arith
 
 pub admitted_known : (setting : Setting) (from : Sender) (lasts : ℕ) (clients : List Client) → nat_lt 0 lasts ≡ true → is_open setting from.place (places_of clients) ≡ false
     → map (refreshed from lasts) clients ≡ admitted setting from lasts clients
-admitted_known setting from lasts clients some new =
-    sym (append-nil (map (refreshed from lasts) clients))
-    ∙ sym (ap (λ (b : Bool). if b then with_heard setting from lasts clients else clients) some
-    ∙ ap (λ (b : Bool). map (refreshed from lasts) clients ++ (if b then fresh from lasts ∷ [] else [])) new)
+admitted_known setting from lasts clients some new = grind (arith, append-nil)
 
 -- what is worked out of a tunnel's clients is what its history says
 module _ {X : Type 0} (of : Setting → List Node → X) (lent items : List Client) (setting : Setting) (state : State) (history : History) where
   pub seen : lent ≡ items → ◌≡◌ {A = State} (record { setting = setting; clients = items }) state → Stands state history
       → of setting (places_of lent) ≡ of state.setting (clients state.setting history)
-  seen is view stands =
-      ap (λ (l : List Client). of setting (places_of l)) is ∙ ap (λ (v : State). of v.setting (places_of v.clients)) view
-      ∙ ap (of state.setting) (places_stand state.setting state history stands)
+  seen is view stands = grind (arith, places_stand)
 
   pub seen_before : (before : Setting) → lent ≡ items → ◌≡◌ {A = State} (record { setting = setting; clients = items }) state → state.setting ≡ before
       → Stands state history → of setting (places_of lent) ≡ of before (clients before history)
