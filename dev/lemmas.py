@@ -65,18 +65,21 @@ def joined(lines):
 
 def end_of(lines, first, indent):
     """The line behind an item: the next that isn't farther to the right and closes no bracket of it."""
-    behind = first + 1
-    while behind < len(lines) and (lines[behind].startswith(indent + " ") or lines[behind].startswith(tuple(indent + it for it in CLOSES))):
-        behind += 1
+    inside, behind = (indent + " ", *(indent + it for it in CLOSES)), first + 1
+    for at in range(first + 1, len(lines)):
+        if lines[at] and not lines[at].startswith(inside):
+            break
+        if lines[at]:
+            behind = at + 1
     return behind
 
 
 def lemmas_of(lines):
-    """The lemmas of a file with equations."""
+    """The lemmas of a file with equations, without those that stand in the proof of another."""
     found = []
     for first, line in enumerate(lines):
         head = ITEM.match(line)
-        if not head:
+        if not head or found and first < found[-1].behind():
             continue
         indent, name = head.groups()
         at = end_of(lines, first, indent)
@@ -99,6 +102,11 @@ def imports(lines):
     for head in filter(None, map(IMPORT.match, lines)):
         found.update(dict.fromkeys(re.split(r",\s*", head[2]), head[1]))
     return found
+
+
+def binds(lines, name):
+    """Whether a file has this name for something of its own."""
+    return name not in imports(lines) and any(re.search(rf"(?<![\w.-]){name}(?![\w-])", it) for it in lines)
 
 
 def sections(lines):

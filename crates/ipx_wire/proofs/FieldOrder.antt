@@ -1,5 +1,5 @@
 -- Fields of names in the order of their bytes, of which eight are compared at once.
-use Rattle.std.proofs.Common.{◌≡◌, ◌≢◌, ℕ, zero, suc, ◌+◌, ◌*◌, ◌-◌, ◌≤◌, ◌<◌, List, [], ◌∷◌, ◌++◌, length, take, drop, replicate, refl, sym, ap, ap₂, ◌∙◌, arith, subst, inl, inr, take-add, take_all}
+use Rattle.std.proofs.Common.{◌≡◌, ◌≢◌, ℕ, zero, suc, ◌+◌, ◌*◌, ◌≤◌, ◌<◌, List, [], ◌∷◌, ◌++◌, length, take, drop, replicate, refl, sym, ap, ap₂, ◌∙◌, arith, subst, inl, inr, take-add, take_all}
 use Rattle.std.specs.Cmp.{nat_cmp_is}
 use Rattle.std.specs.Int.{from_be_bytes, w64}
 use Rattle.std.specs.List.{AllByRecursion}
@@ -65,27 +65,22 @@ in_eight (a ∷ b ∷ c ∷ d ∷ e ∷ f ∷ g ∷ h ∷ i ∷ rest) size = abs
 -- zeros behind two names, up to one length, leave their order
 padded : (a b : List ℕ) (n m : ℕ) → length a + n ≡ length b + m → AllByRecursion (λ byte. 0 < byte) a → AllByRecursion (λ byte. 0 < byte) b
     → name_order (a ++ replicate n 0) (b ++ replicate m 0) ≡ name_order a b
-padded [] [] n m same one two =
-    let e : n ≡ m = omega (arith, same) in is_equal (replicate n 0) (replicate m 0) (ap (λ (k : ℕ). replicate k 0) e)
+padded [] [] n m same one two = grind (arith, is_equal)
 padded [] (y ∷ b) zero m same one two = absurd (omega (arith, same))
-padded [] (y ∷ b) (suc n) m same one two =
-    ap (λ (o : Ordering). ordering_then o (name_order (replicate n 0) (b ++ replicate m 0))) (sym (nat_cmp_is 0 y Less two.0))
+padded [] (y ∷ b) (suc n) m same one two = grind arith
 padded (x ∷ a) [] n zero same one two = absurd (omega (arith, same))
-padded (x ∷ a) [] n (suc m) same one two =
-    ap (λ (o : Ordering). ordering_then o (name_order (a ++ replicate n 0) (replicate m 0))) (sym (nat_cmp_is x 0 Greater one.0))
+padded (x ∷ a) [] n (suc m) same one two = grind arith
 padded (x ∷ a) (y ∷ b) n m same one two =
     ap (ordering_then (nat_cmp x y)) (padded a b n m (omega (arith, same)) one.1 two.1)
 
 -- names are in the order of their fields
 field_order : (a b : List ℕ) → IsServiceName a → IsServiceName b → name_order (name_field a) (name_field b) ≡ name_order a b
 unfolding name_field
-field_order a b one two =
-    padded a b (48 - length a) (48 - length b) (omega (arith, one.most, two.most)) one.full two.full
+field_order a b one two = grind (arith, padded)
 
 -- and so are the fields that are kept
 pub kept_order : (f g a b : List ℕ) (n m : ℕ) → IsKeptName f a n → IsKeptName g b m → name_order f g ≡ name_order a b
-kept_order f g a b n m one two =
-    ap₂ name_order one.sent two.sent ∙ field_order a b one.named two.named
+kept_order f g a b n m one two = grind (arith, field_order)
 
 -- equal bytes in front leave it to those behind
 same_front : (front a b : List ℕ) → name_order (front ++ a) (front ++ b) ≡ name_order a b
@@ -98,8 +93,7 @@ all_bytes (b ∷ bs) are = (are 0, all_bytes bs (λ i. are (suc i)))
 
 -- a list is what stands in front of a place, eight bytes there, and the rest
 around_eight : (bs : List ℕ) (place : ℕ) → take place bs ++ (piece bs place 8 ++ drop 8 (drop place bs)) ≡ bs
-around_eight bs place =
-    ap (λ (z : List ℕ). take place bs ++ z) (take-append-drop 8 (drop place bs)) ∙ take-append-drop place bs
+around_eight bs place = grind (arith, take-append-drop)
 
 -- the number in eight bytes at a place
 number_at : (bs : List ℕ) (place x : ℕ) → place + 8 ≤ length bs → x ≡ from_be_bytes w64 (piece bs place 8) → x ≡ high_first 0 (piece bs place 8)

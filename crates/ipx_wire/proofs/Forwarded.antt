@@ -40,32 +40,14 @@ forwarded_bytes bytes p is below =
 -- a change within data is one within what stands before them and the data
 spread : (q payload new : List ℕ) (m i j : ℕ) → length q ≡ m
     → q ++ (take i payload ++ new ++ drop j payload) ≡ take (m + i) (q ++ payload) ++ new ++ drop (m + j) (q ++ payload)
-spread q payload new m i j size =
-    let front : take (m + i) (q ++ payload) ≡ q ++ take i payload =
-    take-add m i (q ++ payload)
-    ∙ ap (λ (x : List ℕ). x ++ take i (drop m (q ++ payload))) (take_at q payload m size)
-    ∙ ap (λ (x : List ℕ). q ++ take i x) (drop_at q payload m size) in
-    let behind : drop (m + j) (q ++ payload) ≡ drop j payload =
-    sym (drop-drop j m (q ++ payload)) ∙ ap (drop j) (drop_at q payload m size) in
-    sym (ap (λ (x : List ℕ). x ++ new ++ drop (m + j) (q ++ payload)) front
-    ∙ ap (λ (x : List ℕ). q ++ take i payload ++ new ++ x) behind
-    ∙ ap (λ (x : List ℕ). x ++ drop j payload) (append_assoc q (take i payload) new)
-    ∙ append_assoc q (take i payload ++ new) (drop j payload))
+spread q payload new m i j size = grind (arith, take-add, take_at, drop_at, drop-drop, append_assoc)
 
 -- what stands between the network of the destination and the data
 abbrev between : Address → Address → List ℕ
 between to from = to.node.0 ++ to_be_bytes w16 to.socket.0 ++ address_bytes from
 
 length-between : (to from : Address) → IsAddress to → IsAddress from → length (between to from) ≡ 20
-length-between to from to_is from_is =
-    let node = to_is.node in
-    omega (
-      arith,
-      node,
-      length-append (to.node.0 ++ to_be_bytes w16 to.socket.0) (address_bytes from),
-      length-append to.node.0 (to_be_bytes w16 to.socket.0),
-      length-address_bytes from from_is.node,
-    )
+length-between to from to_is from_is = grind (arith, length-append, length-address_bytes)
 
 -- what a propagated packet is, over the bytes of the packet that came
 abbrev pub changed : ℕ → Network → Network → List ℕ → List ℕ

@@ -1,4 +1,6 @@
-use Rattle.std.proofs.Common.{◌≡◌, ℕ, ◌+◌, ◌≤◌, List, [], ◌∷◌, ◌++◌, length, take, drop, refl, sym, ap, ◌∙◌, arith, append_assoc, length-append}
+use Rattle.std.proofs.Common.{rules}
+use Rattle.std.proofs.lemmas.Grind.{common_steps}
+use Rattle.std.proofs.Common.{◌≡◌, ℕ, ◌+◌, ◌≤◌, List, ◌++◌, length, take, drop, refl, sym, ap, ◌∙◌, arith, append_assoc, length-append}
 use Rattle.std.proofs.lemmas.List.{take_at, drop_at}
 use Rattle.std.proofs.lemmas.Nat.{from_be_bytes-to_be_bytes_2, from_be_bytes-to_be_bytes_4}
 use Rattle.std.specs.Int.{to_be_bytes, from_be_bytes, w16, w32}
@@ -16,16 +18,12 @@ sum_of_three x y z k m n a b c = omega (arith, length-append (x ++ y) z, length-
 -- an address is twelve bytes
 pub length-address_bytes : (a : Address) → length a.node.0 ≡ 6 → length (address_bytes a) ≡ 12
 unfolding address_bytes
-length-address_bytes a six =
-    sum_of_three (to_be_bytes w32 a.network.0) a.node.0 (to_be_bytes w16 a.socket.0) 4 6 2 refl six refl
+length-address_bytes a six = grind (arith, common_steps, sum_of_three)
 
 -- a header is thirty bytes
 pub length-header_bytes : (h : Header) → length h.destination.node.0 ≡ 6 → length h.source.node.0 ≡ 6 → length (header_bytes h) ≡ 30
 unfolding header_bytes
-length-header_bytes h to from =
-    sum_of_three (to_be_bytes w16 h.checksum ++ to_be_bytes w16 h.length ++ (h.control ∷ []) ++ (h.kind ∷ []))
-    (address_bytes h.destination) (address_bytes h.source) 6 12 12 refl
-    (length-address_bytes h.destination to) (length-address_bytes h.source from)
+length-header_bytes h to from = grind (arith, common_steps, sum_of_three, length-address_bytes)
 
 -- a known piece of bytes gives the pieces within it
 part : (bytes known : List ℕ) (place m i n : ℕ) → piece bytes place m ≡ known → i + n ≤ m → piece bytes (place + i) n ≡ piece known i n
@@ -60,11 +58,7 @@ address_back bytes place are room =
 -- what is read as an address has numbers of their widths, and six bytes of node
 pub address_ranges : (bytes : List ℕ) (place : ℕ) → IsBytes bytes → place + 12 ≤ length bytes → IsAddress (address_at bytes place)
 unfolding address_at
-address_ranges bytes place are room = record {
-  network = range_32 bytes place are (omega arith);
-  node = length-piece bytes (place + 4) 6 (omega arith);
-  socket = range_16 bytes (place + 10) are (omega arith);
-}
+address_ranges bytes place are room = omega (arith, range_32, length-piece, range_16)
 
 -- of two lists of twelve, the first
 first_of_two : (x y z : List ℕ) → length x ≡ 12 → take 12 ((x ++ y) ++ z) ≡ x
@@ -72,35 +66,17 @@ first_of_two x y z size = ap (take 12) (append_assoc x y z) ∙ take_at x (y ++ 
 
 -- and the second
 second_of_two : (x y z : List ℕ) → length x ≡ 12 → length y ≡ 12 → take 12 (drop 12 ((x ++ y) ++ z)) ≡ y
-second_of_two x y z before size =
-    ap (λ (l : List ℕ). take 12 (drop 12 l)) (append_assoc x y z) ∙ ap (take 12) (drop_at x (y ++ z) 12 before) ∙ take_at y z 12 size
+second_of_two x y z before size = search (rules, append_assoc, drop_at, take_at)
 
 -- headers of equal fields are equal
 header_fields : (g h : Header) → g.checksum ≡ h.checksum → g.length ≡ h.length → g.control ≡ h.control → g.kind ≡ h.kind
     → g.destination ≡ h.destination → g.source ≡ h.source → g ≡ h
-header_fields g h a b c d e f =
-    ap (λ (x : ℕ). record g { checksum = x }) a
-    ∙ ap (λ (x : ℕ). record g { checksum = h.checksum; length = x }) b
-    ∙ ap (λ (x : ℕ). record g { checksum = h.checksum; length = h.length; control = x }) c
-    ∙ ap (λ (x : ℕ). record g { checksum = h.checksum; length = h.length; control = h.control; kind = x }) d
-    ∙ ap (λ (x : Address). record h { destination = x; source = g.source }) e
-    ∙ ap (λ (x : Address). record h { source = x }) f
+header_fields g h a b c d e f = grind arith
 
 -- the bytes of a header are read as that header, whatever follows
 pub header_again : (h : Header) (rest : List ℕ) → IsHeader h → header_at (header_bytes h ++ rest) ≡ h
 unfolding header_bytes header_at
-header_again h rest is =
-    let destination_size = length-address_bytes h.destination is.destination.node in
-    let source_size = length-address_bytes h.source is.source.node in
-    let destination : address_at (header_bytes h ++ rest) 6 ≡ h.destination =
-    address_again h.destination (header_bytes h ++ rest) 6 is.destination
-    (first_of_two (address_bytes h.destination) (address_bytes h.source) rest destination_size) in
-    let source : address_at (header_bytes h ++ rest) 18 ≡ h.source =
-    address_again h.source (header_bytes h ++ rest) 18 is.source
-    (second_of_two (address_bytes h.destination) (address_bytes h.source) rest destination_size source_size) in
-    let checksum = from_be_bytes-to_be_bytes_2 h.checksum is.checksum in
-    let size = from_be_bytes-to_be_bytes_2 h.length is.length in
-    header_fields _ h checksum size refl refl destination source
+header_again h rest is = grind (arith, length-address_bytes, address_again, first_of_two, second_of_two, from_be_bytes-to_be_bytes_2, header_fields)
 
 -- what is read as a header has the bytes that were read
 pub header_back : (bytes : List ℕ) → IsBytes bytes → 30 ≤ length bytes → header_bytes (header_at bytes) ≡ take 30 bytes

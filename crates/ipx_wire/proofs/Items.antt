@@ -42,8 +42,7 @@ pub items_each : {E : Type 0} (read : List ℕ → E) (is : E → Type 0) (size 
     → (n : ℕ) (bytes : List ℕ) → IsBytes bytes → size * n ≤ length bytes → AllByRecursion is (items read size n bytes)
 unfolding items
 items_each read is size holds zero bytes are room = tt
-items_each read is size holds (suc n) bytes are room =
-    (holds bytes are (room_of_first size n bytes room), items_each read is size holds n (drop size bytes) (bytes_behind bytes size are) (room_of_rest size n bytes room))
+items_each read is size holds (suc n) bytes are room = grind (arith, items_each read is size holds n (drop size bytes) (bytes_behind bytes size are) (room_of_rest size n bytes room))
 
 -- where an item is read again from its bytes, whatever follows, so are all of them
 pub items_again : {E : Type 0} (read : List ℕ → E) (write : E → List ℕ) (is : E → Type 0) (size : ℕ)
@@ -64,16 +63,14 @@ pub length-written : {E : Type 0} (write : E → List ℕ) (is : E → Type 0) (
     → ((e : E) → is e → length (write e) ≡ size)
     → (es : List E) → AllByRecursion is es → length (flat_map write es) ≡ size * length es
 length-written write is size long [] are = (let none : 0 ≡ size * 0 = omega arith in none)
-length-written write is size long (e ∷ es) are =
-    omega (arith, length-append (write e) (flat_map write es), long e are.0, length-written write is size long es are.1, mul-suc size (length es))
+length-written write is size long (e ∷ es) are = grind (arith, length-written write is size long es are.1, length-append, mul-suc)
 
 -- the item with k others before it
 pub slice_get-items : {E : Type 0} (read : List ℕ → E) (size n k : ℕ) (bytes : List ℕ) → k < n
     → slice_get (items read size n bytes) k ≡ Some (read (drop (size * k) bytes))
 unfolding items
 slice_get-items read size zero k bytes below = absurd (omega (arith, below))
-slice_get-items read size (suc n) zero bytes below =
-    ap (λ (b : List ℕ). Some (read b)) (let here : bytes ≡ drop (size * 0) bytes = ap (λ (m : ℕ). drop m bytes) (let none : 0 ≡ size * 0 = omega arith in none) in here)
+slice_get-items read size (suc n) zero bytes below = grind arith
 slice_get-items read size (suc n) (suc k) bytes below =
     let next : size * k + size ≡ size * suc k = omega (arith, mul-suc size k) in
     let order : size + size * k ≡ size * suc k = omega (arith, mul-suc size k) in
@@ -96,6 +93,4 @@ items-none read size n bytes e = rw e refl
 pub items-first : {E : Type 0} (read : List ℕ → E) (size n : ℕ) (bytes : List ℕ) → 0 < n
     → items read size n bytes ≡ read bytes ∷ items read size (n - 1) (drop size bytes)
 unfolding items
-items-first read size zero bytes some = absurd (omega arith)
-items-first read size (suc n) bytes some =
-    ap (λ (k : ℕ). read bytes ∷ items read size k (drop size bytes)) (let e : n ≡ suc n - 1 = omega arith in e)
+items-first read size n bytes some = grind arith

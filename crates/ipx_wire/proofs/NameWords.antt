@@ -1,9 +1,9 @@
-use Rattle.std.proofs.Common.{◌≡◌, ℕ, ◌+◌, ◌<◌, Bool, true, false, if◌then◌else◌, arith, List, [], ◌∷◌, ◌++◌, length, take, get_or, refl, sym, ap, ◌∙◌}
+use Rattle.std.proofs.lemmas.Grind.{common_steps}
+use Rattle.std.proofs.Common.{◌≡◌, ℕ, ◌+◌, ◌<◌, Bool, true, if◌then◌else◌, arith, List, [], ◌∷◌, ◌++◌, length, take, get_or, refl}
 use Rattle.std.proofs.lemmas.Bool.Decides.{nat_tests}
 use Rattle.std.proofs.lemmas.List.{flat_map_more, take_more}
 use Rattle.std.proofs.lemmas.Str.{IsAscii-append}
 use Rattle.std.proofs.lemmas.Str.Ascii.{IsAscii-cons, IsAscii-nil}
-use Rattle.std.specs.List.{flat_map}
 use Rattle.std.specs.Str.{IsAscii}
 use Rattle.hex.specs.Hex.{encode_upper}
 use Rattle.ipx_wire.proofs.HexText.{IsAscii-encode_upper}
@@ -17,14 +17,12 @@ name_word-none = refl
 -- one byte more
 pub name_word-more : (xs : List ℕ) (i : ℕ) → i < length xs → name_word (take i xs) ++ byte_word (get_or xs i 0) ≡ name_word (take (i + 1) xs)
 unfolding name_word
-name_word-more xs i below =
-    flat_map_more byte_word [] (take i xs) (get_or xs i 0) ∙ ap (flat_map byte_word) (sym (take_more xs i 0 below))
+name_word-more xs i below = grind (arith, common_steps, flat_map_more, take_more)
 
 -- ---- the word is ASCII
 
 ascii_cases : (b : ℕ) (plain : Bool) → (plain ≡ true → b < 128) → IsAscii (if plain then b ∷ [] else 0x5C ∷ encode_upper (b ∷ []))
-ascii_cases b true small = IsAscii-cons b [] (small refl) IsAscii-nil
-ascii_cases b false small = IsAscii-cons 0x5C _ (omega arith) (IsAscii-encode_upper (b ∷ []))
+ascii_cases b plain small = grind (arith, IsAscii-cons, IsAscii-nil, IsAscii-encode_upper)
 
 IsAscii-byte_word : (b : ℕ) → IsAscii (byte_word b)
 IsAscii-byte_word b = ascii_cases b (is_plain_byte b) (λ plain. grind (arith, nat_tests))

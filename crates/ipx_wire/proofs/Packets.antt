@@ -1,4 +1,5 @@
-use Rattle.std.proofs.Common.{append-nil, ◌≡◌, ℕ, ◌+◌, ◌≤◌, ◌<◌, List, [], ◌++◌, length, take, drop, refl, sym, ap, ◌∙◌, arith, subst, append_assoc, length-append, length-drop, length-take, take-take, Ok, Err, Result}
+use Rattle.std.proofs.Common.{rules}
+use Rattle.std.proofs.Common.{append-nil, ◌≡◌, ℕ, ◌+◌, ◌≤◌, ◌<◌, List, [], ◌++◌, length, take, drop, refl, sym, ap, ◌∙◌, arith, subst, append_assoc, length-append, length-drop, length-take, take-take, Ok, Err}
 use Rattle.std.proofs.lemmas.List.{take_at, drop_at, take-append-drop}
 use Rattle.std.proofs.lemmas.Bool.{lt-ltb, le-ltb}
 use Rattle.ipx_wire.specs.Piece.{IsBytes}
@@ -6,7 +7,6 @@ use Rattle.ipx_wire.specs.Header.{IsHeader, header_bytes, header_at, length_fiel
 use Rattle.ipx_wire.specs.inside.Kept.{IsKept}
 use Rattle.ipx_wire.specs.Packet.{Parts, IsPacket, packet_of}
 use Rattle.ipx_wire.specs.declared.header.Header.{Header}
-use Rattle.ipx_wire.specs.declared.packet.PacketFault.{PacketFault}
 use Rattle.ipx_wire.specs.declared.packet.PacketFault.TheVariants.{Short, LengthSmall, LengthBeyond}
 use Rattle.ipx_wire.proofs.Headers.{length-header_bytes, header_again, header_back, header_ranges}
 
@@ -43,9 +43,7 @@ is_packet bytes are counts =
 
 -- a packet's header is what its places say
 header_is : (bytes : List ℕ) (p : Parts) → IsPacket bytes p → header_at bytes ≡ p.header
-header_is bytes p is =
-    ap header_at (is.layout ∙ append_assoc (header_bytes p.header) p.payload is.padding)
-    ∙ header_again p.header (p.payload ++ is.padding) is.header
+header_is bytes p is = grind (arith, append_assoc, header_again)
 
 -- a packet's length stands in its place
 field_is : (bytes : List ℕ) (p : Parts) → IsPacket bytes p → length_field bytes ≡ p.header.length
@@ -81,8 +79,7 @@ packet_parts bytes p is =
 -- what passes the comparisons is answered
 pub packet_of-counts : (bytes : List ℕ) → Counts bytes → packet_of bytes ≡ Ok (parts_at bytes)
 unfolding packet_of
-packet_of-counts bytes counts =
-    rw (le-ltb (length bytes) 30 counts.enough, le-ltb (length_field bytes) 30 counts.long, le-ltb (length bytes) (length_field bytes) counts.within) refl
+packet_of-counts bytes counts = grind (arith, le-ltb)
 
 -- the three refusals, one for each comparison
 pub refused_short : (bytes : List ℕ) → length bytes < 30 → packet_of bytes ≡ Err Short
@@ -95,20 +92,16 @@ refused_small bytes enough small = rw (le-ltb (length bytes) 30 enough, lt-ltb (
 
 pub refused_beyond : (bytes : List ℕ) → 30 ≤ length bytes → 30 ≤ length_field bytes → length bytes < length_field bytes → packet_of bytes ≡ Err LengthBeyond
 unfolding packet_of
-refused_beyond bytes enough long beyond =
-    rw (le-ltb (length bytes) 30 enough, le-ltb (length_field bytes) 30 long, lt-ltb (length bytes) (length_field bytes) beyond) refl
+refused_beyond bytes enough long beyond = grind arith
 
 -- the function answers each packet by the relation
 pub packet_only : (bytes : List ℕ) (p : Parts) → IsPacket bytes p → packet_of bytes ≡ Ok p
-packet_only bytes p is =
-    packet_of-counts bytes (packet_counts bytes p is) ∙ ap (λ (q : Parts). (let r : Result Parts PacketFault = Ok q in r)) (packet_parts bytes p is)
+packet_only bytes p is = search (rules, packet_of-counts, packet_counts, packet_parts)
 
 -- what the reader keeps is what the places say
 pub kept_parts : (h : Header) (n : ℕ) (bytes : List ℕ) → h ≡ header_at bytes → n ≡ length_field bytes
     → (let p : Parts = record { header = h; payload = drop 30 (take n bytes) } in p) ≡ parts_at bytes
-kept_parts h n bytes a b =
-    ap (λ (g : Header). (let p : Parts = record { header = g; payload = drop 30 (take n bytes) } in p)) a
-    ∙ ap (λ (m : ℕ). (let p : Parts = record { header = header_at bytes; payload = drop 30 (take m bytes) } in p)) b
+kept_parts h n bytes a b = grind arith
 
 -- what the reader keeps meets the invariant of a packet
 pub is_kept : (h : Header) (n : ℕ) (bytes : List ℕ) → IsBytes bytes → Counts bytes → h ≡ header_at bytes → n ≡ length_field bytes

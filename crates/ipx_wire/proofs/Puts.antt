@@ -1,3 +1,4 @@
+use Rattle.std.proofs.lemmas.Grind.{common_steps}
 use Rattle.std.proofs.Common.{◌≡◌, ℕ, ◌+◌, ◌≤◌, ◌<◌, List, [], ◌++◌, length, take, drop, sym, ap, ◌∙◌, arith, append_assoc, length-append, length-drop, length-take, subst, get_or, append-nil, take-add}
 use Rattle.std.proofs.lemmas.List.{drop-drop, take_at, drop_at, take-append-drop, flat_map_more, take_more}
 use Rattle.std.specs.List.{flat_map}
@@ -11,8 +12,7 @@ length_front old x place room = omega (arith, length-append (take place old) x, 
 
 -- the front of what a write left is what stood there and what was written
 front : (old x new : List ℕ) (place : ℕ) → PutsAt old place x new → take (place + length x) new ≡ take place old ++ x
-front old x new place puts =
-    rw puts.after (take_at (take place old ++ x) (drop (place + length x) old) (place + length x) (length_front old x place puts.room))
+front old x new place puts = grind (arith, take_at, length_front)
 
 -- behind a write all is as before
 behind : (old x new : List ℕ) (place n : ℕ) → PutsAt old place x new → drop (place + length x + n) new ≡ drop (place + length x + n) old
@@ -23,9 +23,7 @@ behind old x new place n puts =
 
 -- a write keeps the length
 pub length_after : (old x new : List ℕ) (place : ℕ) → PutsAt old place x new → length new ≡ length old
-length_after old x new place puts =
-    let room = puts.room in
-    rw puts.after (omega (arith, length-append (take place old ++ x) (drop (place + length x) old), length_front old x place room, length-drop (place + length x) old))
+length_after old x new place puts = grind (arith, length-append, length_front, length-drop)
 
 -- a write and one behind it, at places given by lengths
 joined : (old mid new x y : List ℕ) (place : ℕ) → PutsAt old place x mid → PutsAt mid (place + length x) y new → PutsAt old place (x ++ y) new
@@ -52,17 +50,11 @@ then {old} {mid} {new} {x} {y} {place} {next} first second e =
 
 -- a write from the front on, with what follows it
 pub whole_put : (old x new : List ℕ) (n : ℕ) → PutsAt old 0 x new → length x ≡ n → new ≡ x ++ drop n old
-whole_put old x new n puts size =
-    puts.after ∙ ap (λ (k : ℕ). x ++ drop k old) (let e : 0 + length x ≡ n = omega (arith, size) in e)
+whole_put old x new n puts size = grind arith
 
 -- nothing written yet
 pub puts_none : (old : List ℕ) (place : ℕ) → place ≤ length old → PutsAt old place [] old
-puts_none old place room = record {
-  room = omega arith;
-  after = sym (ap (λ (k : ℕ). take place old ++ [] ++ drop k old) (let e : place + 0 ≡ place = omega arith in e)
-      ∙ ap (λ (x : List ℕ). x ++ drop place old) (append-nil (take place old))
-      ∙ take-append-drop place old);
-}
+puts_none old place room = grind (arith, append-nil, take-append-drop)
 
 -- one more piece behind those that were written
 pub puts_more : {X : Type 0} (f : X → List ℕ) (xs : List X) (i : ℕ) (d : X) (old mid new : List ℕ) (place next : ℕ) → i < length xs
@@ -75,22 +67,11 @@ puts_more f xs i d old mid new place next below first second e =
 
 -- a write at the front
 pub puts_front : (old x new : List ℕ) (n : ℕ) → length x ≡ n → n ≤ length old → new ≡ x ++ drop n old → PutsAt old 0 x new
-puts_front old x new n size room e = record {
-  room = omega arith;
-  after = e ∙ ap (λ (k : ℕ). x ++ drop k old) (let whole : n ≡ 0 + length x = omega arith in whole);
-}
+puts_front old x new n size room e = grind arith
 
 -- what stands there is as if it were written
 stays : (old : List ℕ) (place n : ℕ) → place + n ≤ length old → PutsAt old place (piece old place n) old
-stays old place n room =
-    let long = length-piece old place n room in
-    record {
-      room = omega (arith, long);
-      after =
-          sym (ap (λ (k : ℕ). take place old ++ piece old place n ++ drop (place + k) old) long
-          ∙ ap (λ (x : List ℕ). x ++ drop (place + n) old) (sym (take-add place n old))
-          ∙ take-append-drop (place + n) old);
-    }
+stays old place n room = grind (arith, length-piece, take-add, take-append-drop)
 
 -- writes from the front on, and how many bytes they reach
 pub record Reaches (old : List ℕ) (n : ℕ) (x new : List ℕ) : Type 0 where
@@ -99,10 +80,7 @@ pub record Reaches (old : List ℕ) (n : ℕ) (x new : List ℕ) : Type 0 where
 
 -- behind them all is as before
 pub untouched : {old x new : List ℕ} {n : ℕ} → Reaches old n x new → drop n new ≡ drop n old
-untouched {old} {x} {new} {n} front =
-    let size = front.size in
-    let here : 0 + length x + 0 ≡ n = omega (arith, size) in
-    subst (λ (k : ℕ). drop k new ≡ drop k old) here (behind old x new 0 0 front.puts)
+untouched {old} {x} {new} {n} front = grind (arith, common_steps, behind)
 
 -- a write some bytes behind them, which stay
 pub skip : {old mid new x y : List ℕ} {n place : ℕ} (k m : ℕ) → Reaches old n x mid → PutsAt mid place y new → place ≡ n + k

@@ -1,4 +1,5 @@
 -- What was written is read again, whatever bytes follow.
+use Rattle.std.proofs.lemmas.Grind.{common_steps}
 use Rattle.std.proofs.Common.{◌≡◌, ℕ, ◌+◌, ◌-◌, ◌*◌, ◌<◌, ◌≤◌, Bool, List, [], ◌∷◌, ◌++◌, length, take, drop, refl, sym, ap, ◌∙◌, arith, append_assoc, length-append, length-drop, length-take, lit<}
 use Rattle.std.proofs.lemmas.List.{take_at, take-append-drop, flat_map_more}
 use Rattle.std.specs.List.{flat_map, AllByRecursion}
@@ -50,66 +51,31 @@ rip_packet_again from to operation entries further from_is to_is most =
 -- its data are read as its operation and entries
 pub rip_again : (operation : Operation) (entries : List RipEntry) (further : List ℕ) → AllByRecursion IsEntry entries → 1 ≤ length entries → length entries ≤ most_entries
     → length further < 8 → IsRip (rip_payload operation entries ++ further) (record { operation = operation; entries = entries })
-rip_again operation entries further ranges some most few =
-    record { further = further; layout = refl; some = some; most = most; ignored = few; ranges = ranges }
+rip_again operation entries further ranges some most few = grind arith
 
 -- a query's bytes are read as that packet
 pub query_packet_again : (from to : Address) (nearest : Bool) (kind : ℕ) (further : List ℕ) → IsAddress from → IsAddress to
     → IsPacket (query_packet from to nearest kind ++ further) (query_packet_parts from to nearest kind)
-query_packet_again from to nearest kind further from_is to_is =
-    packet_again (query_packet_parts from to nearest kind) further (own_ranges 4 from to 4 (lit< tt) from_is to_is (lit< tt)) refl
+query_packet_again from to nearest kind further from_is to_is = grind arith
 
 -- a forwarded packet is read as that packet
 pub forwarded_again : (bytes : List ℕ) (p : Parts) (further : List ℕ) → IsPacket bytes p → p.header.control < 255
     → IsPacket (packet_bytes (forwarded p) ++ further) (forwarded p)
-forwarded_again bytes p further is below =
-    let ranges = is.header in
-    packet_again (forwarded p) further
-    (record {
-      checksum = ranges.checksum;
-      length = ranges.length;
-      control = omega (arith, below);
-      kind = ranges.kind;
-      destination = ranges.destination;
-      source = ranges.source;
-    })
-    is.counted
+forwarded_again bytes p further is below = grind arith
 
 -- one network in a place of the data changes nothing of their length
 pub length-crossing : (control : ℕ) (network : Network) (payload : List ℕ) → control < 8 → 32 ≤ length payload
     → length (crossing control network payload) ≡ length payload
-length-crossing control network payload free eight =
-    let front = take (4 * control) payload in
-    let behind = drop (4 * control + 4) payload in
-    omega (
-      arith,
-      length-append (front ++ network_bytes network) behind,
-      length-append front (network_bytes network),
-      length-network_bytes network,
-      length-take (4 * control) payload,
-      length-drop (4 * control + 4) payload,
-    )
+length-crossing control network payload free eight = grind (arith, length-append, length-network_bytes, length-take, length-drop)
 
 -- a propagated packet is read as that packet
 pub propagated_again : (bytes : List ℕ) (p : Parts) (arrived outgoing : Network) (further : List ℕ) → IsPacket bytes p → p.header.control < 8
     → 32 ≤ length p.payload → IsNetwork outgoing → IsPacket (packet_bytes (propagated arrived outgoing p) ++ further) (propagated arrived outgoing p)
-propagated_again bytes p arrived outgoing further is free eight fits =
-    let ranges = is.header in
-    packet_again (propagated arrived outgoing p) further
-    (record {
-      checksum = lit< tt;
-      length = ranges.length;
-      control = omega (arith, free);
-      kind = ranges.kind;
-      destination = record { network = fits; node = ranges.destination.node; socket = ranges.destination.socket };
-      source = ranges.source;
-    })
-    (is.counted ∙ ap (λ (n : ℕ). 30 + n) (sym (length-crossing p.header.control arrived p.payload free eight)))
+propagated_again bytes p arrived outgoing further is free eight fits = grind (arith, packet_again, length-crossing)
 
 -- one network more is in range too
 all_more : (ns : List Network) (n : Network) → AllByRecursion IsNetwork ns → IsNetwork n → AllByRecursion IsNetwork (ns ++ n ∷ [])
-all_more [] n are is = (is, tt)
-all_more (m ∷ ns) n are is = (are.0, all_more ns n are.1 is)
+all_more ns n are is = grind (arith, common_steps)
 
 -- the networks crossed are those that were there, and the one that was written
 pub crossed_again : (control : ℕ) (payload : List ℕ) (networks : List Network) (arrived : Network) → IsCrossed control payload networks

@@ -1,5 +1,5 @@
 -- Services, their bytes, and the entries that they are read as.
-use Rattle.std.proofs.Common.{◌≡◌, ℕ, zero, suc, ◌+◌, ◌-◌, ◌*◌, ◌≤◌, ◌<◌, ◌^◌, Bool, List, [], ◌∷◌, ◌++◌, length, take, map, replicate, get_or, Some, refl, ap, ◌∙◌, arith, subst, append-nil, length-append, lit<}
+use Rattle.std.proofs.Common.{◌≡◌, ℕ, zero, suc, ◌+◌, ◌*◌, ◌≤◌, ◌<◌, ◌^◌, Bool, List, [], ◌∷◌, ◌++◌, length, take, map, get_or, Some, refl, ap, ◌∙◌, arith, subst, append-nil, length-append, lit<}
 use Rattle.std.proofs.lemmas.List.{length-replicate, length-map}
 use Rattle.std.specs.Int.{to_be_bytes, w16}
 use Rattle.std.specs.List.{flat_map, AllByRecursion}
@@ -24,15 +24,7 @@ use Rattle.ipx_wire.proofs.StoredEntries.{length-stored_bytes}
 -- the field of a name has this name
 pub name_field-is : (name : List ℕ) → IsServiceName name → IsName (name_field name) name
 unfolding name_field
-name_field-is name is =
-    let most = is.most in
-    let zeros : 48 - length name ≡ suc (47 - length name) = omega (arith, most) in
-    record {
-      rest = replicate (47 - length name) 0;
-      layout = ap (λ (n : ℕ). name ++ replicate n 0) zeros;
-      size = omega (arith, most, length-append name (replicate (48 - length name) 0), length-replicate {A = ℕ} (48 - length name) 0);
-      named = is;
-    }
+name_field-is name is = grind (arith, length-append, length-replicate)
 
 -- the field of a name is read as this name
 pub name_again : (name : List ℕ) → IsServiceName name → name_of (name_field name) ≡ Some name
@@ -57,9 +49,7 @@ length-service_bytes s is = ap length (service_stored s) ∙ length-stored_bytes
 
 services_stored : (ss : List Service) → flat_map service_bytes ss ≡ flat_map stored_bytes (map stored_of ss)
 services_stored [] = refl
-services_stored (s ∷ ss) =
-    ap (λ (x : List ℕ). x ++ flat_map service_bytes ss) (service_stored s)
-    ∙ ap (λ (x : List ℕ). stored_bytes (stored_of s) ++ x) (services_stored ss)
+services_stored (s ∷ ss) = grind (arith, services_stored ss, service_stored)
 
 all_stored : (ss : List Service) → AllByRecursion IsService ss → AllByRecursion IsStored (map stored_of ss)
 all_stored [] are = tt
@@ -101,8 +91,7 @@ pub length-services : (ss : List Service) → AllByRecursion IsService ss → le
 length-services ss are = length-written service_bytes IsService 64 length-service_bytes ss are
 
 pub length-sap_payload : (nearest : Bool) (ss : List Service) → AllByRecursion IsService ss → length (sap_payload nearest ss) ≡ 2 + 64 * length ss
-length-sap_payload nearest ss are =
-    omega (arith, length-append (to_be_bytes w16 (response_number nearest)) (flat_map service_bytes ss), length-services ss are)
+length-sap_payload nearest ss are = grind (arith, length-append, length-services)
 
 -- how long a response is
 pub length-sap_packet : (from to : Address) (nearest : Bool) (ss : List Service) → IsAddress from → IsAddress to → AllByRecursion IsService ss

@@ -23,7 +23,4 @@ length-forwarded bytes p is = whole (forwarded p) is.header.destination.node is.
 
 pub length-propagated : (bytes : List ℕ) (p : Parts) (arrived outgoing : Network) → IsPacket bytes p → p.header.control < 8 → 32 ≤ length p.payload
     → length (packet_bytes (propagated arrived outgoing p)) ≡ p.header.length
-length-propagated bytes p arrived outgoing is free eight =
-    let counted = is.counted in
-    whole (propagated arrived outgoing p) is.header.destination.node is.header.source.node
-    (omega (arith, counted, length-crossing p.header.control arrived p.payload free eight))
+length-propagated bytes p arrived outgoing is free eight = omega (arith, whole, length-crossing)

@@ -37,15 +37,7 @@ named_is field None size is =
 -- an entry is 64 bytes
 pub length-stored_bytes : (s : Stored) → IsStored s → length (stored_bytes s) ≡ 64
 unfolding stored_bytes
-length-stored_bytes s is =
-    omega (
-      arith,
-      length-append (to_be_bytes w16 s.entry.kind ++ s.field ++ address_bytes s.entry.address) (to_be_bytes w16 s.entry.hops),
-      length-append (to_be_bytes w16 s.entry.kind ++ s.field) (address_bytes s.entry.address),
-      length-append (to_be_bytes w16 s.entry.kind) s.field,
-      is.size,
-      length-address_bytes s.entry.address is.address.node,
-    )
+length-stored_bytes s is = grind (arith, length-append, length-address_bytes)
 
 -- what is read as an entry has the bytes that were read
 pub stored_back : (bytes : List ℕ) → IsBytes bytes → 64 ≤ length bytes → stored_bytes (stored_at bytes) ≡ take 64 bytes
@@ -69,8 +61,7 @@ stored_is bytes are room = record {
 
 -- of three lists, the second
 second_of_three : (x y z : List ℕ) (place n : ℕ) → length x ≡ place → length y ≡ n → piece (x ++ y ++ z) place n ≡ y
-second_of_three x y z place n before size =
-    ap (λ (l : List ℕ). piece l place n) (append_assoc x y z) ∙ ap (take n) (drop_at x (y ++ z) place before) ∙ take_at y z n size
+second_of_three x y z place n before size = grind (arith, append_assoc, drop_at, take_at)
 
 -- five lists, the first two of which stand alone
 regrouped : (x y z w v : List ℕ) → (x ++ y ++ z ++ w) ++ v ≡ x ++ y ++ (z ++ (w ++ v))
@@ -80,8 +71,7 @@ regrouped x y z w v = append_assoc (x ++ y ++ z) w v ∙ append_assoc (x ++ y) z
 stored_parts : (s : Stored) (kind : ℕ) (field : List ℕ) (name : Option (List ℕ)) (address : Address) (hops : ℕ)
     → kind ≡ s.entry.kind → field ≡ s.field → name ≡ s.entry.name → address ≡ s.entry.address → hops ≡ s.entry.hops
     → (let t : Stored = record { field = field; entry = record { kind = kind; name = name; address = address; hops = hops } } in t) ≡ s
-stored_parts s kind field name address hops a b c d e =
-    rw (a, b, c, d, e) refl
+stored_parts s kind field name address hops a b c d e = grind arith
 
 -- the bytes of an entry are read as that entry, whatever follows
 pub stored_again : (s : Stored) (further : List ℕ) → IsStored s → stored_at (stored_bytes s ++ further) ≡ s

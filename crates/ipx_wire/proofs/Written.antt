@@ -1,4 +1,4 @@
-use Rattle.std.proofs.Common.{◌≡◌, ℕ, ◌+◌, ◌*◌, ◌<◌, ◌≤◌, ◌^◌, List, [], ◌++◌, length, drop, sym, ap, ◌∙◌, arith, length-append, append-nil, lit<}
+use Rattle.std.proofs.Common.{◌≡◌, ℕ, ◌+◌, ◌*◌, ◌<◌, ◌≤◌, ◌^◌, List, ◌++◌, length, drop, ap, ◌∙◌, arith, length-append, append-nil}
 use Rattle.ipx_wire.specs.Address.{IsAddress}
 use Rattle.ipx_wire.specs.Header.{IsHeader, header_bytes}
 use Rattle.ipx_wire.specs.Packet.{Parts, IsPacket}
@@ -14,23 +14,11 @@ use Rattle.ipx_wire.proofs.Puts.{puts_front, whole_put, then}
 
 -- header and data, the header counting both, are a packet
 pub is_written : (p : Parts) → IsHeader p.header → p.header.length ≡ 30 + length p.payload → IsPacket (packet_bytes p) p
-is_written p header counted = record {
-  header = header;
-  padding = [];
-  layout = sym (append-nil (packet_bytes p));
-  counted = counted;
-}
+is_written p header counted = grind (arith, append-nil)
 
 -- a router's own header is in the ranges of its fields
 pub own_ranges : (kind : ℕ) (from to : Address) (size : ℕ) → kind < 256 → IsAddress from → IsAddress to → size < 2 ^ 15 → IsHeader (own_header kind from to size)
-own_ranges kind from to size small from_is to_is fits = record {
-  checksum = lit< tt;
-  length = omega arith;
-  control = lit< tt;
-  kind = small;
-  destination = to_is;
-  source = from_is;
-}
+own_ranges kind from to size small from_is to_is fits = grind arith
 
 -- how long the data of a routing information packet are
 pub length-rip_payload : (operation : Operation) (entries : List RipEntry) → length (rip_payload operation entries) ≡ 2 + 8 * length entries

@@ -1,5 +1,6 @@
 -- The networks crossed, as the transport control counts them.
-use Rattle.std.proofs.Common.{◌≡◌, ℕ, List, [], ◌∷◌, ◌++◌, true, false, refl, codes, replicate, lit<, Ok, Err}
+use Rattle.std.proofs.Common.{arith}
+use Rattle.std.proofs.Common.{◌≡◌, ℕ, List, [], ◌∷◌, ◌++◌, true, false, refl, codes, replicate, Ok, Err}
 use Rattle.hex.specs.Hex.{decode_pairs}
 use Rattle.ipx_wire.specs.Items.{items}
 use Rattle.ipx_wire.specs.Crossed.{IsCrossed, network_bytes, network_at, crossed_of, is_among}
@@ -32,14 +33,7 @@ two_crossed = refl
 -- by their layout too
 pub two_are : IsCrossed 2 two_of_eight (network 0x10 ∷ network 0x20 ∷ [])
 unfolding decode_pairs network_bytes
-two_are = record {
-  further = replicate 24 0;
-  layout = refl;
-  listed = refl;
-  free = lit< tt;
-  eight = lit< tt;
-  ranges = (lit< tt, (lit< tt, tt));
-}
+two_are = grind arith
 
 -- seven networks were crossed, and an eighth place is left
 pub seven_crossed : crossed_of 7 (replicate 32 0) ≡ Ok (replicate 7 (network 0))

@@ -1,4 +1,5 @@
 -- A node asks its network for every route.
+use Rattle.std.proofs.Common.{arith}
 use Rattle.std.proofs.Common.{◌≡◌, ℕ, List, [], ◌∷◌, ◌++◌, refl, codes, lit<, Ok}
 use Rattle.hex.specs.Hex.{decode_pairs}
 use Rattle.ipx_wire.specs.Items.{items}
@@ -61,11 +62,4 @@ data_read = refl
 -- they are the request's by its layout
 pub data_are : IsRip payload rip_parts
 unfolding decode_pairs entry_bytes
-data_are = record {
-  further = [];
-  layout = refl;
-  some = lit< tt;
-  most = lit< tt;
-  ignored = lit< tt;
-  ranges = (record { network = lit< tt; hops = lit< tt; ticks = lit< tt }, tt);
-}
+data_are = grind arith

@@ -1,12 +1,13 @@
 -- Bytes that nothing counts change nothing: padding of a packet, and less than an entry behind the last one.
-use Rattle.std.proofs.Common.{◌≡◌, ◌++◌, refl, replicate, lit<, Ok}
+use Rattle.std.proofs.Common.{arith}
+use Rattle.std.proofs.Common.{◌≡◌, ◌++◌, refl, replicate, Ok}
 use Rattle.hex.specs.Hex.{decode_pairs}
 use Rattle.ipx_wire.specs.Items.{items}
 use Rattle.ipx_wire.specs.Address.{address_bytes, address_at}
 use Rattle.ipx_wire.specs.Header.{header_bytes, header_at}
 use Rattle.ipx_wire.specs.Packet.{IsPacket, packet_of}
 use Rattle.ipx_wire.specs.Rip.{IsRip, entry_bytes, entry_at, rip_of}
-use Rattle.ipx_wire.proofs.examples.GeneralRequest.{payload, bytes, parts, rip_parts, packet_is, data_are}
+use Rattle.ipx_wire.proofs.examples.GeneralRequest.{payload, bytes, parts, rip_parts, packet_is}
 
 -- twenty bytes behind the length are padding
 pub padding : packet_of (bytes ++ replicate 20 0) ≡ Ok parts
@@ -26,11 +27,4 @@ seven_bytes = refl
 -- by their layout too
 pub seven_are : IsRip (payload ++ replicate 7 0xff) rip_parts
 unfolding decode_pairs entry_bytes
-seven_are = record {
-  further = replicate 7 0xff;
-  layout = refl;
-  some = lit< tt;
-  most = lit< tt;
-  ignored = lit< tt;
-  ranges = data_are.ranges;
-}
+seven_are = grind arith

@@ -1,5 +1,6 @@
 -- Names in fields of 48 bytes, and their order.
-use Rattle.std.proofs.Common.{◌≡◌, [], ◌∷◌, ◌++◌, refl, codes, replicate, lit<, None, Some}
+use Rattle.std.proofs.Common.{arith}
+use Rattle.std.proofs.Common.{◌≡◌, [], ◌∷◌, ◌++◌, refl, codes, replicate, None, Some}
 use Rattle.ipx_wire.specs.Name.{IsName, name_of, name_field, name_order}
 use Rattle.std.specs.declared.cmp.Ordering.TheVariants.{Less, Equal, Greater}
 
@@ -10,12 +11,7 @@ letters_behind = refl
 
 -- by its layout too
 pub letters_behind_is : IsName (codes "S" ++ (0 ∷ []) ++ codes "XX" ++ replicate 44 0) (codes "S")
-letters_behind_is = record {
-  rest = codes "XX" ++ replicate 44 0;
-  layout = refl;
-  size = refl;
-  named = record { some = lit< tt; most = lit< tt; full = (lit< tt, tt) };
-}
+letters_behind_is = grind arith
 
 -- and sent as zeros
 pub zeros_behind : name_field (codes "S") ≡ codes "S" ++ replicate 47 0
