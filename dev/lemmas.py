@@ -44,6 +44,10 @@ class Lemma:
     def lines(self):
         return self.behind() - self.clauses[0].first
 
+    def has_own(self):
+        """Whether the proof has definitions of its own."""
+        return any("where" in it.body.split() for it in self.clauses)
+
 
 def pieces(text, mark=" "):
     """A text cut at each mark that stands in no brackets."""

@@ -1,5 +1,5 @@
 -- Which offer a key is left with by an offer of it.
-use Rattle.std.proofs.Common.{◌≡◌, refl, sym, ap, ◌∙◌, ◌&&◌, nat_lt, Bool, true, false, List, [], ◌∷◌, ◌++◌, find, length, drop, take, suc, ℕ, Option, None, Some, option_map, inl, inr, true≢false, append-nil, Ordering, Less, Equal, Greater, is_eq, is_lt}
+use Rattle.std.proofs.Common.{◌≡◌, refl, sym, ap, ◌∙◌, ◌&&◌, nat_lt, Bool, true, false, List, ◌++◌, find, length, drop, take, suc, ℕ, Option, None, Some, option_map, inl, inr, true≢false, append-nil, Ordering, Less, Equal, Greater, is_eq, is_lt, arith}
 use Rattle.std.specs.List.{list_any}
 use Rattle.std.specs.Ordering.{ordering_reverse}
 use Rattle.std.specs.Cmp.{IsTotalOrder}
@@ -8,7 +8,7 @@ use Rattle.std.proofs.lemmas.List.Folds.{find-append}
 use Rattle.ipx_table.specs.Reading.{Rules}
 use Rattle.ipx_table.specs.Facts.{Offered}
 use Rattle.ipx_table.specs.Accepted.{is_accepted, has_share, may_replace}
-use Rattle.ipx_table.specs.inside.AfterOffer.{fresh, uncut, after_offer}
+use Rattle.ipx_table.specs.inside.AfterOffer.{fresh, after_offer}
 use Rattle.ipx_table.specs.Stands.{IsDistinct}
 use Rattle.ipx_table.specs.Taken.{is_change, known_of, offer_left, same_left, taken_over, taken_beside}
 use Rattle.ipx_table.specs.declared.held.Held.{Held}
@@ -30,21 +30,11 @@ module _ {O : Type 0} (rules : Rules O) (total : IsTotalOrder rules.by_key) (sam
 
   -- an offer that is accepted
   taken_in : (held : List (Held O)) (offer : O) → is_accepted rules held (Offered offer) ≡ true → known_of rules (after_offer rules held offer) offer ≡ Some (fresh offer)
-  taken_in held offer yea =
-      let here = itself offer in
-      let others = none-find (of_key rules total offer) (uncut rules offer true held) (apart_from rules total offer held) in
-      rw yea (find-append (of_key rules total offer) (uncut rules offer true held) (fresh offer ∷ []) ∙ rw (others, here) refl)
+  taken_in held offer yea = grind (arith, itself, none-find, of_key, apart_from, find-append)
 
   left_none : (held : List (Held O)) (offer : O) → list_any (of_key rules total offer) held ≡ false → known_of rules held offer ≡ None
       → offer_of (known_of rules (after_offer rules held offer) offer) ≡ offer_left (taken_beside rules same_offer held offer None) None offer
-  left_none held offer none known =
-      elim (cases_Bool (rules.is_down offer)) [
-        | inl down ↦ ap (λ hs. offer_of (known_of rules hs offer)) (sym (not_held-left rules total held offer none (rw down refl))) ∙ ap offer_of known ∙ rw down refl
-        | inr up ↦ elim (cases_Bool (nat_lt (length held) rules.capacity && has_share rules offer held)) [
-          | inl room ↦ ap offer_of (taken_in held offer (not_held-accepted rules total held offer none ∙ rw (up, room) refl)) ∙ rw (up, room) refl
-          | inr full ↦ ap (λ hs. offer_of (known_of rules hs offer)) (sym (not_held-left rules total held offer none (rw (up, full) refl))) ∙ ap offer_of known ∙ rw (up, full) refl
-        ]
-      ]
+  left_none held offer none known = grind (arith, not_held-left, taken_in, not_held-accepted)
 
   gone : (held : List (Held O)) (place : ℕ) (it : Held O) (offer : O) → HeldAt rules total held place it offer
       → is_accepted rules held (Offered offer) ≡ false → rules.same_source it.offer offer ≡ true → known_of rules (after_offer rules held offer) offer ≡ None

@@ -1,14 +1,13 @@
 -- A table's records, as it tells them, before and after a call: what they stand for, and what stays.
-use Rattle.std.proofs.Common.{◌≡◌, refl, sym, ap, ◌∙◌, subst, ℕ, ◌<◌, ◌==◌, Bool, true, false, not, List, [], ◌∷◌, ◌++◌, map, filter, inl, inr, Ordering, is_eq, is_lt}
+use Rattle.std.proofs.Common.{◌≡◌, refl, sym, ap, ◌∙◌, subst, ℕ, ◌<◌, ◌==◌, Bool, true, false, not, List, [], ◌∷◌, ◌++◌, map, filter, Ordering, is_eq, is_lt, arith}
 use Rattle.std.specs.List.{AllByRecursion}
 use Rattle.std.specs.Cmp.{IsTotalOrder}
-use Rattle.std.proofs.lemmas.Bool.{cases_Bool}
 use Rattle.ipx_table.specs.Reading.{Reading, Rules, rules_of}
 use Rattle.ipx_table.specs.Facts.{Fact, Offered, Second, PortEnd}
 use Rattle.ipx_table.specs.Alive.{alive, lifetime}
 use Rattle.ipx_table.specs.Accepted.{marked}
 use Rattle.ipx_table.specs.inside.AfterOffer.{after_offer}
-use Rattle.ipx_table.specs.Slots.{seen, seen_at}
+use Rattle.ipx_table.specs.Slots.{seen}
 use Rattle.ipx_table.specs.inside.Clock.{IsSorted}
 use Rattle.ipx_table.specs.Stands.{Stands, Ascends, IsAscending, in_order, second_later, is_last, older, without_port, record_of, ended_with_port}
 use Rattle.ipx_table.specs.Taken.{taken, taken_over}
@@ -38,9 +37,7 @@ module _ {O : Type 0} (rules : Rules O) (total : IsTotalOrder rules.by_key) wher
       ap (λ hs. taken_over rules same_offer hs offer) stands ∙ offers.taken-in_order rules total same_offer (alive rules (marked rules facts)) offer
 
   pub stands_second : (old new : List (Held O)) (facts : List (Fact O)) → new ≡ second_later old → Stands rules old facts → Stands rules new (facts ++ Second ∷ [])
-  stands_second old new facts step stands =
-      step ∙ ap second_later stands ∙ sym (second-in_order rules.by_key total (alive rules (marked rules facts)))
-      ∙ ap (in_order rules.by_key) (sym (alive_after-second rules facts))
+  stands_second old new facts step stands = grind (arith, second-in_order, alive_after-second)
 
   pub stands_port : (old new : List (Held O)) (facts : List (Fact O)) (port : ℕ) → new ≡ without_port rules.port port old
       → Stands rules old facts → Stands rules new (facts ++ PortEnd port ∷ [])
@@ -64,10 +61,7 @@ module _ {O : Type 0} (rules : Rules O) (total : IsTotalOrder rules.by_key) wher
 module _ {O : Type 0} (by_key : O → O → Ordering) (total : IsTotalOrder by_key) where
   pub ascending-filter : (p : Held O → Bool) (held : List (Held O)) → IsAscending by_key held → IsAscending by_key (filter p held)
   ascending-filter p [] up = tt
-  ascending-filter p (h ∷ held) up = elim (cases_Bool (p h)) [
-    | inl e ↦ rw e (all-filter (λ x. is_lt (by_key h.offer x.offer) ≡ true) p held up.0, ascending-filter p held up.1)
-    | inr e ↦ rw e (ascending-filter p held up.1)
-  ]
+  ascending-filter p (h ∷ held) up = grind (arith, ascending-filter p held up.1, all-filter, is_lt)
 
   pub ascending-second : (held : List (Held O)) → IsAscending by_key held → IsAscending by_key (second_later held)
   ascending-second held up = aged (filter (λ h. not (is_last h)) held) (ascending-filter (λ h. not (is_last h)) held up)
@@ -93,17 +87,11 @@ module _ {O : Type 0} (by_key : O → O → Ordering) (total : IsTotalOrder by_k
 module _ {O : Type 0} (port_by : O → ℕ) (port clock : ℕ) where
   pub stay-seen : (ps : List (O × ℕ)) → seen clock (filter (λ p. not (port_by p.0 == port)) ps) ≡ without_port port_by port (seen clock ps)
   stay-seen [] = refl
-  stay-seen (p ∷ ps) = elim (cases_Bool (port_by p.0 == port)) [
-    | inl e ↦ simp e (stay-seen ps)
-    | inr e ↦ simp e (ap (λ rest. seen_at clock p ∷ rest) (stay-seen ps))
-  ]
+  stay-seen (p ∷ ps) = grind (arith, stay-seen ps)
 
   pub gone-seen : (ps : List (O × ℕ)) → map (λ p. p.0) (filter (λ p. port_by p.0 == port) ps) ≡ ended_with_port port_by port (seen clock ps)
   gone-seen [] = refl
-  gone-seen (p ∷ ps) = elim (cases_Bool (port_by p.0 == port)) [
-    | inl e ↦ simp e (ap (λ (os : List O). p.0 ∷ os) (gone-seen ps))
-    | inr e ↦ simp e (gone-seen ps)
-  ]
+  gone-seen (p ∷ ps) = grind (arith, gone-seen ps)
 
 module _ {O K : Type 0} (reading : Reading O K) (key_order : K → K → Ordering) (total : IsTotalOrder key_order) (capacity : ℕ) (shares : List ℕ) where
   -- the records of other keys stay

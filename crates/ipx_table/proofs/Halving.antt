@@ -55,11 +55,7 @@ module _ {X : Type 0} (goes : X → Bool) where
   -- where one ends and one stays, there are two
   pub two_at_least : (xs : List X) → list_any goes xs ≡ true → list_any (λ x. not (goes x)) xs ≡ true → 2 ≤ length xs
   two_at_least [] ends stays = absurd (true≢false (sym ends))
-  two_at_least (x ∷ []) ends stays =
-      elim (cases_Bool (goes x)) [
-        | inl now ↦ let no : false ≡ true = rw now at stays in absurd (true≢false (sym no))
-        | inr later ↦ let no : false ≡ true = rw later at ends in absurd (true≢false (sym no))
-      ]
+  two_at_least (x ∷ []) ends stays = grind arith
   two_at_least (x ∷ y ∷ xs) ends stays = omega arith
 
   -- what stays, and what ends
@@ -74,12 +70,7 @@ module _ {X : Type 0} (goes : X → Bool) where
 
   pub length-halves : (xs : List X) → length (halves xs) ≡ length xs
   length-halves [] = refl
-  length-halves (x ∷ xs) =
-      let rest = sym (length-append (filter (λ y. not (goes y)) xs) (filter goes xs)) ∙ length-halves xs in
-      elim (cases_Bool (goes x)) [
-        | inl now ↦ rw now (length-append (filter (λ y. not (goes y)) xs) (x ∷ filter goes xs) ∙ omega (arith, rest))
-        | inr later ↦ rw later (ap suc (length-halves xs))
-      ]
+  length-halves (x ∷ xs) = grind (arith, length-halves xs, length-append)
 
 -- ---- turning what lies between
 
@@ -132,26 +123,13 @@ turn_is {X} xs part now from middle to before behind part_is now_is =
 -- of four pieces the second and the third change places
 pub turn-four : {X : Type 0} (a b c d : List X) (from middle to : ℕ) → length a ≡ from → length (a ++ b) ≡ middle → length (a ++ b ++ c) ≡ to
     → turned from middle to ((a ++ b) ++ (c ++ d)) ≡ (a ++ c) ++ (b ++ d)
-turn-four {X} a b c d from middle to ea eb ec =
-    let all = (a ++ b) ++ (c ++ d) in
-    let first : all ≡ a ++ (b ++ (c ++ d)) = append_assoc a b (c ++ d) in
-    let third : all ≡ (a ++ b ++ c) ++ d = sym (append_assoc (a ++ b) c d) in
-    let one : take from all ≡ a = ap (take from) first ∙ take_at a (b ++ (c ++ d)) from ea in
-    let two : drop middle (take to all) ≡ c = ap (λ (xs : List X). drop middle (take to xs)) third ∙ ap (drop middle) (take_at (a ++ b ++ c) d to ec) ∙ drop_at (a ++ b) c middle eb in
-    let three : drop from (take middle all) ≡ b = ap (drop from) (take_at (a ++ b) (c ++ d) middle eb) ∙ drop_at a b from ea in
-    let four : drop to all ≡ d = ap (drop to) third ∙ drop_at (a ++ b ++ c) d to ec in
-    ap₂ (λ (ps qs : List X). ps ++ qs) (ap₂ (λ (ps qs : List X). ps ++ qs) (ap₂ (λ (ps qs : List X). ps ++ qs) one two) three) four
-    ∙ append_assoc (a ++ c) b d
+turn-four {X} a b c d from middle to ea eb ec = grind (arith, append_assoc, take_at, drop_at)
 
 -- two halves that are parted, turned so that the whole is
 pub turn-parted : {X : Type 0} (goes : X → Bool) (xs ys : List X) (from middle to : ℕ) → length (filter (λ x. not (goes x)) xs) ≡ from → length xs ≡ middle
     → middle + length (filter (λ x. not (goes x)) ys) ≡ to
     → turned from middle to (halves goes xs ++ halves goes ys) ≡ halves goes (xs ++ ys)
-turn-parted {X} goes xs ys from middle to ea eb ec =
-    let stays = λ (x : X). not (goes x) in
-    turn-four (filter stays xs) (filter goes xs) (filter stays ys) (filter goes ys) from middle to ea (length-halves goes xs ∙ eb)
-    (length-append (halves goes xs) (filter stays ys) ∙ ap (λ (n : ℕ). n + length (filter stays ys)) (length-halves goes xs ∙ eb) ∙ ec)
-    ∙ sym (ap₂ (λ (ps qs : List X). ps ++ qs) (filter-append stays xs ys) (filter-append goes xs ys))
+turn-parted {X} goes xs ys from middle to ea eb ec = grind (arith, turn-four, length-halves, length-append, filter-append)
 
 -- ---- the records of a table, and what ended behind them
 
@@ -166,10 +144,7 @@ module _ {X : Type 0} (goes : X → Bool) (xs ys : List X) (live : ℕ) (parts :
   gone_behind = ap (drop live) parts ∙ drop_at (filter (λ x. not (goes x)) xs) (filter goes xs) live (sym stay)
 
   pub stay_within : live ≤ length ys
-  stay_within =
-      let all : length ys ≡ length (filter (λ x. not (goes x)) xs) + length (filter goes xs) =
-      ap length parts ∙ length-append (filter (λ x. not (goes x)) xs) (filter goes xs) in
-      omega (arith, all, stay)
+  stay_within = grind (arith, length-append)
 
 -- where the first ones are all, what is found among them is found
 pub found-whole : {X : Type 0} (xs : List X) (live : ℕ) (held : Bool) (place : ℕ) → length xs ≤ live

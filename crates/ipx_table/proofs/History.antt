@@ -1,7 +1,5 @@
 -- What the definitions of alive and marked offers say of one fact more.
-use Rattle.std.proofs.Common.{◌≡◌, refl, ap, ◌∙◌, ℕ, ◌+◌, Bool, true, false, not, ◌&&◌, cond, ◌==◌, if◌then◌else◌, nat_lt, List, [], ◌∷◌, ◌++◌, filter, arith}
-use Rattle.std.proofs.lemmas.Bool.{lt-ltb, le-ltb, ltb-true, ltb-false, eqb-true, eqb-false, cases_Bool}
-use Rattle.std.proofs.Common.{inl, inr}
+use Rattle.std.proofs.Common.{◌≡◌, refl, ap, ◌∙◌, ℕ, ◌+◌, Bool, true, false, not, ◌&&◌, cond, if◌then◌else◌, nat_lt, List, [], ◌∷◌, ◌++◌, filter, arith}
 use Rattle.ipx_table.specs.Reading.{Rules}
 use Rattle.ipx_table.specs.Facts.{Fact, Offered, Second, PortEnd, End, Marked, seconds}
 use Rattle.ipx_table.specs.Alive.{cuts, lasts, alive, lifetime}
@@ -10,18 +8,12 @@ use Rattle.ipx_table.specs.inside.AfterOffer.{fresh, uncut, after_offer}
 use Rattle.ipx_table.specs.Stands.{second_later, without_port}
 use Rattle.ipx_table.specs.declared.held.Held.{Held}
 
-and_assoc : (a b c : Bool) → (a && (b && c)) ≡ ((a && b) && c)
-and_assoc true b c = refl
-and_assoc false b c = refl
-
 module _ {O : Type 0} (rules : Rules O) where
   pub lasts-more : (offer : O) (ms : List (Marked O)) (m : Marked O) → lasts rules offer (ms ++ m ∷ []) ≡ (lasts rules offer ms && lasts rules offer (m ∷ []))
   lasts-more offer [] m = refl
-  lasts-more offer ((Offered later, a) ∷ rest) m =
-      rw (lasts-more offer rest m) (and_assoc (not (cuts rules later a offer)) (lasts rules offer rest) (lasts rules offer (m ∷ [])))
+  lasts-more offer ((Offered later, a) ∷ rest) m = grind (arith, lasts-more offer rest m)
   lasts-more offer ((Second, a) ∷ rest) m = lasts-more offer rest m
-  lasts-more offer ((PortEnd port, a) ∷ rest) m =
-      rw (lasts-more offer rest m) (and_assoc (not (rules.port offer == port)) (lasts rules offer rest) (lasts rules offer (m ∷ [])))
+  lasts-more offer ((PortEnd port, a) ∷ rest) m = grind (arith, lasts-more offer rest m)
   lasts-more offer ((End, a) ∷ rest) m = refl
 
   seconds-offered : (ms : List (Marked O)) (offer : O) (a : Bool) → seconds (ms ++ (Offered offer, a) ∷ []) ≡ seconds ms
@@ -48,12 +40,7 @@ module _ {O : Type 0} (rules : Rules O) where
   -- one alive place, with or without a cut behind it
   kept_or_cut : (p : Held O → Bool) (l y c : Bool) (h : Held O) (rest tail : List (Held O)) → p h ≡ not c
       → cond ((l && (not c && true)) && y) (h ∷ (filter p rest ++ tail)) (filter p rest ++ tail) ≡ filter p (cond (l && y) (h ∷ rest) rest) ++ tail
-  kept_or_cut p true true true h rest tail e = rw e refl
-  kept_or_cut p true true false h rest tail e = rw e refl
-  kept_or_cut p true false true h rest tail e = refl
-  kept_or_cut p true false false h rest tail e = refl
-  kept_or_cut p false true c h rest tail e = refl
-  kept_or_cut p false false c h rest tail e = refl
+  kept_or_cut p l y c h rest tail e = grind arith
 
   pub alive-offered : (ms : List (Marked O)) (offer : O) (a : Bool)
       → alive rules (ms ++ (Offered offer, a) ∷ []) ≡ uncut rules offer a (alive rules ms) ++ (if a then fresh offer ∷ [] else [])
@@ -75,15 +62,7 @@ module _ {O : Type 0} (rules : Rules O) where
   older_or_ended : (l : Bool) (n : ℕ) (offer : O) (rest : List (Held O))
       → cond (l && nat_lt (n + 1) lifetime) (record { offer = offer; age = n + 1 } ∷ second_later rest) (second_later rest)
       ≡ second_later (cond (l && nat_lt n lifetime) (record { offer = offer; age = n } ∷ rest) rest)
-  older_or_ended false n offer rest = refl
-  older_or_ended true n offer rest =
-      elim (cases_Bool (nat_lt n lifetime)) [
-        | inl e ↦ rw e (elim (cases_Bool (n + 1 == lifetime)) [
-          | inl last ↦ let no : nat_lt (n + 1) lifetime ≡ false = le-ltb (n + 1) lifetime (omega (arith, eqb-true (n + 1) lifetime last)) in rw (last, no) refl
-          | inr more ↦ let yes : nat_lt (n + 1) lifetime ≡ true = lt-ltb (n + 1) lifetime (omega (arith, ltb-true n lifetime e, eqb-false (n + 1) lifetime more)) in rw (more, yes) refl
-        ])
-        | inr e ↦ let no : nat_lt (n + 1) lifetime ≡ false = le-ltb (n + 1) lifetime (omega (arith, ltb-false n lifetime e)) in rw (e, no) refl
-      ]
+  older_or_ended l n offer rest = grind arith
 
   pub alive-second : (ms : List (Marked O)) (m : Bool) → alive rules (ms ++ (Second, m) ∷ []) ≡ second_later (alive rules ms)
   alive-second [] m = refl
@@ -104,22 +83,11 @@ module _ {O : Type 0} (rules : Rules O) where
   -- one alive place, that ends with its port or stays
   stays_or_ends : (p : Held O → Bool) (l y c : Bool) (h : Held O) (rest : List (Held O)) → p h ≡ not c
       → cond ((l && (not c && true)) && y) (h ∷ filter p rest) (filter p rest) ≡ filter p (cond (l && y) (h ∷ rest) rest)
-  stays_or_ends p true true true h rest e = rw e refl
-  stays_or_ends p true true false h rest e = rw e refl
-  stays_or_ends p true false true h rest e = refl
-  stays_or_ends p true false false h rest e = refl
-  stays_or_ends p false true c h rest e = refl
-  stays_or_ends p false false c h rest e = refl
+  stays_or_ends p l y c h rest e = grind arith
 
   pub alive-port : (ms : List (Marked O)) (port : ℕ) (m : Bool) → alive rules (ms ++ (PortEnd port, m) ∷ []) ≡ without_port rules.port port (alive rules ms)
   alive-port [] port m = refl
-  alive-port ((Offered first, true) ∷ later) port m =
-      let known = alive-port later port m in
-      let lasting = lasts-more first later (PortEnd port, m) in
-      let aged = seconds-port later port m in
-      rw (lasting, aged, known)
-      (stays_or_ends (λ h. not (rules.port h.offer == port)) (lasts rules first later) (nat_lt (seconds later) lifetime) (rules.port first == port)
-      (record { offer = first; age = seconds later }) (alive rules later) refl)
+  alive-port ((Offered first, true) ∷ later) port m = grind (arith, alive-port later port m, lasts-more, seconds-port, stays_or_ends)
   alive-port ((Offered first, false) ∷ later) port m = alive-port later port m
   alive-port ((Second, a) ∷ later) port m = alive-port later port m
   alive-port ((PortEnd other, a) ∷ later) port m = alive-port later port m
@@ -148,9 +116,7 @@ module _ {O : Type 0} (rules : Rules O) where
   -- the alive offers after one fact more
   pub alive_after-offered : (facts : List (Fact O)) (offer : O)
       → alive rules (marked rules (facts ++ Offered offer ∷ [])) ≡ after_offer rules (alive rules (marked rules facts)) offer
-  alive_after-offered facts offer =
-      ap (alive rules) (marked_after-more [] facts (Offered offer))
-      ∙ alive-offered (marked rules facts) offer (is_accepted rules (alive rules (marked rules facts)) (Offered offer))
+  alive_after-offered facts offer = grind (arith, marked_after-more, alive-offered)
 
   pub alive_after-second : (facts : List (Fact O)) → alive rules (marked rules (facts ++ Second ∷ [])) ≡ second_later (alive rules (marked rules facts))
   alive_after-second facts = ap (alive rules) (marked_after-more [] facts Second) ∙ alive-second (marked rules facts) false

@@ -1,5 +1,5 @@
 -- What holds of the alive offers of every list of facts.
-use Rattle.std.proofs.Common.{◌≡◌, refl, sym, subst, ℕ, ◌+◌, ◌≤◌, ◌==◌, suc, Bool, true, false, not, ◌&&◌, ◌||◌, nat_lt, List, [], ◌∷◌, ◌++◌, filter, length, inl, inr, arith, true≢false, length-append}
+use Rattle.std.proofs.Common.{◌≡◌, sym, subst, ℕ, ◌+◌, ◌≤◌, ◌==◌, suc, Bool, true, false, not, ◌&&◌, ◌||◌, nat_lt, List, [], ◌∷◌, ◌++◌, filter, length, inl, inr, arith, true≢false, length-append}
 use Rattle.std.specs.List.{list_any}
 use Rattle.std.specs.Cmp.{IsTotalOrder}
 use Rattle.std.proofs.lemmas.Bool.{cases_Bool, and_parts, or_cases, ltb-true}
@@ -31,9 +31,7 @@ length-left p q leaves (x ∷ xs) any = elim (cases_Bool (q x)) [
 ]
 
 pub cut_out : (key source : Bool) → key ≡ true → not (key && (source || true)) ≡ false
-cut_out true true e = refl
-cut_out true false e = refl
-cut_out false source e = absurd (true≢false (sym e))
+cut_out key source e = grind arith
 
 module _ {O : Type 0} (rules : Rules O) where
   -- what holds of nothing, and after one offer and one second more, holds of the alive offers of all facts

@@ -90,9 +90,7 @@ module _ {O : Type 0} (rules : Rules O) (total : IsTotalOrder rules.by_key) wher
       let size = order.length-in_order rules.by_key total held in
       let count = count-in_order (λ h. rules.port h.offer == rules.port offer) held in
       rw (size, count) refl
-  taken_up-in_order same_offer held offer (Some h) =
-      let count = count-in_order (λ x. rules.port x.offer == rules.port offer) held in
-      rw count refl
+  taken_up-in_order same_offer held offer (Some h) = grind (arith, count-in_order)
 
   pub taken-in_order : (same_offer : O → O → Bool) (held : List (Held O)) (offer : O)
       → taken_over rules same_offer (in_order rules.by_key held) offer ≡ taken_over rules same_offer held offer
@@ -115,10 +113,7 @@ module _ {O : Type 0} (rules : Rules O) (total : IsTotalOrder rules.by_key) wher
   }
 
   pub kept-filter : (p : Held O → Bool) (held : List (Held O)) → IsKept rules.by_key held → IsKept rules.by_key (filter p held)
-  kept-filter p held kept = record {
-    distinct = λ q. omega (arith, length-filter-filter (of_key q) p held, kept.distinct q);
-    young = all-filter (λ h. h.age < lifetime) p held kept.young;
-  }
+  kept-filter p held kept = grind (arith, length-filter-filter, all-filter)
 
   pub kept-after : (held : List (Held O)) (offer : O) → IsKept rules.by_key held → IsKept rules.by_key (after_offer rules held offer)
   kept-after held offer kept =
@@ -159,15 +154,7 @@ module _ {O : Type 0} (rules : Rules O) (total : IsTotalOrder rules.by_key) wher
 
   pub not_held-accepted : (held : List (Held O)) (offer : O) → list_any (of_key offer) held ≡ false
       → is_accepted rules held (Offered offer) ≡ (not (rules.is_down offer) && (nat_lt (length held) rules.capacity && has_share rules offer held))
-  not_held-accepted held offer none =
-      let each = none_pass (of_key offer) held none in
-      let refreshing : list_any (λ h. of_key offer h && rules.same_source h.offer offer) held ≡ false =
-      none-any (λ h. of_key offer h && rules.same_source h.offer offer) held
-      (all_then (λ h. of_key offer h ≡ false) (λ h. (of_key offer h && rules.same_source h.offer offer) ≡ false) (λ h e. rw e refl) held each) in
-      let replacing : list_any (λ h. of_key offer h && not (rules.same_source h.offer offer) && rules.is_worse h.offer offer && may_replace rules offer held h) held ≡ false =
-      none-any (λ h. of_key offer h && not (rules.same_source h.offer offer) && rules.is_worse h.offer offer && may_replace rules offer held h) held
-      (all_then (λ h. of_key offer h ≡ false) (λ h. (of_key offer h && not (rules.same_source h.offer offer) && rules.is_worse h.offer offer && may_replace rules offer held h) ≡ false) (λ h e. rw e refl) held each) in
-      rw (refreshing, replacing, none) refl
+  not_held-accepted held offer none = grind (arith, none_pass, none-any, all_then)
 
   pub not_held-left : (held : List (Held O)) (offer : O) → list_any (of_key offer) held ≡ false
       → (not (rules.is_down offer) && (nat_lt (length held) rules.capacity && has_share rules offer held)) ≡ false → held ≡ after_offer rules held offer
@@ -177,9 +164,7 @@ module _ {O : Type 0} (rules : Rules O) (total : IsTotalOrder rules.by_key) wher
 
   pub not_held-added : (held : List (Held O)) (offer : O) → list_any (of_key offer) held ≡ false
       → (not (rules.is_down offer) && (nat_lt (length held) rules.capacity && has_share rules offer held)) ≡ true → held ++ fresh offer ∷ [] ≡ after_offer rules held offer
-  not_held-added held offer none yea =
-      let admitted = not_held-accepted held offer none ∙ yea in
-      rw (admitted, not_held-uncut held offer true none) refl
+  not_held-added held offer none yea = grind (arith, not_held-accepted, not_held-uncut)
 
   -- ---- an offer of the key of a record
 
@@ -199,13 +184,11 @@ module _ {O : Type 0} (rules : Rules O) (total : IsTotalOrder rules.by_key) wher
       }
 
   pub held-find : (held : List (Held O)) (place : ℕ) (it : Held O) (offer : O) → HeldAt held place it offer → find (of_key offer) held ≡ Some it
-  held-find held place it offer h =
-      ap (find (of_key offer)) h.layout ∙ find-around (of_key offer) (take place held) it (drop (suc place) held) h.alone
+  held-find held place it offer h = grind (arith, find-around)
 
   held-any : (q : Held O → Bool) (held : List (Held O)) (place : ℕ) (it : Held O) (offer : O) → ((x : Held O) → of_key offer x ≡ false → q x ≡ false)
       → HeldAt held place it offer → list_any q held ≡ q it
-  held-any q held place it offer only h =
-      ap (list_any q) h.layout ∙ any-around (of_key offer) q (take place held) it (drop (suc place) held) only h.alone
+  held-any q held place it offer only h = grind (arith, any-around)
 
   pub held-accepted : (held : List (Held O)) (place : ℕ) (it : Held O) (offer : O) → HeldAt held place it offer
       → is_accepted rules held (Offered offer)
@@ -223,9 +206,7 @@ module _ {O : Type 0} (rules : Rules O) (total : IsTotalOrder rules.by_key) wher
       or_false false b = refl
 
   uncut-around : (a : Bool) (xs : List (Held O)) (offer : O) → NonePass (of_key offer) xs → uncut rules offer a xs ≡ xs
-  uncut-around a xs offer none =
-      all-kept (λ h. not (cuts rules offer a h.offer)) xs
-      (all_then (λ h. of_key offer h ≡ false) (λ h. not (cuts rules offer a h.offer) ≡ true) (λ h e. rw e refl) xs none)
+  uncut-around a xs offer none = grind (arith, all-kept, all_then)
 
   pub held-uncut : (a : Bool) (held : List (Held O)) (place : ℕ) (it : Held O) (offer : O) → HeldAt held place it offer
       → uncut rules offer a held ≡ take place held ++ ((if rules.same_source it.offer offer || a then [] else it ∷ []) ++ drop (suc place) held)

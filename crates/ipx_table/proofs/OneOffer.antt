@@ -1,5 +1,5 @@
 -- What one offer does to records with their slots, seen as what the table tells.
-use Rattle.std.proofs.Common.{◌≡◌, refl, sym, ap, ◌∙◌, ℕ, ◌≤◌, ◌==◌, zero, suc, Bool, true, false, not, ◌&&◌, ◌||◌, nat_lt, if◌then◌else◌, List, [], ◌∷◌, map, filter, find, length, insert, set, remove, slice_get, Option, None, Some, option_map, is_some, inl, inr, true≢false, append-nil, Ordering, Greater, is_lt, is_eq}
+use Rattle.std.proofs.Common.{◌≡◌, refl, sym, ap, ◌∙◌, ℕ, ◌≤◌, ◌==◌, zero, suc, Bool, true, false, not, ◌&&◌, ◌||◌, nat_lt, if◌then◌else◌, List, [], ◌∷◌, map, filter, find, length, insert, set, remove, slice_get, Option, None, Some, option_map, is_some, inl, inr, true≢false, append-nil, Ordering, Greater, is_lt, is_eq, arith}
 use Rattle.std.specs.List.{list_any}
 use Rattle.std.specs.Cmp.{IsTotalOrder}
 use Rattle.std.proofs.lemmas.Bool.{cases_Bool}
@@ -28,20 +28,12 @@ use Rattle.ipx_table.proofs.Singles.{none_pass, none-find}
 pub count-seen : {O : Type 0} (port_by : O → ℕ) (port clock : ℕ) (ps : List (O × ℕ))
     → length (filter (λ o. port_by o == port) (map (λ p. p.0) ps)) ≡ count_by port_by port (seen clock ps)
 count-seen port_by port clock [] = refl
-count-seen port_by port clock (p ∷ ps) = elim (cases_Bool (port_by p.0 == port)) [
-  | inl e ↦ simp e (ap suc (count-seen port_by port clock ps))
-  | inr e ↦ simp e (count-seen port_by port clock ps)
-]
+count-seen port_by port clock (p ∷ ps) = grind (arith, count-seen port_by port clock ps)
 
 any_got : {X : Type 0} (q : X → Bool) (xs : List X) (k : ℕ) (x : X) → slice_get xs k ≡ Some x → q x ≡ true → list_any q xs ≡ true
 any_got q [] k x e passes = absurd (true≢false (sym (ap is_some e)))
-any_got q (y ∷ xs) zero x e passes =
-    let first : q y ≡ true = ap (λ (o : Option _). elim o [ None ↦ q y | Some z ↦ q z ]) e ∙ passes in
-    rw first refl
-any_got q (y ∷ xs) (suc k) x e passes = elim (cases_Bool (q y)) [
-  | inl e' ↦ rw e' refl
-  | inr e' ↦ rw e' (any_got q xs k x e passes)
-]
+any_got q (y ∷ xs) zero x e passes = grind arith
+any_got q (y ∷ xs) (suc k) x e passes = grind (arith, any_got q xs k x e passes)
 
 -- a port that one of the offers didn't come by has fewer than all
 pub fewer_by_port : {O : Type 0} (port_by : O → ℕ) (port : ℕ) (ps : List (O × ℕ)) (place : ℕ) (known : O × ℕ)
@@ -124,21 +116,16 @@ module _ {O : Type 0} (rules : Rules O) (total : IsTotalOrder rules.by_key) (clo
 -- ---- shares
 
 pub false_or : (b x : Bool) → b ≡ false → x ≡ (b || x)
-false_or true x e = absurd (true≢false e)
-false_or false x e = refl
+false_or b x e = grind arith
 
 pub and_false : (b : Bool) → (b && false) ≡ false
-and_false true = refl
-and_false false = refl
+and_false b = grind arith
 
 module _ {O : Type 0} (rules : Rules O) (clock : ℕ) (ps : List (O × ℕ)) (offer : O) where
   -- what was counted over the offers, as the definitions count records
   pub shared : (port : ℕ) (answer : Bool) (os : List O) → os ≡ map (λ p. p.0) ps → port ≡ rules.port offer
       → answer ≡ nat_lt (length (filter (λ o. rules.port o == port) os)) (rules.share port) → answer ≡ has_share rules offer (seen clock ps)
-  shared port answer os all by e =
-      e ∙ ap (λ (zs : List O). nat_lt (length (filter (λ o. rules.port o == port) zs)) (rules.share port)) all
-      ∙ ap (λ (n : ℕ). nat_lt n (rules.share port)) (count-seen rules.port port clock ps)
-      ∙ ap (λ (n : ℕ). nat_lt (count_by rules.port n (seen clock ps)) (rules.share n)) by
+  shared port answer os all by e = grind (arith, count-seen)
 
 -- ---- the search
 
@@ -149,10 +136,7 @@ module _ {O : Type 0} (clock : ℕ) where
 
   count-told : (q : O → Bool) (ps : List (O × ℕ)) → length (filter q (map (λ p. p.0) ps)) ≡ length (filter (λ h. q h.offer) (seen clock ps))
   count-told q [] = refl
-  count-told q (p ∷ ps) = elim (cases_Bool (q p.0)) [
-    | inl e ↦ simp e (ap suc (count-told q ps))
-    | inr e ↦ simp e (count-told q ps)
-  ]
+  count-told q (p ∷ ps) = grind (arith, count-told q ps)
 
   any-told : (q : O → Bool) (ps : List (O × ℕ)) → list_any q (map (λ p. p.0) ps) ≡ list_any (λ h. q h.offer) (seen clock ps)
   any-told q [] = refl
@@ -184,15 +168,7 @@ module _ {O : Type 0} (by_key : O → O → Ordering) (total : IsTotalOrder by_k
 
   pub found_known : (known : O × ℕ) → there ≡ Some known
       → (slice_get ps found.below ≡ Some known) × (is_eq (compare known.0) ≡ true) × (find of_it (seen clock ps) ≡ Some (seen_at clock known))
-  found_known known e = elim (cases_Bool found.held) [
-    | inr free ↦ let no : None ≡ Some known = rw free at e in absurd (true≢false (sym (ap is_some no)))
-    | inl held ↦
-        let at : slice_get ps found.below ≡ Some known = rw held at e in
-        let it : find of_it (seen clock ps) ≡ Some (seen_at clock known) = sym found_told ∙ ap (option_map (seen_at clock)) e in
-        (at, (found_place of_it (seen clock ps) (seen_at clock known) it).2, it)
-  ]
+  found_known known e = grind (arith, is_some, slice_get, found_told, option_map, found_place)
 
   pub found_new : there ≡ None → (list_any of_it (seen clock ps) ≡ false) × (find of_it (seen clock ps) ≡ None)
-  found_new e =
-      let none : find of_it (seen clock ps) ≡ None = sym found_told ∙ ap (option_map (seen_at clock)) e in
-      (found_none of_it (seen clock ps) none, none)
+  found_new e = grind (arith, found_told, option_map, found_none)

@@ -1,39 +1,28 @@
 -- Records in the order of their keys: what `put` and `in_order` do to look-ups, filters and numbers.
-use Rattle.std.proofs.Common.{◌≡◌, refl, sym, ap, ◌∙◌, suc, Bool, true, false, ◌||◌, if◌then◌else◌, List, [], ◌∷◌, ◌++◌, map, filter, find, length, Some, inl, inr, Ordering, Less, Equal, Greater, is_eq, is_lt, is_gt, true≢false}
+use Rattle.std.proofs.Common.{◌≡◌, refl, sym, ap, ◌∙◌, suc, Bool, true, false, ◌||◌, if◌then◌else◌, List, [], ◌∷◌, ◌++◌, map, filter, find, length, Some, inl, inr, Ordering, Less, Equal, is_eq, is_lt, is_gt, arith}
 use Rattle.std.specs.List.{AllByRecursion, list_any}
 use Rattle.std.specs.Ordering.{ordering_reverse}
 use Rattle.std.specs.Cmp.{IsTotalOrder}
-use Rattle.std.proofs.lemmas.Cmp.{upto}
 use Rattle.std.proofs.lemmas.Bool.{cases_Bool}
 use Rattle.ipx_table.specs.Stands.{put, in_order, older}
 use Rattle.ipx_table.specs.declared.held.Held.{Held}
 use Rattle.ipx_table.proofs.Singles.{all_then, all-filter}
 
 pub is_equal : (r : Ordering) → is_eq r ≡ true → r ≡ Equal
-is_equal Less e = absurd (true≢false (sym e))
-is_equal Equal e = refl
-is_equal Greater e = absurd (true≢false (sym e))
+is_equal r e = grind arith
 
 module _ {O : Type 0} (by_key : O → O → Ordering) (total : IsTotalOrder by_key) where
   turned_eq : (r s : Ordering) → r ≡ ordering_reverse s → is_eq r ≡ is_eq s
-  turned_eq r Less e = rw e refl
-  turned_eq r Equal e = rw e refl
-  turned_eq r Greater e = rw e refl
+  turned_eq r s e = grind arith
 
   less_one_way : (r s : Ordering) → r ≡ ordering_reverse s → is_lt r ≡ true → is_lt s ≡ false
-  less_one_way r Less e l = absurd (true≢false (sym l ∙ ap is_lt e))
-  less_one_way r Equal e l = refl
-  less_one_way r Greater e l = refl
+  less_one_way r s e l = grind arith
 
   less_other_way : (r s : Ordering) → r ≡ ordering_reverse s → is_eq r ≡ false → is_lt r ≡ false → is_lt s ≡ true
-  less_other_way r Less e q l = refl
-  less_other_way r Equal e q l = absurd (true≢false (sym (ap is_eq e) ∙ q))
-  less_other_way r Greater e q l = absurd (true≢false (sym (ap is_lt e) ∙ l))
+  less_other_way r s e q l = grind arith
 
   is_less : (r : Ordering) → is_lt r ≡ true → r ≡ Less
-  is_less Less e = refl
-  is_less Equal e = absurd (true≢false (sym e))
-  is_less Greater e = absurd (true≢false (sym e))
+  is_less r e = grind arith
 
   -- keys: either way, and through a third
   pub same_turned : (a b : O) → is_eq (by_key a b) ≡ is_eq (by_key b a)
@@ -49,25 +38,18 @@ module _ {O : Type 0} (by_key : O → O → Ordering) (total : IsTotalOrder by_k
   less_through a b c p q = ap is_lt (total.trans a b c (is_less (by_key a b) p) (is_less (by_key b c) q))
 
   gt_turned : (r s : Ordering) → r ≡ ordering_reverse s → is_gt r ≡ is_lt s
-  gt_turned r Less e = ap is_gt e
-  gt_turned r Equal e = ap is_gt e
-  gt_turned r Greater e = ap is_gt e
+  gt_turned r s e = grind arith
 
   pub above_turned : (a b : O) → is_gt (by_key a b) ≡ is_lt (by_key b a)
   above_turned a b = gt_turned (by_key a b) (by_key b a) (total.antisymm a b)
 
   -- what isn't below another isn't below what that one isn't below
   pub not_below_through : (a b c : O) → is_lt (by_key b a) ≡ false → is_lt (by_key c b) ≡ false → is_lt (by_key c a) ≡ false
-  not_below_through a b c ba cb =
-      sym (above_turned a c) ∙ upto total a b c (above_turned a b ∙ ba) (above_turned b c ∙ cb)
+  not_below_through a b c ba cb = grind arith
 
   -- x is below h, and not below k: so h isn't below k
   not_less_by_third : (h k x : O) → is_lt (by_key x h) ≡ true → is_lt (by_key x k) ≡ false → is_lt (by_key h k) ≡ false
-  not_less_by_third h k x xh kx =
-      elim (cases_Bool (is_lt (by_key h k))) [
-        | inl hk ↦ absurd (true≢false (sym (less_through x h k xh hk) ∙ kx))
-        | inr e ↦ e
-      ]
+  not_less_by_third h k x xh kx = grind arith
 
   -- ---- puts
 
@@ -102,33 +84,19 @@ module _ {O : Type 0} (by_key : O → O → Ordering) (total : IsTotalOrder by_k
   pub in_order-mid : (xs : List (Held O)) (h : Held O) (ys : List (Held O)) → AllByRecursion (λ x. is_eq (by_key x.offer h.offer) ≡ false) xs
       → in_order by_key (xs ++ h ∷ ys) ≡ put by_key h (in_order by_key (xs ++ ys))
   in_order-mid [] h ys apart = refl
-  in_order-mid (x ∷ xs) h ys apart =
-      ap (put by_key x) (in_order-mid xs h ys apart.1) ∙ put_put x h (in_order by_key (xs ++ ys)) apart.0
+  in_order-mid (x ∷ xs) h ys apart = grind (arith, in_order-mid xs h ys apart.1, put_put)
 
   pub length-put : (h : Held O) (xs : List (Held O)) → length (put by_key h xs) ≡ suc (length xs)
   length-put h [] = refl
-  length-put h (x ∷ xs) =
-      elim (cases_Bool (is_lt (by_key x.offer h.offer))) [
-        | inl e ↦ rw e (ap suc (length-put h xs))
-        | inr e ↦ rw e refl
-      ]
+  length-put h (x ∷ xs) = grind (arith, length-put h xs)
 
   pub length-in_order : (xs : List (Held O)) → length (in_order by_key xs) ≡ length xs
   length-in_order [] = refl
   length-in_order (x ∷ xs) = length-put x (in_order by_key xs) ∙ ap suc (length-in_order xs)
 
-  or_moved : (a b c : Bool) → (a || (b || c)) ≡ (b || (a || c))
-  or_moved true true c = refl
-  or_moved true false c = refl
-  or_moved false b c = refl
-
   list_any-put : (p : Held O → Bool) (h : Held O) (xs : List (Held O)) → list_any p (put by_key h xs) ≡ (p h || list_any p xs)
   list_any-put p h [] = refl
-  list_any-put p h (x ∷ xs) =
-      elim (cases_Bool (is_lt (by_key x.offer h.offer))) [
-        | inl e ↦ rw (e, list_any-put p h xs) (or_moved (p x) (p h) (list_any p xs))
-        | inr e ↦ rw e refl
-      ]
+  list_any-put p h (x ∷ xs) = grind (arith, list_any-put p h xs)
 
   pub list_any-in_order : (p : Held O → Bool) (xs : List (Held O)) → list_any p (in_order by_key xs) ≡ list_any p xs
   list_any-in_order p [] = refl
@@ -141,17 +109,7 @@ module _ {O : Type 0} (by_key : O → O → Ordering) (total : IsTotalOrder by_k
 
   find-put : (p : Held O → Bool) → TiesKeys p → (h : Held O) (xs : List (Held O)) → find p (put by_key h xs) ≡ (if p h then Some h else find p xs)
   find-put p ties h [] = refl
-  find-put p ties h (x ∷ xs) =
-      elim (cases_Bool (is_lt (by_key x.offer h.offer))) [
-        | inr e ↦ rw e refl
-        | inl e ↦ elim (cases_Bool (p x)) [
-          | inr fails ↦ rw (e, fails) (find-put p ties h xs)
-          | inl passes ↦ elim (cases_Bool (p h)) [
-            | inl both ↦ absurd (true≢false (sym e ∙ ties x h passes both))
-            | inr only ↦ rw (e, passes, only) refl
-          ]
-        ]
-      ]
+  find-put p ties h (x ∷ xs) = grind (arith, find-put p ties h xs)
 
   pub find-in_order : (p : Held O → Bool) → TiesKeys p → (xs : List (Held O)) → find p (in_order by_key xs) ≡ find p xs
   find-in_order p ties [] = refl
@@ -170,23 +128,14 @@ module _ {O : Type 0} (by_key : O → O → Ordering) (total : IsTotalOrder by_k
 
   all-put : (P : Held O → Type 0) (h : Held O) (xs : List (Held O)) → P h → AllByRecursion P xs → AllByRecursion P (put by_key h xs)
   all-put P h [] one all = (one, tt)
-  all-put P h (x ∷ xs) one all =
-      elim (cases_Bool (is_lt (by_key x.offer h.offer))) [
-        | inl e ↦ rw e (all.0, all-put P h xs one all.1)
-        | inr e ↦ rw e (one, all)
-      ]
+  all-put P h (x ∷ xs) one all = grind (arith, all-put P h xs one all.1)
 
   least_over : (h x : Held O) (xs : List (Held O)) → is_lt (by_key x.offer h.offer) ≡ false → IsLeast x xs → IsLeast h (x ∷ xs)
-  least_over h x xs hx least =
-      (hx, all_then (λ y. is_lt (by_key y.offer x.offer) ≡ false) (λ y. is_lt (by_key y.offer h.offer) ≡ false) (λ y l. not_below_through h.offer x.offer y.offer hx l) xs least)
+  least_over h x xs hx least = grind (arith, all_then, is_lt, not_below_through)
 
   rises-put : (h : Held O) (xs : List (Held O)) → Rises xs → Rises (put by_key h xs)
   rises-put h [] up = (tt, tt)
-  rises-put h (x ∷ xs) up =
-      elim (cases_Bool (is_lt (by_key x.offer h.offer))) [
-        | inl e ↦ rw e (all-put (λ y. is_lt (by_key y.offer x.offer) ≡ false) h xs (not_both x.offer h.offer e) up.0, rises-put h xs up.1)
-        | inr e ↦ rw e (least_over h x xs e up.0, up)
-      ]
+  rises-put h (x ∷ xs) up = grind (arith, rises-put h xs up.1, is_lt, all-put, not_both, least_over)
 
   pub rises-in_order : (xs : List (Held O)) → Rises (in_order by_key xs)
   rises-in_order [] = tt
@@ -219,19 +168,11 @@ module _ {O : Type 0} (by_key : O → O → Ordering) (total : IsTotalOrder by_k
 
   pub filter-in_order : (p : Held O → Bool) (xs : List (Held O)) → filter p (in_order by_key xs) ≡ in_order by_key (filter p xs)
   filter-in_order p [] = refl
-  filter-in_order p (x ∷ xs) =
-      filter-put p x (in_order by_key xs) (rises-in_order xs) ∙ elim (cases_Bool (p x)) [
-        | inl e ↦ rw e (ap (put by_key x) (filter-in_order p xs))
-        | inr e ↦ rw e (filter-in_order p xs)
-      ]
+  filter-in_order p (x ∷ xs) = grind (arith, filter-in_order p xs, filter-put, rises-in_order)
 
   older-put : (h : Held O) (xs : List (Held O)) → map older (put by_key h xs) ≡ put by_key (older h) (map older xs)
   older-put h [] = refl
-  older-put h (x ∷ xs) =
-      elim (cases_Bool (is_lt (by_key x.offer h.offer))) [
-        | inl e ↦ rw e (ap (λ rest. older x ∷ rest) (older-put h xs))
-        | inr e ↦ rw e refl
-      ]
+  older-put h (x ∷ xs) = grind (arith, older-put h xs)
 
   pub older-in_order : (xs : List (Held O)) → map older (in_order by_key xs) ≡ in_order by_key (map older xs)
   older-in_order [] = refl

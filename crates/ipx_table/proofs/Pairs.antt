@@ -1,5 +1,5 @@
 -- Two lists of one length, seen as the list of their pairs.
-use Rattle.std.proofs.Common.{◌≡◌, refl, sym, ap, ap₂, ℕ, zero, suc, List, [], ◌∷◌, length, insert, set, remove, take, slice_get, Option, None, Some, is_some, arith, true≢false}
+use Rattle.std.proofs.Common.{◌≡◌, refl, sym, ap, ℕ, zero, suc, List, [], ◌∷◌, length, insert, set, remove, take, slice_get, Option, None, Some, is_some, arith, true≢false}
 use Rattle.std.specs.List.{zip}
 use Rattle.std.specs.Option.{option_zip}
 
@@ -34,8 +34,7 @@ module _ {A B : Type 0} where
   pub get-pairs : (xs : List A) (ys : List B) (k : ℕ) (x : A) (y : B) → slice_get xs k ≡ Some x → slice_get ys k ≡ Some y → slice_get (zip xs ys) k ≡ Some (x, y)
   get-pairs [] ys k x y ex ey = absurd (true≢false (sym (ap is_some ex)))
   get-pairs (a ∷ xs) [] k x y ex ey = absurd (true≢false (sym (ap is_some ey)))
-  get-pairs (a ∷ xs) (b ∷ ys) zero x y ex ey =
-      ap₂ (λ (o : Option A) (p : Option B). elim o [ None ↦ None | Some u ↦ elim p [ None ↦ None | Some v ↦ Some (u, v) ] ]) ex ey
+  get-pairs (a ∷ xs) (b ∷ ys) zero x y ex ey = grind arith
   get-pairs (a ∷ xs) (b ∷ ys) (suc k) x y ex ey = get-pairs xs ys k x y ex ey
 
   pub zip-get : (xs : List A) (ys : List B) (k : ℕ) → length ys ≡ length xs → option_zip (slice_get xs k) (slice_get ys k) ≡ slice_get (zip xs ys) k
@@ -56,8 +55,7 @@ pub renew-pairs : {A B : Type 0} (xs : List A) (ys : List B) (k : ℕ) (p : A ×
     → zip xs (set ys k y) ≡ set (zip xs ys) k (p.0, y)
 renew-pairs [] ys k p y e = refl
 renew-pairs (a ∷ xs) [] k p y e = refl
-renew-pairs (a ∷ xs) (b ∷ ys) zero p y e =
-    ap (λ (o : Option _). (elim o [ None ↦ a | Some q ↦ q.0 ], y) ∷ zip xs ys) e
+renew-pairs (a ∷ xs) (b ∷ ys) zero p y e = grind arith
 renew-pairs (a ∷ xs) (b ∷ ys) (suc k) p y e = ap (λ rest. (a, b) ∷ rest) (renew-pairs xs ys k p y e)
 
 pub set-same : {X : Type 0} (xs : List X) (k : ℕ) (x : X) → slice_get xs k ≡ Some x → set xs k x ≡ xs

@@ -1,4 +1,5 @@
 -- Records with their slots: what a change of one place does to what the table tells.
+use Rattle.std.proofs.lemmas.Grind.{common_steps}
 use Rattle.std.proofs.Common.{◌≡◌, refl, sym, ap, ◌∙◌, subst, ℕ, ◌<◌, zero, suc, true, false, List, [], ◌∷◌, map, filter, insert, set, remove, slice_get, Option, None, Some, is_some, inl, inr, arith, true≢false, Ordering, is_lt, is_eq, is_gt}
 use Rattle.std.specs.List.{AllByRecursion}
 use Rattle.std.specs.Cmp.{IsTotalOrder}
@@ -8,7 +9,7 @@ use Rattle.std.proofs.lemmas.List.{map-set}
 use Rattle.ipx_table.specs.Alive.{lifetime}
 use Rattle.ipx_table.specs.inside.AfterOffer.{fresh}
 use Rattle.ipx_table.specs.Reading.{same_key}
-use Rattle.ipx_table.specs.Slots.{seen, seen_at, age_at}
+use Rattle.ipx_table.specs.Slots.{seen, age_at}
 use Rattle.ipx_table.specs.inside.Clock.{IsSorted}
 use Rattle.ipx_table.specs.Stands.{put, in_order, IsAscending, IsDistinct, IsKept}
 use Rattle.ipx_table.specs.declared.held.Held.{Held}
@@ -43,33 +44,22 @@ module _ {X Y : Type 0} (f : X → Y) where
 
 pub seen-insert : {O : Type 0} (clock : ℕ) → clock < lifetime → (ps : List (O × ℕ)) (k : ℕ) (offer : O)
     → seen clock (insert ps k (offer, clock)) ≡ insert (seen clock ps) k (fresh offer)
-seen-insert clock going ps k offer =
-    map-insert (seen_at clock) ps k (offer, clock)
-    ∙ ap (λ (n : ℕ). insert (seen clock ps) k (record { offer = offer; age = n })) (age_now clock going)
+seen-insert clock going ps k offer = grind (arith, map-insert, age_now)
 
 pub seen-set : {O : Type 0} (clock : ℕ) → clock < lifetime → (ps : List (O × ℕ)) (k : ℕ) (offer : O)
     → seen clock (set ps k (offer, clock)) ≡ set (seen clock ps) k (fresh offer)
-seen-set clock going ps k offer =
-    map-set (seen_at clock) ps k (offer, clock)
-    ∙ ap (λ (n : ℕ). set (seen clock ps) k (record { offer = offer; age = n })) (age_now clock going)
+seen-set clock going ps k offer = grind (arith, map-set, age_now)
 
 -- ---- slots
 
 pub all-set : {X : Type 0} (P : X → Type 0) (xs : List X) (k : ℕ) (x : X) → AllByRecursion P xs → P x → AllByRecursion P (set xs k x)
-all-set P [] k x all one = tt
-all-set P (y ∷ xs) zero x all one = (one, all.1)
-all-set P (y ∷ xs) (suc k) x all one = (all.0, all-set P xs k x all.1 one)
+all-set P xs k x all one = grind (arith, common_steps)
 
 pub all-insert : {X : Type 0} (P : X → Type 0) (xs : List X) (k : ℕ) (x : X) → AllByRecursion P xs → P x → AllByRecursion P (insert xs k x)
-all-insert P xs zero x all one = (one, all)
-all-insert P [] (suc k) x all one = (one, tt)
-all-insert P (y ∷ xs) (suc k) x all one = (all.0, all-insert P xs k x all.1 one)
+all-insert P xs k x all one = grind (arith, common_steps)
 
 pub all-remove : {X : Type 0} (P : X → Type 0) (xs : List X) (k : ℕ) → AllByRecursion P xs → AllByRecursion P (remove xs k)
-all-remove P [] zero all = tt
-all-remove P [] (suc k) all = tt
-all-remove P (y ∷ xs) zero all = all.1
-all-remove P (y ∷ xs) (suc k) all = (all.0, all-remove P xs k all.1)
+all-remove P xs k all = grind (arith, common_steps)
 
 all-got : {X : Type 0} (P : X → Type 0) (xs : List X) (k : ℕ) (x : X) → AllByRecursion P xs → slice_get xs k ≡ Some x → P x
 all-got P [] k x all e = absurd (true≢false (sym (ap is_some e)))

@@ -3,7 +3,7 @@ use Rattle.std.proofs.Common.{◌≡◌, refl, sym, ap, ◌∙◌, subst, ℕ, �
 use Rattle.std.specs.List.{AllByRecursion}
 use Rattle.std.specs.Cmp.{IsTotalOrder}
 use Rattle.std.proofs.lemmas.Cmp.{tied_itself}
-use Rattle.std.proofs.lemmas.Bool.{cases_Bool, eqb-true, eqb-false, eq-eqb, ne_eqb}
+use Rattle.std.proofs.lemmas.Bool.{cases_Bool, eqb-true, ne_eqb}
 use Rattle.ipx_table.specs.Reading.{same_key}
 use Rattle.ipx_table.specs.Stands.{in_order, is_last, IsDistinct, IsAscending, Ascends}
 use Rattle.ipx_table.specs.declared.held.Held.{Held}
@@ -53,16 +53,10 @@ module _ {O : Type 0} (by_key : O → O → Ordering) (total : IsTotalOrder by_k
 
   -- what ended stands by key
   pub ended-ascends : (held : List (Held O)) → IsDistinct by_key held → Ascends by_key (map (λ h. h.offer) (in_order by_key (filter is_last held)))
-  ended-ascends held distinct =
-      ascends-offers (in_order by_key (filter is_last held))
-      (ascending-in_order (filter is_last held) (λ q. omega (arith, length-filter-filter (λ h. same_key by_key h.offer q) is_last held, distinct q)))
+  ended-ascends held distinct = grind (arith, ascends-offers, ascending-in_order, length-filter-filter)
 
   same_above : (a b : ℕ) → (suc a == suc b) ≡ (a == b)
-  same_above a b =
-      elim (cases_Bool (a == b)) [
-        | inl e ↦ eq-eqb (suc a) (suc b) (ap suc (eqb-true a b e)) ∙ sym e
-        | inr e ↦ ne_eqb (suc a) (suc b) (λ same. eqb-false a b e (omega (arith, same))) ∙ sym e
-      ]
+  same_above a b = grind arith
 
   -- in records that ascend, the one with k smaller keys is the k-th
   pub rank-ascending : (xs : List (Held O)) (k : ℕ) → IsAscending by_key xs
@@ -95,8 +89,7 @@ module _ {O : Type 0} (by_key : O → O → Ordering) (total : IsTotalOrder by_k
   single-in_order (x ∷ y ∷ xs) few = absurd (omega (arith, few))
 
   short-option : (o : Option (Held O)) → length (option_to_list o) ≤ 1
-  short-option None = omega arith
-  short-option (Some h) = omega arith
+  short-option o = grind arith
 
   pub below-in_order : (offer : O) (held : List (Held O)) → below offer (in_order by_key held) ≡ below offer held
   below-in_order offer held =

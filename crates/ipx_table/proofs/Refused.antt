@@ -1,12 +1,12 @@
 -- Offers that a table refuses, or that are no better than what it holds, change nothing.
-use Rattle.std.proofs.Common.{◌≡◌, refl, sym, ap, ◌∙◌, ℕ, suc, zero, Bool, true, false, ◌&&◌, nat_lt, List, [], ◌∷◌, ◌++◌, find, length, slice_get, Option, None, Some, is_some, inl, inr, true≢false}
+use Rattle.std.proofs.Common.{◌≡◌, refl, sym, ap, ◌∙◌, ℕ, suc, zero, Bool, true, false, List, [], ◌∷◌, ◌++◌, find, slice_get, Option, None, Some, is_some, inl, inr, true≢false, arith}
 use Rattle.std.specs.List.{list_any}
 use Rattle.std.specs.Cmp.{IsTotalOrder}
 use Rattle.std.proofs.lemmas.Bool.{cases_Bool}
 use Rattle.ipx_table.specs.Reading.{Rules}
 use Rattle.ipx_table.specs.Facts.{Fact, Offered}
 use Rattle.ipx_table.specs.Alive.{alive}
-use Rattle.ipx_table.specs.Accepted.{marked, has_share, may_replace}
+use Rattle.ipx_table.specs.Accepted.{marked, may_replace}
 use Rattle.ipx_table.specs.inside.AfterOffer.{after_offer}
 use Rattle.ipx_table.specs.Stands.{IsDistinct}
 use Rattle.ipx_table.specs.Taken.{taken, taken_over, taken_beside}
@@ -47,14 +47,7 @@ found_none p (y ∷ ys) e = elim (cases_Bool (p y)) [
 module _ {O : Type 0} (rules : Rules O) (total : IsTotalOrder rules.by_key) (same_offer : O → O → Bool) where
   beside_none : (held : List (Held O)) (offer : O) → list_any (of_key rules total offer) held ≡ false
       → is_refusal (taken_beside rules same_offer held offer None) ≡ true → after_offer rules held offer ≡ held
-  beside_none held offer none refusal =
-      elim (cases_Bool (rules.is_down offer)) [
-        | inl down ↦ sym (not_held-left rules total held offer none (rw down refl))
-        | inr up ↦ elim (cases_Bool (nat_lt (length held) rules.capacity && has_share rules offer held)) [
-          | inl room ↦ let no : false ≡ true = rw (up, room) at refusal in absurd (true≢false (sym no))
-          | inr full ↦ sym (not_held-left rules total held offer none (rw (up, full) refl))
-        ]
-      ]
+  beside_none held offer none refusal = grind (arith, not_held-left)
 
   beside_held : (held : List (Held O)) (place : ℕ) (it : Held O) (offer : O) → HeldAt rules total held place it offer
       → is_refusal (taken_beside rules same_offer held offer (Some it)) ≡ true → after_offer rules held offer ≡ held
@@ -90,5 +83,4 @@ module _ {O : Type 0} (rules : Rules O) (total : IsTotalOrder rules.by_key) (sam
 
   pub refused : (facts : List (Fact O)) (offer : O) → is_refusal (taken rules same_offer facts offer) ≡ true
       → alive rules (marked rules (facts ++ Offered offer ∷ [])) ≡ alive rules (marked rules facts)
-  refused facts offer refusal =
-      alive_after-offered rules facts offer ∙ after_refusal (alive rules (marked rules facts)) offer (kept rules total facts).distinct refusal
+  refused facts offer refusal = grind (arith, alive_after-offered, after_refusal, kept)

@@ -1,8 +1,7 @@
 -- A record whose own offer comes once more: what the table stands for then.
-use Rattle.std.proofs.Common.{◌≡◌, refl, sym, ap, ◌∙◌, subst, ℕ, zero, suc, ◌<◌, arith, Bool, true, false, not, ◌&&◌, ◌||◌, List, [], ◌∷◌, ◌++◌, map, filter, set, slice_get, option_map, length, Option, None, Some, inl, inr, true≢false, Ordering, is_eq}
+use Rattle.std.proofs.Common.{◌≡◌, refl, sym, ap, ◌∙◌, subst, ℕ, zero, suc, ◌<◌, arith, Bool, true, false, not, ◌&&◌, List, [], ◌∷◌, ◌++◌, map, filter, set, slice_get, option_map, length, Option, None, Some, inl, inr, true≢false, Ordering, is_eq}
 use Rattle.std.specs.List.{AllByRecursion}
 use Rattle.std.specs.Cmp.{IsTotalOrder}
-use Rattle.std.proofs.lemmas.Bool.{cases_Bool}
 use Rattle.std.proofs.lemmas.List.{length-set, map-set}
 use Rattle.std.proofs.lemmas.Option.{slice_get-map, slice_get_cases}
 use Rattle.std.proofs.lemmas.Cmp.{tied_itself, nat_eq_equiv, nat_list_eq_equiv}
@@ -10,8 +9,8 @@ use Rattle.ipx_wire.specs.declared.node.Node.{Node}
 use Rattle.ipx_table.specs.Reading.{Rules, one_source}
 use Rattle.ipx_table.specs.Facts.{Fact, Offered}
 use Rattle.ipx_table.specs.Alive.{alive, lifetime}
-use Rattle.ipx_table.specs.Accepted.{is_accepted, marked, refreshes, replaces, is_new_with_room}
-use Rattle.ipx_table.specs.inside.AfterOffer.{fresh, after_offer, uncut}
+use Rattle.ipx_table.specs.Accepted.{is_accepted, marked}
+use Rattle.ipx_table.specs.inside.AfterOffer.{fresh, after_offer}
 use Rattle.ipx_table.specs.inside.Clock.{IsSorted}
 use Rattle.ipx_table.specs.Slots.{seen, seen_at}
 use Rattle.ipx_table.specs.Stands.{Stands, IsAscending, older, is_last}
@@ -29,8 +28,7 @@ pub own_source : (source : ℕ × Node) → one_source source source ≡ true
 own_source (port, node) = rw (nat_eq_equiv.refl port, nat_list_eq_equiv.refl node.0) refl
 
 not_down : (b rest : Bool) → (not b && rest) ≡ true → b ≡ false
-not_down true rest e = sym e
-not_down false rest e = refl
+not_down b rest e = grind arith
 
 all-got : {X : Type 0} (P : X → Type 0) (xs : List X) (k : ℕ) (x : X) → AllByRecursion P xs → slice_get xs k ≡ Some x → P x
 all-got P [] k x all e = absurd (true≢false (sym (ap (λ (o : Option _). elim o [ None ↦ false | Some y ↦ true ]) e)))
@@ -44,12 +42,7 @@ module _ {O : Type 0} (rules : Rules O) (total : IsTotalOrder rules.by_key) wher
   IsUp h = rules.is_down h.offer ≡ false
 
   up_offered : (held : List (Held O)) (offer : O) → AllByRecursion IsUp held → AllByRecursion IsUp (after_offer rules held offer)
-  up_offered held offer all =
-      elim (cases_Bool (is_accepted rules held (Offered offer))) [
-        | inl yea ↦ rw yea (all-append IsUp (uncut rules offer true held) (fresh offer ∷ []) (all-filter IsUp _ held all)
-            (not_down (rules.is_down offer) (refreshes rules offer held || replaces rules offer held || is_new_with_room rules offer held) yea, tt))
-        | inr nay ↦ rw nay (all-append IsUp (uncut rules offer false held) [] (all-filter IsUp _ held all) tt)
-      ]
+  up_offered held offer all = grind (arith, all-append, all-filter, not_down)
 
   up_older : (held : List (Held O)) → AllByRecursion IsUp held → AllByRecursion IsUp (map older held)
   up_older [] all = tt

@@ -1,14 +1,14 @@
 -- Where all offers came by ports with shares that fit into the capacity, a port below its share finds room.
-use Rattle.std.proofs.Common.{◌≡◌, refl, sym, ap, ◌∙◌, subst, ℕ, ◌≤◌, ◌<◌, ◌==◌, Bool, true, false, true≢false, ◌&&◌, nat_lt, find, None, List, [], ◌∷◌, ◌++◌, length, inl, inr, arith}
+use Rattle.std.proofs.Common.{◌≡◌, refl, sym, subst, ℕ, ◌≤◌, ◌<◌, ◌==◌, Bool, true, false, true≢false, find, None, List, [], ◌∷◌, ◌++◌, length, inl, inr, arith}
 use Rattle.std.specs.List.{AllByRecursion, list_any, sum_by}
-use Rattle.std.proofs.lemmas.Bool.{cases_Bool, lt-ltb, eqb-true, eq-eqb}
+use Rattle.std.proofs.lemmas.Bool.{cases_Bool, eqb-true, eq-eqb}
 use Rattle.std.proofs.lemmas.List.Sums.{sum_by-cons}
 use Rattle.ipx_table.specs.Reading.{Rules, same_key, count_by}
-use Rattle.ipx_table.specs.Facts.{Fact, Offered, Second, PortEnd, End, Marked, seconds}
-use Rattle.ipx_table.specs.Alive.{alive, lasts, lifetime}
+use Rattle.ipx_table.specs.Facts.{Fact, Offered, Second, PortEnd, End, Marked}
+use Rattle.ipx_table.specs.Alive.{alive}
 use Rattle.ipx_table.specs.Accepted.{is_accepted, marked, marked_after}
 use Rattle.ipx_table.specs.Shares.{IsByOneOf, IsSharedBy}
-use Rattle.ipx_table.specs.Taken.{taken, taken_beside}
+use Rattle.ipx_table.specs.Taken.{taken}
 use Rattle.ipx_table.specs.declared.taken.Taken.TheVariants.{Admitted}
 use Rattle.ipx_table.specs.declared.held.Held.{Held}
 use Rattle.ipx_table.proofs.Singles.{all-append, all-parts}
@@ -17,12 +17,7 @@ use Rattle.ipx_table.proofs.Singles.{all-append, all-parts}
 
 sum-le : (f g : ℕ → ℕ) → ((port : ℕ) → f port ≤ g port) → (ports : List ℕ) → sum_by f ports ≤ sum_by g ports
 sum-le f g le [] = omega arith
-sum-le f g le (port ∷ ports) =
-    let rest = sum-le f g le ports in
-    let first = le port in
-    let smaller = sum_by-cons f port ports in
-    let larger = sum_by-cons g port ports in
-    omega (arith, rest, first, smaller, larger)
+sum-le f g le (port ∷ ports) = omega (arith, sum-le f g le ports, sum_by-cons)
 
 -- one smaller term makes a smaller sum
 sum-less : (f g : ℕ → ℕ) → ((port : ℕ) → f port ≤ g port) → (one : ℕ) → f one < g one → (ports : List ℕ) → list_any (λ port. port == one) ports ≡ true
@@ -44,10 +39,7 @@ sum-less f g le one less (port ∷ ports) among =
 
 module _ {O : Type 0} (port_by : O → ℕ) where
   one-more : (h : Held O) (held : List (Held O)) (port : ℕ) → count_by port_by port held ≤ count_by port_by port (h ∷ held)
-  one-more h held port = elim (cases_Bool (port_by h.offer == port)) [
-    | inl e ↦ rw e (omega arith)
-    | inr e ↦ rw e (omega arith)
-  ]
+  one-more h held port = grind arith
 
   -- records by some ports are no more than those of each of them together
   length-by_ports : (ports : List ℕ) (held : List (Held O)) → AllByRecursion (λ h. list_any (λ port. port == port_by h.offer) ports ≡ true) held
@@ -77,12 +69,7 @@ module _ {O : Type 0} (rules : Rules O) (ports : List ℕ) where
 
   alive-by_ports : (ms : List (Marked O)) → AreByThem ms → AllByRecursion IsByThem (alive rules ms)
   alive-by_ports [] all = tt
-  alive-by_ports ((Offered offer, true) ∷ later) all =
-      let rest = alive-by_ports later all.1 in
-      elim (cases_Bool (lasts rules offer later && nat_lt (seconds later) lifetime)) [
-        | inl e ↦ rw e (all.0, rest)
-        | inr e ↦ rw e rest
-      ]
+  alive-by_ports ((Offered offer, true) ∷ later) all = grind (arith, alive-by_ports later all.1)
   alive-by_ports ((Offered offer, false) ∷ later) all = alive-by_ports later all.1
   alive-by_ports ((Second, m) ∷ later) all = alive-by_ports later all.1
   alive-by_ports ((PortEnd port, m) ∷ later) all = alive-by_ports later all.1
@@ -112,8 +99,4 @@ pub admitted_with_room : {O : Type 0} (rules : Rules O) (same_offer : O → O �
     → length (alive rules (marked rules facts)) < rules.capacity
     → count_by rules.port (rules.port offer) (alive rules (marked rules facts)) < rules.share (rules.port offer)
     → taken rules same_offer facts offer ≡ Admitted
-admitted_with_room rules same_offer facts offer up none room share =
-    let held = alive rules (marked rules facts) in
-    let roomy = lt-ltb (length held) rules.capacity room in
-    let shared = lt-ltb (count_by rules.port (rules.port offer) held) (rules.share (rules.port offer)) share in
-    ap (taken_beside rules same_offer held offer) none ∙ rw (up, roomy, shared) refl
+admitted_with_room rules same_offer facts offer up none room share = grind arith

@@ -1,36 +1,26 @@
 -- Lists that ascend: what they answer to the question for a key, and where what has it stands.
-use Rattle.std.proofs.Common.{◌≡◌, refl, sym, ap, ◌∙◌, ℕ, ◌<◌, ◌==◌, zero, suc, nat_lt, Bool, true, false, ◌⊎◌, List, [], ◌∷◌, map, filter, find, insert, length, get_or, slice_get, None, inl, inr, arith, true≢false, Ordering, Less, Equal, Greater, is_lt, is_eq, is_gt}
+use Rattle.std.proofs.lemmas.Grind.{common_steps}
+use Rattle.std.proofs.Common.{◌≡◌, refl, sym, ap, ◌∙◌, ℕ, ◌<◌, ◌==◌, zero, suc, nat_lt, Bool, true, false, ◌⊎◌, List, [], ◌∷◌, map, filter, find, insert, length, get_or, slice_get, inl, inr, arith, true≢false, Ordering, Less, Equal, Greater, is_lt, is_eq, is_gt}
 use Rattle.std.specs.List.{AllByRecursion, list_any}
 use Rattle.std.specs.Cmp.{IsTotalOrder}
-use Rattle.std.proofs.lemmas.Bool.{cases_Bool, ltb-true, ltb-false, lt-ltb, le-ltb, eqb-true, eqb-false, eq-eqb, ne_eqb}
+use Rattle.std.proofs.lemmas.Bool.{lt-ltb, le-ltb, ne_eqb}
 use Rattle.ipx_table.specs.Answers.{Answers, places, answer_at}
 use Rattle.ipx_table.specs.inside.Sought.{answers_to}
 use Rattle.ipx_table.specs.Stands.{Ascends, IsAscending, put}
 use Rattle.ipx_table.specs.declared.held.Held.{Held}
-use Rattle.ipx_table.proofs.Order as order
 
 -- an ordering is one of three
 pub cases_Ordering : (r : Ordering) → (r ≡ Less) ⊎ (r ≡ Equal) ⊎ (r ≡ Greater)
-cases_Ordering Less = inl refl
-cases_Ordering Equal = inr (inl refl)
-cases_Ordering Greater = inr (inr refl)
+cases_Ordering r = grind arith
 
 pub is_greater : (r : Ordering) → is_gt r ≡ true → r ≡ Greater
-is_greater Less e = absurd (true≢false (sym e))
-is_greater Equal e = absurd (true≢false (sym e))
-is_greater Greater e = refl
+is_greater r e = grind arith
 
 lt-suc : (a b : ℕ) → nat_lt (suc a) (suc b) ≡ nat_lt a b
-lt-suc a b = elim (cases_Bool (nat_lt a b)) [
-  | inl e ↦ lt-ltb (suc a) (suc b) (omega (arith, ltb-true a b e)) ∙ sym e
-  | inr e ↦ le-ltb (suc a) (suc b) (omega (arith, ltb-false a b e)) ∙ sym e
-]
+lt-suc a b = grind arith
 
 eq-suc : (a b : ℕ) → (suc a == suc b) ≡ (a == b)
-eq-suc a b = elim (cases_Bool (a == b)) [
-  | inl e ↦ eq-eqb (suc a) (suc b) (ap suc (eqb-true a b e)) ∙ sym e
-  | inr e ↦ ne_eqb (suc a) (suc b) (λ same. eqb-false a b e (omega (arith, same))) ∙ sym e
-]
+eq-suc a b = grind arith
 
 lt-zero : (k : ℕ) → nat_lt k 0 ≡ false
 lt-zero k = le-ltb k 0 (omega arith)
@@ -61,14 +51,8 @@ module _ {X : Type 0} (by_key : X → X → Ordering) (compare : X → Ordering)
   above-above [] all = refl
   above-above (x ∷ xs) all = rw all.0 (ap suc (above-above xs all.1))
 
-  find-above : (xs : List X) → AllAbove xs → find (λ x. is_eq (compare x)) xs ≡ None
-  find-above [] all = refl
-  find-above (x ∷ xs) all = rw all.0 (find-above xs all.1)
-
   get-above : (xs : List X) (k : ℕ) (d : X) → k < length xs → AllAbove xs → compare (get_or xs k d) ≡ Greater
-  get-above [] k d l all = absurd (omega (arith, l))
-  get-above (x ∷ xs) zero d l all = all.0
-  get-above (x ∷ xs) (suc k) d l all = get-above xs k d (omega (arith, l)) all.1
+  get-above xs k d l all = grind (arith, common_steps)
 
   -- the answers are as many as the places
   pub places_to : (xs : List X) → Ascends by_key xs → length xs ≡ places (answers_to compare xs)
@@ -134,32 +118,18 @@ module _ {X : Type 0} (by_key : X → X → Ordering) (compare : X → Ordering)
 
 -- a place that answers that it is the sought one
 pub equal_at : (answers : Answers) (k : ℕ) → answer_at answers k ≡ Equal → (k ≡ answers.below) × (true ≡ answers.held)
-equal_at answers k e = elim (cases_Bool (nat_lt k answers.below)) [
-  | inl less ↦ let no : Less ≡ Equal = rw less at e in absurd (true≢false (ap is_lt no))
-  | inr more ↦ elim (cases_Bool answers.held) [
-    | inl held ↦ elim (cases_Bool (k == answers.below)) [
-      | inl same ↦ (eqb-true k answers.below same, sym held)
-      | inr other ↦ let no : Greater ≡ Equal = rw (more, held, other) at e in absurd (true≢false (sym (ap is_eq no)))
-    ]
-    | inr free ↦ let no : Greater ≡ Equal = rw (more, free) at e in absurd (true≢false (sym (ap is_eq no)))
-  ]
-]
+equal_at answers k e = grind arith
 
 -- ---- the comparison with a key
 
 module _ {K : Type 0} (key_order : K → K → Ordering) (total : IsTotalOrder key_order) where
   -- what is above something that isn't below a key, is above the key
   pub through_key : (a b key : K) → is_lt (key_order a b) ≡ true → is_lt (key_order a key) ≡ false → key_order b key ≡ Greater
-  through_key a b key less not_below =
-      is_greater (key_order b key) (order.above_turned key_order total b key ∙ elim (cases_Bool (is_lt (key_order key b))) [
-        | inl e ↦ e
-        | inr e ↦ absurd (true≢false (sym less ∙ order.not_below_through key_order total b key a e not_below))
-      ])
+  through_key a b key less not_below = grind arith
 
 module _ {O : Type 0} (by_key : O → O → Ordering) (total : IsTotalOrder by_key) where
   pub ascends-held : (held : List (Held O)) → IsAscending by_key held → Ascends (λ (a b : Held O). by_key a.offer b.offer) held
-  ascends-held [] up = tt
-  ascends-held (h ∷ held) up = (up.0, ascends-held held up.1)
+  ascends-held held up = grind arith
 
   pub ascends-offers : (held : List (Held O)) → IsAscending by_key held → Ascends by_key (map (λ h. h.offer) held)
   ascends-offers [] up = tt

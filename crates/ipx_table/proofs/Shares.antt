@@ -1,8 +1,6 @@
 -- The alive offers of a port never pass its share.
-use Rattle.std.proofs.Common.{◌≡◌, refl, sym, ap, ◌∙◌, subst, ℕ, ◌+◌, ◌≤◌, ◌==◌, suc, Bool, true, false, not, ◌&&◌, ◌||◌, nat_lt, List, [], ◌∷◌, ◌++◌, filter, length, map, inl, inr, arith, true≢false, length-append}
-use Rattle.std.specs.Cmp.Lexicographic.{pointwise}
+use Rattle.std.proofs.Common.{◌≡◌, refl, sym, ◌∙◌, subst, ℕ, ◌+◌, ◌≤◌, ◌==◌, suc, Bool, true, false, not, ◌&&◌, ◌||◌, nat_lt, List, [], ◌∷◌, ◌++◌, filter, length, map, inl, inr, arith, true≢false, length-append}
 use Rattle.std.specs.List.{list_any}
-use Rattle.std.specs.Prelude.{nat_eq}
 use Rattle.std.proofs.lemmas.Bool.{cases_Bool, and_parts, or_cases, eqb-true, eq-eqb, ltb-true}
 use Rattle.std.proofs.lemmas.List.Elements.{filter-append}
 use Rattle.ipx_table.specs.Reading.{Reading, Rules, same_key, count_by, one_source, port_of}
@@ -41,17 +39,11 @@ counted-left count keep left leaves (x ∷ xs) any = elim (cases_Bool (left x)) 
 
 module _ {O : Type 0} (port_by : O → ℕ) where
   count_by-append : (port : ℕ) (xs ys : List (Held O)) → count_by port_by port (xs ++ ys) ≡ count_by port_by port xs + count_by port_by port ys
-  count_by-append port xs ys =
-      ap length (filter-append (λ h. port_by h.offer == port) xs ys) ∙ length-append (filter (λ h. port_by h.offer == port) xs) (filter (λ h. port_by h.offer == port) ys)
+  count_by-append port xs ys = grind (arith, filter-append, length-append)
 
   count_by-older : (port : ℕ) (held : List (Held O)) → count_by port_by port (map older held) ≡ count_by port_by port held
   count_by-older port [] = refl
-  count_by-older port (h ∷ held) =
-      let ih = count_by-older port held in
-      elim (cases_Bool (port_by h.offer == port)) [
-        | inl e ↦ rw e (ap suc ih)
-        | inr e ↦ rw e ih
-      ]
+  count_by-older port (h ∷ held) = grind (arith, count_by-older port held)
 
   count_by-filter : (port : ℕ) (p : Held O → Bool) (held : List (Held O)) → count_by port_by port (filter p held) ≤ count_by port_by port held
   count_by-filter port p held = length-filter-filter (λ h. port_by h.offer == port) p held
@@ -160,6 +152,4 @@ module _ {O : Type 0} (rules : Rules O) (one_port : (a b : O) → rules.same_sou
 
 -- offers of one source came by one port
 pub one_source-port : {O K : Type 0} (reading : Reading O K) (a b : O) → one_source (reading.source a) (reading.source b) ≡ true → port_of reading a ≡ port_of reading b
-one_source-port reading a b same =
-    eqb-true (port_of reading a) (port_of reading b)
-    (and_parts (port_of reading a == port_of reading b) (pointwise nat_eq (reading.source a).1.0 (reading.source b).1.0) same).0
+one_source-port reading a b same = grind arith

@@ -1,7 +1,7 @@
 -- Lists in which at most one element passes a test.
-use Rattle.std.proofs.Common.{◌≡◌, refl, sym, ap, ◌∙◌, subst, ℕ, ◌+◌, ◌≤◌, zero, suc, Bool, true, false, ◌||◌, List, [], ◌∷◌, ◌++◌, filter, find, length, set, take, drop, slice_get, get_or, is_some, position, nat_lt, Option, None, Some, inl, inr, arith, true≢false, length-append}
+use Rattle.std.proofs.lemmas.Grind.{common_steps}
+use Rattle.std.proofs.Common.{◌≡◌, refl, sym, ap, ◌∙◌, ℕ, ◌+◌, ◌≤◌, zero, suc, Bool, true, false, ◌||◌, List, [], ◌∷◌, ◌++◌, filter, find, length, set, take, drop, slice_get, get_or, is_some, position, Option, None, Some, inl, inr, arith, true≢false, length-append}
 use Rattle.std.specs.List.{AllByRecursion, list_any, position_or_len}
-use Rattle.std.specs.Option.{unwrap_or}
 use Rattle.std.proofs.lemmas.List.Folds.{find_at}
 use Rattle.std.proofs.lemmas.List.Quantifiers.{position-Some}
 use Rattle.std.proofs.lemmas.Option.{slice_get-get_or}
@@ -17,31 +17,20 @@ module _ {X : Type 0} where
   all_then P Q step (x ∷ xs) all = (step x all.0, all_then P Q step xs all.1)
 
   pub all-append : (P : X → Type 0) (xs ys : List X) → AllByRecursion P xs → AllByRecursion P ys → AllByRecursion P (xs ++ ys)
-  all-append P [] ys one two = two
-  all-append P (x ∷ xs) ys one two = (one.0, all-append P xs ys one.1 two)
+  all-append P xs ys one two = grind (arith, common_steps)
 
   pub all-parts : (P : X → Type 0) (xs ys : List X) → AllByRecursion P (xs ++ ys) → AllByRecursion P xs × AllByRecursion P ys
   all-parts P [] ys all = (tt, all)
-  all-parts P (x ∷ xs) ys all =
-      let rest = all-parts P xs ys all.1 in
-      ((all.0, rest.0), rest.1)
+  all-parts P (x ∷ xs) ys all = grind (arith, all-parts P xs ys all.1)
 
   pub all-filter : (P : X → Type 0) (p : X → Bool) (xs : List X) → AllByRecursion P xs → AllByRecursion P (filter p xs)
   all-filter P p [] all = tt
-  all-filter P p (x ∷ xs) all =
-      elim (cases_Bool (p x)) [
-        | inl e ↦ rw e (all.0, all-filter P p xs all.1)
-        | inr e ↦ rw e (all-filter P p xs all.1)
-      ]
+  all-filter P p (x ∷ xs) all = grind (arith, all-filter P p xs all.1)
 
   -- what a filter keeps passes
   pub filter-passes : (P : X → Type 0) (p : X → Bool) → ((x : X) → p x ≡ true → P x) → (xs : List X) → AllByRecursion P (filter p xs)
   filter-passes P p means [] = tt
-  filter-passes P p means (x ∷ xs) =
-      elim (cases_Bool (p x)) [
-        | inl e ↦ rw e (means x e, filter-passes P p means xs)
-        | inr e ↦ rw e (filter-passes P p means xs)
-      ]
+  filter-passes P p means (x ∷ xs) = grind (arith, filter-passes P p means xs)
 
   pub none_pass : (p : X → Bool) (xs : List X) → list_any p xs ≡ false → NonePass p xs
   none_pass p [] e = tt
@@ -78,10 +67,7 @@ module _ {X : Type 0} where
 
   pub length-filter : (p : X → Bool) (xs : List X) → length (filter p xs) ≤ length xs
   length-filter p [] = omega arith
-  length-filter p (x ∷ xs) = elim (cases_Bool (p x)) [
-    | inl e ↦ rw e (omega (arith, length-filter p xs))
-    | inr e ↦ rw e (omega (arith, length-filter p xs))
-  ]
+  length-filter p (x ∷ xs) = grind (arith, length-filter p xs)
 
   pub length-filter-filter : (p q : X → Bool) (xs : List X) → length (filter p (filter q xs)) ≤ length (filter p xs)
   length-filter-filter p q [] = omega arith
@@ -106,14 +92,7 @@ module _ {X : Type 0} where
     pub none_behind : NonePass p behind
 
   pub around : (p : X → Bool) (before : List X) (it : X) (behind : List X) → p it ≡ true → length (filter p (before ++ it ∷ behind)) ≤ 1 → Around p before it behind
-  around p before it behind passes few =
-      let apart : filter p (before ++ it ∷ behind) ≡ filter p before ++ it ∷ filter p behind = filter-append p before (it ∷ behind) ∙ rw passes refl in
-      let sum : length (filter p before) + suc (length (filter p behind)) ≤ 1 = subst (λ (n : ℕ). n ≤ 1) (ap length apart ∙ length-append (filter p before) (it ∷ filter p behind)) few in
-      record {
-        passes = passes;
-        none_before = few_none p before (omega (arith, sum));
-        none_behind = few_none p behind (omega (arith, sum));
-      }
+  around p before it behind passes few = grind (arith, filter-append, length-append, few_none)
 
   pub any-around : (p q : X → Bool) (before : List X) (it : X) (behind : List X) → ((x : X) → p x ≡ false → q x ≡ false) → Around p before it behind
       → list_any q (before ++ it ∷ behind) ≡ q it
@@ -148,13 +127,7 @@ module _ {X : Type 0} where
 
 -- where the first that passes stands, and that none passes where there is no such place
 pub placed-get : {X : Type 0} (p : X → Bool) (xs : List X) (place : ℕ) → position p xs ≡ Some place → slice_get xs place ≡ find p xs
-placed-get p xs place e =
-    elim (cases_Bool (nat_lt (position_or_len p xs) (length xs))) [
-      | inl within ↦
-          let there : Some (position_or_len p xs) ≡ Some place = rw within at e in
-          ap (slice_get xs) (sym (ap (λ o. unwrap_or o 0) there)) ∙ sym (find_at p xs)
-      | inr past ↦ let nowhere : None ≡ Some place = rw past at e in absurd (true≢false (sym (ap is_some nowhere)))
-    ]
+placed-get p xs place e = grind (arith, slice_get, find_at, is_some)
 
 none_within : {X : Type 0} (p : X → Bool) (xs : List X) → length xs ≤ position_or_len p xs → list_any p xs ≡ false
 none_within p [] all = refl
@@ -165,16 +138,9 @@ none_within p (x ∷ xs) all =
     ]
 
 pub unplaced-any : {X : Type 0} (p : X → Bool) (xs : List X) → position p xs ≡ None → list_any p xs ≡ false
-unplaced-any p xs e =
-    elim (cases_Bool (nat_lt (position_or_len p xs) (length xs))) [
-      | inl within ↦ let there : Some (position_or_len p xs) ≡ None = rw within at e in absurd (true≢false (ap is_some there))
-      | inr past ↦ none_within p xs (ltb-false (position_or_len p xs) (length xs) past)
-    ]
+unplaced-any p xs e = grind (arith, is_some, none_within, ltb-false)
 
 -- what stands at the first place that passes
 pub found_at : {X : Type 0} (p : X → Bool) (xs : List X) (place : ℕ) (x : X) → position p xs ≡ Some place → x ≡ get_or xs place x
     → (slice_get xs place ≡ Some x) × (p x ≡ true) × (find p xs ≡ Some x)
-found_at p xs place x e read =
-    let found = position-Some p xs place x e in
-    let at : slice_get xs place ≡ Some x = slice_get-get_or xs place x found.0 ∙ ap Some (sym read) in
-    (at, ap p read ∙ found.1, sym (placed-get p xs place e) ∙ at)
+found_at p xs place x e read = grind (arith, position-Some, slice_get, slice_get-get_or, placed-get)

@@ -1,5 +1,5 @@
 -- A table that stands for facts stands for one fact more after each of its calls.
-use Rattle.std.proofs.Common.{◌≡◌, refl, sym, ap, ◌∙◌, ℕ, ◌==◌, Bool, true, false, not, if◌then◌else◌, List, [], ◌∷◌, ◌++◌, filter, find, Option, None, Some, inl, inr, true≢false, Ordering, is_eq, is_lt}
+use Rattle.std.proofs.Common.{◌≡◌, refl, sym, ap, ◌∙◌, ℕ, ◌==◌, Bool, true, false, not, if◌then◌else◌, List, [], ◌∷◌, ◌++◌, filter, find, Option, None, Some, inl, inr, true≢false, Ordering, is_eq, is_lt, arith}
 use Rattle.std.specs.Option.{option_or}
 use Rattle.std.specs.Cmp.{IsTotalOrder}
 use Rattle.std.proofs.lemmas.Cmp.{tied_back, on_total}
@@ -73,14 +73,7 @@ module _ {O K : Type 0} (reading : Reading O K) (key_order : K → K → Orderin
 
   find-filter : (p q : Held O → Bool) (xs : List (Held O)) → ((x : Held O) → q x ≡ true → p x ≡ true) → find q (filter p xs) ≡ find q xs
   find-filter p q [] keeps = refl
-  find-filter p q (x ∷ xs) keeps =
-      elim (cases_Bool (q x)) [
-        | inl e ↦ rw (keeps x e, e) refl
-        | inr e ↦ elim (cases_Bool (p x)) [
-          | inl kept ↦ simp (kept, e) (find-filter p q xs keeps)
-          | inr left ↦ simp (left, e) (find-filter p q xs keeps)
-        ]
-      ]
+  find-filter p q (x ∷ xs) keeps = grind (arith, find-filter p q xs keeps)
 
   pub others-stay : (held : List (Held O)) (offer : O) (key : K) → is_eq (key_order (reading.key offer) key) ≡ false
       → find (has key) (after_offer rules held offer) ≡ find (has key) held
@@ -111,6 +104,4 @@ module _ {O K : Type 0} (reading : Reading O K) (key_order : K → K → Orderin
   pub record-others : (held new : List (Held O)) (offer : O) → in_order rules.by_key new ≡ in_order rules.by_key (after_offer rules held offer)
       → (key : K) → is_eq (key_order (reading.key offer) key) ≡ false
       → record_of reading.key key_order key (in_order rules.by_key new) ≡ record_of reading.key key_order key (in_order rules.by_key held)
-  record-others held new offer step key other =
-      ap (record_of reading.key key_order key) step ∙ record-in_order key (after_offer rules held offer)
-      ∙ others-stay held offer key other ∙ sym (record-in_order key held)
+  record-others held new offer step key other = grind (arith, record-in_order, others-stay)
