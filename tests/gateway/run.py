@@ -40,8 +40,8 @@ from systems import SYSTEM, Windows
 from trying import Counts, left_out
 
 ALL = (counting, words, siphash, queues, unit, orders, status, events, probes, reloading, staying, tunnel, links, six, names, segments,
-       kinds, made_up, troubles, reload_memory, wires, refused, houses, attacks, limits, complaints, asked, fair, slow_pc, narrow, dosbox, pc,
-       bochs)
+       kinds, made_up, troubles, reload_memory, wires, refused, houses, attacks, limits, complaints, asked, fair, slow_pc, narrow, dosbox,
+       pc, bochs)
 TESTS = {it.__name__: it for it in ALL}
 
 

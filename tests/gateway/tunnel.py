@@ -1,6 +1,7 @@
 """Clients of DOSBox' tunnel, by sockets on this machine's own addresses."""
 import os
 import re
+import select
 import socket
 import struct
 import subprocess
@@ -97,15 +98,26 @@ class House:
 
     def hear(self, wanted, count):
         """Waits until so many have heard what is wanted; pings are answered meanwhile. Returns who they are."""
-        found = set()
+        found, end = set(), time.monotonic() + LIMIT
         while len(found) < count:
-            bytes_, about, _, _ = self.udp.recvmsg(2048, 256)
-            k = about[0][2][11]
-            if is_ping(bytes_):
-                self.send(k, packet(address(0, bytes_[22:28], TUNNEL), address(0, self.node(k), TUNNEL), kind=0))
+            k, bytes_ = self.receive()
             if wanted(bytes_):
                 found.add(k)
+            assert time.monotonic() < end, f"{count - len(found)} of {count} hear nothing"
         return found
+
+    def receive(self):
+        """Who hears the next packet, and what it is. A ping is answered."""
+        bytes_, about, _, _ = self.udp.recvmsg(2048, 256)
+        k = about[0][2][11]
+        if is_ping(bytes_):
+            self.send(k, packet(address(0, bytes_[22:28], TUNNEL), address(0, self.node(k), TUNNEL), kind=0))
+        return k, bytes_
+
+    def catch_up(self):
+        """Hears all that has come while others came in, so that there is room for what comes now."""
+        while select.select([self.udp], [], [], 0)[0]:
+            self.receive()
 
     def enter(self):
         """All come in, some at once."""
@@ -173,6 +185,8 @@ def four_thousand_clients():
         late = Client(gate.ports[0x10], registers=False)
         late.send(registration())
         gate.until_counted(0x10, "no room for a client", 1)
+        for house in houses:
+            house.catch_up()
         houses[0].say(address(0, EVERYONE, GAME), b"all")
         for house in houses:
             heard = house.hear(lambda it: it[30:] == b"all", House.SIZE - (house is houses[0]))

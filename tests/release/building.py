@@ -1,4 +1,5 @@
 """What the commands that build say of a tree: that it is built wherever it was copied to, and what is missing."""
+import ast
 import os
 import re
 import shutil
@@ -110,7 +111,7 @@ sleep 0.1
 echo "$(basename "$0") ends" >>"$NOTED"
 echo "1 passed, 0 failed"
 """
-PLAYED = re.compile(r'played\("([^"]+)"')
+TOOLS = re.compile(r"(?ms)^TOOLS = (\(.*?\))$")
 
 
 def put_command(place, text):
@@ -128,13 +129,13 @@ def noted(folder, *words):
 
 
 def try_under_make(folder):
-    """What make runs is told sizes, and no word of make's own, and runs one after the other; what make test runs is told no sizes either."""
+    """What make runs is told sizes and no word of make's own, and runs one after the other; what make test runs is told no sizes."""
     put_command(f"{folder}/bin/rt", NOTING)
     for file in ("Makefile", "dev/test", "dev/edit_rounds.py"):
         put_command(f"{folder}/tree/{file}", text_of(file))
     shutil.copytree(f"{TOP}/tools/lib", f"{folder}/tree/tools/lib")
     put(f"{folder}/tree/crates.txt", "")
-    played = {*PLAYED.findall(text_of("dev/test"))}
+    played = {"dev/planted", *(it.split()[0] for it in ast.literal_eval(TOOLS.search(text_of("dev/test"))[1]))}
     for tool in {*played, "tools/build", "tools/install"}:
         put_command(f"{folder}/tree/{tool}", NOTING)
     wanted = [line for tool in ("build", "gateway", "install") for line in (f"{tool} PORTS begins", f"{tool} ends")]

@@ -1,5 +1,5 @@
-"""The examples in C of the library, built by some compiler, run by what runs its programs, and compared with what is kept; at the top of the
-repository."""
+"""The examples in C of the library, built by some compiler, run by what runs its programs, and compared with what is kept. All of it
+works at the top of the repository."""
 import os
 
 from c_library import FLAGS

@@ -1,7 +1,6 @@
 """How the library for C is built, at the top of the repository: the archives, the shared library, and the calls that its headers name."""
 import os
 import re
-import shutil
 
 from systems import HEADERS
 from telling import quietly, succeeds
@@ -48,9 +47,9 @@ def proves(folder, *flags, **how):
 
 def joins_heap(folder, archiver):
     """The library with the allocator that was compiled there."""
-    shutil.copyfile(f"{folder}/libipx_c.a", f"{folder}/libipxr.a")
+    archive = f"{folder}/libipxr.a"
     with open("build/log", "wb") as log:
-        return succeeds(archiver, "rs", f"{folder}/libipxr.a", f"{folder}/heap.o", stderr=log)
+        return succeeds("cp", f"{folder}/libipx_c.a", archive) and succeeds(archiver, "rs", archive, f"{folder}/heap.o", stderr=log)
 
 
 def gets_own_heap(folder, compiler, archiver):
@@ -63,7 +62,7 @@ def links_shared(folder, compiler):
     """The shared library, whose name for programs (its soname) has the first number of the release; it shows the calls of the headers
     alone."""
     release = version()
-    to_linker = (f"-soname,libipxr.so.{release.partition('.')[0]}", "--version-script=include/ipxr.map", "--no-undefined", "-z,relro,-z,now",
-                 "--whole-archive")
+    name = f"libipxr.so.{release.partition('.')[0]}"
+    to_linker = (f"-soname,{name}", "--version-script=include/ipxr.map", "--no-undefined", "-z,relro,-z,now", "--whole-archive")
     return succeeds(compiler, "-shared", *(f"-Wl,{it}" for it in to_linker), f"{folder}/libipxr.a", "-Wl,--no-whole-archive",
         "-o", f"{folder}/libipxr.so.{release}")

@@ -95,9 +95,10 @@ def are_exported():
 
 def every_call():
     put("build/header.c", program())
-    tell("C: every call of the header is linked", succeeds(CC, "-std=c99", *FLAGS, "build/header.c", "build/libipxr.a", "-o", "build/header"))
+    made = "build/header"
+    tell("C: every call of the header is linked", succeeds(CC, "-std=c99", *FLAGS, f"{made}.c", "build/libipxr.a", "-o", made))
     tell("C: every number of the header has its words, and no other drop or kind of frame is there",
-        prints("examples/embed/c/header.out", "build/header"))
+        prints("examples/embed/c/header.out", made))
     if has("nm"):
         tell("C: every exported call stands in the header", are_exported())
     else:

@@ -1,9 +1,8 @@
-"""What tools/embed tries of the library for C: its sources, what it is made of, its headers (embed_header.py), its sizes, and the examples of
-examples/embed by each compiler that is there. All of it works at the top of the repository."""
+"""What tools/embed tries of the library for C: its sources, what it is made of, its headers (embed_header.py), its sizes, and the examples
+of examples/embed by each compiler that is there. All of it works at the top of the repository."""
 import glob
 import os
 import re
-import shutil
 
 import c_examples
 import embed_header
@@ -36,8 +35,8 @@ def has_none(pattern, files, is_code=lambda line: line):
 
 
 def sources():
-    """The words by which a block could be let go and not freed: no clause speaks of them, so they stand in no source but one, and C's handle
-    and what it owns have no `Drop`."""
+    """The words by which a block could be let go and not freed: no clause speaks of them, so they stand in no source but one, and C's
+    handle and what it owns have no `Drop`."""
     files = sorted(glob.glob("crates/*/src/**/*.rt", recursive=True))
     tell("no source lets a block go without freeing it",
         has_none(LOSES, [it for it in files if it != OWNERS[0]], lambda line: line.partition("//")[0]))
@@ -83,10 +82,8 @@ def sizes(cpu):
     tell("C: a router as delivered has the room that its header says", fills("build", "32 ports, 2048 routes, 1024 services"))
     say("proving and building ipx_c for 8 ports, 256 routes, 128 services, 64 clients, 4 links and 100 stations")
     asked = {**os.environ, **{name: str(number) for name, number in OTHER_SIZES.items()}}
-    is_built = proves(SIZED, "--cpu", cpu, env=asked)
-    if is_built:
-        shutil.copy("build/heap.o", SIZED)
-    tell("C: a library of other sizes is built", is_built and joins_heap(SIZED, "ar"))
+    is_built = proves(SIZED, "--cpu", cpu, env=asked) and succeeds("cp", "build/heap.o", f"{SIZED}/") and joins_heap(SIZED, "ar")
+    tell("C: a library of other sizes is built", is_built)
     tell("C: a router of other sizes has the room that its header says", fills(SIZED, "8 ports, 256 routes, 128 services"))
     for what, changes in OF_OTHER_SIZES.items():
         tell(f"C: a {what} of another size has the room that its header says", fills_blocks(what, changes))

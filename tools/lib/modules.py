@@ -12,7 +12,6 @@ other systems.
 import contextlib
 import filecmp
 import os
-import re
 import shlex
 import subprocess
 import sys

@@ -1,5 +1,5 @@
-"""What a tool says of what it tries, at the top of the repository: a line for what went well or badly, one for what is left out, a count; and
-the commands that it runs on the way."""
+"""What a tool says of what it tries: a line for what went well or badly, one for what is left out, a count; and the commands that it runs
+on the way, at the top of the repository."""
 import os
 import shutil
 import subprocess
