@@ -1,12 +1,11 @@
 -- What a router hears has few entries.
-use Rattle.std.proofs.Common.{◌≡◌, refl, ap, ℕ, zero, suc, ◌-◌, ◌/◌, ◌≤◌, ◌==◌, nat_lt, Bool, List, [], drop, length, Option, None, Some, Result, Ok, Err, IfOk, IfSome, inl, inr, arith}
+use Rattle.std.proofs.Common.{◌≡◌, refl, ap, ℕ, zero, suc, ◌≤◌, ◌==◌, nat_lt, Bool, List, [], drop, length, Option, None, Some, Result, Ok, Err, IfOk, IfSome, inl, inr, arith}
 use Rattle.std.proofs.lemmas.Bool.{cases_Bool, ltb-false}
 use Rattle.ipx_wire.specs.Items.{items}
 use Rattle.ipx_wire.specs.Numbers.{most_entries, most_services}
 use Rattle.ipx_wire.specs.Packet.{Parts, packet_of}
-use Rattle.ipx_wire.specs.Rip.{RipParts, entry_at, entries_at, entries_of, operated, operation_field, operation_of, rip_of}
+use Rattle.ipx_wire.specs.Rip.{RipParts, entry_at, entries_at, entries_of, operated, rip_of}
 use Rattle.ipx_wire.specs.Sap.{query_of, response_of, numbered_of, sap_of}
-use Rattle.ipx_wire.specs.SapEntries.{sap_entry_at}
 use Rattle.ipx_wire.specs.declared.address.Address.{Address}
 use Rattle.ipx_wire.specs.declared.packet.PacketFault.{PacketFault}
 use Rattle.ipx_wire.specs.declared.rip.Operation.{Operation}
@@ -38,36 +37,20 @@ FitsSap (Query nearest kind) = Unit
 FitsSap (SapResponse nearest entries) = length entries ≤ most_services
 
 entries_fit : (operation : Operation) (payload : List ℕ) → IfOk (entries_of operation payload) FitsRip
-entries_fit operation payload = elim (cases_Bool (nat_lt (length payload) 10)) [
-  | inl short ↦ rw short tt
-  | inr some ↦ elim (cases_Bool (nat_lt 409 (length payload))) [
-    | inl long ↦ rw (some, long) tt
-    | inr few ↦ rw (some, few) (omega (arith, ltb-false 409 (length payload) few, length-entries_at ((length payload - 2) / 8) (drop 2 payload)))
-  ]
-]
+entries_fit operation payload = grind (arith, ltb-false, length-entries_at)
 
 operated_fits : (number : ℕ) (operation : Option Operation) (payload : List ℕ) → IfOk (operated number operation payload) FitsRip
-operated_fits number None payload = tt
-operated_fits number (Some operation) payload = entries_fit operation payload
+operated_fits number operation payload = grind (arith, entries_fit)
 
 rip_fits : (payload : List ℕ) → IfOk (rip_of payload) FitsRip
 unfolding rip_of
-rip_fits payload = elim (cases_Bool (nat_lt (length payload) 2)) [
-  | inl short ↦ rw short tt
-  | inr long ↦ rw long (operated_fits (operation_field payload) (operation_of (operation_field payload)) payload)
-]
+rip_fits payload = grind (arith, operated_fits)
 
 query_fits : (nearest : Bool) (payload : List ℕ) → IfOk (query_of nearest payload) FitsSap
 query_fits nearest payload = elim (cases_Bool (nat_lt (length payload) 4)) [ inl short ↦ rw short tt | inr long ↦ rw long tt ]
 
 response_fits : (nearest : Bool) (payload : List ℕ) → IfOk (response_of nearest payload) FitsSap
-response_fits nearest payload = elim (cases_Bool (nat_lt (length payload) 66)) [
-  | inl short ↦ rw short tt
-  | inr some ↦ elim (cases_Bool (nat_lt 513 (length payload))) [
-    | inl long ↦ rw (some, long) tt
-    | inr few ↦ rw (some, few) (omega (arith, ltb-false 513 (length payload) few, length-items sap_entry_at 64 ((length payload - 2) / 64) (drop 2 payload)))
-  ]
-]
+response_fits nearest payload = grind (arith, ltb-false, length-items)
 
 numbered_fits : (number : ℕ) (payload : List ℕ) → IfOk (numbered_of number payload) FitsSap
 numbered_fits number payload = elim (cases_Bool (number == 1)) [
@@ -86,10 +69,7 @@ numbered_fits number payload = elim (cases_Bool (number == 1)) [
 
 sap_fits : (payload : List ℕ) → IfOk (sap_of payload) FitsSap
 unfolding sap_of
-sap_fits payload = elim (cases_Bool (nat_lt (length payload) 2)) [
-  | inl short ↦ rw short tt
-  | inr long ↦ rw long (numbered_fits (operation_field payload) payload)
-]
+sap_fits payload = grind (arith, numbered_fits)
 
 -- ---- messages
 
@@ -99,12 +79,10 @@ Fits (HeardRip source rip) = FitsRip rip
 Fits (HeardSap source sap) = FitsSap sap
 
 rip_heard : (source : Address) (r : Result RipParts RipFault) → IfOk r FitsRip → IfSome (elim r [ Ok rip ↦ Some (HeardRip source rip) | Err fault ↦ None ]) Fits
-rip_heard source (Ok rip) fits = fits
-rip_heard source (Err fault) fits = tt
+rip_heard source r fits = grind arith
 
 sap_heard : (source : Address) (r : Result Sap SapFault) → IfOk r FitsSap → IfSome (elim r [ Ok sap ↦ Some (HeardSap source sap) | Err fault ↦ None ]) Fits
-sap_heard source (Ok sap) fits = fits
-sap_heard source (Err fault) fits = tt
+sap_heard source r fits = grind arith
 
 heard_in-fits : (p : Parts) → IfSome (heard_in p) Fits
 heard_in-fits p = elim (cases_Bool (is_for_rip p.header)) [

@@ -9,7 +9,7 @@ use Rattle.ipx_wire.specs.declared.service.Service.{Service}
 use Rattle.ipx_router.specs.Port.{Port, port_at, numbers, is_up}
 use Rattle.ipx_router.specs.Sends.{is_nearer, nearest_of}
 use Rattle.ipx_router.specs.Sorted.{put, put_all, sorted}
-use Rattle.ipx_router.specs.Told.{network_before, name_before, by_network, by_name, told_at, direct_entry, direct, entry_of, is_route_told, told, farther, is_service_told, told_services}
+use Rattle.ipx_router.specs.Told.{network_before, name_before, by_network, by_name, told_at, direct_entry, direct, entry_of, is_route_told, told, told_services}
 use Rattle.ipx_router.specs.declared.route_offer.RouteOffer.{RouteOffer}
 use Rattle.ipx_router.specs.declared.service_offer.ServiceOffer.{ServiceOffer}
 use Rattle.ipx_router.proofs.lists.EachElement.{all_then}
@@ -19,10 +19,7 @@ use Rattle.ipx_router.proofs.port_values.PortOfEachNumber.{members}
 
 pub length-filter : {X : Type 0} (p : X → Bool) (xs : List X) → length (filter p xs) ≤ length xs
 length-filter p [] = omega arith
-length-filter p (x ∷ xs) = elim (cases_Bool (p x)) [
-  | inl e ↦ rw e (omega (arith, length-filter p xs))
-  | inr e ↦ rw e (omega (arith, length-filter p xs))
-]
+length-filter p (x ∷ xs) = grind (arith, length-filter p xs)
 
 -- at most one item for each
 pub length-singles : {X Y : Type 0} (f : X → List Y) (xs : List X) → ((x : X) → length (f x) ≤ 1) → length (flat_map f xs) ≤ length xs
@@ -64,10 +61,7 @@ length-left_out p (suc n) number below fails =
 module _ {X : Type 0} (comes_before : X → X → Bool) where
   length-put : (x : X) (xs : List X) → length (put comes_before x xs) ≡ length xs + 1
   length-put x [] = refl
-  length-put x (y ∷ xs) = elim (cases_Bool (comes_before x y)) [
-    | inl before ↦ rw before (omega arith)
-    | inr behind ↦ rw behind (omega (arith, length-put x xs))
-  ]
+  length-put x (y ∷ xs) = grind (arith, length-put x xs)
 
   length-put_all : (placed xs : List X) → length (put_all comes_before placed xs) ≡ length placed + length xs
   length-put_all placed [] = omega arith
@@ -113,14 +107,7 @@ length-told ports up routes number is =
 
 -- no more than all services
 pub length-told_services : (services : List ServiceOffer) (number : ℕ) → length (told_services services number) ≤ length services
-length-told_services services number =
-    let learned = filter (is_service_told number) services in
-    omega (
-      arith,
-      length-by_name (map (λ s. farther s.service) learned),
-      length-map learned (λ s. farther s.service),
-      length-filter (is_service_told number) services,
-    )
+length-told_services services number = grind (arith, length-by_name, length-map, length-filter)
 
 -- the nearest of services is one of them
 pub length-nearest_of : (services : List Service) → length (nearest_of services) ≤ length services
@@ -130,5 +117,4 @@ length-nearest_of (service ∷ services) = one (nearest_of services)
     one : (nearest : List Service)
         → length {A = Service} (elim nearest [ [] ↦ service ∷ [] | ◌∷◌ best rest ↦ if is_nearer best service then best ∷ [] else service ∷ [] ])
         ≤ suc (length services)
-    one [] = omega arith
-    one (best ∷ rest) = elim (cases_Bool (is_nearer best service)) [ inl e ↦ rw e (omega arith) | inr e ↦ rw e (omega arith) ]
+    one nearest = grind arith

@@ -1,6 +1,6 @@
 -- How long a packet is beside the bytes that it was read from.
-use Rattle.std.proofs.Common.{◌≡◌, refl, ℕ, ◌≤◌, nat_lt, List, length, inl, inr, arith}
-use Rattle.std.proofs.lemmas.Bool.{cases_Bool, ltb-false}
+use Rattle.std.proofs.Common.{◌≡◌, refl, ℕ, ◌≤◌, List, length, arith}
+use Rattle.std.proofs.lemmas.Bool.{ltb-false}
 use Rattle.ipx_wire.specs.Header.{length_field, header_at}
 use Rattle.ipx_wire.specs.Packet.{packet_of}
 use Rattle.ipx_router.specs.Bounds.{most_length}
@@ -14,13 +14,4 @@ field_of_header bytes = refl
 -- the bytes that came are no more than the router's own longest packet has: nor has the packet, if they are one
 pub most_of_few : (number : ℕ) (bytes : List ℕ) → length bytes ≤ most_own_length → most_length (Packet number bytes) ≡ most_own_length
 unfolding packet_of
-most_of_few number bytes few = elim (cases_Bool (nat_lt (length bytes) 30)) [
-  | inl short ↦ rw (short, most_length) refl
-  | inr enough ↦ elim (cases_Bool (nat_lt (length_field bytes) 30)) [
-    | inl small ↦ rw (enough, small, most_length) refl
-    | inr long ↦ elim (cases_Bool (nat_lt (length bytes) (length_field bytes))) [
-      | inl beyond ↦ rw (enough, long, beyond, most_length) refl
-      | inr within ↦ rw (enough, long, within, field_of_header bytes, most_length) (omega (arith, few, ltb-false (length bytes) (length_field bytes) within))
-    ]
-  ]
-]
+most_of_few number bytes few = grind (arith, field_of_header, ltb-false)

@@ -1,5 +1,6 @@
 -- How long the packets are that an event sends.
-use Rattle.std.proofs.Common.{◌≡◌, sym, ap, ◌∙◌, subst, Bool, ℕ, zero, suc, ◌≤◌, max, inl, inr, length, List, [], ◌∷◌, Result, Ok, Err, arith, lit<}
+use Rattle.std.proofs.lemmas.Grind.{common_steps}
+use Rattle.std.proofs.Common.{◌≡◌, sym, ap, ◌∙◌, subst, Bool, ℕ, ◌≤◌, max, inl, inr, length, List, Result, Ok, Err, arith}
 use Rattle.std.specs.List.{AllByRecursion}
 use Rattle.ipx_wire.specs.Crossed.{IsNetwork}
 use Rattle.ipx_wire.specs.Forward.{forwarded, propagated}
@@ -8,7 +9,7 @@ use Rattle.ipx_wire.specs.Piece.{IsBytes}
 use Rattle.ipx_wire.specs.declared.packet.PacketFault.{PacketFault}
 use Rattle.ipx_wire.specs.declared.rip.RipEntry.{RipEntry}
 use Rattle.ipx_router.specs.Bounds.{most_length}
-use Rattle.ipx_router.specs.History.{Event, Start, Stop, Second, Packet, PortDown, PortUp, IsOfBytes}
+use Rattle.ipx_router.specs.History.{Event, Packet, IsOfBytes}
 use Rattle.ipx_router.specs.Numbers.{most_own_length}
 use Rattle.ipx_router.specs.Packets.{IsRelayed}
 use Rattle.ipx_router.specs.Port.{Port, IsPort, port_at}
@@ -20,15 +21,10 @@ use Rattle.ipx_router.proofs.bytes.LawsOfLayouts.{Readings, Rereadings, whole}
 
 -- the network at any number, also where no port is, fits into four bytes
 pub network_fits : (ports : List Port) (number : ℕ) → AllByRecursion IsPort ports → IsNetwork (port_at ports number).network
-network_fits [] number are = lit< tt
-network_fits (port ∷ ports) zero are =
-    let below = are.0.ordinary_network in
-    omega (arith, below)
-network_fits (port ∷ ports) (suc number) are = network_fits ports number are.1
+network_fits ports number are = grind (arith, common_steps)
 
 pub packet_length : (r : Result Parts PacketFault) → most_own_length ≤ elim r [ Ok p ↦ max most_own_length p.header.length | Err fault ↦ most_own_length ]
-packet_length (Ok p) = omega arith
-packet_length (Err fault) = omega arith
+packet_length r = grind arith
 
 module _ (readings : Readings) (again : Rereadings) (ports : List Port) (are : AllByRecursion IsPort ports) (up : List ℕ) (routes : List RouteOffer) where
   module _ (number : ℕ) (bytes : List ℕ) (are_bytes : IsBytes bytes) where
@@ -56,12 +52,7 @@ module _ (readings : Readings) (again : Rereadings) (ports : List Port) (are : A
         as_long p (length s.bytes) is.is size
 
   own_length : (event : Event) → most_own_length ≤ most_length event
-  own_length Start = omega arith
-  own_length Stop = omega arith
-  own_length Second = omega arith
-  own_length (PortDown number) = omega arith
-  own_length (PortUp number) = omega arith
-  own_length (Packet number bytes) = packet_length (packet_of bytes)
+  own_length event = grind arith
 
   pub short : (P : RipEntry → Type 0) (runs : Bool) (event : Event) (sent : List Sent) → IsOfBytes event → AllByRecursion (IsSending P ports up routes runs event) sent
       → AllByRecursion (λ s. length s.bytes ≤ most_length event) sent

@@ -135,8 +135,7 @@ module _ (ports : List Port) (before after : Holding) (ups : length before.up �
         chosen false = all_few
 
     heard_few : is_up before.up number ≡ true → (message : Heard) → Fits message → Follows (Some message) → length (heard_sends ports before after number message) ≤ most
-    heard_few there (HeardRip source rip) fits follows = rip_few there source rip fits follows
-    heard_few there (HeardSap source sap) fits follows = sap_few source sap fits follows
+    heard_few there message fits follows = grind (arith, rip_few, sap_few)
 
     pub length-packet : (runs : Bool) (bytes : List ℕ) → Follows (heard ports before.up runs number bytes)
         → length (packet_sends ports before after runs number bytes) ≤ most

@@ -87,16 +87,10 @@ module _ (ports : List Port) (most_routes most_services : ℕ) (tables : TablesD
 
   module _ (runs : running history ≡ true) where
     routes_later : routes_held ports most_routes (history ++ Second ∷ []) ≡ second_later routes
-    routes_later =
-        routes_then Second
-        ∙ ap (λ r. held (route_rules ports most_routes) (route_facts ports history ++ (if r then SecondPassed ∷ [] else []))) runs
-        ∙ tables.route_second (route_facts ports history)
+    routes_later = grind (arith, routes_then)
 
     services_later : services_held ports most_services (history ++ Second ∷ []) ≡ second_later services
-    services_later =
-        services_then Second
-        ∙ ap (λ r. held (service_rules ports most_services) (service_facts ports history ++ (if r then SecondPassed ∷ [] else []))) runs
-        ∙ tables.service_second (service_facts ports history)
+    services_later = grind (arith, services_then)
 
     routes_end : RoutesChange ports before (after Second) (length (ended routes))
     routes_end =
@@ -109,50 +103,30 @@ module _ (ports : List Port) (most_routes most_services : ℕ) (tables : TablesD
         (few_end service_reading service_order same_service service_total service-same services)
 
     routes_left : length (after Second).routes + length (ended routes) ≤ length routes
-    routes_left =
-        omega (arith, as_many (routes_held ports most_routes (history ++ Second ∷ [])), ap length routes_later, length-ended routes)
+    routes_left = grind (arith, as_many, routes_later, length-ended)
 
     services_left : length (after Second).services + length (ended services) ≤ length services
-    services_left =
-        omega (arith, as_many (services_held ports most_services (history ++ Second ∷ [])), ap length services_later, length-ended services)
+    services_left = grind (arith, as_many, services_later, length-ended)
 
   -- ---- a packet
 
   module _ (number : ℕ) (bytes : List ℕ) where
     routes_come : (came : ℕ) → FewOffers came (routes_heard ports number (heard_after ports history number bytes))
         → RoutesChange ports before (after (Packet number bytes)) came
-    routes_come came few =
-        let facts = route_facts ports history in
-        let more = routes_then (Packet number bytes) ∙ ap (λ fs. held (route_rules ports most_routes) (facts ++ fs)) few.are in
-        let all = few_come route_reading network_order same_route network_total route-same most_routes (map (λ p. p.route_share) ports) tables.route_offered
-        facts few.offered in
-        subst (λ records. RoutesChange ports before (record { up = []; routes = offers records; services = [] }) came) (sym more)
-        (omega (arith, few.few, all))
+    routes_come came few = grind (arith, routes_then, few_come, network_total, route-same, RoutesChange)
 
     services_come : (came : ℕ) → FewOffers came (services_heard number (heard_after ports history number bytes))
         → ServicesChange ports before (after (Packet number bytes)) came
-    services_come came few =
-        let facts = service_facts ports history in
-        let more = services_then (Packet number bytes) ∙ ap (λ fs. held (service_rules ports most_services) (facts ++ fs)) few.are in
-        let all = few_come service_reading service_order same_service service_total service-same most_services (map (λ p. p.service_share) ports) tables.service_offered
-        facts few.offered in
-        subst (λ records. ServicesChange ports before (record { up = []; routes = []; services = offers records }) came) (sym more)
-        (omega (arith, few.few, all))
+    services_come came few = grind (arith, services_then, few_come, service_total, service-same, ServicesChange)
 
   -- ---- a port goes down
 
   module _ (port : ℕ) (up : is_up (ports_up ports history) port ≡ true) where
     routes_without : routes_held ports most_routes (history ++ PortDown port ∷ []) ≡ without_port (λ r. r.port) port routes
-    routes_without =
-        routes_then (PortDown port)
-        ∙ ap (λ b. held (route_rules ports most_routes) (route_facts ports history ++ (if b then PortEnd port ∷ [] else []))) up
-        ∙ tables.route_port_end (route_facts ports history) port
+    routes_without = grind (arith, routes_then)
 
     services_without : services_held ports most_services (history ++ PortDown port ∷ []) ≡ without_port (λ s. s.port) port services
-    services_without =
-        services_then (PortDown port)
-        ∙ ap (λ b. held (service_rules ports most_services) (service_facts ports history ++ (if b then PortEnd port ∷ [] else []))) up
-        ∙ tables.service_port_end (service_facts ports history) port
+    services_without = grind (arith, services_then)
 
     routes_go : RoutesChange ports before (after (PortDown port)) (length (ended_with_port (λ r. r.port) port routes))
     routes_go =

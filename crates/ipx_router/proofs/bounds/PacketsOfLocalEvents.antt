@@ -1,6 +1,7 @@
 -- How many packets a start, a stop, a second and a port that goes down or comes up send, by how much is held and how much
 -- changes.
-use Rattle.std.proofs.Common.{◌≡◌, sym, ℕ, ◌+◌, ◌-◌, ◌*◌, ◌<◌, ◌≤◌, ◌==◌, if◌then◌else◌, Bool, true, false, true≢false, List, [], ◌∷◌, ◌++◌, map, length, Option, None, Some, inl, inr, arith, length-append}
+use Rattle.std.proofs.lemmas.Grind.{common_steps}
+use Rattle.std.proofs.Common.{◌≡◌, ℕ, ◌+◌, ◌-◌, ◌*◌, ◌<◌, ◌≤◌, ◌==◌, if◌then◌else◌, Bool, true, false, List, [], ◌∷◌, ◌++◌, map, length, Option, None, Some, inl, inr, arith, length-append}
 use Rattle.std.specs.List.{AllByRecursion, flat_map}
 use Rattle.std.proofs.Math.Nat.{mul-le-mul_right}
 use Rattle.std.proofs.lemmas.Bool.{cases_Bool, eqb-true, ne_eqb}
@@ -14,10 +15,10 @@ use Rattle.ipx_router.specs.Bounds.{route_sheets, service_sheets, all_sheets}
 use Rattle.ipx_router.specs.Changes.{Change, changes}
 use Rattle.ipx_router.specs.News.{same_route, route_told, news, same_service, service_told, news_services}
 use Rattle.ipx_router.specs.Numbers.{entries_a_page, services_a_page}
-use Rattle.ipx_router.specs.Pages.{pages, sheets}
+use Rattle.ipx_router.specs.Pages.{sheets}
 use Rattle.ipx_router.specs.Port.{Port, port_at, is_up, everyone, every_server}
 use Rattle.ipx_router.specs.Routes.{network_order}
-use Rattle.ipx_router.specs.Sends.{Holding, entries_sent, rip_sends, services_sent, sap_sends, rip_broadcast, sap_broadcast, broadcasts, every_route, routes_request, services_query, introduction, second_on, stop_on, port_down_on, port_up_on}
+use Rattle.ipx_router.specs.Sends.{Holding, rip_sends, sap_sends, rip_broadcast, sap_broadcast, broadcasts, every_route, routes_request, services_query, introduction, second_on, stop_on, port_down_on, port_up_on}
 use Rattle.ipx_router.specs.Services.{service_order}
 use Rattle.ipx_router.specs.Told.{told, told_services, told_at, direct_entry, by_network, by_name, dead, dead_service}
 use Rattle.ipx_router.specs.declared.route_offer.RouteOffer.{RouteOffer}
@@ -32,21 +33,11 @@ use Rattle.ipx_router.proofs.relays.PortsRise.{IsRising}
 
 pub length-rip_sends : (ports : List Port) (number : ℕ) (to : Address) (operation : Operation) (entries : List RipEntry) (most : ℕ) → length entries ≤ most
     → length (rip_sends ports number to operation entries) ≤ sheets entries_a_page most
-length-rip_sends ports number to operation entries most few =
-    omega (
-      arith,
-      length-map (pages entries_a_page entries) (entries_sent ports number to operation),
-      length-pages entries_a_page most entries (omega arith) few,
-    )
+length-rip_sends ports number to operation entries most few = grind (arith, length-map, length-pages)
 
 pub length-sap_sends : (ports : List Port) (number : ℕ) (to : Address) (nearest : Bool) (services : List Service) (most : ℕ) → length services ≤ most
     → length (sap_sends ports number to nearest services) ≤ sheets services_a_page most
-length-sap_sends ports number to nearest services most few =
-    omega (
-      arith,
-      length-map (pages services_a_page services) (services_sent ports number to nearest),
-      length-pages services_a_page most services (omega arith) few,
-    )
+length-sap_sends ports number to nearest services most few = grind (arith, length-map, length-pages)
 
 length-rip_broadcast : (ports : List Port) (number : ℕ) (entries : List RipEntry) (most : ℕ) → length entries ≤ most
     → length (rip_broadcast ports number entries) ≤ sheets entries_a_page most
@@ -58,13 +49,7 @@ length-sap_broadcast ports number services most few = length-sap_sends ports num
 
 pub length-broadcasts : (ports : List Port) (number : ℕ) (entries : List RipEntry) (services : List Service) (r s : ℕ)
     → length entries ≤ r → length services ≤ s → length (broadcasts ports number entries services) ≤ sheets entries_a_page r + sheets services_a_page s
-length-broadcasts ports number entries services r s few_entries few_of_services =
-    omega (
-      arith,
-      length-append (rip_broadcast ports number entries) (sap_broadcast ports number services),
-      length-rip_broadcast ports number entries r few_entries,
-      length-sap_broadcast ports number services s few_of_services,
-    )
+length-broadcasts ports number entries services r s few_entries few_of_services = grind (arith, length-append, length-rip_broadcast, length-sap_broadcast)
 
 -- ---- a port comes up
 
@@ -91,8 +76,7 @@ length-introduction ports up routes services number r s there few few_of_service
 
 -- where one port is up, there is one
 some_up : (up : List ℕ) (number : ℕ) → is_up up number ≡ true → 1 ≤ length up
-some_up [] number there = absurd (true≢false (sym there))
-some_up (x ∷ up) number there = omega arith
+some_up up number there = grind (arith, common_steps)
 
 -- ---- start
 
@@ -148,14 +132,10 @@ module _ (ports : List Port) (before after : Holding) where
 
   -- no more news than changes
   pub length-news : (number most : ℕ) → RoutesChange most → length (news ports before.routes after.routes number) ≤ most
-  length-news number most few =
-      let all = changes (λ r. r.network) network_order same_route before.routes after.routes in
-      omega (arith, few, length-singles (route_told ports number) all (route_told-few number))
+  length-news number most few = grind (arith, length-singles, route_told-few)
 
   pub length-news_services : (number most : ℕ) → ServicesChange most → length (news_services before.services after.services number) ≤ most
-  length-news_services number most few =
-      let all = changes (λ s. (s.service.kind, s.service.name)) service_order same_service before.services after.services in
-      omega (arith, few, length-singles (service_told number) all (service_told-few number))
+  length-news_services number most few = grind (arith, length-singles, service_told-few)
 
   -- ---- a second
 
@@ -229,9 +209,7 @@ weight port most number = if number == port then most else 1
 one_each : {X : Type 0} (f : ℕ → List X) (port most : ℕ) (up : List ℕ) → AllByRecursion (λ j. (j == port) ≡ false) up
     → AllByRecursion (λ j. length (f j) ≤ weight port most j) up → length (flat_map f up) ≤ length up
 one_each f port most [] others all = omega arith
-one_each f port most (x ∷ up) others all =
-    let one : length (f x) ≤ 1 = rw others.0 at all.0 in
-    omega (arith, length-append (f x) (flat_map f up), one, one_each f port most up others.1 all.1)
+one_each f port most (x ∷ up) others all = grind (arith, one_each f port most up others.1 all.1, length-append)
 
 one_for_most : {X : Type 0} (f : ℕ → List X) (port most : ℕ) (up : List ℕ) → 1 ≤ most → IsRising up
     → AllByRecursion (λ j. length (f j) ≤ weight port most j) up → length (flat_map f up) + 1 ≤ length up + most

@@ -1,9 +1,8 @@
 -- The room that is enough for every event of a router whose tables are full at most.
-use Rattle.std.proofs.Common.{◌≡◌, refl, sym, subst, ℕ, ◌+◌, ◌*◌, ◌≤◌, max, nat_lt, List, [], length, IfOk, Result, Ok, Err, inl, inr, arith}
-use Rattle.std.proofs.Math.Nat.{le_trans, le-max_left, le-max_right, max-le, mul-le-mul_left, mul-le-mul_right, max-eq_left, max-eq_right}
-use Rattle.std.proofs.lemmas.Bool.{cases_Bool, cases_lt, ltb-false}
+use Rattle.std.proofs.Common.{◌≡◌, ℕ, ◌+◌, ◌*◌, ◌≤◌, max, List, [], length, IfOk, Result, Ok, Err, arith}
+use Rattle.std.proofs.Math.Nat.{le_trans, le-max_left, le-max_right, mul-le-mul_left, mul-le-mul_right}
+use Rattle.std.proofs.lemmas.Bool.{ltb-false}
 use Rattle.std.proofs.lemmas.Nat.{mul-le}
-use Rattle.ipx_wire.specs.Header.{length_field}
 use Rattle.ipx_wire.specs.Packet.{Parts, packet_of}
 use Rattle.ipx_wire.specs.declared.packet.PacketFault.{PacketFault}
 use Rattle.ipx_router.specs.Bounds.{most_packets, most_length, route_sheets, service_sheets, all_sheets}
@@ -17,10 +16,7 @@ use Rattle.ipx_router.proofs.bounds.LengthOfWhatCame.{field_of_header}
 
 -- as often as the greater of two
 times_max : (n a b most : ℕ) → n * a ≤ most → n * b ≤ most → n * max a b ≤ most
-times_max n a b most left right = elim (cases_lt a b) [
-  | inl less ↦ subst (λ k. n * k ≤ most) (sym (max-eq_right (omega (arith, less)))) right
-  | inr more ↦ subst (λ k. n * k ≤ most) (sym (max-eq_left more)) left
-]
+times_max n a b most left right = grind arith
 
 -- ---- how many packets
 
@@ -62,19 +58,13 @@ module _ (ports routes services most_routes most_services : ℕ) (few_routes : r
   packets_within Start = first_ever
   packets_within Stop = periodic
   packets_within Second = periodic
-  packets_within (Packet number bytes) =
-      max-le (le_trans (omega arith) upwards) (max-le (le_trans (omega arith) upwards) (le_trans (omega arith) upwards))
+  packets_within (Packet number bytes) = grind arith
   packets_within (PortDown number) = le_trans (mul-le-mul_right (all_sheets ports routes services) (omega arith)) periodic
   packets_within (PortUp number) = upwards
 
   -- what a packet causes
   caused : max ports (max (route_sheets ports routes) (service_sheets services)) ≤ most_packets ports most_routes most_services (Packet 0 [])
-  caused =
-      let k = route_sheets ports most_routes in
-      let m = service_sheets most_services in
-      max-le (le-max_left ports (max k m))
-      (max-le (le_trans (le_trans of_routes (le-max_left k m)) (le-max_right ports (max k m)))
-      (le_trans (le_trans of_services (le-max_right k m)) (le-max_right ports (max k m))))
+  caused = grind arith
 
   -- ---- how many bytes
 
@@ -101,31 +91,15 @@ module _ (ports routes services most_routes most_services : ℕ) (few_routes : r
 pub always_room : (most_routes most_services longest : ℕ) (s : State) (event : Event) (o : Contents)
     → IsWithinCapacity most_routes most_services s → IsUpTo longest event
     → HasRoom o (packets_ever (length s.ports) most_routes most_services) (bytes_ever (length s.ports) most_routes most_services longest) → HasRoomFor s event o
-always_room most_routes most_services longest s event o within short room =
-    record {
-      places =
-          le_trans (packets_within (length s.ports) (length s.routes) (length s.services) most_routes most_services within.routes within.services event) room.places;
-      spare =
-          le_trans (bytes_within (length s.ports) (length s.routes) (length s.services) most_routes most_services within.routes within.services longest event short) room.spare;
-    }
+always_room most_routes most_services longest s event o within short room = grind (arith, le_trans, packets_within, bytes_within)
 
 -- ---- which packets are that long
 
 -- a packet is no longer than the bytes that it came in
 pub up_to_what_came : (longest : ℕ) (bytes : List ℕ) → length bytes ≤ longest → IfOk (packet_of bytes) (λ p. p.header.length ≤ longest)
 unfolding packet_of
-up_to_what_came longest bytes few = elim (cases_Bool (nat_lt (length bytes) 30)) [
-  | inl short ↦ rw short tt
-  | inr enough ↦ elim (cases_Bool (nat_lt (length_field bytes) 30)) [
-    | inl small ↦ rw (enough, small) tt
-    | inr long ↦ elim (cases_Bool (nat_lt (length bytes) (length_field bytes))) [
-      | inl beyond ↦ rw (enough, long, beyond) tt
-      | inr within ↦ rw (enough, long, within, field_of_header bytes) (omega (arith, few, ltb-false (length bytes) (length_field bytes) within))
-    ]
-  ]
-]
+up_to_what_came longest bytes few = grind (arith, field_of_header, ltb-false)
 
 -- what holds of each packet that is read holds of what is read
 pub of_each_read : (P : Parts → Type 0) (read : Result Parts PacketFault) → ((p : Parts) → read ≡ Ok p → P p) → IfOk read P
-of_each_read P (Ok p) each = each p refl
-of_each_read P (Err fault) each = tt
+of_each_read P read each = grind arith

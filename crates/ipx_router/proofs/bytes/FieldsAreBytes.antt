@@ -1,5 +1,7 @@
 -- The bytes of a packet are bytes, where its nodes, its names and its data are; and the parts of a packet that came are.
-use Rattle.std.proofs.Common.{subst, ℕ, ◌+◌, ◌-◌, ◌*◌, ◌<◌, List, [], ◌∷◌, ◌++◌, length, take, drop, replicate, Bool, Option, None, Some, IfSome, lit<}
+use Rattle.std.proofs.Common.{arith}
+use Rattle.std.proofs.Common.{rules}
+use Rattle.std.proofs.Common.{subst, ℕ, ◌-◌, ◌<◌, List, [], ◌∷◌, ◌++◌, length, replicate, Bool, Option, None, Some, IfSome, lit<}
 use Rattle.std.specs.Int.{to_be_bytes, w16, w32}
 use Rattle.std.specs.List.{AllByRecursion, flat_map}
 use Rattle.ipx_wire.specs.Address.{IsAddress, address_bytes}
@@ -91,46 +93,25 @@ name_bytes field (Some name) is are =
 
 address_are_bytes : (a : Address) → IsBytes a.node.0 → IsBytes (address_bytes a)
 unfolding address_bytes
-address_are_bytes a node =
-    bytes_both (to_be_bytes w32 a.network.0 ++ a.node.0) (to_be_bytes w16 a.socket.0)
-    (bytes_both (to_be_bytes w32 a.network.0) a.node.0 (bytes_32 a.network.0) node) (bytes_16 a.socket.0)
+address_are_bytes a node = grind (arith, bytes_both, bytes_32, bytes_16)
 
 header_are_bytes : (h : Header) → h.control < 256 → h.kind < 256 → IsBytes h.destination.node.0 → IsBytes h.source.node.0 → IsBytes (header_bytes h)
 unfolding header_bytes
-header_are_bytes h control kind to from =
-    let numbers = to_be_bytes w16 h.checksum ++ to_be_bytes w16 h.length in
-    let front = numbers ++ (h.control ∷ []) ++ (h.kind ∷ []) in
-    bytes_both (front ++ address_bytes h.destination) (address_bytes h.source)
-    (bytes_both front (address_bytes h.destination)
-    (bytes_both (numbers ++ (h.control ∷ [])) (h.kind ∷ [])
-    (bytes_both numbers (h.control ∷ [])
-    (bytes_both (to_be_bytes w16 h.checksum) (to_be_bytes w16 h.length) (bytes_16 h.checksum) (bytes_16 h.length))
-    (one_byte h.control control))
-    (one_byte h.kind kind))
-    (address_are_bytes h.destination to))
-    (address_are_bytes h.source from)
+header_are_bytes h control kind to from = grind (arith, bytes_both, bytes_16, one_byte, address_are_bytes)
 
 pub packet_are_bytes : (p : Parts) → p.header.control < 256 → p.header.kind < 256 → ArePartsBytes p → IsBytes (packet_bytes p)
-packet_are_bytes p control kind are =
-    bytes_both (header_bytes p.header) p.payload (header_are_bytes p.header control kind are.destination are.source) are.payload
+packet_are_bytes p control kind are = grind (arith, bytes_both, header_are_bytes)
 
 -- data with a network written into them
 pub crossing_bytes : (control : ℕ) (network : Network) (payload : List ℕ) → IsBytes payload → IsBytes (crossing control network payload)
 unfolding network_bytes
-crossing_bytes control network payload are =
-    let front = take (4 * control) payload in
-    let behind = drop (4 * control + 4) payload in
-    bytes_both (front ++ network_bytes network) behind
-    (bytes_both front (network_bytes network) (bytes_taken (4 * control) payload are) (bytes_32 network.0))
-    (bytes_dropped (4 * control + 4) payload are)
+crossing_bytes control network payload are = search (rules, bytes_both, bytes_taken, bytes_32, bytes_dropped)
 
 -- ---- a packet of the router's own
 
 entry_are_bytes : (e : RipEntry) → IsEntry e → IsBytes (entry_bytes e)
 unfolding entry_bytes
-entry_are_bytes e is =
-    bytes_both (to_be_bytes w32 e.network.0 ++ to_be_bytes w16 e.hops) (to_be_bytes w16 e.ticks)
-    (bytes_both (to_be_bytes w32 e.network.0) (to_be_bytes w16 e.hops) (bytes_32 e.network.0) (bytes_16 e.hops)) (bytes_16 e.ticks)
+entry_are_bytes e is = search (rules, bytes_both, bytes_32, bytes_16)
 
 pub rip_are_bytes : (from to : Address) (operation : Operation) (entries : List RipEntry) → IsBytes from.node.0 → IsBytes to.node.0
     → AllByRecursion IsEntry entries → IsBytes (rip_packet from to operation entries)

@@ -1,9 +1,8 @@
 -- Lists of bytes: their parts, and what is made of them.
-use Rattle.std.proofs.Common.{sym, subst, ℕ, zero, suc, ◌<◌, ◌/◌, ◌^◌, List, [], ◌∷◌, ◌++◌, take, drop, replicate, arith, lit<}
+use Rattle.std.proofs.Common.{sym, subst, ℕ, zero, suc, ◌<◌, List, [], ◌∷◌, ◌++◌, take, drop, replicate, arith}
 use Rattle.std.specs.Int.{byte_at, bytes_high_first, to_be_bytes, w16, w32}
 use Rattle.std.specs.List.{AllByRecursion, flat_map}
 use Rattle.std.proofs.lemmas.List.{take-append-drop}
-use Rattle.std.proofs.lemmas.Nat.{mod_below}
 use Rattle.ipx_wire.specs.Piece.{IsBytes}
 
 -- ---- parts
@@ -43,8 +42,7 @@ bytes_same (suc n) x below (suc i) = bytes_same n x below i
 -- ---- numbers, with the highest byte first
 
 byte_below : (k n : ℕ) → byte_at k n < 256
-byte_below zero n = mod_below n 256 (lit< tt)
-byte_below (suc k) n = mod_below (n / 256 ^ suc k) 256 (lit< tt)
+byte_below k n = grind arith
 
 number_bytes : (k n : ℕ) → IsBytes (bytes_high_first k n)
 number_bytes zero n i = omega arith

@@ -1,22 +1,19 @@
 -- What is told of a change fits into the fields of a packet.
-use Rattle.std.proofs.Common.{ℕ, ◌==◌, Bool, if◌then◌else◌, List, [], ◌∷◌, map, Option, None, Some, IfSome, inl, inr}
+use Rattle.std.proofs.Common.{ℕ, Bool, if◌then◌else◌, List, [], ◌∷◌, map, Option, IfSome, arith}
 use Rattle.std.specs.List.{AllByRecursion}
 use Rattle.std.specs.Ordering.{is_eq}
 use Rattle.std.specs.declared.cmp.Ordering.{Ordering}
-use Rattle.std.proofs.lemmas.Bool.{cases_Bool}
 use Rattle.ipx_wire.specs.Rip.{IsEntry}
 use Rattle.ipx_router.specs.Changes.{Change, change_at, changes, differs, put_keys}
-use Rattle.ipx_router.specs.News.{same_route, same_service, route_now, route_told, news, service_now, service_told, news_services}
-use Rattle.ipx_router.specs.Port.{Port, port_at}
+use Rattle.ipx_router.specs.News.{same_route, same_service, route_told, news, service_told, news_services}
+use Rattle.ipx_router.specs.Port.{Port}
 use Rattle.ipx_router.specs.Routes.{network_order}
 use Rattle.ipx_router.specs.Services.{service_order}
-use Rattle.ipx_router.specs.Told.{is_reached_on, entry_of, dead, dead_service}
 use Rattle.ipx_router.specs.declared.route_offer.RouteOffer.{RouteOffer}
 use Rattle.ipx_router.specs.declared.service_offer.ServiceOffer.{ServiceOffer}
 use Rattle.ipx_router.proofs.bytes.FieldsAreBytes.{IsTellable}
 use Rattle.ipx_router.proofs.lists.EachElement.{all-filter, all-find, all-map, all-flat_map}
 use Rattle.ipx_router.proofs.tables.HeldFitsFields.{RouteFits, ServiceFits}
-use Rattle.ipx_router.proofs.telling.ToldFitsFields.{reached, told_at_fits, dead_fits, farther_fits, down_fits}
 
 -- both offers of a change are such ones
 abbrev pub ChangeOf : {O : Type 0} → (O → Type 0) → Change O → Type 0
@@ -38,25 +35,13 @@ module _ {O K : Type 0} (P : O → Type 0) (key_of : O → K) (order : K → K �
 
 -- nothing, or one item
 pub one_or_none : {X : Type 0} (P : X → Type 0) (c : Bool) (x : X) → P x → AllByRecursion P (if c then [] else x ∷ [])
-one_or_none P c x is = elim (cases_Bool c) [
-  | inl e ↦ rw e tt
-  | inr e ↦ rw e (is, tt)
-]
+one_or_none P c x is = grind arith
 
 -- ---- routes
 
-route_now_fits : (port : Port) (route : RouteOffer) → RouteFits route → IsEntry (route_now port route)
-route_now_fits port route is = elim (cases_Bool (is_reached_on route.hops)) [
-  | inl e ↦ rw e (told_at_fits port.cost (entry_of route) (is, reached route.hops e))
-  | inr e ↦ rw e (dead_fits (entry_of route) is)
-]
-
 route_told_fits : (ports : List Port) (number : ℕ) (before after : Option RouteOffer) → IfSome before RouteFits → IfSome after RouteFits
     → AllByRecursion IsEntry (route_told ports number (record { before = before; after = after }))
-route_told_fits ports number before (Some route) old new =
-    one_or_none IsEntry (route.port == number) (route_now (port_at ports number) route) (route_now_fits (port_at ports number) route new)
-route_told_fits ports number (Some route) None old new = one_or_none IsEntry (route.port == number) (dead (entry_of route)) (dead_fits (entry_of route) old)
-route_told_fits ports number None None old new = tt
+route_told_fits ports number before after old new = grind arith
 
 pub news_fit : (ports : List Port) (before after : List RouteOffer) (number : ℕ) → AllByRecursion RouteFits before → AllByRecursion RouteFits after
     → AllByRecursion IsEntry (news ports before after number)
@@ -67,17 +52,9 @@ news_fit ports before after number old new =
 
 -- ---- services
 
-service_now_fits : (offer : ServiceOffer) → ServiceFits offer → IsTellable (service_now offer)
-service_now_fits offer is = elim (cases_Bool (is_reached_on offer.service.hops)) [
-  | inl e ↦ rw e (farther_fits offer.service is (reached offer.service.hops e))
-  | inr e ↦ rw e (down_fits offer.service is)
-]
-
 service_told_fits : (number : ℕ) (before after : Option ServiceOffer) → IfSome before ServiceFits → IfSome after ServiceFits
     → AllByRecursion IsTellable (service_told number (record { before = before; after = after }))
-service_told_fits number before (Some offer) old new = one_or_none IsTellable (offer.port == number) (service_now offer) (service_now_fits offer new)
-service_told_fits number (Some offer) None old new = one_or_none IsTellable (offer.port == number) (dead_service offer.service) (down_fits offer.service old)
-service_told_fits number None None old new = tt
+service_told_fits number before after old new = grind arith
 
 pub news_services_fit : (before after : List ServiceOffer) (number : ℕ) → AllByRecursion ServiceFits before → AllByRecursion ServiceFits after
     → AllByRecursion IsTellable (news_services before after number)

@@ -1,5 +1,5 @@
 -- Which offers are held after a fact that weren't before, or the other way round: those of the keys that the fact tells of.
-use Rattle.std.proofs.Common.{◌≡◌, refl, sym, ap, ◌∙◌, ℕ, ◌+◌, ◌≤◌, ◌==◌, Bool, true, false, List, [], ◌∷◌, ◌++◌, map, filter, find, length, inl, inr, arith, Ordering, is_eq, append_assoc, append-nil}
+use Rattle.std.proofs.Common.{◌≡◌, refl, sym, ap, ◌∙◌, ℕ, ◌+◌, ◌≤◌, ◌==◌, Bool, true, false, List, [], ◌∷◌, ◌++◌, map, find, length, inl, inr, arith, Ordering, is_eq, append_assoc, append-nil}
 use Rattle.std.specs.List.{list_any}
 use Rattle.std.specs.Option.{option_map}
 use Rattle.std.specs.Cmp.{IsTotalOrder}
@@ -24,10 +24,7 @@ found p (h ∷ records) = elim (cases_Bool (p h.offer)) [ inl e ↦ rw e refl | 
 -- what ends and what doesn't are all records
 pub length-ended : {O : Type 0} (records : List (Held O)) → length (second_later records) + length (ended records) ≡ length records
 length-ended [] = refl
-length-ended (h ∷ records) = elim (cases_Bool (is_last h)) [
-  | inl e ↦ rw e (omega (arith, length-ended records))
-  | inr e ↦ rw e (omega (arith, length-ended records))
-]
+length-ended (h ∷ records) = grind (arith, length-ended records)
 
 -- what isn't among the ended offers is found a second later as before
 found-later : {O : Type 0} (p : O → Bool) (records : List (Held O)) → list_any p (ended records) ≡ false
@@ -65,26 +62,21 @@ found-without p port_by port (h ∷ records) none = elim (cases_Bool (port_by h.
 
 -- no more end with their port than there are
 pub few_with_port : {O : Type 0} (port_by : O → ℕ) (port : ℕ) (records : List (Held O)) → length (ended_with_port port_by port records) ≤ length records
-few_with_port port_by port records =
-    omega (arith, length-map (filter (λ h. port_by h.offer == port) records) (λ h. h.offer), length-filter (λ h. port_by h.offer == port) records)
+few_with_port port_by port records = grind (arith, length-map, length-filter)
 
 module _ {O K : Type 0} (reading : Reading O K) (order : K → K → Ordering) (same : O → O → Bool)
     (total : IsTotalOrder order) (itself : (o : O) → same o o ≡ true) where
   -- a second changes no more offers than end with it
   pub few_end : (records : List (Held O))
       → length (changes reading.key order same (offers records) (offers (second_later records))) ≤ length (ended records)
-  few_end records =
-      few_changes reading.key order same total itself (offers records) (offers (second_later records)) (ended records)
-      (λ key none. found-later (λ o. is_eq (order (reading.key o) key)) records none)
+  few_end records = grind (arith, few_changes, found-later, is_eq)
 
   -- ---- the end of a port
 
   -- nor does a port that goes down change more offers than came by it
   pub few_end_with : (port_by : O → ℕ) (port : ℕ) (records : List (Held O))
       → length (changes reading.key order same (offers records) (offers (without_port port_by port records))) ≤ length (ended_with_port port_by port records)
-  few_end_with port_by port records =
-      few_changes reading.key order same total itself (offers records) (offers (without_port port_by port records)) (ended_with_port port_by port records)
-      (λ key none. found-without (λ o. is_eq (order (reading.key o) key)) port_by port records none)
+  few_end_with port_by port records = grind (arith, few_changes, found-without, is_eq)
 
   -- ---- offers
 

@@ -1,5 +1,7 @@
 -- Offers that compare as equal, field by field, are one.
-use Rattle.std.proofs.Common.{◌≡◌, refl, sym, ap, ◌∙◌, ℕ, ◌==◌, Bool, true, false, ◌&&◌, List, Option, None, Some, true≢false}
+use Rattle.std.proofs.Common.{arith}
+use Rattle.std.proofs.Common.{rules}
+use Rattle.std.proofs.Common.{◌≡◌, sym, ap, ◌∙◌, ℕ, ◌==◌, Bool, true, ◌&&◌, List, Option}
 use Rattle.std.specs.Cmp.Lexicographic.{same_text}
 use Rattle.std.proofs.lemmas.Bool.{eqb-true}
 use Rattle.ipx_wire.specs.Name.{same_name}
@@ -11,30 +13,17 @@ use Rattle.ipx_router.specs.declared.service_offer.ServiceOffer.{ServiceOffer}
 
 -- so are what a key had and has
 pub exact_left : {O : Type 0} (same : O → O → Bool) → IsExact same → (a b : Option O) → same_left same a b ≡ true → a ≡ b
-exact_left same exact None None e = refl
-exact_left same exact None (Some b) e = absurd (true≢false (sym e))
-exact_left same exact (Some a) None e = absurd (true≢false (sym e))
-exact_left same exact (Some a) (Some b) e = ap Some (exact a b e)
+exact_left same exact a b e = grind arith
 
 both : (a b : Bool) → (a && b) ≡ true → (a ≡ true) × (b ≡ true)
-both true b e = (refl, e)
-both false b e = absurd (true≢false (sym e))
+both a b e = grind arith
 
 abbrev route : ℕ → ℕ → ℕ → ℕ → List ℕ → RouteOffer
 route network hops ticks port node = record { network = record { 0 = network }; hops = hops; ticks = ticks; port = port; node = record { 0 = node } }
 
 pub route_exact : (a b : RouteOffer)
     → ((a.network.0 == b.network.0) && ((a.hops == b.hops) && ((a.ticks == b.ticks) && ((a.port == b.port) && same_node a.node b.node)))) ≡ true → a ≡ b
-route_exact a b e =
-    let first = both (a.network.0 == b.network.0) ((a.hops == b.hops) && ((a.ticks == b.ticks) && ((a.port == b.port) && same_node a.node b.node))) e in
-    let second = both (a.hops == b.hops) ((a.ticks == b.ticks) && ((a.port == b.port) && same_node a.node b.node)) first.1 in
-    let third = both (a.ticks == b.ticks) ((a.port == b.port) && same_node a.node b.node) second.1 in
-    let fourth = both (a.port == b.port) (same_node a.node b.node) third.1 in
-    ap (λ (n : ℕ). route n a.hops a.ticks a.port a.node.0) (eqb-true a.network.0 b.network.0 first.0)
-    ∙ ap (λ (n : ℕ). route b.network.0 n a.ticks a.port a.node.0) (eqb-true a.hops b.hops second.0)
-    ∙ ap (λ (n : ℕ). route b.network.0 b.hops n a.port a.node.0) (eqb-true a.ticks b.ticks third.0)
-    ∙ ap (λ (n : ℕ). route b.network.0 b.hops b.ticks n a.node.0) (eqb-true a.port b.port fourth.0)
-    ∙ ap (λ (bytes : List ℕ). route b.network.0 b.hops b.ticks b.port bytes) (same_text a.node.0 b.node.0 (sym fourth.1))
+route_exact a b e = search (rules, both, eqb-true)
 
 abbrev service : ℕ → List ℕ → ℕ → List ℕ → ℕ → ℕ → ℕ → List ℕ → ServiceOffer
 service kind name network node socket hops port from = record {

@@ -1,5 +1,5 @@
 -- The keys of offers, each once, and how many of them differ before an event and after it.
-use Rattle.std.proofs.Common.{◌≡◌, refl, sym, ap, ◌∙◌, ◌+◌, ◌≤◌, Bool, true, false, not, ◌||◌, List, [], ◌∷◌, map, filter, length, Option, None, Some, inl, inr, arith, true≢false, Ordering, Less, Equal, Greater, is_eq, is_lt}
+use Rattle.std.proofs.Common.{◌≡◌, refl, ap, ◌∙◌, ◌+◌, ◌≤◌, Bool, true, false, ◌||◌, List, [], ◌∷◌, map, filter, length, Option, inl, inr, arith, Ordering, Less, Equal, is_eq, is_lt}
 use Rattle.std.specs.List.{AllByRecursion, list_any}
 use Rattle.std.specs.Ordering.{ordering_reverse}
 use Rattle.std.specs.Cmp.{IsTotalOrder}
@@ -13,26 +13,11 @@ use Rattle.ipx_router.proofs.lists.EachElement.{all_then, all_placed}
 -- a test that asks for less passes no fewer
 passes_more : {X : Type 0} (p q : X → Bool) → ((x : X) → p x ≡ true → q x ≡ true) → (xs : List X) → length (filter p xs) ≤ length (filter q xs)
 passes_more p q weaker [] = omega arith
-passes_more p q weaker (x ∷ xs) = elim (cases_Bool (p x)) [
-  | inl e ↦ let f = weaker x e in rw (e, f) (omega (arith, passes_more p q weaker xs))
-  | inr e ↦ elim (cases_Bool (q x)) [
-    | inl f ↦ rw (e, f) (omega (arith, passes_more p q weaker xs))
-    | inr f ↦ rw (e, f) (passes_more p q weaker xs)
-  ]
-]
+passes_more p q weaker (x ∷ xs) = grind (arith, passes_more p q weaker xs)
 
 passes_either : {X : Type 0} (p q : X → Bool) (xs : List X) → length (filter (λ x. p x || q x) xs) ≤ length (filter p xs) + length (filter q xs)
 passes_either p q [] = omega arith
-passes_either p q (x ∷ xs) = elim (cases_Bool (p x)) [
-  | inl e ↦ elim (cases_Bool (q x)) [
-    | inl f ↦ rw (e, f) (omega (arith, passes_either p q xs))
-    | inr f ↦ rw (e, f) (omega (arith, passes_either p q xs))
-  ]
-  | inr e ↦ elim (cases_Bool (q x)) [
-    | inl f ↦ rw (e, f) (omega (arith, passes_either p q xs))
-    | inr f ↦ rw (e, f) (passes_either p q xs)
-  ]
-]
+passes_either p q (x ∷ xs) = grind (arith, passes_either p q xs)
 
 none_passes : {X : Type 0} (p : X → Bool) (xs : List X) → AllByRecursion (λ x. p x ≡ false) xs → length (filter p xs) ≡ 0
 none_passes p [] all = refl
@@ -40,34 +25,24 @@ none_passes p (x ∷ xs) all = let e = all.0 in rw e (none_passes p xs all.1)
 
 filter-mapped : {X Y : Type 0} (p : Y → Bool) (f : X → Y) (xs : List X) → length (filter p (map f xs)) ≡ length (filter (λ x. p (f x)) xs)
 filter-mapped p f [] = refl
-filter-mapped p f (x ∷ xs) = elim (cases_Bool (p (f x))) [
-  | inl e ↦ rw e (omega (arith, filter-mapped p f xs))
-  | inr e ↦ rw e (filter-mapped p f xs)
-]
+filter-mapped p f (x ∷ xs) = grind (arith, filter-mapped p f xs)
 
 -- ---- the three answers
 
 pub is_less : (r : Ordering) → is_lt r ≡ true → r ≡ Less
-is_less Less e = refl
-is_less Equal e = absurd (true≢false (sym e))
-is_less Greater e = absurd (true≢false (sym e))
+is_less r e = grind arith
 
 pub is_equal : (r : Ordering) → is_eq r ≡ true → r ≡ Equal
-is_equal Less e = absurd (true≢false (sym e))
-is_equal Equal e = refl
-is_equal Greater e = absurd (true≢false (sym e))
+is_equal r e = grind arith
 
 other_way : (r s : Ordering) → r ≡ ordering_reverse s → is_eq r ≡ false → is_lt r ≡ false → is_lt s ≡ true
-other_way r Less e q l = refl
-other_way r Equal e q l = absurd (true≢false (sym (ap is_eq e) ∙ q))
-other_way r Greater e q l = absurd (true≢false (sym (ap is_lt e) ∙ l))
+other_way r s e q l = grind arith
 
 -- ---- keys in their places
 
 -- neither of two
 pub neither : (a b : Bool) → (a || b) ≡ false → (a ≡ false) × (b ≡ false)
-neither true b e = absurd (true≢false e)
-neither false b e = (refl, e)
+neither a b e = grind arith
 
 module _ {O K : Type 0} (key_of : O → K) (order : K → K → Ordering) (same : O → O → Bool) (total : IsTotalOrder order) where
   -- each key is smaller than those behind it
@@ -94,10 +69,7 @@ module _ {O K : Type 0} (key_of : O → K) (order : K → K → Ordering) (same 
       ]
 
   rises-put : (key : K) (keys : List K) → Rises keys → Rises (put_key key_of order same key keys)
-  rises-put key keys up = elim (cases_Bool (list_any (λ other. is_eq (order key other)) keys)) [
-    | inl known ↦ rw known up
-    | inr new ↦ rw new (rises_placed key keys new up)
-  ]
+  rises-put key keys up = grind (arith, is_eq, rises_placed)
 
   pub rises-puts : (offers : List O) (keys : List K) → Rises keys → Rises (put_keys key_of order same offers keys)
   rises-puts [] keys up = up
@@ -140,8 +112,7 @@ module _ {O K : Type 0} (key_of : O → K) (order : K → K → Ordering) (same 
   -- ---- how many changes there are
 
   pub alike : ((o : O) → same o o ≡ true) → (o : Option O) → same_or_none key_of order same o o ≡ true
-  alike itself None = refl
-  alike itself (Some o) = itself o
+  alike itself o = grind arith
 
   -- where only keys of some offers have another offer after an event than before it, there are at most as many changes
   pub few_changes : ((o : O) → same o o ≡ true) → (before after some : List O)
@@ -157,10 +128,4 @@ module _ {O K : Type 0} (key_of : O → K) (order : K → K → Ordering) (same 
       )
     where
       known : (key : K) → differs key_of order same (change_at key_of order same before after key) ≡ true → is_key_of some key ≡ true
-      known key e = elim (cases_Bool (is_key_of some key)) [
-        | inl yea ↦ yea
-        | inr nay ↦
-            let stays = others key nay in
-            let unchanged = ap (λ o. not (same_or_none key_of order same (offer_of key_of order same key before) o)) stays in
-            absurd (true≢false (sym e ∙ unchanged ∙ ap not (alike itself (offer_of key_of order same key before))))
-      ]
+      known key e = grind arith

@@ -1,15 +1,13 @@
 -- Changes are advertised port by port: what is listed for a port, its one packet, and the room that it leaves.
-use Rattle.std.proofs.Common.{◌≡◌, refl, sym, ap, ◌∙◌, subst, ℕ, ◌+◌, ◌-◌, ◌*◌, ◌<◌, ◌≤◌, List, [], ◌∷◌, ◌++◌, length, map, take, get_or, max, arith, append-nil, append_assoc, length-append, Bool, true, ◌==◌, true≢false}
+use Rattle.std.proofs.Common.{◌≡◌, sym, ap, ◌∙◌, subst, ℕ, ◌+◌, ◌-◌, ◌*◌, ◌<◌, ◌≤◌, List, [], ◌∷◌, ◌++◌, length, map, take, get_or, arith, append-nil, append_assoc, length-append, Bool, true, ◌==◌}
 use Rattle.std.specs.List.{flat_map}
-use Rattle.std.proofs.Math.Nat.{mul-le-mul_left, mul-le-mul_right}
 use Rattle.std.proofs.lemmas.Bool.{ne_eqb}
-use Rattle.std.proofs.lemmas.Grind.{flat_map-append}
+use Rattle.std.proofs.lemmas.Grind.{flat_map-append, common_steps}
 use Rattle.std.proofs.lemmas.List.{take_more, map-append}
-use Rattle.ipx_wire.specs.Packet.{packet_of}
-use Rattle.ipx_router.specs.Bounds.{most_packets, most_length, route_sheets, service_sheets}
+use Rattle.ipx_router.specs.Bounds.{most_packets, most_length}
 use Rattle.ipx_router.specs.Changes.{Change, changes}
 use Rattle.ipx_router.specs.History.{Packet}
-use Rattle.ipx_router.specs.News.{same_route, same_service, route_told, service_told, news, news_services}
+use Rattle.ipx_router.specs.News.{same_route, same_service, route_told, service_told}
 use Rattle.ipx_router.specs.Numbers.{most_own_length}
 use Rattle.ipx_router.specs.Outbox.{Contents, HasRoom, Fits, Appends}
 use Rattle.ipx_router.specs.Pages.{pages_from, pages}
@@ -25,30 +23,23 @@ use Rattle.ipx_router.specs.declared.learning.touched.Touched.{Touched}
 use Rattle.ipx_router.proofs.bounds.PacketsOfEachEvent.{network_total, service_total}
 use Rattle.ipx_router.proofs.lists.CountOfPages.{room_left}
 use Rattle.ipx_router.proofs.sending.OneAfterAnother.{appends_then}
-use Rattle.ipx_router.proofs.bounds.LengthsOfWhatIsSent.{packet_length}
 use Rattle.ipx_router.proofs.telling.LawsOfTold.{no_route_news, no_service_news, route-same, service-same}
 use Rattle.ipx_router.proofs.changes.TouchedGivesAllChanges.{changes_touched}
 
 -- a list that was found empty
 pub no_items : {X : Type 0} (xs : List X) {empty : Bool} → empty ≡ (length xs == 0) → empty ≡ true → xs ≡ []
-no_items [] is found = refl
-no_items (x ∷ xs) is found = absurd (true≢false (sym found ∙ is ∙ ne_eqb (length (x ∷ xs)) 0 (λ none. omega (arith, none))))
+no_items xs is found = grind (arith, common_steps, ne_eqb)
 
 -- ---- a list, change by change
 
 -- one item more
 pub flat_map_more : {X Y : Type 0} (f : X → List Y) (xs : List X) (k : ℕ) (d : X) → k < length xs
     → flat_map f (take (k + 1) xs) ≡ flat_map f (take k xs) ++ f (get_or xs k d)
-flat_map_more f xs k d below =
-    ap (flat_map f) (take_more xs k d below) ∙ flat_map-append f (take k xs) (get_or xs k d ∷ []) ∙ ap (λ ys. flat_map f (take k xs) ++ ys) (append-nil (f (get_or xs k d)))
+flat_map_more f xs k d below = grind (arith, common_steps, take_more, flat_map-append, append-nil)
 
 pub map_more : {X Y Z : Type 0} (f : Y → List Z) (g : X → Y) (xs : List X) (k : ℕ) (d : X) (now next : List Z) → k < length xs
     → now ≡ flat_map f (map g (take k xs)) → next ≡ now ++ f (g (get_or xs k d)) → next ≡ flat_map f (map g (take (k + 1) xs))
-map_more f g xs k d now next below before step =
-    step ∙ ap (λ ys. ys ++ f (g (get_or xs k d))) before
-    ∙ ap (λ ys. flat_map f (map g (take k xs)) ++ ys) (sym (append-nil (f (g (get_or xs k d)))))
-    ∙ sym (ap (λ ys. flat_map f (map g ys)) (take_more xs k d below) ∙ ap (flat_map f) (map-append g (take k xs) (get_or xs k d ∷ []))
-    ∙ flat_map-append f (map g (take k xs)) (g (get_or xs k d) ∷ []))
+map_more f g xs k d now next below before step = grind (arith, common_steps, append-nil, take_more, map-append, flat_map-append)
 
 -- ---- one packet
 
@@ -61,30 +52,18 @@ short_from n page (x ∷ xs) few =
     ∙ ap (λ p. pages_from n p []) (append_assoc page (x ∷ []) xs)
 
 pub one_page : {X : Type 0} (n : ℕ) (xs : List X) → length xs ≤ n → 1 ≤ length xs → pages n xs ≡ xs ∷ []
-one_page n [] few some = absurd (omega (arith, some))
-one_page n (x ∷ xs) few some = short_from n [] (x ∷ xs) (omega (arith, few))
+one_page n xs few some = grind (arith, short_from)
 
 pub one_fits : (o : Contents) (packet : Sent) (most : ℕ) → HasRoom o 1 most → length packet.bytes ≤ most → Fits o (packet ∷ [])
-one_fits o packet most room short =
-    let places = room.places in
-    let spare = room.spare in
-    record { places = places; spare = omega (arith, spare, short) }
+one_fits o packet most room short = grind arith
 
 -- the room that a packet leaves
 pub one_left : {a b : Contents} (packet : Sent) (most : ℕ) → Appends a b (packet ∷ []) → length packet.bytes ≤ most
     → (packets bytes : ℕ) → HasRoom a (packets + 1) (bytes + most) → HasRoom b packets bytes
-one_left {a} {b} packet most appends short packets bytes room =
-    let places = room.places in
-    let spare = room.spare in
-    let taken = appends.places in
-    let used = appends.spare in
-    record { places = omega (arith, places, taken); spare = omega (arith, spare, used, short) }
+one_left {a} {b} packet most appends short packets bytes room = grind arith
 
 pub less_room : {o : Contents} (m n j k : ℕ) → HasRoom o n k → m ≤ n → j ≤ k → HasRoom o m j
-less_room m n j k room fewer shorter =
-    let places = room.places in
-    let spare = room.spare in
-    record { places = omega (arith, places, fewer); spare = omega (arith, spare, shorter) }
+less_room m n j k room fewer shorter = grind arith
 
 -- ---- port by port
 
@@ -99,9 +78,7 @@ room_next {o} n k most below room =
     one_more m = omega arith
 
 pub room_one : {o : Contents} (n k most : ℕ) → k < n → HasRoom o (n - k) ((n - k) * most) → HasRoom o 1 most
-room_one n k most below room =
-    let next = room_next n k most below room in
-    less_room 1 ((n - (k + 1)) + 1) most ((n - (k + 1)) * most + most) next (omega arith) (omega arith)
+room_one n k most below room = grind arith
 
 pub sent_next : {a b c : Contents} (f : ℕ → List Sent) (up : List ℕ) (k d : ℕ) → k < length up → Appends a b (flat_map f (take k up))
     → Appends b c (f (get_or up k d)) → Appends a c (flat_map f (take (k + 1) up))
@@ -111,29 +88,19 @@ sent_next {a} {b} {c} f up k d below before step =
 -- ---- news of one table alone
 
 each_same : {X Y : Type 0} (f g : X → List Y) → ((x : X) → f x ≡ g x) → (xs : List X) → flat_map f xs ≡ flat_map g xs
-each_same f g same [] = refl
-each_same f g same (x ∷ xs) = ap (λ ys. ys ++ flat_map f xs) (same x) ∙ ap (λ ys. g x ++ ys) (each_same f g same xs)
+each_same f g same xs = grind arith
 
 module _ (ports : List Port) (up : List ℕ) (before after : List RouteOffer) (services : List ServiceOffer) where
   pub route_news : (changed : List (Change RouteOffer)) → changed ≡ changes (λ r. r.network) network_order same_route before after
       → flat_map (λ j. rip_broadcast ports j (flat_map (route_told ports j) changed)) up
       ≡ flat_map (news_on ports (record { up = up; routes = before; services = services }) (record { up = up; routes = after; services = services })) up
-  route_news changed is =
-      each_same (λ j. rip_broadcast ports j (flat_map (route_told ports j) changed))
-      (news_on ports (record { up = up; routes = before; services = services }) (record { up = up; routes = after; services = services }))
-      (λ j. ap (λ cs. rip_broadcast ports j (flat_map (route_told ports j) cs)) is
-      ∙ sym (append-nil (rip_broadcast ports j (news ports before after j)))
-      ∙ ap (λ ss. rip_broadcast ports j (news ports before after j) ++ sap_broadcast ports j ss) (sym (no_service_news services j))) up
+  route_news changed is = grind (arith, each_same, append-nil, no_service_news)
 
 module _ (ports : List Port) (up : List ℕ) (routes : List RouteOffer) (before after : List ServiceOffer) where
   pub service_news : (changed : List (Change ServiceOffer)) → changed ≡ changes (λ s. (s.service.kind, s.service.name)) service_order same_service before after
       → flat_map (λ j. sap_broadcast ports j (flat_map (service_told j) changed)) up
       ≡ flat_map (news_on ports (record { up = up; routes = routes; services = before }) (record { up = up; routes = routes; services = after })) up
-  service_news changed is =
-      each_same (λ j. sap_broadcast ports j (flat_map (service_told j) changed))
-      (news_on ports (record { up = up; routes = routes; services = before }) (record { up = up; routes = routes; services = after }))
-      (λ j. ap (λ cs. sap_broadcast ports j (flat_map (service_told j) cs)) is
-      ∙ ap (λ es. rip_broadcast ports j es ++ sap_broadcast ports j (news_services before after j)) (sym (no_route_news ports routes j))) up
+  service_news changed is = grind (arith, each_same, no_route_news)
 
 -- ---- nothing was touched
 
@@ -152,18 +119,8 @@ no_service_change before after touched none touches =
 
 -- ---- the room that a packet's event has
 
-below_max : (a b c : ℕ) → a ≤ b → a ≤ max b c
-below_max a b c below = omega (arith, below)
-
 -- it is enough for one packet a port
 pub learn_room : {o : Contents} (ports routes services number : ℕ) (bytes : List ℕ) (up : List ℕ) → length up ≤ ports
     → HasRoom o (most_packets ports routes services (Packet number bytes)) (most_packets ports routes services (Packet number bytes) * most_length (Packet number bytes))
     → HasRoom o (length up) (length up * most_own_length)
-learn_room ports routes services number bytes up few room =
-    let packets = most_packets ports routes services (Packet number bytes) in
-    let longest = most_length (Packet number bytes) in
-    let fewer = below_max (length up) ports (max (route_sheets ports routes) (service_sheets services)) few in
-    let each : most_own_length ≤ longest = packet_length (packet_of bytes) in
-    let by_number : length up * most_own_length ≤ packets * most_own_length = mul-le-mul_right most_own_length fewer in
-    let by_length : packets * most_own_length ≤ packets * longest = mul-le-mul_left packets each in
-    less_room (length up) packets (length up * most_own_length) (packets * longest) room fewer (omega (arith, by_number, by_length))
+learn_room ports routes services number bytes up few room = grind arith

@@ -1,5 +1,5 @@
 -- A key that was touched before, touched again: what it has now is written in its place.
-use Rattle.std.proofs.Common.{◌≡◌, refl, sym, ap, ◌∙◌, ℕ, zero, suc, ◌<◌, Bool, true, false, ◌||◌, List, [], ◌∷◌, length, get_or, set, Option, inl, inr, arith, true≢false, Ordering, Less, Equal, Greater, is_eq, is_lt}
+use Rattle.std.proofs.Common.{◌≡◌, refl, sym, ap, ◌∙◌, ℕ, zero, suc, ◌<◌, Bool, true, false, ◌||◌, List, [], ◌∷◌, length, get_or, set, Option, inl, inr, arith, true≢false, Ordering, Equal, is_eq, is_lt}
 use Rattle.std.specs.List.{AllByRecursion, list_any}
 use Rattle.std.specs.Cmp.{IsTotalOrder}
 use Rattle.std.specs.Ordering.{ordering_reverse}
@@ -34,14 +34,10 @@ module _ {O K : Type 0} (key_of : O → K) (order : K → K → Ordering) (total
       )
 
   less_apart : (r : Ordering) → is_lt r ≡ true → is_eq r ≡ false
-  less_apart Less e = refl
-  less_apart Equal e = absurd (true≢false (sym e))
-  less_apart Greater e = absurd (true≢false (sym e))
+  less_apart r e = grind arith
 
   reversed_apart : (r : Ordering) → is_lt r ≡ true → is_eq (ordering_reverse r) ≡ false
-  reversed_apart Less e = refl
-  reversed_apart Equal e = absurd (true≢false (sym e))
-  reversed_apart Greater e = absurd (true≢false (sym e))
+  reversed_apart r e = grind arith
 
   -- keys behind one that equals a key are other keys, and so are those before it
   behind : (a key b : K) → order a key ≡ Equal → is_lt (order a b) ≡ true → is_eq (order key b) ≡ false

@@ -1,10 +1,10 @@
 -- Noting what was touched of a table: nothing at first, one key more in its place, and after an offer of a key that was noted.
-use Rattle.std.proofs.Common.{◌≡◌, refl, sym, ap, ◌∙◌, ℕ, zero, suc, ◌+◌, ◌-◌, ◌<◌, ◌≤◌, Bool, true, false, ◌||◌, List, [], ◌∷◌, length, get_or, insert, inl, inr, arith, true≢false, Ordering, Less, Equal, Greater, is_eq, is_lt, option_map, subst, Result, Ok, Err, IfOk, IfErr}
+use Rattle.std.proofs.lemmas.Grind.{common_steps}
+use Rattle.std.proofs.Common.{◌≡◌, refl, sym, ap, ◌∙◌, ℕ, zero, suc, ◌+◌, ◌-◌, ◌<◌, ◌≤◌, Bool, true, false, ◌||◌, List, [], ◌∷◌, length, get_or, insert, arith, true≢false, Ordering, Less, Equal, Greater, is_eq, is_lt, option_map, subst, Result, IfOk, IfErr}
 use Rattle.std.specs.List.{AllByRecursion, list_any}
 use Rattle.std.specs.List.Sorted.{IsNonDecreasingBy, IsBinarySearchResult, IsSearchInRange}
 use Rattle.std.specs.Ordering.{ordering_index, ordering_reverse}
 use Rattle.std.specs.Cmp.{IsTotalOrder}
-use Rattle.std.proofs.lemmas.Bool.{cases_Bool}
 use Rattle.std.proofs.lemmas.List.Sorted.{IsPermutation-insert, list_any-IsPermutation, searchable_from_sorted}
 use Rattle.ipx_table.specs.Stands.{Ascends, record_of}
 use Rattle.ipx_table.specs.declared.held.Held.{Held}
@@ -15,15 +15,13 @@ use Rattle.ipx_router.specs.declared.learning.touched.Touched.{Touched}
 use Rattle.ipx_router.proofs.changes.DiffersByOneFact.{found}
 use Rattle.ipx_router.proofs.lists.EachElement.{all_both, all_then}
 use Rattle.ipx_router.proofs.changes.KeysThatDiffer.{is_less, neither}
-use Rattle.ipx_router.proofs.lists.KeysInLists.{alike_right, eq_sym}
+use Rattle.ipx_router.proofs.lists.KeysInLists.{eq_sym}
 
 any-insert : {X : Type 0} (p : X → Bool) (xs : List X) (at : ℕ) (x : X) → list_any p (insert xs at x) ≡ (p x || list_any p xs)
 any-insert p xs at x = sym (list_any-IsPermutation p (x ∷ xs) (insert xs at x) (IsPermutation-insert xs at x))
 
 pub all_at : {X : Type 0} (P : X → Type 0) (xs : List X) (k : ℕ) (d : X) → k < length xs → AllByRecursion P xs → P (get_or xs k d)
-all_at P [] k d within all = absurd (omega (arith, within))
-all_at P (x ∷ xs) zero d within all = all.0
-all_at P (x ∷ xs) (suc k) d within all = all_at P xs k d (omega (arith, within)) all.1
+all_at P xs k d within all = grind (arith, common_steps)
 
 module _ {O K : Type 0} (key_of : O → K) (order : K → K → Ordering) (total : IsTotalOrder order) where
   abbrev pub by_key : Touched O → Touched O → Ordering
@@ -86,16 +84,12 @@ module _ {O K : Type 0} (key_of : O → K) (order : K → K → Ordering) (total
   pub held_key : (key : K) (all : List (Touched O)) (r : Result ℕ ℕ) → IsSearchInRange r (length all)
       → IsBinarySearchResult (λ t. order (key_of t.offer) key) all r
       → IfOk r (λ place. (place < length all) × ((d : Touched O) → order (key_of (get_or all place d).offer) key ≡ Equal))
-  held_key key all (Ok at) within equal = (within, λ d. equal d)
-  held_key key all (Err at) within parted = tt
+  held_key key all r within equal = grind arith
 
   gap_of : (t : Touched O) (all : List (Touched O)) → Ascends by_key all → (r : Result ℕ ℕ) → IsSearchInRange r (length all)
       → IsBinarySearchResult (λ u. order (key_of u.offer) (key_of t.offer)) all r
       → IfErr r (λ place. Ascends by_key (insert all place t) × (is_touched key_of order (key_of t.offer) all ≡ false))
-  gap_of t all up (Ok at) within equal = tt
-  gap_of t all up (Err at) within parted =
-      let both = parted (searchable all up (key_of t.offer)) in
-      gap t all at within up (λ j below. both.0 j t (omega arith) below) (λ j from inside. both.1 j t from inside)
+  gap_of t all up r within equal = grind (arith, searchable, gap)
 
   pub gap_found : (key : K) (t : Touched O) → key_of t.offer ≡ key → (all : List (Touched O)) → Ascends by_key all → (r : Result ℕ ℕ) → IsSearchInRange r (length all)
       → IsBinarySearchResult (λ u. order (key_of u.offer) key) all r
@@ -110,10 +104,7 @@ module _ {O K : Type 0} (key_of : O → K) (order : K → K → Ordering) (total
   below_last t [] k e up last j within = absurd (omega (arith, within))
   below_last t (a ∷ all) zero e up last zero within = last
   below_last t (a ∷ all) zero e up last (suc j) within = absurd (omega (arith, e, within))
-  below_last t (a ∷ all) (suc k) e up last zero within =
-      let inside : k < length all = omega (arith, e) in
-      total.trans (key_of a.offer) (key_of (get_or all k t).offer) (key_of t.offer)
-      (is_less (by_key a (get_or all k t)) (all_at (λ u. is_lt (by_key a u) ≡ true) all k t inside up.0)) last
+  below_last t (a ∷ all) (suc k) e up last zero within = grind (arith, is_less, all_at, is_lt)
   below_last t (a ∷ all) (suc k) e up last (suc j) within = below_last t all k (omega (arith, e)) up.1 last j (omega (arith, within))
 
   pub gap_behind : (t : Touched O) (key : K) → key_of t.offer ≡ key → (all : List (Touched O)) (at : ℕ) → at ≡ length all → Ascends by_key all
@@ -135,18 +126,11 @@ module _ {O K : Type 0} (key_of : O → K) (order : K → K → Ordering) (total
   -- where the records of other keys stay, their offers stay
   pub offers_stay : (old new : List (Held O)) (key : K) → record_of key_of order key new ≡ record_of key_of order key old
       → offer_at key_of order key (offers new) ≡ offer_at key_of order key (offers old)
-  offers_stay old new key stays =
-      found (λ o. is_eq (order (key_of o) key)) new ∙ ap (option_map (λ h. h.offer)) stays ∙ sym (found (λ o. is_eq (order (key_of o) key)) old)
+  offers_stay old new key stays = grind (arith, found, is_eq, option_map)
 
   -- equal keys have the same offer
   pub offer_alike : (a b : K) → is_eq (order a b) ≡ true → (some : List O) → offer_at key_of order a some ≡ offer_at key_of order b some
-  offer_alike a b e [] = refl
-  offer_alike a b e (o ∷ some) =
-      let here = ap is_eq (alike_right order total a b (key_of o) e) in
-      elim (cases_Bool (is_eq (order (key_of o) b))) [
-        | inl f ↦ let one = here ∙ f in rw (one, f) refl
-        | inr f ↦ let other = here ∙ f in rw (other, f) (offer_alike a b e some)
-      ]
+  offer_alike a b e some = grind arith
 
   -- only a key and its equals have another offer
   abbrev pub OthersStay : K → List O → List O → Type 0
@@ -155,20 +139,11 @@ module _ {O K : Type 0} (key_of : O → K) (order : K → K → Ordering) (total
   -- where its key has what it had, every key has
   pub all_stay : (changed : K) (now new : List O) → OthersStay changed now new → offer_at key_of order changed now ≡ offer_at key_of order changed new
       → (key : K) → offer_at key_of order key new ≡ offer_at key_of order key now
-  all_stay changed now new stay same key = elim (cases_Bool (is_eq (order changed key))) [
-    | inl e ↦ sym (offer_alike changed key e new) ∙ sym same ∙ offer_alike changed key e now
-    | inr other ↦ stay key other
-  ]
+  all_stay changed now new stay same key = grind arith
 
   pub touches_same : (before now new : List O) (all : List (Touched O)) → ((key : K) → offer_at key_of order key new ≡ offer_at key_of order key now)
       → Touches key_of order before now all → Touches key_of order before new all
-  touches_same before now new all stay old = record {
-    by_key = old.by_key;
-    recorded = old.recorded;
-    current = all_then (λ u. u.after ≡ offer_at key_of order (key_of u.offer) now) (λ u. u.after ≡ offer_at key_of order (key_of u.offer) new)
-        (λ u e. e ∙ sym (stay (key_of u.offer))) all old.current;
-    others = λ key none. stay key ∙ old.others key none;
-  }
+  touches_same before now new all stay old = grind (arith, all_then)
 
   -- ---- one key more
 

@@ -1,5 +1,5 @@
 -- A record that is renewed in its place stands for the offer that came once more.
-use Rattle.std.proofs.Common.{◌≡◌, sym, ap, ◌∙◌, subst, ℕ, zero, suc, List, [], ◌∷◌, ◌++◌, Option, None, Some, is_some, true≢false, refl, ◌<◌, length, arith, Ordering}
+use Rattle.std.proofs.Common.{◌≡◌, sym, ap, ℕ, zero, suc, List, [], ◌∷◌, ◌++◌, Option, None, Some, is_some, true≢false, refl, ◌<◌, length, arith, Ordering}
 use Rattle.std.specs.List.{slice_get}
 use Rattle.ipx_table.specs.Facts.{Fact, Offered}
 use Rattle.ipx_table.specs.Reading.{Rules}
@@ -29,6 +29,4 @@ pub renewed_as : {O : Type 0} (rules : Rules O) (old new : List (Held O)) (place
     → slice_get (offers old) place ≡ Some known → says ≡ Offered known ∷ []
     → ((h : Held O) → slice_get old place ≡ Some h → (facts : List (Fact O)) → Stands rules old facts → Stands rules new (facts ++ Offered h.offer ∷ []))
     → (facts : List (Fact O)) → Stands rules old facts → Stands rules new (facts ++ says)
-renewed_as {O} rules old new place known says at means step facts stands =
-    let (h, here, same) = record_at old place known at in
-    subst (λ (fs : List (Fact O)). Stands rules new (facts ++ fs)) (ap (λ (o : O). Offered o ∷ []) same ∙ sym means) (step h here facts stands)
+renewed_as {O} rules old new place known says at means step facts stands = grind (arith, record_at)

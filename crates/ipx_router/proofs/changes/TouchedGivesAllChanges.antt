@@ -1,5 +1,6 @@
 -- What was touched of a table: with one key more, after an offer of a touched key, and that comparing it gives all changes.
-use Rattle.std.proofs.Common.{◌≡◌, refl, sym, ap, ◌∙◌, Bool, true, false, not, ◌||◌, ◌&&◌, List, [], ◌∷◌, map, filter, Option, None, Some, inl, inr, true≢false, Ordering, is_eq, is_lt}
+use Rattle.std.proofs.Common.{arith}
+use Rattle.std.proofs.Common.{◌≡◌, refl, sym, ap, ◌∙◌, Bool, true, false, not, ◌||◌, ◌&&◌, List, [], ◌∷◌, map, filter, Option, None, inl, inr, true≢false, Ordering, is_eq, is_lt}
 use Rattle.std.specs.List.{AllByRecursion, list_any}
 use Rattle.std.specs.Cmp.{IsTotalOrder}
 use Rattle.std.proofs.lemmas.Bool.{cases_Bool}
@@ -14,21 +15,14 @@ use Rattle.ipx_router.proofs.lists.KeysInLists.{any_same, any-put, eq_sym, alike
 
 pub filter-of_map : {X Y : Type 0} (p : Y → Bool) (f : X → Y) (xs : List X) → filter p (map f xs) ≡ map f (filter (λ x. p (f x)) xs)
 filter-of_map p f [] = refl
-filter-of_map p f (x ∷ xs) = elim (cases_Bool (p (f x))) [
-  | inl e ↦ rw e (ap (λ ys. f x ∷ ys) (filter-of_map p f xs))
-  | inr e ↦ rw e (filter-of_map p f xs)
-]
+filter-of_map p f (x ∷ xs) = grind (arith, filter-of_map p f xs)
 
 all_of : {X : Type 0} (P : X → Type 0) → ((x : X) → P x) → (xs : List X) → AllByRecursion P xs
 all_of P each [] = tt
 all_of P each (x ∷ xs) = (each x, all_of P each xs)
 
 filter_same : {X : Type 0} (p q : X → Bool) → ((x : X) → p x ≡ q x) → (xs : List X) → filter p xs ≡ filter q xs
-filter_same p q each [] = refl
-filter_same p q each (x ∷ xs) = let e = each x in elim (cases_Bool (q x)) [
-  | inl f ↦ let g = e ∙ f in rw (g, f) (ap (λ ys. x ∷ ys) (filter_same p q each xs))
-  | inr f ↦ let g = e ∙ f in rw (g, f) (filter_same p q each xs)
-]
+filter_same p q each xs = grind arith
 
 -- two comparisons that agree find the same changes
 pub changes_alike : {O K : Type 0} (key_of : O → K) (order : K → K → Ordering) (eq same : O → O → Bool) → ((a b : O) → eq a b ≡ same a b)
@@ -38,10 +32,7 @@ changes_alike {O} key_of order eq same agree before now =
     (map (change_at key_of order eq before now) (put_keys key_of order eq before (put_keys key_of order eq now [])))
   where
     alike_differ : (a b : Option O) → not (same_or_none key_of order eq a b) ≡ not (same_or_none key_of order same a b)
-    alike_differ None None = refl
-    alike_differ None (Some b) = refl
-    alike_differ (Some a) None = refl
-    alike_differ (Some a) (Some b) = ap not (agree a b)
+    alike_differ a b = grind arith
 
 module _ {O K : Type 0} (key_of : O → K) (order : K → K → Ordering) (same : O → O → Bool) (total : IsTotalOrder order) where
   abbrev is_known : K → List K → Bool
@@ -51,8 +42,7 @@ module _ {O K : Type 0} (key_of : O → K) (order : K → K → Ordering) (same 
   keys_of all = map (touched_key key_of order) all
 
   rises-ascends : (keys : List K) → Rises key_of order same total keys → Ascends order keys
-  rises-ascends [] up = tt
-  rises-ascends (key ∷ keys) up = (up.0, rises-ascends keys up.1)
+  rises-ascends keys up = grind arith
 
   ascends_keys : (all : List (Touched O)) → Ascends (λ a b. order (key_of a.offer) (key_of b.offer)) all → Ascends order (keys_of all)
   ascends_keys [] up = tt
@@ -108,31 +98,16 @@ module _ {O K : Type 0} (key_of : O → K) (order : K → K → Ordering) (same 
     all_keys = put_keys key_of order same before (put_keys key_of order same now [])
 
     at_alike : (a b : K) → is_eq (order a b) ≡ true → at a ≡ at b
-    at_alike a b e =
-        ap (λ o. record { before = o; after = offer_of key_of order same a now }) (offer_alike key_of order total a b e before)
-        ∙ ap (λ o. record { before = offer_of key_of order same b before; after = o }) (offer_alike key_of order total a b e now)
+    at_alike a b e = grind (arith, offer_alike)
 
     -- what changed is the key of an offer
     known_changed : (key : K) → is_changed key ≡ true → is_known key all_keys ≡ true
-    known_changed key e = elim (cases_Bool (is_known key all_keys)) [
-      | inl here ↦ here
-      | inr none ↦
-          let old = not_offered key before (put_keys key_of order same now []) none in
-          let new = not_offered key now [] old.1 in
-          let a = old.0 in
-          let b = new.0 in
-          absurd (true≢false (sym e ∙ (rw (a, b) refl)))
-    ]
+    known_changed key e = grind (arith, not_offered)
 
     module _ (itself : (o : O) → same o o ≡ true) (all : List (Touched O)) (touches : Touches key_of order before now all) where
       -- and was touched
       touched_changed : (key : K) → is_changed key ≡ true → is_known key (keys_of all) ≡ true
-      touched_changed key e = elim (cases_Bool (is_touched key_of order key all)) [
-        | inl here ↦ any_key key all ∙ here
-        | inr none ↦
-            let unchanged = ap (λ o. not (same_or_none key_of order same (offer_of key_of order same key before) o)) (touches.others key none) in
-            absurd (true≢false (sym e ∙ unchanged ∙ ap not (alike key_of order same total itself (offer_of key_of order same key before))))
-      ]
+      touched_changed key e = grind (arith, any_key, alike)
 
       passed_in : (keys others : List K) → ((key : K) → is_changed key ≡ true → is_known key others ≡ true)
           → AllByRecursion (λ key. is_known key (filter is_changed others) ≡ true) (filter is_changed keys)
@@ -145,10 +120,7 @@ module _ {O K : Type 0} (key_of : O → K) (order : K → K → Ordering) (same 
       since : (ts : List (Touched O)) → AllByRecursion (λ t. t.before ≡ offer_of key_of order same (key_of t.offer) before) ts
           → AllByRecursion (λ t. t.after ≡ offer_of key_of order same (key_of t.offer) now) ts → map change_of ts ≡ map at (keys_of ts)
       since [] recorded current = refl
-      since (t ∷ ts) recorded current =
-          ap (λ o. record { before = o; after = t.after } ∷ map change_of ts) recorded.0
-          ∙ ap (λ o. record { before = offer_of key_of order same (key_of t.offer) before; after = o } ∷ map change_of ts) current.0
-          ∙ ap (λ cs. at (key_of t.offer) ∷ cs) (since ts recorded.1 current.1)
+      since (t ∷ ts) recorded current = grind (arith, since ts recorded.1 current.1)
 
       -- comparing what was touched gives all that changed
       pub changes_touched : changes_noted key_of order same all ≡ changes key_of order same before now
@@ -166,17 +138,7 @@ module _ {O K : Type 0} (key_of : O → K) (order : K → K → Ordering) (same 
 -- ---- tests of several fields, one after the other
 
 pub one_by_one : (a b c d e : Bool) → (a && (b && (c && (d && e)))) ≡ (a && b && c && d && e)
-one_by_one false b c d e = refl
-one_by_one true false c d e = refl
-one_by_one true true false d e = refl
-one_by_one true true true false e = refl
-one_by_one true true true true e = refl
+one_by_one a b c d e = grind arith
 
 pub field_by_field : (k n e f g h p q : Bool) → ((k && (n && ((e && (f && g)) && h))) && (p && q)) ≡ (k && n && (e && f && g) && h && p && q)
-field_by_field false n e f g h p q = refl
-field_by_field true false e f g h p q = refl
-field_by_field true true false f g h p q = refl
-field_by_field true true true false g h p q = refl
-field_by_field true true true true false h p q = refl
-field_by_field true true true true true false p q = refl
-field_by_field true true true true true true p q = refl
+field_by_field k n e f g h p q = grind arith

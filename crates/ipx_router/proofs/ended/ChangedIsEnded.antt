@@ -1,15 +1,17 @@
 -- Where the records ascend by their keys, what changed with a second, or with a port that goes down, is what ended.
-use Rattle.std.proofs.Common.{◌≡◌, refl, sym, ap, subst, if◌then◌else◌, ◌∙◌, ℕ, ◌==◌, Bool, true, false, not, List, [], ◌∷◌, ◌++◌, map, filter, None, inl, inr, Ordering, Less, Equal, Greater, is_eq, is_lt, true≢false}
+use Rattle.std.proofs.Common.{arith}
+use Rattle.std.proofs.Common.{rules}
+use Rattle.std.proofs.Common.{◌≡◌, refl, sym, ap, subst, if◌then◌else◌, ◌∙◌, ℕ, ◌==◌, Bool, true, false, not, List, [], ◌∷◌, ◌++◌, map, filter, None, inl, inr, Ordering, Equal, is_eq, is_lt}
 use Rattle.std.specs.List.{AllByRecursion, list_any, flat_map}
 use Rattle.std.specs.Ordering.{ordering_reverse}
 use Rattle.std.specs.Cmp.{IsTotalOrder}
 use Rattle.std.proofs.lemmas.Bool.{cases_Bool}
-use Rattle.ipx_table.specs.Stands.{IsAscending, older, is_last, second_later, ended, without_port, ended_with_port}
+use Rattle.ipx_table.specs.Stands.{IsAscending, older, second_later, ended, without_port, ended_with_port}
 use Rattle.ipx_table.specs.declared.held.Held.{Held}
 use Rattle.ipx_router.specs.Changes.{offer_of, put_key, put_keys, change_at, differs, changes}
 use Rattle.ipx_router.specs.inside.Ended.{gone, ended_on, service_ended_on}
 use Rattle.ipx_router.specs.Facts.{offers}
-use Rattle.ipx_router.specs.News.{same_route, same_service, route_told, service_told, news, news_services}
+use Rattle.ipx_router.specs.News.{route_told, service_told, news, news_services}
 use Rattle.ipx_router.specs.Port.{Port}
 use Rattle.ipx_router.specs.Routes.{network_order}
 use Rattle.ipx_router.specs.Services.{service_order}
@@ -22,13 +24,8 @@ use Rattle.ipx_router.proofs.telling.LawsOfTold.{route-same, service-same}
 
 -- ---- the three answers
 
-turned : (r s : Ordering) → r ≡ ordering_reverse s → is_lt s ≡ true → r ≡ Greater
-turned r s e l = e ∙ ap ordering_reverse (is_less s l)
-
 self_turned : (r : Ordering) → r ≡ ordering_reverse r → r ≡ Equal
-self_turned Less e = absurd (true≢false (ap is_lt e))
-self_turned Equal e = refl
-self_turned Greater e = absurd (true≢false (sym (ap is_lt e)))
+self_turned r e = grind arith
 
 -- ---- keys that are known rise as the offers do
 
@@ -46,9 +43,6 @@ module _ {O K : Type 0} (key_of : O → K) (order : K → K → Ordering) (same 
   apart : (a b : K) → is_lt (order a b) ≡ true → is_eq (order a b) ≡ false
   apart a b l = ap is_eq (is_less (order a b) l)
 
-  above : (a b : K) → is_lt (order a b) ≡ true → order b a ≡ Greater
-  above a b l = turned (order b a) (order a b) (total.antisymm b a) l
-
   as_itself : (a : K) → is_eq (order a a) ≡ true
   as_itself a = ap is_eq (self_turned (order a a) (total.antisymm a a))
 
@@ -59,11 +53,7 @@ module _ {O K : Type 0} (key_of : O → K) (order : K → K → Ordering) (same 
   -- a smaller key goes in front
   in_front : (key : K) (keys : List K) → IsBelow key keys → put_key key_of order same key keys ≡ key ∷ keys
   in_front key [] below = refl
-  in_front key (other ∷ keys) below =
-      let e = apart key other below.0 in
-      let none = unknown key keys below.1 in
-      let l = below.0 in
-      rw (e, none, l) refl
+  in_front key (other ∷ keys) below = grind (arith, apart, unknown)
 
   -- it is known there
   again : (key : K) (keys : List K) → put_key key_of order same key (key ∷ keys) ≡ key ∷ keys
@@ -72,30 +62,19 @@ module _ {O K : Type 0} (key_of : O → K) (order : K → K → Ordering) (same 
   -- a greater key goes behind it
   behind : (key first : K) (keys : List K) → is_lt (order first key) ≡ true
       → put_key key_of order same key (first ∷ keys) ≡ first ∷ put_key key_of order same key keys
-  behind key first keys l =
-      let g = above first key l in
-      elim (cases_Bool (list_any (λ other. is_eq (order key other)) keys)) [
-        | inl known ↦ rw (g, known) refl
-        | inr new ↦ rw (g, new) refl
-      ]
+  behind key first keys l = grind arith
 
   all_behind : (first : K) (xs : List O) (keys : List K) → IsBelow first (map key_of xs)
       → put_keys key_of order same xs (first ∷ keys) ≡ first ∷ put_keys key_of order same xs keys
   all_behind first [] keys below = refl
-  all_behind first (x ∷ xs) keys below =
-      ap (put_key key_of order same (key_of x)) (all_behind first xs keys below.1)
-      ∙ behind (key_of x) first (put_keys key_of order same xs keys) below.0
+  all_behind first (x ∷ xs) keys below = grind (arith, all_behind first xs keys below.1)
 
   below_one : (first key : K) (keys : List K) → is_lt (order first key) ≡ true → IsBelow first keys → IsBelow first (put_key key_of order same key keys)
-  below_one first key keys l below = elim (cases_Bool (list_any (λ other. is_eq (order key other)) keys)) [
-    | inl known ↦ rw known below
-    | inr new ↦ rw new (all_placed (λ other. is_lt (order first other) ≡ true) (λ a b. is_lt (order a b)) key keys l below)
-  ]
+  below_one first key keys l below = grind (arith, is_eq, all_placed, is_lt)
 
   below_all : (first : K) (xs : List O) (keys : List K) → IsBelow first (map key_of xs) → IsBelow first keys → IsBelow first (put_keys key_of order same xs keys)
   below_all first [] keys below more = more
-  below_all first (x ∷ xs) keys below more =
-      below_one first (key_of x) (put_keys key_of order same xs keys) below.0 (below_all first xs keys below.1 more)
+  below_all first (x ∷ xs) keys below more = grind (arith, below_all first xs keys below.1 more, below_one)
 
   -- ---- what differs
 
@@ -105,40 +84,26 @@ module _ {O K : Type 0} (key_of : O → K) (order : K → K → Ordering) (same 
 
   none_found : (key : K) (xs : List O) → IsBelow key (map key_of xs) → offer_of key_of order same key xs ≡ None
   none_found key [] below = refl
-  none_found key (x ∷ xs) below =
-      let g = above key (key_of x) below.0 in
-      rw g (none_found key xs below.1)
+  none_found key (x ∷ xs) below = grind (arith, none_found key xs below.1)
 
   -- behind the first offer no key finds it
   found_without : (o : O) (xs ys zs : List O) (keys : List K) → ((key : K) → is_lt (order (key_of o) key) ≡ true → offer_of key_of order same key zs ≡ offer_of key_of order same key ys)
       → IsBelow (key_of o) keys
       → map (change_at key_of order same (o ∷ xs) zs) keys ≡ map (change_at key_of order same xs ys) keys
   found_without o xs ys zs [] alike below = refl
-  found_without o xs ys zs (key ∷ keys) alike below =
-      let here : change_at key_of order same (o ∷ xs) zs key ≡ change_at key_of order same xs ys key =
-      ap (λ b. record { before = b; after = offer_of key_of order same key zs }) (found_behind o xs key below.0)
-      ∙ ap (λ a. record { before = offer_of key_of order same key xs; after = a }) (alike key below.0) in
-      ap (λ c. c ∷ map (change_at key_of order same (o ∷ xs) zs) keys) here
-      ∙ ap (λ cs. change_at key_of order same xs ys key ∷ cs) (found_without o xs ys zs keys alike below.1)
+  found_without o xs ys zs (key ∷ keys) alike below = grind (arith, found_without o xs ys zs keys alike below.1)
 
   -- the first offer ends
   first_gone : (o : O) (xs ys : List O) (keys : List K) → offer_of key_of order same (key_of o) ys ≡ None → IsBelow (key_of o) keys
       → filter (differs key_of order same) (map (change_at key_of order same (o ∷ xs) ys) (key_of o ∷ keys))
       ≡ gone o ∷ filter (differs key_of order same) (map (change_at key_of order same xs ys) keys)
-  first_gone o xs ys keys none below =
-      let e = as_itself (key_of o) in
-      let rest = found_without o xs ys ys keys (λ key l. refl) below in
-      rw (e, none, rest) refl
+  first_gone o xs ys keys none below = grind (arith, as_itself, found_without)
 
   -- the first offer stays
   first_stays : (o : O) (xs ys : List O) (keys : List K) → IsBelow (key_of o) keys
       → filter (differs key_of order same) (map (change_at key_of order same (o ∷ xs) (o ∷ ys)) (key_of o ∷ keys))
       ≡ filter (differs key_of order same) (map (change_at key_of order same xs ys) keys)
-  first_stays o xs ys keys below =
-      let e = as_itself (key_of o) in
-      let s = itself o in
-      let rest = found_without o xs ys (o ∷ ys) keys (λ key l. found_behind o ys key l) below in
-      rw (e, s, rest) refl
+  first_stays o xs ys keys below = grind (arith, as_itself, found_without, found_behind)
 
   -- ---- some records end, and the others stay
 
@@ -156,10 +121,7 @@ module _ {O K : Type 0} (key_of : O → K) (order : K → K → Ordering) (same 
 
     below_stay : (first : K) (records : List (Held O)) → IsBelow first (map key_of (offers records)) → IsBelow first (map key_of (offers (filter stays records)))
     below_stay first [] below = tt
-    below_stay first (h ∷ records) below = elim (cases_Bool (goes h)) [
-      | inl e ↦ rw e (below_stay first records below.1)
-      | inr e ↦ rw e (below.0, below_stay first records below.1)
-    ]
+    below_stay first (h ∷ records) below = grind (arith, below_stay first records below.1)
 
     -- the keys of all are those that there were
     same_keys : (records : List (Held O)) → Rises (offers records)
@@ -187,13 +149,11 @@ module _ {O K : Type 0} (key_of : O → K) (order : K → K → Ordering) (same 
 
     staying : (h : Held O) (records : List (Held O)) (b : Bool) → goes h ≡ b
         → filter stays (h ∷ records) ≡ (if b then filter stays records else h ∷ filter stays records)
-    staying h records true e = rw e refl
-    staying h records false e = rw e refl
+    staying h records b e = grind arith
 
     going : (h : Held O) (records : List (Held O)) (b : Bool) → goes h ≡ b
         → filter goes (h ∷ records) ≡ (if b then h ∷ filter goes records else filter goes records)
-    going h records true e = rw e refl
-    going h records false e = rw e refl
+    going h records b e = grind arith
 
     those_gone : (records : List (Held O)) → Rises (offers records) → AreGone (offers records) (filter stays records) (filter goes records)
     those_gone [] up = refl
@@ -216,10 +176,7 @@ module _ {O K : Type 0} (key_of : O → K) (order : K → K → Ordering) (same 
     -- what changed is what ended
     changes-gone : (records : List (Held O)) → IsAscending (λ a b. order (key_of a) (key_of b)) records
         → changes key_of order same (offers records) (offers (filter stays records)) ≡ map gone (offers (filter goes records))
-    changes-gone records up =
-        ap (λ keys. filter (differs key_of order same) (map (change_at key_of order same (offers records) (offers (filter stays records))) keys))
-        (same_keys records (rising records up))
-        ∙ those_gone records (rising records up)
+    changes-gone records up = grind (arith, same_keys, rising, those_gone)
 
   offers-older : (records : List (Held O)) → offers (map older records) ≡ offers records
   offers-older [] = refl
@@ -228,9 +185,7 @@ module _ {O K : Type 0} (key_of : O → K) (order : K → K → Ordering) (same 
   -- with a second
   pub changes-second : (records : List (Held O)) → IsAscending (λ a b. order (key_of a) (key_of b)) records
       → changes key_of order same (offers records) (offers (second_later records)) ≡ map gone (ended records)
-  changes-second records up =
-      ap (changes key_of order same (offers records)) (offers-older (filter (λ h. not (is_last h)) records))
-      ∙ changes-gone is_last records up
+  changes-second records up = search (rules, offers-older, changes-gone)
 
   -- with a port that goes down
   pub changes-port : (port_by : O → ℕ) (port : ℕ) (records : List (Held O)) → IsAscending (λ a b. order (key_of a) (key_of b)) records
@@ -257,27 +212,17 @@ ServiceRecordsAscend records =
 
 pub news-second : (ports : List Port) (number : ℕ) (records : List (Held RouteOffer)) → RouteRecordsAscend records
     → news ports (offers records) (offers (second_later records)) number ≡ flat_map (ended_on number) (ended records)
-news-second ports number records up =
-    ap (flat_map (route_told ports number)) (changes-second (λ r. r.network) network_order same_route network_total route-same records up)
-    ∙ routes_told ports number (ended records)
+news-second ports number records up = grind (arith, changes-second, network_total, route-same, routes_told)
 
 pub news-port : (ports : List Port) (number port : ℕ) (records : List (Held RouteOffer)) → RouteRecordsAscend records
     → news ports (offers records) (offers (without_port (λ r. r.port) port records)) number ≡ flat_map (ended_on number) (ended_with_port (λ r. r.port) port records)
-news-port ports number port records up =
-    ap (flat_map (route_told ports number)) (changes-port (λ r. r.network) network_order same_route network_total route-same (λ r. r.port) port records up)
-    ∙ routes_told ports number (ended_with_port (λ r. r.port) port records)
+news-port ports number port records up = grind (arith, changes-port, network_total, route-same, routes_told)
 
 pub services-second : (number : ℕ) (records : List (Held ServiceOffer)) → ServiceRecordsAscend records
     → news_services (offers records) (offers (second_later records)) number ≡ flat_map (service_ended_on number) (ended records)
-services-second number records up =
-    ap (flat_map (service_told number))
-    (changes-second (λ s. (s.service.kind, s.service.name)) service_order same_service service_total service-same records up)
-    ∙ services_told number (ended records)
+services-second number records up = grind (arith, changes-second, service_total, service-same, services_told)
 
 pub services-port : (number port : ℕ) (records : List (Held ServiceOffer)) → ServiceRecordsAscend records
     → news_services (offers records) (offers (without_port (λ s. s.port) port records)) number
     ≡ flat_map (service_ended_on number) (ended_with_port (λ s. s.port) port records)
-services-port number port records up =
-    ap (flat_map (service_told number))
-    (changes-port (λ s. (s.service.kind, s.service.name)) service_order same_service service_total service-same (λ s. s.port) port records up)
-    ∙ services_told number (ended_with_port (λ s. s.port) port records)
+services-port number port records up = grind (arith, changes-port, service_total, service-same, services_told)

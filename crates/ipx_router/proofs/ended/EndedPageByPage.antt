@@ -1,4 +1,5 @@
 -- What ended, page by page: each step of adding it to the page at hand.
+use Rattle.std.proofs.lemmas.Grind.{common_steps}
 use Rattle.std.proofs.Common.{◌≡◌, sym, ap, subst, ◌∙◌, ℕ, true, false, List, [], ◌∷◌, ◌++◌, Option, ◌≤◌, length, Bool, Ordering, refl, suc, ◌+◌, drop, arith}
 use Rattle.std.specs.List.{flat_map, prefix_len}
 use Rattle.ipx_table.specs.Stands.{Ascends}
@@ -64,9 +65,7 @@ module _ {X : Type 0} (n : ℕ) (packet : List X → Sent) (comes_before : X →
 module _ {X : Type 0} (n : ℕ) (packet : Envelope → List X → Sent) (items : ℕ → List X) (to : Envelope) {envelope : Envelope} {page xs : List X}
     (is : envelope ≡ to) (empty : page ≡ []) (same : xs ≡ items to.port) where
   begins : owed n (packet to) [] xs ≡ owed n (packet envelope) page (items envelope.port)
-  begins =
-      ap (owed n (packet to) []) same
-      ∙ sym (ap (λ (e : Envelope). owed n (packet e) page (items e.port)) is ∙ ap (λ (p : List X). owed n (packet to) p (items to.port)) empty)
+  begins = grind arith
 
   pub begun_fits : {o : Contents} → Fits o (owed n (packet to) [] xs) → Fits o (owed n (packet envelope) page (items envelope.port))
   begun_fits {o} fits = subst (Fits o) begins fits
@@ -106,11 +105,8 @@ module _ {O X : Type 0} (by_key : O → O → Ordering) (comes_before : X → X 
     offer_next before = ap (among later) first ∙ ended_next by_key comes_before read order port number waiting later offer others (subst (Ascends by_key) first up) before
 
     pub item_next : ends_before comes_before read waiting offer ≡ false → among later left ≡ behind later left
-    item_next after =
-        subst (λ (l : List O). among later l ≡ behind later l) (sym first)
-        (waiting_then by_key comes_before read order port number waiting later offer others (subst (Ascends by_key) first up) after)
+    item_next after = grind (arith, waiting_then)
 
   -- and where none is left, what waits is next
   pub none_left : (later : List X) (left : List O) → length left ≡ 0 → among later left ≡ behind later left
-  none_left later [] empty = refl
-  none_left later (offer ∷ left) empty = absurd (omega (arith, empty))
+  none_left later left empty = grind (arith, common_steps)

@@ -1,5 +1,8 @@
 -- What ended rises as it is told, and where each of it stands among what else is told.
-use Rattle.std.proofs.Common.{◌≡◌, refl, sym, ap, ◌∙◌, ℕ, ◌==◌, Bool, true, false, if◌then◌else◌, List, [], ◌∷◌, ◌++◌, length, map, filter, Option, None, Some, inl, inr, true≢false, Ordering, is_lt}
+use Rattle.std.proofs.Common.{arith}
+use Rattle.std.proofs.Common.{rules}
+use Rattle.std.proofs.lemmas.Grind.{common_steps}
+use Rattle.std.proofs.Common.{◌≡◌, refl, ℕ, ◌==◌, Bool, true, false, if◌then◌else◌, List, [], ◌∷◌, ◌++◌, length, Option, None, Some, inl, inr, true≢false, Ordering, is_lt}
 use Rattle.std.specs.List.{AllByRecursion, flat_map}
 use Rattle.std.proofs.lemmas.Bool.{cases_Bool}
 use Rattle.std.proofs.Math.Dec.{eqb-suc-zero}
@@ -7,13 +10,13 @@ use Rattle.ipx_table.specs.Stands.{Ascends}
 use Rattle.ipx_wire.specs.declared.rip.RipEntry.{RipEntry}
 use Rattle.ipx_wire.specs.declared.service.Service.{Service}
 use Rattle.ipx_router.specs.inside.Ended.{AreInOrder, by_route, by_service, dead_offer, dead_route, ended_as, ended_on, ends_before, service_ended_on}
-use Rattle.ipx_router.specs.Port.{Port, port_at}
+use Rattle.ipx_router.specs.Port.{Port}
 use Rattle.ipx_router.specs.Sorted.{put_all, sorted}
 use Rattle.ipx_router.specs.inside.Sources.{first_then}
-use Rattle.ipx_router.specs.Told.{network_before, name_before, by_network, by_name, told, told_at, direct, learned, told_services, is_service_told, farther}
+use Rattle.ipx_router.specs.Told.{network_before, name_before, by_network, by_name, told, told_services}
 use Rattle.ipx_router.specs.declared.route_offer.RouteOffer.{RouteOffer}
 use Rattle.ipx_router.specs.declared.service_offer.ServiceOffer.{ServiceOffer}
-use Rattle.ipx_router.proofs.tables.ToldRises.{network_orders, name_orders, not_greater}
+use Rattle.ipx_router.proofs.tables.ToldRises.{network_orders, name_orders}
 use Rattle.ipx_router.proofs.lists.EachElement.{all_then}
 use Rattle.ipx_router.proofs.lists.PutInOrder.{IsOrder, IsFirst, Rises, put_behind, other_first, sorted-rising, sorted-more, rises-sorted}
 
@@ -27,10 +30,7 @@ module _ {O X : Type 0} (by_key : O → O → Ordering) (comes_before : X → X 
   first_among : (x : X) (offers : List O) → AllByRecursion (λ o. comes_before (read o) x ≡ false) offers
       → IsFirst comes_before x (flat_map read_of offers)
   first_among x [] all = tt
-  first_among x (o ∷ offers) all = elim (cases_Bool (skipped o)) [
-    | inl e ↦ rw e (first_among x offers all.1)
-    | inr e ↦ rw e (all.0, first_among x offers all.1)
-  ]
+  first_among x (o ∷ offers) all = grind (arith, first_among x offers all.1)
 
   behind_first : (o : O) (offers : List O) → AllByRecursion (λ x. is_lt (by_key o x) ≡ true) offers
       → AllByRecursion (λ x. comes_before (read x) (read o) ≡ false) offers
@@ -81,8 +81,7 @@ module _ {O X : Type 0} (by_key : O → O → Ordering) (comes_before : X → X 
       → ends_before comes_before read waiting offer ≡ true
       → put_all comes_before (first_then waiting later) (ended_of (offer ∷ rest))
       ≡ ended_as port read number offer ++ put_all comes_before (first_then waiting later) (ended_of rest)
-  ended_next None later offer rest up before =
-      sorted-ended (offer ∷ rest) up ∙ ap (λ (xs : List X). ended_as port read number offer ++ xs) (sym (sorted-ended rest up.1))
+  ended_next None later offer rest up before = search (rules, sorted-ended)
   ended_next (Some waiting) later offer rest up before =
       goes_first by_key comes_before orders read order.kept (λ o. port o == number) waiting later offer rest up before
 
@@ -98,24 +97,17 @@ module _ {O X : Type 0} (by_key : O → O → Ordering) (comes_before : X → X 
 -- ---- routes
 
 pub routes_in_order : AreInOrder by_route network_before dead_route
-routes_in_order = record {
-  one_way = network_orders.one_way;
-  through = network_orders.through;
-  kept = λ a b less. not_greater a.network.0 b.network.0 less;
-}
+routes_in_order = grind arith
 
 -- what is told, in its order with what ended
 pub told_with : (ports : List Port) (up : List ℕ) (routes : List RouteOffer) (number : ℕ) (ended : List RipEntry)
     → by_network (told ports up routes number ++ ended) ≡ put_all network_before (told ports up routes number) ended
-told_with ports up routes number ended =
-    sorted-more network_before (told ports up routes number) ended
-    (rises-sorted network_before network_orders (map (told_at (port_at ports number).cost) (direct ports up number ++ learned routes number)))
+told_with ports up routes number ended = grind (arith, sorted-more, rises-sorted, network_orders)
 
 -- and alone, where nothing ended
 pub told_with_none : (ports : List Port) (up : List ℕ) (routes : List RouteOffer) (number : ℕ) (ended : List RouteOffer) → true ≡ (length ended == 0)
     → by_network (told ports up routes number ++ flat_map (ended_on number) ended) ≡ told ports up routes number
-told_with_none ports up routes number [] none = told_with ports up routes number []
-told_with_none ports up routes number (r ∷ ended) none = absurd (true≢false (none ∙ eqb-suc-zero (length ended)))
+told_with_none ports up routes number ended none = grind (arith, common_steps, told_with, eqb-suc-zero)
 
 -- ---- services
 
@@ -128,11 +120,8 @@ services_in_order = record {
 
 pub services_with : (services : List ServiceOffer) (number : ℕ) (ended_services : List Service)
     → by_name (told_services services number ++ ended_services) ≡ put_all name_before (told_services services number) ended_services
-services_with services number ended_services =
-    sorted-more name_before (told_services services number) ended_services
-    (rises-sorted name_before name_orders (map (λ s. farther s.service) (filter (is_service_told number) services)))
+services_with services number ended_services = grind (arith, sorted-more, rises-sorted, name_orders)
 
 pub services_with_none : (services : List ServiceOffer) (number : ℕ) (ended_services : List ServiceOffer) → true ≡ (length ended_services == 0)
     → by_name (told_services services number ++ flat_map (service_ended_on number) ended_services) ≡ told_services services number
-services_with_none services number [] none = services_with services number []
-services_with_none services number (s ∷ ended_services) none = absurd (true≢false (none ∙ eqb-suc-zero (length ended_services)))
+services_with_none services number ended_services none = grind (arith, common_steps, services_with, eqb-suc-zero)

@@ -1,5 +1,6 @@
 -- What is sent where a second passes, or where a port goes down, is told by what ended with it.
-use Rattle.std.proofs.Common.{◌≡◌, refl, sym, ap, ◌∙◌, ℕ, Bool, true, false, List, [], ◌∷◌, ◌++◌, ◌&&◌, if◌then◌else◌, inl, inr, true≢false}
+use Rattle.std.proofs.Common.{arith}
+use Rattle.std.proofs.Common.{◌≡◌, refl, sym, ap, ◌∙◌, ℕ, Bool, true, false, List, [], ◌∷◌, ◌++◌, inl, inr, true≢false}
 use Rattle.std.specs.List.{flat_map, list_any}
 use Rattle.std.proofs.lemmas.Bool.{cases_Bool}
 use Rattle.ipx_table.specs.Stands.{second_later, ended, is_last, without_port, ended_with_port}
@@ -19,9 +20,7 @@ use Rattle.ipx_router.proofs.ended.ChangedIsEnded.{RouteRecordsAscend, ServiceRe
 
 -- the same on each port
 same_each : (f g : ℕ → List Sent) → ((number : ℕ) → f number ≡ g number) → (up : List ℕ) → flat_map f up ≡ flat_map g up
-same_each f g same [] = refl
-same_each f g same (number ∷ up) =
-    ap (λ (sent : List Sent). sent ++ flat_map f up) (same number) ∙ ap (λ (sent : List Sent). g number ++ sent) (same_each f g same up)
+same_each f g same up = grind arith
 
 -- nothing on each port
 pub none_each : (f : ℕ → List Sent) → ((number : ℕ) → f number ≡ []) → (up : List ℕ) → flat_map f up ≡ []
@@ -40,9 +39,7 @@ none_ended (h ∷ held) quiet = elim (cases_Bool (is_last h)) [
 module _ (ports : List Port) (number : ℕ) (entries : List RipEntry → List RipEntry) (services : List Service → List Service)
     {es fs : List RipEntry} {ss ts : List Service} (same_entries : es ≡ fs) (same_services : ss ≡ ts) where
   same_broadcasts : broadcasts ports number (entries es) (services ss) ≡ broadcasts ports number (entries fs) (services ts)
-  same_broadcasts =
-      ap (λ (xs : List RipEntry). broadcasts ports number (entries xs) (services ss)) same_entries
-      ∙ ap (λ (xs : List Service). broadcasts ports number (entries fs) (services xs)) same_services
+  same_broadcasts = grind arith
 
 module _ (ports : List Port) (up : List ℕ) (routes : List (Held RouteOffer)) (services : List (Held ServiceOffer))
     (routes_up : RouteRecordsAscend routes) (services_up : ServiceRecordsAscend services) where
@@ -91,39 +88,24 @@ module _ (ports : List Port) (up : List ℕ) (routes : List (Held RouteOffer)) (
       → routes_then ≡ second_later routes → services_then ≡ second_later services
       → sends_of ports before (record { up = up; routes = offers routes_then; services = offers services_then }) runs periodic Second
       ≡ second_sends ports up routes services periodic
-  second_event runs periodic routes_then services_then is_running routes_are services_are =
-      ap (λ (r : Bool). if r then flat_map (second_on ports before (record { up = up; routes = offers routes_then; services = offers services_then }) periodic) up else [])
-      is_running
-      ∙ ap (λ (rs : List (Held RouteOffer)). flat_map (second_on ports before (record { up = up; routes = offers rs; services = offers services_then }) periodic) up) routes_are
-      ∙ ap (λ (ss : List (Held ServiceOffer)). flat_map (second_on ports before (record { up = up; routes = later.routes; services = offers ss }) periodic) up) services_are
+  second_event runs periodic routes_then services_then is_running routes_are services_are = grind arith
 
   -- ---- where what ended, and what is then held, are known by equations
 
   module _ {ended_now : List RouteOffer} {ended_services_now : List ServiceOffer} (ended_is : ended_now ≡ ended routes) (ended_services_is : ended_services_now ≡ ended services) where
     pub quiet_as : (periodic : Bool) → periodic ≡ false
         → second_sends ports up routes services periodic ≡ flat_map (ended_sends ports ended_now ended_services_now) up
-    quiet_as periodic is =
-        ap (second_sends ports up routes services) is
-        ∙ second_sent
-        ∙ ap (λ (es : List RouteOffer). flat_map (ended_sends ports es (ended services)) up) (sym ended_is)
-        ∙ ap (λ (ls : List ServiceOffer). flat_map (ended_sends ports ended_now ls) up) (sym ended_services_is)
+    quiet_as periodic is = grind (arith, second_sent)
 
     pub periodic_as : {routes_now : List (Held RouteOffer)} {services_now : List (Held ServiceOffer)} (periodic : Bool) → periodic ≡ true
         → routes_now ≡ second_later routes → services_now ≡ second_later services
         → second_sends ports up routes services periodic ≡ flat_map (periodic_sends ports ended_now ended_services_now up (offers routes_now) (offers services_now)) up
-    periodic_as {routes_now} {services_now} periodic is routes_are services_are =
-        ap (second_sends ports up routes services) is
-        ∙ periodic_sent
-        ∙ ap (λ (es : List RouteOffer). flat_map (periodic_sends ports es (ended services) up later.routes later.services) up) (sym ended_is)
-        ∙ ap (λ (ls : List ServiceOffer). flat_map (periodic_sends ports ended_now ls up later.routes later.services) up) (sym ended_services_is)
-        ∙ ap (λ (rs : List (Held RouteOffer)). flat_map (periodic_sends ports ended_now ended_services_now up (offers rs) later.services) up) (sym routes_are)
-        ∙ ap (λ (ss : List (Held ServiceOffer)). flat_map (periodic_sends ports ended_now ended_services_now up (offers routes_now) (offers ss)) up) (sym services_are)
+    periodic_as {routes_now} {services_now} periodic is routes_are services_are = grind (arith, periodic_sent)
 
     pub second_as : {routes_now : List (Held RouteOffer)} {services_now : List (Held ServiceOffer)} (periodic : Bool)
         → routes_now ≡ second_later routes → services_now ≡ second_later services
         → second_sends ports up routes services periodic ≡ all_sends ports ended_now ended_services_now up (offers routes_now) (offers services_now) periodic
-    second_as true routes_are services_are = periodic_as true refl routes_are services_are
-    second_as false routes_are services_are = quiet_as false refl
+    second_as periodic routes_are services_are = grind (arith, periodic_as, quiet_as)
 
   pub port_down_as : (port : ℕ) {ended_now : List RouteOffer} {ended_services_now : List ServiceOffer}
       → ended_now ≡ ended_with_port (λ r. r.port) port routes → ended_services_now ≡ ended_with_port (λ s. s.port) port services
@@ -137,10 +119,7 @@ module _ (ports : List Port) (up : List ℕ) (routes : List (Held RouteOffer)) (
 pub all_as : (ports : List Port) (up : List ℕ) (routes : List RouteOffer) (services : List ServiceOffer) {ended_was ended_now : List RouteOffer}
     {ended_services_was ended_services_now : List ServiceOffer} {periodic is : Bool} → ended_was ≡ ended_now → ended_services_was ≡ ended_services_now → periodic ≡ is
     → all_sends ports ended_was ended_services_was up routes services periodic ≡ all_sends ports ended_now ended_services_now up routes services is
-all_as ports up routes services {ended_was} {ended_now} {ended_services_was} {ended_services_now} {periodic} {is} ended_is ended_services_is periodic_is =
-    ap (λ (es : List RouteOffer). all_sends ports es ended_services_was up routes services periodic) ended_is
-    ∙ ap (λ (ls : List ServiceOffer). all_sends ports ended_now ls up routes services periodic) ended_services_is
-    ∙ ap (λ (p : Bool). all_sends ports ended_now ended_services_now up routes services p) periodic_is
+all_as ports up routes services {ended_was} {ended_now} {ended_services_was} {ended_services_now} {periodic} {is} ended_is ended_services_is periodic_is = grind arith
 
 -- a port of a router that runs goes down, and was up
 pub port_down_event : (ports : List Port) (up stays : List ℕ) (routes routes_then : List (Held RouteOffer)) (services services_then : List (Held ServiceOffer))
@@ -149,12 +128,4 @@ pub port_down_event : (ports : List Port) (up stays : List ℕ) (routes routes_t
     → sends_of ports (record { up = up; routes = offers routes; services = offers services })
     (record { up = stays; routes = offers routes_then; services = offers services_then }) runs periodic (PortDown port)
     ≡ port_down_sends ports stays routes services port
-port_down_event ports up stays routes routes_then services services_then runs periodic port is_running was_up routes_are services_are =
-    let old : Holding = record { up = up; routes = offers routes; services = offers services } in
-    ap (λ (r : Bool). if r && is_up up port
-    then flat_map (port_down_on ports old (record { up = stays; routes = offers routes_then; services = offers services_then }) port) stays else []) is_running
-    ∙ ap (λ (r : Bool). if r
-    then flat_map (port_down_on ports old (record { up = stays; routes = offers routes_then; services = offers services_then }) port) stays else []) was_up
-    ∙ ap (λ (rs : List (Held RouteOffer)). flat_map (port_down_on ports old (record { up = stays; routes = offers rs; services = offers services_then }) port) stays) routes_are
-    ∙ ap (λ (ss : List (Held ServiceOffer)).
-    flat_map (port_down_on ports old (record { up = stays; routes = offers (without_port (λ r. r.port) port routes); services = offers ss }) port) stays) services_are
+port_down_event ports up stays routes routes_then services services_then runs periodic port is_running was_up routes_are services_are = grind arith

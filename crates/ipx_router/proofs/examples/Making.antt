@@ -1,22 +1,12 @@
 -- What makes a port: the ports of these examples can be made, and none with a node that isn't bytes.
-use Rattle.std.proofs.Common.{◌≡◌, ℕ, ◌<◌, [], ◌∷◌, refl, ap, true≢false, arith, lit<, sym}
+use Rattle.std.proofs.Common.{◌≡◌, ℕ, ◌<◌, [], ◌∷◌, arith, lit<}
 use Rattle.std.specs.List.{AllByRecursion}
-use Rattle.ipx_router.specs.Port.{Port, IsPort, broadcast, same_node}
-use Rattle.ipx_router.proofs.bytes.ListsOfBytes.{one_byte, bytes_both, bytes_same}
+use Rattle.ipx_router.specs.Port.{Port, IsPort}
 use Rattle.ipx_router.proofs.examples.Words.{port_on, two_ports}
 
 -- a port whose network and node are numbers of one byte
 low_port : (network node : ℕ) → 0 < network → network < 256 → node < 256 → IsPort (port_on network node)
-low_port network node some low below = record {
-  longest = lit< tt;
-  cost = lit< tt;
-  ticks = lit< tt;
-  some_network = some;
-  ordinary_network = omega (arith, low);
-  six_bytes = refl;
-  bytes = bytes_both (0 ∷ 0 ∷ 0 ∷ 0 ∷ 0 ∷ []) (node ∷ []) (bytes_same 5 0 (lit< tt)) (one_byte node below);
-  node = λ e. true≢false (sym (ap (λ n. same_node n broadcast) e));
-}
+low_port network node some low below = grind arith
 
 -- the ports of the examples
 pub can_be_made : AllByRecursion IsPort two_ports

@@ -1,5 +1,5 @@
 -- What a router is after a history: its routes with their ages, and its count towards the next periodic second.
-use Rattle.std.proofs.Common.{◌≡◌, ℕ, List, [], ◌∷◌, ◌++◌, Bool, true, false, true≢false, sym, refl, arith, replicate}
+use Rattle.std.proofs.Common.{ℕ, List, [], ◌∷◌, ◌++◌, Bool, true, false, true≢false, sym, refl, arith, replicate}
 use Rattle.hex.specs.Hex.{decode_pairs}
 use Rattle.ipx_wire.specs.Address.{address_bytes, address_at}
 use Rattle.ipx_wire.specs.Crossed.{network_bytes, network_at}
@@ -37,15 +37,11 @@ counts_15 = record { routes_stand = refl; services_stand = refl; runs = refl; up
 
 -- it doesn't count all seconds
 pub not_75 : StandsFor 256 128 (counting 75 75) after_75_seconds → ⊥
-not_75 stands =
-    let counted : 75 ≡ 15 = stands.counts refl in
-    absurd (omega (arith, counted))
+not_75 stands = grind arith
 
 -- a full minute is no count
 pub not_60 : StandsFor 256 128 (counting 60 60) (heard_of_30 ++ replicate 60 Second) → ⊥
-not_60 stands =
-    let counted : 60 ≡ 0 = stands.counts refl in
-    absurd (omega (arith, counted))
+not_60 stands = grind arith
 
 -- the count begins with the last start that found the router stopped; one that found it running counts for nothing
 abbrev started_anew : History

@@ -1,8 +1,6 @@
 -- What a router's ports that are up are, of a router that stands for some history.
-use Rattle.std.proofs.Common.{◌^◌, ◌≡◌, refl, sym, ap, ◌∙◌, ℕ, ◌<◌, ◌≤◌, false, true≢false, List, [], length, map, inl, inr, lit<, arith}
+use Rattle.std.proofs.Common.{◌^◌, ◌≡◌, refl, ℕ, ◌<◌, ◌≤◌, false, List, [], length, map, lit<, arith}
 use Rattle.std.specs.List.{AllByRecursion}
-use Rattle.std.proofs.lemmas.Bool.{cases_Bool}
-use Rattle.ipx_router.specs.History.{ports_up}
 use Rattle.ipx_router.specs.Port.{Port, IsPort, AreApart, is_up}
 use Rattle.ipx_router.specs.RouterOf.{IsRouter, made_of}
 use Rattle.ipx_router.specs.Stands.{State, StandsFor}
@@ -15,28 +13,16 @@ use Rattle.ipx_router.proofs.port_values.PortOfEachNumber.{ports_up-within, one_
 module _ (most_routes most_services : ℕ) (s : State) (route_shares service_shares : List ℕ) (is : IsRouter most_routes most_services s route_shares service_shares) where
   -- of a stopped router no port is up
   pub stopped_up : (port : ℕ) → s.running ≡ false → is_up s.up port ≡ false
-  stopped_up port stopped =
-      ap (λ up. is_up up port) (is.stands.ups ∙ none_up s.ports is.past (sym is.stands.runs ∙ stopped))
+  stopped_up port stopped = grind (arith, none_up)
 
   -- nor a port that there isn't
   pub missing_up : (port : ℕ) → length s.ports ≤ port → is_up s.up port ≡ false
-  missing_up port missing = ap (λ up. is_up up port) is.stands.ups ∙ elim (cases_Bool (is_up (ports_up s.ports is.past) port)) [
-    | inr down ↦ down
-    | inl up ↦
-        let within : port < length s.ports = one_up (λ j. j < length s.ports) (ports_up s.ports is.past) port (ports_up-within s.ports is.past) up in
-        absurd (omega (arith, missing, within))
-  ]
+  missing_up port missing = grind (arith, one_up, ports_up-within)
 
 -- ---- a new router
 
 pub made_stands : (most_routes most_services : ℕ) (ports : List Port) → StandsFor most_routes most_services (made_of ports) []
-made_stands most_routes most_services ports = record {
-  routes_stand = refl;
-  services_stand = refl;
-  runs = refl;
-  ups = sym (none_up ports [] refl);
-  counts = λ runs. absurd (true≢false (sym runs));
-}
+made_stands most_routes most_services ports = grind (arith, none_up)
 
 pub made_then : (most_routes most_services : ℕ) (ports kept : List Port) (up : List ℕ) (routes : List (Held RouteOffer)) (services : List (Held ServiceOffer))
     → kept ≡ ports → up ≡ [] → routes ≡ [] → services ≡ []

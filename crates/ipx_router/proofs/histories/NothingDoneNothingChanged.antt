@@ -1,31 +1,25 @@
 -- Where nothing is done for an event, nothing is sent and all stays as it was.
-use Rattle.std.proofs.Common.{◌≡◌, refl, sym, ap, ◌∙◌, subst, ℕ, ◌<◌, ◌==◌, ◌&&◌, ◌||◌, not, if◌then◌else◌, true, false, true≢false, List, [], ◌∷◌, ◌++◌, length, Option, None, Some, Result, Ok, Err, inl, inr, append-nil}
-use Rattle.std.specs.List.{list_any}
+use Rattle.std.proofs.Common.{◌≡◌, refl, sym, ap, ◌∙◌, subst, ℕ, ◌<◌, ◌==◌, ◌&&◌, ◌||◌, not, true, false, true≢false, List, [], ◌∷◌, ◌++◌, length, Option, None, Some, Ok, Err, inl, inr, append-nil, arith}
 use Rattle.std.proofs.lemmas.Bool.{cases_Bool, and_from, and_parts, not-true, eqb-true}
 use Rattle.std.proofs.Math.Bool.{and-true}
 use Rattle.ipx_table.specs.Stands.{held}
-use Rattle.ipx_wire.specs.Packet.{Parts, packet_of}
-use Rattle.ipx_wire.specs.declared.packet.PacketFault.{PacketFault}
-use Rattle.ipx_wire.specs.declared.rip.Operation.{Operation}
-use Rattle.ipx_wire.specs.declared.rip.Operation.TheVariants.{Request, Response}
-use Rattle.ipx_wire.specs.declared.sap.Sap.TheVariants.{Query, Response as SapResponse}
+use Rattle.ipx_wire.specs.Packet.{packet_of}
 use Rattle.ipx_router.specs.Facts.{routes_heard, services_heard, route_facts_of, service_facts_of, route_facts, service_facts, routes_held, services_held, offers}
-use Rattle.ipx_router.specs.Heard.{Heard, HeardRip, HeardSap, heard}
+use Rattle.ipx_router.specs.Heard.{Heard, heard}
 use Rattle.ipx_router.specs.History.{Event, History, Start, Stop, Second, Packet, PortDown, PortUp, running, is_down, seconds_run, ports_up, is_start, is_stop, is_second}
 use Rattle.ipx_router.specs.Outcomes.{heard_outcome, relayed_outcome, outcome, changes_nothing}
-use Rattle.ipx_router.specs.Port.{Port, numbers, is_up}
+use Rattle.ipx_router.specs.Port.{Port, is_up}
 use Rattle.ipx_router.specs.Relays.{Sent, relayed}
 use Rattle.ipx_router.specs.Routes.{route_rules}
 use Rattle.ipx_router.specs.Sends.{heard_sends, holding, sends}
 use Rattle.ipx_router.specs.Services.{service_rules}
-use Rattle.ipx_router.specs.Why.{is_propagated, why}
-use Rattle.ipx_router.specs.declared.outcome.Outcome.TheVariants.{Forwarded, Propagated, Dropped}
+use Rattle.ipx_router.specs.Why.{why}
+use Rattle.ipx_router.specs.declared.outcome.Outcome.TheVariants.{Dropped}
 use Rattle.ipx_router.specs.declared.why.Why.{Why}
 use Rattle.ipx_router.proofs.lists.EachElement.{all_then}
 use Rattle.ipx_router.proofs.histories.OneEventMore.{or_none, running-more, running-stop, up_is, is_down-more, none_up, among, ups_stay, ports_stay, seconds_stay}
 use Rattle.ipx_router.proofs.tables.OffersOfAMessage.{facts_from-more}
 use Rattle.ipx_router.proofs.port_values.PortOfEachNumber.{numbers_below}
-use Rattle.ipx_router.proofs.tables.HeldWasOffered.{nothing}
 use Rattle.ipx_router.proofs.verdicts.HeardPassesAllChecks.{unheard}
 
 -- an event sends nothing, says nothing, and leaves a router as it is
@@ -39,34 +33,16 @@ pub record Leaves (ports : List Port) (most_routes : ℕ) (history : History) (e
 
 -- ---- packets
 
--- what was heard isn't nothing
-hears : (m : Heard) → changes_nothing (heard_outcome m) ≡ false
-hears (HeardRip source rip) = by rip.operation
-  where
-    by : (operation : Operation) → changes_nothing (heard_outcome (HeardRip source (record { operation = operation; entries = rip.entries }))) ≡ false
-    by Request = refl
-    by Response = refl
-hears (HeardSap source (Query nearest kind)) = refl
-hears (HeardSap source (SapResponse nearest entries)) = refl
-
--- nor is what was sent on
-relays : (r : Result Parts PacketFault) → changes_nothing (elim r [ Ok p ↦ if is_propagated p.header then Propagated else Forwarded | Err fault ↦ Forwarded ]) ≡ false
-relays (Err fault) = refl
-relays (Ok p) = elim (cases_Bool (is_propagated p.header)) [ inl e ↦ rw e refl | inr e ↦ rw e refl ]
-
 -- so the packet was dropped
 dropped : (o : Option Why) (h : Option Heard) (bytes : List ℕ)
     → changes_nothing (elim o [ Some reason ↦ Dropped reason | None ↦ elim h [ Some message ↦ heard_outcome message | None ↦ relayed_outcome bytes ] ]) ≡ true
     → (reason : Why) × (o ≡ Some reason)
-dropped (Some reason) h bytes e = (reason, refl)
-dropped None (Some m) bytes e = absurd (true≢false (sym e ∙ hears m))
-dropped None None bytes e = absurd (true≢false (sym e ∙ relays (packet_of bytes)))
+dropped o h bytes e = grind arith
 
 -- and nothing is sent
 silent : (o : Option Why) (reason : Why) (rest : List Sent) → o ≡ Some reason
     → ◌≡◌ {A = List Sent} (elim o [ Some reason ↦ [] | None ↦ rest ]) []
-silent (Some other) reason rest e = refl
-silent None reason rest e = nothing e
+silent o reason rest e = grind arith
 
 -- ---- each event
 
@@ -78,34 +54,17 @@ module _ (ports : List Port) (most_routes : ℕ) (history : History) where
   stopped_leaves : (event : Event) → running history ≡ false → running (history ++ event ∷ []) ≡ false
       → ((most_services : ℕ) → sends ports most_routes most_services history event ≡ [])
       → route_facts_of ports history event ≡ [] → service_facts_of ports history event ≡ [] → Leaves ports most_routes history event
-  stopped_leaves event stopped later sends_none routes services = record {
-    sends_none = sends_none;
-    runs = later ∙ sym stopped;
-    ups = none_up ports (history ++ event ∷ []) later ∙ sym (none_up ports history stopped);
-    routes = routes;
-    services = services;
-    seconds = λ runs. absurd (true≢false (sym runs ∙ stopped));
-  }
+  stopped_leaves event stopped later sends_none routes services = grind arith
 
   stays_stopped : (event : Event) → is_stop event ≡ false → is_start event ≡ false → running history ≡ false → running (history ++ event ∷ []) ≡ false
-  stays_stopped event on no_start stopped =
-      running-more history event on ∙ ap (λ b. running history || (b || false)) no_start ∙ ap (λ b. b || false) stopped
+  stays_stopped event on no_start stopped = grind (arith, running-more)
 
   -- a running one, where the same ports are down after the event
   running_leaves : (event : Event) → is_stop event ≡ false → is_second event ≡ false → running history ≡ true
       → ((port : ℕ) → port < length ports → is_down (history ++ event ∷ []) port ≡ is_down history port)
       → ((most_services : ℕ) → sends ports most_routes most_services history event ≡ [])
       → route_facts_of ports history event ≡ [] → service_facts_of ports history event ≡ [] → Leaves ports most_routes history event
-  running_leaves event on other runs same sends_none routes services = record {
-    sends_none = sends_none;
-    runs = running-more history event on ∙ ap (λ b. b || (is_start event || false)) runs ∙ sym runs;
-    ups =
-        ups_stay ports history event on runs
-        (all_then (λ j. j < length ports) (λ j. is_down (history ++ event ∷ []) j ≡ is_down history j) same (numbers (length ports)) (numbers_below (length ports)));
-    routes = routes;
-    services = services;
-    seconds = seconds_stay history event on other;
-  }
+  running_leaves event on other runs same sends_none routes services = grind (arith, running-more, ups_stay, all_then, numbers_below, seconds_stay)
 
   start_leaves : Nothing Start → Leaves ports most_routes history Start
   start_leaves e = elim (cases_Bool (running history)) [
@@ -115,17 +74,10 @@ module _ (ports : List Port) (most_routes : ℕ) (history : History) where
   ]
 
   stop_leaves : Nothing Stop → Leaves ports most_routes history Stop
-  stop_leaves e = elim (cases_Bool (running history)) [
-    | inl runs ↦ absurd (true≢false (sym (rw runs at e)))
-    | inr stopped ↦ stopped_leaves Stop stopped (running-stop history) (λ ms. rw stopped refl) (rw stopped refl) (rw stopped refl)
-  ]
+  stop_leaves e = grind (arith, stopped_leaves, running-stop)
 
   second_leaves : Nothing Second → Leaves ports most_routes history Second
-  second_leaves e = elim (cases_Bool (running history)) [
-    | inl runs ↦ absurd (true≢false (sym (rw runs at e)))
-    | inr stopped ↦
-        stopped_leaves Second stopped (stays_stopped Second refl refl stopped) (λ ms. rw stopped refl) (rw stopped refl) (rw stopped refl)
-  ]
+  second_leaves e = grind (arith, stopped_leaves, stays_stopped)
 
   packet_leaves : (number : ℕ) (bytes : List ℕ) → Nothing (Packet number bytes) → Leaves ports most_routes history (Packet number bytes)
   packet_leaves number bytes e =
@@ -155,18 +107,10 @@ module _ (ports : List Port) (most_routes : ℕ) (history : History) where
 
   -- a port that isn't up is down, while the router runs; one that is up isn't
   is_down_then : (number : ℕ) → running history ≡ true → number < length ports → is_up (ports_up ports history) number ≡ false → is_down history number ≡ true
-  is_down_then number runs exists down = elim (cases_Bool (is_down history number)) [
-    | inl is ↦ is
-    | inr not_down ↦
-        absurd (true≢false (sym (up_is ports history number
-        ∙ and_from (running history && not (is_down history number)) (list_any (λ j. j == number) (numbers (length ports)))
-        (and_from (running history) (not (is_down history number)) runs (ap not not_down)) (among (length ports) number exists)) ∙ down))
-  ]
+  is_down_then number runs exists down = grind (arith, up_is, and_from, among)
 
   is_up_then : (number : ℕ) → is_up (ports_up ports history) number ≡ true → is_down history number ≡ false
-  is_up_then number up =
-      let both = and_parts (running history && not (is_down history number)) (list_any (λ j. j == number) (numbers (length ports))) (sym (up_is ports history number) ∙ up) in
-      not-true (is_down history number) (and_parts (running history) (not (is_down history number)) both.0).1
+  is_up_then number up = grind (arith, and_parts, up_is, not-true)
 
   down_leaves : (number : ℕ) → Nothing (PortDown number) → Leaves ports most_routes history (PortDown number)
   down_leaves number e = elim (cases_Bool (running history)) [

@@ -24,26 +24,15 @@ grown P Q step before (event ∷ rest) all is =
 -- ---- running
 
 pub or_none : (b : Bool) → (b || false) ≡ b
-or_none true = refl
-or_none false = refl
+or_none b = grind arith
 
 pub since_stop-more : (history : History) (event : Event) → is_stop event ≡ false → since_stop (history ++ event ∷ []) ≡ since_stop history ++ event ∷ []
 since_stop-more [] event on = rw on refl
-since_stop-more (first ∷ history) event on =
-    let same : list_any is_stop (first ∷ (history ++ event ∷ [])) ≡ list_any is_stop (first ∷ history) =
-    list_any-append is_stop (first ∷ history) (event ∷ []) ∙ ap (λ b. list_any is_stop (first ∷ history) || (b || false)) on
-    ∙ or_none (list_any is_stop (first ∷ history)) in
-    elim (cases_Bool (list_any is_stop (first ∷ history))) [
-      | inl stops ↦ rw (same, stops) (since_stop-more history event on)
-      | inr goes_on ↦ rw (same, goes_on) refl
-    ]
+since_stop-more (first ∷ history) event on = grind (arith, since_stop-more history event on, list_any-append, or_none)
 
 pub since_stop-none : (history : History) → since_stop (history ++ Stop ∷ []) ≡ []
 since_stop-none [] = refl
-since_stop-none (first ∷ history) =
-    let stops : list_any is_stop (first ∷ (history ++ Stop ∷ [])) ≡ true =
-    list_any-append is_stop (first ∷ history) (Stop ∷ []) ∙ or_right (list_any is_stop (first ∷ history)) true refl in
-    rw stops (since_stop-none history)
+since_stop-none (first ∷ history) = grind (arith, since_stop-none history, list_any-append, or_right)
 
 pub running-more : (history : History) (event : Event) → is_stop event ≡ false → running (history ++ event ∷ []) ≡ (running history || (is_start event || false))
 running-more history event on = ap (list_any is_start) (since_stop-more history event on) ∙ list_any-append is_start (since_stop history) (event ∷ [])
@@ -103,9 +92,7 @@ ends_down-more port (first ∷ events) event =
 -- a port is up while the router runs, if it exists and isn't down
 pub up_is : (ports : List Port) (history : History) (port : ℕ)
     → is_up (ports_up ports history) port ≡ ((running history && not (is_down history port)) && list_any (λ j. j == port) (numbers (length ports)))
-up_is ports history port =
-    any-filter_same (λ j. j == port) (λ j. running history && not (is_down history j)) (running history && not (is_down history port))
-    (λ j same. ap (λ k. running history && not (is_down history k)) (eqb-true j port same)) (numbers (length ports))
+up_is ports history port = grind (arith, any-filter_same, eqb-true)
 
 pub is_down-more : (history : History) (event : Event) (port : ℕ) → is_stop event ≡ false → running history ≡ true
     → is_down (history ++ event ∷ []) port ≡ (takes_down port event || (is_down history port && not (brings_up port event)))
@@ -114,18 +101,7 @@ is_down-more history event port on runs = ap (ends_down port) (present_run-more 
 -- a port stays up until an event takes it down, or the router is stopped
 pub up_stays : (ports : List Port) (history : History) (event : Event) (port : ℕ) → is_stop event ≡ false → takes_down port event ≡ false
     → is_up (ports_up ports history) port ≡ true → is_up (ports_up ports (history ++ event ∷ [])) port ≡ true
-up_stays ports history event port on untaken up =
-    let parts = and_parts (running history && not (is_down history port)) (list_any (λ j. j == port) (numbers (length ports))) (sym (up_is ports history port) ∙ up) in
-    let both = and_parts (running history) (not (is_down history port)) parts.0 in
-    let runs = both.0 in
-    let later : running (history ++ event ∷ []) ≡ true = running-more history event on ∙ ap (λ b. b || (is_start event || false)) runs in
-    let stays : is_down (history ++ event ∷ []) port ≡ false =
-    is_down-more history event port on runs
-    ∙ ap (λ b. b || (is_down history port && not (brings_up port event))) untaken
-    ∙ ap (λ b. b && not (brings_up port event)) (not-true (is_down history port) both.1) in
-    up_is ports (history ++ event ∷ []) port
-    ∙ and_from (running (history ++ event ∷ []) && not (is_down (history ++ event ∷ []) port)) (list_any (λ j. j == port) (numbers (length ports)))
-    (and_from (running (history ++ event ∷ [])) (not (is_down (history ++ event ∷ []) port)) later (ap not stays)) parts.1
+up_stays ports history event port on untaken up = grind (arith, and_parts, up_is, running-more, is_down-more, not-true, and_from)
 
 -- the port that goes down isn't up
 pub down_port : (ports : List Port) (history : History) (port : ℕ)
@@ -167,14 +143,11 @@ port_comes_up ports history port exists runs =
     (among (length ports) port exists)
   where
     never : (b : Bool) → (b && false) ≡ false
-    never true = refl
-    never false = refl
+    never b = grind arith
 
 filter-same_on : {X : Type 0} (p q : X → Bool) (xs : List X) → AllByRecursion (λ x. p x ≡ q x) xs → filter p xs ≡ filter q xs
 filter-same_on p q [] same = refl
-filter-same_on p q (x ∷ xs) same =
-    let e = same.0 in
-    elim (cases_Bool (q x)) [ inl f ↦ rw (e, f) (ap (λ ys. x ∷ ys) (filter-same_on p q xs same.1)) | inr f ↦ rw (e, f) (filter-same_on p q xs same.1) ]
+filter-same_on p q (x ∷ xs) same = grind (arith, filter-same_on p q xs same.1)
 
 pub filter-same : {X : Type 0} (p q : X → Bool) (xs : List X) → ((x : X) → p x ≡ q x) → filter p xs ≡ filter q xs
 filter-same {X = X} p q xs same = filter-same_on p q xs (each xs)
@@ -222,8 +195,7 @@ ports_stay ports history event no_start on untaken unbrought =
     as_before = running-more history event on ∙ ap (λ b. running history || (b || false)) no_start ∙ or_none (running history)
 
     and_not : (d : Bool) → (d && not false) ≡ d
-    and_not true = refl
-    and_not false = refl
+    and_not d = grind arith
 
     one : (port : ℕ) → (running (history ++ event ∷ []) && not (is_down (history ++ event ∷ []) port)) ≡ (running history && not (is_down history port))
     one port = elim (cases_Bool (running history)) [

@@ -1,7 +1,7 @@
 -- Which ports are up after one event more, as a list made of the one before it.
-use Rattle.std.proofs.Common.{◌≡◌, refl, sym, ap, ◌∙◌, ℕ, zero, suc, ◌<◌, ◌==◌, ◌&&◌, ◌||◌, nat_lt, Bool, true, false, not, if◌then◌else◌, List, [], ◌∷◌, ◌++◌, filter, length, inl, inr, true≢false, arith}
+use Rattle.std.proofs.Common.{◌≡◌, refl, sym, ap, ◌∙◌, ℕ, zero, suc, ◌<◌, ◌==◌, ◌&&◌, ◌||◌, nat_lt, Bool, true, false, not, if◌then◌else◌, List, [], ◌∷◌, ◌++◌, filter, length, inl, inr, true≢false, arith, rules}
 use Rattle.std.specs.List.{AllByRecursion, list_any}
-use Rattle.std.proofs.lemmas.Bool.{cases_Bool, cases_lt, or_left, or_right, eq-eqb, eqb-true, ne_eqb, lt-ltb, le-ltb}
+use Rattle.std.proofs.lemmas.Bool.{cases_Bool, cases_lt, or_left, or_right, eq-eqb, ne_eqb, lt-ltb, le-ltb}
 use Rattle.std.proofs.lemmas.List.Elements.{filter-append}
 use Rattle.std.proofs.lemmas.List.Folds.{list_any-append}
 use Rattle.ipx_router.specs.inside.Following.{runs_after, up_after}
@@ -15,12 +15,7 @@ use Rattle.ipx_router.proofs.port_values.PortOfEachNumber.{numbers_below}
 -- ---- running
 
 pub running_then : (history : History) (event : Event) → running (history ++ event ∷ []) ≡ runs_after (running history) event
-running_then history Start = running-more history Start refl ∙ or_right (running history) true refl
-running_then history Stop = running-stop history
-running_then history Second = running-more history Second refl ∙ or_none (running history)
-running_then history (Packet number bytes) = running-more history (Packet number bytes) refl ∙ or_none (running history)
-running_then history (PortDown number) = running-more history (PortDown number) refl ∙ or_none (running history)
-running_then history (PortUp number) = running-more history (PortUp number) refl ∙ or_none (running history)
+running_then history event = grind (arith, running-more, or_right, running-stop, or_none)
 
 -- a start that finds the router stopped begins a run
 behind_first : (events : List Event) → list_any is_start events ≡ false → behind_start (events ++ Start ∷ []) ≡ []
@@ -36,10 +31,7 @@ present_run-first history stopped = ap behind_start (since_stop-more history Sta
 -- ---- numbers
 
 turned : (a b : ℕ) → (a == b) ≡ (b == a)
-turned a b = elim (cases_Bool (b == a)) [
-  | inl same ↦ eq-eqb a b (sym (eqb-true b a same)) ∙ sym same
-  | inr other ↦ ne_eqb a b (λ (e : a ≡ b). true≢false (sym (eq-eqb b a (sym e)) ∙ other)) ∙ sym other
-]
+turned a b = grind arith
 
 there_is : (n number : ℕ) → number < n → is_up (numbers n) number ≡ true
 there_is zero number below = absurd (omega (arith, below))
@@ -52,10 +44,7 @@ there_is (suc n) number below =
 
 filter_both : (p q : ℕ → Bool) (xs : List ℕ) → filter (λ x. p x && q x) xs ≡ filter p (filter q xs)
 filter_both p q [] = refl
-filter_both p q (x ∷ xs) = elim (cases_Bool (q x)) [
-  | inl e ↦ elim (cases_Bool (p x)) [ inl f ↦ rw (e, f) (ap (λ ys. x ∷ ys) (filter_both p q xs)) | inr f ↦ rw (e, f) (filter_both p q xs) ]
-  | inr e ↦ elim (cases_Bool (p x)) [ inl f ↦ rw (e, f) (filter_both p q xs) | inr f ↦ rw (e, f) (filter_both p q xs) ]
-]
+filter_both p q (x ∷ xs) = grind (arith, filter_both p q xs)
 
 filter_all : (xs : List ℕ) → filter (λ x. true) xs ≡ xs
 filter_all [] = refl
@@ -64,10 +53,7 @@ filter_all (x ∷ xs) = ap (λ ys. x ∷ ys) (filter_all xs)
 -- a greater number behind the place where one is put
 put_before : (n m : ℕ) (xs : List ℕ) → nat_lt n m ≡ true → put nat_lt n (xs ++ m ∷ []) ≡ put nat_lt n xs ++ m ∷ []
 put_before n m [] less = rw less refl
-put_before n m (x ∷ xs) less = elim (cases_Bool (nat_lt n x)) [
-  | inl e ↦ rw e refl
-  | inr e ↦ rw e (ap (λ ys. x ∷ ys) (put_before n m xs less))
-]
+put_before n m (x ∷ xs) less = grind (arith, put_before n m xs less)
 
 -- a number behind smaller ones
 put_last : (n : ℕ) (xs : List ℕ) → AllByRecursion (λ x. x < n) xs → put nat_lt n xs ≡ xs ++ n ∷ []
@@ -81,16 +67,10 @@ module _ (p : ℕ → Bool) (number : ℕ) where
 
   all_others : (xs : List ℕ) → AllByRecursion (λ j. j < number) xs → filter passes xs ≡ filter p xs
   all_others [] all = refl
-  all_others (x ∷ xs) all =
-      let other : (x == number) ≡ false = ne_eqb x number (λ (e : x ≡ number). omega (arith, e, all.0)) in
-      elim (cases_Bool (p x)) [
-        | inl e ↦ rw (other, e) (ap (λ ys. x ∷ ys) (all_others xs all.1))
-        | inr e ↦ rw (other, e) (all_others xs all.1)
-      ]
+  all_others (x ∷ xs) all = grind (arith, all_others xs all.1)
 
   gone : (xs : List ℕ) → xs ++ [] ≡ xs
-  gone [] = refl
-  gone (x ∷ xs) = ap (λ ys. x ∷ ys) (gone xs)
+  gone xs = search (rules)
 
   -- a greater number, whether it passes or not
   greater : (n : ℕ) → number < n → filter passes (numbers n) ≡ put nat_lt number (filter p (numbers n)) → (b : Bool) → p n ≡ b
@@ -113,18 +93,7 @@ module _ (p : ℕ → Bool) (number : ℕ) where
   -- the number itself
   itself : (n : ℕ) → n ≡ number → p number ≡ false
       → filter passes (numbers n) ++ filter passes (n ∷ []) ≡ put nat_lt number (filter p (numbers n) ++ filter p (n ∷ []))
-  itself n same fails =
-      let is : (n == number) ≡ true = eq-eqb n number same in
-      let none : p n ≡ false = ap p same ∙ fails in
-      let both : filter passes (n ∷ []) ≡ n ∷ [] = rw is refl in
-      let alone : filter p (n ∷ []) ≡ [] = rw none refl in
-      let smaller : AllByRecursion (λ j. j < number) (numbers n) =
-      all_then (λ j. j < n) (λ j. j < number) (λ j less. omega (arith, less, same)) (numbers n) (numbers_below n) in
-      ap (λ ys. filter passes (numbers n) ++ ys) both ∙ ap (λ xs. xs ++ n ∷ []) (all_others (numbers n) smaller)
-      ∙ ap (λ m. filter p (numbers n) ++ m ∷ []) same
-      ∙ sym (put_last number (filter p (numbers n)) (all-filter (λ j. j < number) p (numbers n) smaller))
-      ∙ ap (put nat_lt number) (sym (gone (filter p (numbers n))))
-      ∙ ap (λ ys. put nat_lt number (filter p (numbers n) ++ ys)) (sym alone)
+  itself n same fails = grind (arith, eq-eqb, all_then, numbers_below, all_others, put_last, all-filter, gone)
 
   pub put_among : (n : ℕ) → number < n → p number ≡ false → filter passes (numbers n) ≡ put nat_lt number (filter p (numbers n))
   put_among zero below fails = absurd (omega (arith, below))
@@ -202,23 +171,15 @@ module _ (ports : List Port) (history : History) where
     later = running_then history (PortUp number)
 
     by : (same d : Bool) → not (d && not same) ≡ (same || not d)
-    by true true = refl
-    by true false = refl
-    by false true = refl
-    by false false = refl
+    by same d = grind arith
 
     -- it is up, or it is the one
     one : (port : ℕ) → running history ≡ true → is_in behind port ≡ ((port == number) || is_in history port)
-    one port runs =
-        let down = is_down-more history (PortUp number) port refl runs in
-        rw (later, runs, down, turned port number) (by (number == port) (is_down history port))
+    one port runs = grind (arith, is_down-more, later, turned, by)
 
     -- where it is up already
     already : is_in history number ≡ true → (port : ℕ) → ((port == number) || is_in history port) ≡ is_in history port
-    already is port = elim (cases_Bool (port == number)) [
-      | inl same ↦ rw same (sym (ap (is_in history) (eqb-true port number same) ∙ is))
-      | inr other ↦ rw other refl
-    ]
+    already is port = grind arith
 
     is_it : is_up (ports_up ports history) number ≡ is_in history number
     is_it = up_is ports history number ∙ ap (λ b. is_in history number && b) (there_is (length ports) number within) ∙ whole (is_in history number)

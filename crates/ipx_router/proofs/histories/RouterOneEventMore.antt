@@ -1,7 +1,6 @@
 -- A router's events over its state: what its ports that are up are, the state that each event leaves, and what it sends.
-use Rattle.std.proofs.Common.{◌≡◌, refl, sym, ap, ◌∙◌, subst, ℕ, ◌+◌, ◌%◌, ◌<◌, ◌≤◌, ◌==◌, ◌&&◌, nat_lt, Bool, true, false, true≢false, not, List, [], ◌∷◌, ◌++◌, filter, length, arith, inl, inr}
+use Rattle.std.proofs.Common.{◌≡◌, refl, sym, ap, ◌∙◌, subst, ℕ, ◌+◌, ◌%◌, ◌<◌, ◌≤◌, ◌==◌, ◌&&◌, nat_lt, Bool, true, false, true≢false, not, List, [], ◌∷◌, ◌++◌, filter, length, arith, rules}
 use Rattle.std.specs.List.{AllByRecursion, flat_map}
-use Rattle.std.proofs.lemmas.Bool.{cases_Bool}
 use Rattle.ipx_table.specs.Facts.{Fact, Second as SecondPassed, PortEnd, End}
 use Rattle.ipx_table.specs.Stands.{held, second_later, without_port}
 use Rattle.ipx_table.specs.declared.held.Held.{Held}
@@ -27,7 +26,7 @@ use Rattle.ipx_router.proofs.histories.OneEventMore.{none_up}
 use Rattle.ipx_router.proofs.bounds.ItemsOfEachList.{length-filter, length-numbers, length-left_out}
 use Rattle.ipx_router.proofs.port_values.PortOfEachNumber.{ports_up-within}
 use Rattle.ipx_router.proofs.bounds.RoomIsEnough.{Bounded, event_fits}
-use Rattle.ipx_router.proofs.histories.StateAfterEachEvent.{state_of, started, stopped, ticked, went_down, came_up}
+use Rattle.ipx_router.proofs.histories.StateAfterEachEvent.{state_of, started, came_up}
 use Rattle.ipx_router.proofs.tables.HeldCameByPortsUp.{held_routes_up, held_services_up}
 use Rattle.ipx_router.proofs.histories.PortsUpOneEventMore.{up_there}
 
@@ -66,13 +65,10 @@ module _ (most_routes most_services : ℕ) (s : State) (route_shares service_sha
       subst (λ (up : List ℕ). AllByRecursion (λ r. is_up up r.port ≡ true) (offers s.routes)) (sym is.stands.ups) held
 
   few_all : length (ports_up s.ports is.past) ≤ length s.ports
-  few_all =
-      omega (arith, length-numbers (length s.ports), length-filter (λ port. running is.past && not (is_down is.past port)) (numbers (length s.ports)))
+  few_all = omega (arith, length-numbers, length-filter)
 
   pub few_ups : length s.up ≤ 32
-  few_ups =
-      let few = is.few in
-      omega (arith, ap length is.stands.ups, few_all, few)
+  few_ups = grind (arith, few_all)
 
   pub none_of_stopped : s.running ≡ false → s.up ≡ []
   none_of_stopped halted = is.stands.ups ∙ none_up s.ports is.past (sym is.stands.runs ∙ halted)
@@ -112,9 +108,7 @@ module _ (most_routes most_services : ℕ) (s : State) where
   -- a start that finds it stopped
   pub start_follows : (ups : List ℕ) → s.running ≡ false → ups ≡ numbers (length s.ports)
       → Follows most_routes most_services s (state_of s.ports true ups 0 s.routes s.services) Start
-  start_follows ups halted e =
-      subst (λ (r : Bool). Follows most_routes most_services (state_of s.ports r s.up s.seconds s.routes s.services) (state_of s.ports true ups 0 s.routes s.services) Start)
-      (sym halted) (started most_routes most_services s.ports s.up s.seconds s.routes s.services ups e)
+  start_follows ups halted e = search (rules, state_of, started)
 
   pub start_sends : (ups : List ℕ) → s.running ≡ false → s.routes ≡ [] → s.services ≡ []
       → flat_map (introduction s.ports ups (offers s.routes) (offers s.services)) ups ≡ sends_between s (state_of s.ports true ups 0 s.routes s.services) Start
@@ -124,36 +118,21 @@ module _ (most_routes most_services : ℕ) (s : State) where
   module _ (tables : TableSteps most_routes most_services s.ports) where
     pub stop_follows : (ups : List ℕ) (later : ℕ) (routes : List (Held RouteOffer)) (services : List (Held ServiceOffer)) → s.running ≡ true
         → ups ≡ [] → routes ≡ [] → services ≡ [] → Follows most_routes most_services s (state_of s.ports false ups later routes services) Stop
-    stop_follows ups later routes services runs none no_routes no_services =
-        subst (λ (r : Bool). Follows most_routes most_services (state_of s.ports r s.up s.seconds s.routes s.services) (state_of s.ports false ups later routes services) Stop)
-        (sym runs)
-        (stopped most_routes most_services s.ports s.up s.seconds s.routes s.services routes services ups later none
-        (λ facts stands. no_routes ∙ sym (tables.route_end facts)) (λ facts stands. no_services ∙ sym (tables.service_end facts)))
+    stop_follows ups later routes services runs none no_routes no_services = grind arith
 
     pub second_follows : (later : ℕ) (routes : List (Held RouteOffer)) (services : List (Held ServiceOffer)) → s.running ≡ true
         → later ≡ (s.seconds + 1) % period → routes ≡ second_later s.routes → services ≡ second_later s.services
         → Follows most_routes most_services s (state_of s.ports true s.up later routes services) Second
-    second_follows later routes services runs e r k =
-        subst (λ (b : Bool). Follows most_routes most_services (state_of s.ports b s.up s.seconds s.routes s.services) (state_of s.ports true s.up later routes services) Second)
-        (sym runs)
-        (ticked most_routes most_services s.ports s.up s.seconds s.routes s.services routes services later e
-        (λ facts stands. r ∙ ap second_later stands ∙ sym (tables.route_second facts)) (λ facts stands. k ∙ ap second_later stands ∙ sym (tables.service_second facts)))
+    second_follows later routes services runs e r k = grind arith
 
     pub down_follows : (number : ℕ) (ups : List ℕ) (routes : List (Held RouteOffer)) (services : List (Held ServiceOffer)) → s.running ≡ true → is_up s.up number ≡ true
         → ups ≡ filter (λ j. not (j == number)) s.up → routes ≡ without_port (λ r. r.port) number s.routes → services ≡ without_port (λ k. k.port) number s.services
         → Follows most_routes most_services s (state_of s.ports true ups s.seconds routes services) (PortDown number)
-    down_follows number ups routes services runs there e r k =
-        subst (λ (b : Bool). Follows most_routes most_services (state_of s.ports b s.up s.seconds s.routes s.services) (state_of s.ports true ups s.seconds routes services) (PortDown number))
-        (sym runs)
-        (went_down most_routes most_services s.ports s.up s.seconds s.routes s.services routes services number ups there e
-        (λ facts stands. r ∙ ap (without_port (λ o. o.port) number) stands ∙ sym (tables.route_port_end facts number))
-        (λ facts stands. k ∙ ap (without_port (λ o. o.port) number) stands ∙ sym (tables.service_port_end facts number)))
+    down_follows number ups routes services runs there e r k = grind arith
 
   pub up_follows : (number : ℕ) (ups : List ℕ) → s.running ≡ true → is_up s.up number ≡ false → ups ≡ put nat_lt number s.up
       → Follows most_routes most_services s (state_of s.ports true ups s.seconds s.routes s.services) (PortUp number)
-  up_follows number ups runs down e =
-      subst (λ (b : Bool). Follows most_routes most_services (state_of s.ports b s.up s.seconds s.routes s.services) (state_of s.ports true ups s.seconds s.routes s.services) (PortUp number))
-      (sym runs) (came_up most_routes most_services s.ports s.up s.seconds s.routes s.services number ups down e)
+  up_follows number ups runs down e = search (rules, state_of, came_up)
 
 -- ---- what they send
 
@@ -171,12 +150,7 @@ module _ (most_routes most_services : ℕ) (s : State) (route_shares service_sha
     (known : Bounded) (o : Contents) where
   pub run_room : (ups : List ℕ) → s.running ≡ false → ups ≡ numbers (length s.ports) → HasRoomFor s Start o
       → Fits o (flat_map (introduction s.ports ups (offers s.routes) (offers s.services)) ups)
-  run_room ups halted e room =
-      let t = state_of s.ports true ups 0 s.routes s.services in
-      subst (λ (sent : List Sent). Fits o sent)
-      (sym (start_sends most_routes most_services s ups halted (stopped_routes most_routes most_services s route_shares service_shares is halted)
-      (stopped_services most_routes most_services s route_shares service_shares is halted)))
-      (event_fits most_routes most_services s route_shares service_shares is t Start tt tt (start_follows most_routes most_services s ups halted e) known o room)
+  run_room ups halted e room = search (rules, state_of, start_sends, stopped_routes, stopped_services, event_fits, start_follows)
 
   pub stop_room : TableSteps most_routes most_services s.ports → s.running ≡ true → HasRoomFor s Stop o
       → Fits o (flat_map (stop_on s.ports (record { up = s.up; routes = offers s.routes; services = offers s.services })) s.up)
@@ -201,10 +175,7 @@ within_put n number up below all = all_placed (λ j. j < n) nat_lt number up bel
 
 pub length-put_number : (number : ℕ) (up : List ℕ) → length (put nat_lt number up) ≡ length up + 1
 length-put_number number [] = refl
-length-put_number number (x ∷ up) = elim (cases_Bool (nat_lt number x)) [
-  | inl before ↦ rw before (omega arith)
-  | inr behind ↦ rw behind (omega (arith, length-put_number number up))
-]
+length-put_number number (x ∷ up) = grind (arith, length-put_number number up)
 
 -- ---- seconds, and ports that go down
 

@@ -3,13 +3,12 @@ use Rattle.std.proofs.Common.{◌≡◌, refl, sym, ap, ◌∙◌, subst, ℕ, �
 use Rattle.std.proofs.lemmas.List.Elements.{filter-append}
 use Rattle.ipx_table.specs.Facts.{Fact}
 use Rattle.ipx_table.specs.Stands.{Stands}
-use Rattle.ipx_table.specs.declared.held.Held.{Held}
-use Rattle.ipx_router.specs.Facts.{facts_of, routes_heard, services_heard, route_facts_of, service_facts_of, route_facts, service_facts, routes_held, services_held, offers}
+use Rattle.ipx_router.specs.Facts.{facts_of, route_facts, service_facts}
 use Rattle.ipx_router.specs.inside.Following.{Follows, runs_after, up_after, seconds_after, route_facts_at, service_facts_at, holding_of, is_next_periodic, sends_between, outcome_at}
 use Rattle.ipx_router.specs.Heard.{Heard, heard}
-use Rattle.ipx_router.specs.History.{Event, History, Start, Stop, Second, Packet, PortDown, PortUp, IsOnPort, is_second, is_stop, running, present_run, seconds_run, ports_up}
+use Rattle.ipx_router.specs.History.{Event, History, Start, Stop, Second, Packet, PortDown, PortUp, IsOnPort, is_second, is_stop, running, seconds_run, ports_up}
 use Rattle.ipx_router.specs.Numbers.{period}
-use Rattle.ipx_router.specs.Outcomes.{outcome, outcome_of}
+use Rattle.ipx_router.specs.Outcomes.{outcome}
 use Rattle.ipx_router.specs.Port.{Port}
 use Rattle.ipx_router.specs.Routes.{route_rules}
 use Rattle.ipx_router.specs.Sends.{Holding, holding, is_periodic, sends_of, sends}
@@ -25,10 +24,7 @@ use Rattle.ipx_router.proofs.histories.PortsUpOneEventMore.{running_then, presen
 
 seconds_more : (history : History) (event : Event) → is_stop event ≡ false → running history ≡ true
     → seconds_run (history ++ event ∷ []) ≡ seconds_run history + length (filter is_second (event ∷ []))
-seconds_more history event on runs =
-    ap (λ events. length (filter is_second events)) (present_run-more history event on runs)
-    ∙ ap length (filter-append is_second (present_run history) (event ∷ []))
-    ∙ length-append (filter is_second (present_run history)) (filter is_second (event ∷ []))
+seconds_more history event on runs = grind (arith, present_run-more, filter-append, length-append)
 
 seconds_same : (history : History) (event : Event) → is_stop event ≡ false → running history ≡ true → is_second event ≡ false
     → seconds_run (history ++ event ∷ []) ≡ seconds_run history
@@ -61,19 +57,13 @@ module _ (most_routes most_services : ℕ) (s : State) (history : History) (stan
   said : {O : Type 0} (says : ℕ → Option Heard → List (Fact O)) (event : Event)
       → facts_of (ports_up s.ports history) (running history) (λ number bytes. says number (heard s.ports (ports_up s.ports history) (running history) number bytes)) event
       ≡ facts_of s.up s.running (λ number bytes. says number (heard s.ports s.up s.running number bytes)) event
-  said says event =
-      ap (λ (up : List ℕ). facts_of up (running history) (λ number bytes. says number (heard s.ports up (running history) number bytes)) event) (sym stands.ups)
-      ∙ ap (λ (runs : Bool). facts_of s.up runs (λ number bytes. says number (heard s.ports s.up runs number bytes)) event) (sym stands.runs)
+  said says event = grind arith
 
   routes_then : (event : Event) → route_facts s.ports (history ++ event ∷ []) ≡ route_facts s.ports history ++ route_facts_at s event
-  routes_then event =
-      facts_from-more (route_facts_of s.ports) [] history event
-      ∙ ap (λ fs. route_facts s.ports history ++ fs) (said (λ number message. routes_heard s.ports number message) event)
+  routes_then event = grind (arith, facts_from-more, said)
 
   services_then : (event : Event) → service_facts s.ports (history ++ event ∷ []) ≡ service_facts s.ports history ++ service_facts_at s event
-  services_then event =
-      facts_from-more (service_facts_of s.ports) [] history event
-      ∙ ap (λ fs. service_facts s.ports history ++ fs) (said services_heard event)
+  services_then event = grind (arith, facts_from-more, said)
 
   -- ---- the step
 
@@ -100,28 +90,15 @@ module _ (most_routes most_services : ℕ) (s : State) (history : History) (stan
 
 pub held_same : (most_routes most_services : ℕ) (s : State) (history : History) → StandsFor most_routes most_services s history
     → holding s.ports most_routes most_services history ≡ holding_of s
-held_same most_routes most_services s history stands =
-    let routes = routes_held s.ports most_routes history in
-    let services = services_held s.ports most_services history in
-    ap (λ (up : List ℕ). record { up = up; routes = offers routes; services = offers services }) (sym stands.ups)
-    ∙ ap (λ (held : List (Held RouteOffer)). record { up = s.up; routes = offers held; services = offers services }) (sym stands.routes_stand)
-    ∙ ap (λ (held : List (Held ServiceOffer)). record { up = s.up; routes = offers s.routes; services = offers held }) (sym stands.services_stand)
+held_same most_routes most_services s history stands = grind arith
 
 -- a stopped router does not ask whether a second is periodic
 periodic_same : (ports : List Port) (before after : Holding) (event : Event) (runs p q : Bool) → (runs ≡ true → p ≡ q)
     → sends_of ports before after runs p event ≡ sends_of ports before after runs q event
-periodic_same ports before after event true p q same = ap (λ b. sends_of ports before after true b event) (same refl)
-periodic_same ports before after Start false p q same = refl
-periodic_same ports before after Stop false p q same = refl
-periodic_same ports before after Second false p q same = refl
-periodic_same ports before after (Packet number bytes) false p q same = refl
-periodic_same ports before after (PortDown number) false p q same = refl
-periodic_same ports before after (PortUp number) false p q same = refl
+periodic_same ports before after event runs p q same = grind arith
 
 next_counts : (seconds run : ℕ) → seconds ≡ run % period → ((run + 1) % period == 0) ≡ ((seconds + 1) % period == 0)
-next_counts seconds run e =
-    let same : (run + 1) % period ≡ (seconds + 1) % period = omega (arith, e) in
-    ap (λ n. n == 0) same
+next_counts seconds run e = grind arith
 
 -- what it sends after the history is what it sends between the two states
 pub sends_stand : (most_routes most_services : ℕ) (s t : State) (history : History) (event : Event)
@@ -140,7 +117,4 @@ sends_stand most_routes most_services s t history event stands later same =
 -- and it becomes the same
 pub outcome_stand : (most_routes most_services : ℕ) (s : State) (history : History) (event : Event) → StandsFor most_routes most_services s history
     → outcome s.ports most_routes history event ≡ outcome_at s event
-outcome_stand most_routes most_services s history event stands =
-    ap (λ (up : List ℕ). outcome_of s.ports up (offers (routes_held s.ports most_routes history)) (running history) event) (sym stands.ups)
-    ∙ ap (λ (held : List (Held RouteOffer)). outcome_of s.ports s.up (offers held) (running history) event) (sym stands.routes_stand)
-    ∙ ap (λ (runs : Bool). outcome_of s.ports s.up (offers s.routes) runs event) (sym stands.runs)
+outcome_stand most_routes most_services s history event stands = grind arith

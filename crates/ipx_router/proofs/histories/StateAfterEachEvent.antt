@@ -1,4 +1,6 @@
 -- What each event does to a router's state, over plain variables.
+use Rattle.std.proofs.Common.{arith}
+use Rattle.std.proofs.Common.{rules}
 use Rattle.std.proofs.Common.{◌≡◌, refl, sym, ap, ◌∙◌, subst, ℕ, ◌+◌, ◌%◌, ◌==◌, ◌&&◌, nat_lt, Bool, true, false, true≢false, not, if◌then◌else◌, None, List, [], ◌∷◌, ◌++◌, filter, length, append-nil, inl, inr}
 use Rattle.std.proofs.lemmas.Bool.{cases_Bool, or_left}
 use Rattle.ipx_table.specs.Facts.{Fact, Second as SecondPassed, PortEnd, End}
@@ -28,30 +30,17 @@ module _ (most_routes most_services : ℕ) (s : State) where
   unchanged : (event : Event) → route_facts_at s event ≡ [] → service_facts_at s event ≡ [] → runs_after s.running event ≡ s.running
       → up_after (length s.ports) s.running s.up event ≡ s.up → (s.running ≡ true → seconds_after s.running s.seconds event ≡ s.seconds)
       → Follows most_routes most_services s s event
-  unchanged event no_routes no_services runs ups counts = record {
-    ports = refl;
-    routes = λ facts stands.
-        subst (λ (more : List (Fact RouteOffer)). Stands (route_rules s.ports most_routes) s.routes (facts ++ more)) (sym no_routes)
-        (subst (λ (all : List (Fact RouteOffer)). Stands (route_rules s.ports most_routes) s.routes all) (sym (append-nil facts)) stands);
-    services = λ facts stands.
-        subst (λ (more : List (Fact ServiceOffer)). Stands (service_rules s.ports most_services) s.services (facts ++ more)) (sym no_services)
-        (subst (λ (all : List (Fact ServiceOffer)). Stands (service_rules s.ports most_services) s.services all) (sym (append-nil facts)) stands);
-    runs = sym runs;
-    ups = sym ups;
-    counts = λ later. sym (counts later);
-  }
+  unchanged event no_routes no_services runs ups counts = grind (arith, append-nil)
 
   -- a start that finds it running
   pub already_running : s.running ≡ true → Follows most_routes most_services s s Start
   already_running runs = unchanged Start refl refl (sym runs) (ups s.running runs) (λ later. count s.running runs)
     where
       ups : (r : Bool) → r ≡ true → up_after (length s.ports) r s.up Start ≡ s.up
-      ups true e = refl
-      ups false e = absurd (true≢false (sym e))
+      ups r e = grind arith
 
       count : (r : Bool) → r ≡ true → seconds_after r s.seconds Start ≡ s.seconds
-      count true e = refl
-      count false e = absurd (true≢false (sym e))
+      count r e = grind arith
 
   -- what comes to a stopped router
   pub stopped_stop : s.running ≡ false → s.up ≡ [] → Follows most_routes most_services s s Stop
@@ -59,22 +48,19 @@ module _ (most_routes most_services : ℕ) (s : State) where
       unchanged Stop (says s.running stopped) (says s.running stopped) (sym stopped) (sym none) (λ runs. refl)
     where
       says : {O : Type 0} (r : Bool) → r ≡ false → facts_of {O = O} s.up r (λ number bytes. []) Stop ≡ []
-      says true e = absurd (true≢false e)
-      says false e = refl
+      says r e = grind arith
 
   pub stopped_second : s.running ≡ false → Follows most_routes most_services s s Second
   stopped_second stopped =
       unchanged Second (says s.running stopped) (says s.running stopped) refl refl (λ runs. absurd (true≢false (sym runs ∙ stopped)))
     where
       says : {O : Type 0} (r : Bool) → r ≡ false → facts_of {O = O} s.up r (λ number bytes. []) Second ≡ []
-      says true e = absurd (true≢false e)
-      says false e = refl
+      says r e = grind arith
 
   -- a packet of which nothing is heard
   pub unheard : (number : ℕ) (bytes : List ℕ) → heard s.ports s.up s.running number bytes ≡ None
       → Follows most_routes most_services s s (Packet number bytes)
-  unheard number bytes none =
-      unchanged (Packet number bytes) (ap (routes_heard s.ports number) none) (ap (services_heard number) none) refl refl (λ runs. refl)
+  unheard number bytes none = search (rules, unchanged)
 
   -- a port that is down goes down, also of a stopped router
   pub already_down : (number : ℕ) → is_up s.up number ≡ false → Follows most_routes most_services s s (PortDown number)
@@ -95,8 +81,7 @@ module _ (most_routes most_services : ℕ) (s : State) where
   already_up number up = unchanged (PortUp number) refl refl refl (stays (s.running && not (is_up s.up number)) up) (λ runs. refl)
     where
       stays : (b : Bool) → b ≡ false → (if b then put nat_lt number s.up else s.up) ≡ s.up
-      stays true e = absurd (true≢false e)
-      stays false e = refl
+      stays b e = grind arith
 
 -- ---- events that change something
 
@@ -136,22 +121,8 @@ module _ (most_routes most_services : ℕ) (ports : List Port) (up : List ℕ) (
     pub went_down : (number : ℕ) (ups : List ℕ) → is_up up number ≡ true → ups ≡ filter (λ j. not (j == number)) up
         → RoutesThen later_routes (PortEnd number ∷ []) → ServicesThen later_services (PortEnd number ∷ [])
         → Follows most_routes most_services (state_of ports true up seconds routes services) (state_of ports true ups seconds later_routes later_services) (PortDown number)
-    went_down number ups there e r s = record {
-      ports = refl;
-      routes = λ facts stands. rw there (r facts stands);
-      services = λ facts stands. rw there (s facts stands);
-      runs = refl;
-      ups = e;
-      counts = λ runs. refl;
-    }
+    went_down number ups there e r s = grind arith
 
   pub came_up : (number : ℕ) (ups : List ℕ) → is_up up number ≡ false → ups ≡ put nat_lt number up
       → Follows most_routes most_services (state_of ports true up seconds routes services) (state_of ports true ups seconds routes services) (PortUp number)
-  came_up number ups down e = record {
-    ports = refl;
-    routes = same_routes;
-    services = same_services;
-    runs = refl;
-    ups = e ∙ sym (rw down refl);
-    counts = λ runs. refl;
-  }
+  came_up number ups down e = grind (arith, same_routes, same_services, ups)

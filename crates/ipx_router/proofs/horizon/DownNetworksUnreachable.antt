@@ -1,12 +1,11 @@
 -- No entry of the router's own says that the network of a port that is down is reached.
-use Rattle.std.proofs.Common.{◌≡◌, refl, sym, ap, ◌∙◌, subst, ℕ, ◌+◌, ◌<◌, Bool, false, true≢false, length, List, [], inl, inr, arith}
+use Rattle.std.proofs.Common.{◌≡◌, sym, ◌∙◌, subst, ℕ, ◌+◌, ◌<◌, Bool, false, length, List, [], inl, inr, arith}
 use Rattle.std.specs.List.{AllByRecursion}
 use Rattle.std.proofs.lemmas.List.{append-nil}
 use Rattle.ipx_wire.specs.Forward.{forwarded, propagated}
 use Rattle.ipx_wire.specs.Packet.{IsPacket}
 use Rattle.ipx_wire.specs.Piece.{IsBytes}
 use Rattle.ipx_wire.specs.Write.{packet_bytes}
-use Rattle.ipx_wire.specs.declared.network.Network.{Network}
 use Rattle.ipx_wire.specs.declared.rip.RipEntry.{RipEntry}
 use Rattle.ipx_router.specs.History.{Event, IsOfBytes}
 use Rattle.ipx_router.specs.Numbers.{unreachable}
@@ -32,20 +31,11 @@ module _ (ports : List Port) (are : AllByRecursion IsPort ports) (down : ℕ) (e
 
   -- no request for all routes names it, and no route leads to it
   pub allows_gone : Allows Gone (IsTableRoute ports)
-  allows_gone =
-      let is : IsPort (port_at ports down) = port-all IsPort ports down are exists in
-      let below = is.ordinary_network in
-      record {
-        asking = λ e. absurd (omega (arith, below, ap (λ (n : Network). n.0) e));
-        gone = λ entry e. refl;
-        heard = λ route cost table e. absurd (elsewhere ports down route.network exists table.network e);
-      }
+  allows_gone = grind (arith, port-all, elsewhere)
 
   -- the ports that are up are on other networks
   pub opens_gone : (up : List ℕ) → AreApart ports → AllByRecursion (λ j. j < length ports) up → is_up up down ≡ false → Opens Gone ports up
-  opens_gone up apart_all within is_down j cost there e =
-      absurd (apart ports j down apart_all (one_up (λ j. j < length ports) up j within there) exists
-      (λ same. absurd (true≢false (sym there ∙ ap (is_up up) same ∙ is_down))) e)
+  opens_gone up apart_all within is_down j cost there e = grind (arith, apart, one_up)
 
 module _ (readings : Readings) (again : Rereadings) (ports : List Port) (are : AllByRecursion IsPort ports) (up : List ℕ) (routes : List RouteOffer)
     (P : RipEntry → Type 0) where

@@ -1,5 +1,5 @@
 -- No entry that goes out on a port is of a route that was learned there.
-use Rattle.std.proofs.Common.{◌≡◌, ◌≢◌, refl, sym, ap, ◌∙◌, subst, ℕ, ◌<◌, ◌==◌, not, Bool, true, false, true≢false, length, List, [], ◌∷◌, map, filter, Option, None, Some, IfSome, inl, inr, arith}
+use Rattle.std.proofs.Common.{◌≡◌, ◌≢◌, sym, ap, ◌∙◌, subst, ℕ, ◌<◌, ◌==◌, not, Bool, true, false, true≢false, length, List, [], ◌∷◌, map, filter, Option, None, IfSome, inl, inr, arith}
 use Rattle.std.specs.List.{AllByRecursion, find}
 use Rattle.std.specs.List.Sorted.{IsStrictlyIncreasing}
 use Rattle.std.specs.Ordering.{is_eq}
@@ -8,7 +8,7 @@ use Rattle.ipx_wire.specs.declared.network.Network.{Network}
 use Rattle.ipx_router.specs.Changes.{Change, change_at, changes, differs, put_keys}
 use Rattle.ipx_router.specs.Horizon.{IsFromElsewhere}
 use Rattle.ipx_router.specs.News.{same_route, route_told, route_now, news}
-use Rattle.ipx_router.specs.Port.{Port, port_at, takes_no_route}
+use Rattle.ipx_router.specs.Port.{Port, port_at}
 use Rattle.ipx_router.specs.Relays.{IsTableRoute}
 use Rattle.ipx_router.specs.Routes.{network_order}
 use Rattle.ipx_router.specs.Sends.{every_route}
@@ -74,15 +74,11 @@ module _ (ports : List Port) (routes : List RouteOffer) (table : AllByRecursion 
 
   -- no route leads to all networks
   pub asking_elsewhere : IsFromElsewhere routes port every_route
-  asking_elsewhere =
-      all_then (IsTableRoute ports) (λ r. r.network ≡ every_route.network → r.port ≢ port)
-      (λ r is e. absurd (true≢false (sym (sym is.network ∙ ap (takes_no_route ports) e)))) routes table
+  asking_elsewhere = grind (arith, all_then)
 
   -- nor to the network of a port
   pub direct_elsewhere : (other : ℕ) → other < length ports → AreElsewhere routes port (port_at ports other).network
-  direct_elsewhere other exists =
-      all_then (IsTableRoute ports) (λ r. r.network ≡ (port_at ports other).network → r.port ≢ port)
-      (λ r is e. absurd (elsewhere ports other r.network exists is.network e)) routes table
+  direct_elsewhere other exists = grind (arith, all_then, elsewhere)
 
   -- ---- what is advertised
 
@@ -114,12 +110,7 @@ module _ (ports : List Port) (routes : List RouteOffer) (table : AllByRecursion 
 
   change_elsewhere : (before after : Option RouteOffer) → IfSome before (IsGone after) → IfSome after (IsAlone routes port)
       → AllByRecursion (IsFromElsewhere routes port) (route_told ports port (record { before = before; after = after }))
-  change_elsewhere before (Some route) gone is = elim (cases_Bool (route.port == port)) [
-    | inl e ↦ rw e tt
-    | inr e ↦ rw e (now_elsewhere (port_at ports port) route (is (λ same. true≢false (sym (eq-eqb route.port port same) ∙ e))), tt)
-  ]
-  change_elsewhere (Some route) None gone is = elim (cases_Bool (route.port == port)) [ inl e ↦ rw e tt | inr e ↦ rw e (gone refl, tt) ]
-  change_elsewhere None None gone is = tt
+  change_elsewhere before after gone is = grind (arith, now_elsewhere, eq-eqb)
 
   -- the route to a network among some
   abbrev is_to : Network → RouteOffer → Bool

@@ -1,9 +1,8 @@
 -- Whatever happens, what a router sends says nothing of a route where it was learned.
-use Rattle.std.proofs.Common.{◌≡◌, refl, sym, ap, ◌∙◌, subst, ℕ, ◌<◌, ◌==◌, Bool, true, false, true≢false, length, List, [], ◌∷◌, ◌++◌, map, Option, None, Some, Ok, Err, inl, inr, append-nil}
+use Rattle.std.proofs.Common.{◌≡◌, refl, sym, ap, ◌∙◌, subst, ℕ, ◌<◌, ◌==◌, Bool, true, false, true≢false, length, List, [], ◌∷◌, ◌++◌, map, Option, None, Some, Ok, Err, inl, inr, append-nil, arith, rules}
 use Rattle.std.specs.List.{AllByRecursion, flat_map}
 use Rattle.std.specs.List.Sorted.{IsStrictlyIncreasing}
 use Rattle.std.proofs.lemmas.Bool.{cases_Bool}
-use Rattle.ipx_table.specs.Stands.{held}
 use Rattle.ipx_wire.specs.Packet.{packet_of}
 use Rattle.ipx_wire.specs.Piece.{IsBytes}
 use Rattle.ipx_wire.specs.Rip.{IsEntry}
@@ -11,7 +10,7 @@ use Rattle.ipx_wire.specs.declared.rip.Operation.{Operation}
 use Rattle.ipx_wire.specs.declared.rip.Operation.TheVariants.{Request, Response}
 use Rattle.ipx_wire.specs.declared.rip.RipEntry.{RipEntry}
 use Rattle.ipx_wire.specs.declared.sap.Sap.TheVariants.{Query, Response as SapResponse}
-use Rattle.ipx_router.specs.Facts.{routes_offered, routes_heard, route_facts_of, route_facts, routes_held, offers}
+use Rattle.ipx_router.specs.Facts.{routes_offered, routes_heard, routes_held, offers}
 use Rattle.ipx_router.specs.Heard.{Heard, HeardRip, HeardSap, heard}
 use Rattle.ipx_router.specs.History.{Event, History, Start, Stop, Second, Packet, PortDown, PortUp, IsOnPort, IsOfBytes, running, ports_up}
 use Rattle.ipx_router.specs.Horizon.{EachEntryReadIs, IsFromElsewhere}
@@ -19,9 +18,8 @@ use Rattle.ipx_router.specs.News.{news, news_services}
 use Rattle.ipx_router.specs.Packets.{IsForPacket, IsSentFor}
 use Rattle.ipx_router.specs.Port.{Port, IsPort, port_at, is_up, reply_to}
 use Rattle.ipx_router.specs.Relays.{Sent, IsTableRoute, relayed}
-use Rattle.ipx_router.specs.Routes.{route_rules}
 use Rattle.ipx_router.specs.Sends.{Holding, introduction, second_on, stop_on, news_on, port_down_on, port_up_on, heard_sends, packet_sends, sends_of, holding, is_periodic, ports_sending, sends, asked, rip_sends}
-use Rattle.ipx_router.specs.Told.{told, told_services, told_at, direct_entry, by_network, by_name, dead, dead_service}
+use Rattle.ipx_router.specs.Told.{told, told_services, told_at, direct_entry, by_network, dead, dead_service}
 use Rattle.ipx_router.specs.Why.{why}
 use Rattle.ipx_router.specs.declared.route_offer.RouteOffer.{RouteOffer}
 use Rattle.ipx_router.specs.declared.why.Why.{Why}
@@ -77,21 +75,11 @@ module _ (readings : Readings) (again : Rereadings) (ports : List Port) (are : A
       placed = in_place readings again ports are after.routes table rise after.up new.ups number there
 
       news_keep : AllByRecursion Keeps (news_on ports before after number)
-      news_keep =
-          broadcasts_keep readings again ports are after.routes table rise after.up new.ups number there (news ports before.routes after.routes number)
-          (news_services before.services after.services number) changed (news_services_fit before.services after.services number old.services new.services)
+      news_keep = grind (arith, broadcasts_keep, changed, news_services_fit)
 
       second_keeps : (periodic : Bool) → AllByRecursion Keeps (second_on ports before after periodic number)
       second_keeps false = news_keep
-      second_keeps true =
-          let rest = told ports after.up after.routes number in
-          let services = told_services after.services number in
-          let ended = news ports before.routes after.routes number in
-          let ended_services = news_services before.services after.services number in
-          broadcasts_keep readings again ports are after.routes table rise after.up new.ups number there (by_network (rest ++ ended)) (by_name (services ++ ended_services))
-          (placed (rest ++ ended) (all-append (Writable (IsFromElsewhere after.routes number)) rest ended all_told changed))
-          (by_name_fit (services ++ ended_services) (all-append IsTellable services ended_services (told_services_fit after.services number new.services)
-          (news_services_fit before.services after.services number old.services new.services)))
+      second_keeps true = grind (arith, broadcasts_keep, placed, all-append, Writable, all_told, changed, by_name_fit, IsTellable, told_services_fit, news_services_fit)
 
       down_keeps : (port : ℕ) → port < length ports → AllByRecursion Keeps (port_down_on ports before after port number)
       down_keeps port exists =
@@ -104,8 +92,7 @@ module _ (readings : Readings) (again : Rereadings) (ports : List Port) (are : A
           (news_services_fit before.services after.services number old.services new.services)
 
       introduced : AllByRecursion Keeps (introduction ports after.up after.routes after.services number)
-      introduced =
-          introduction_keeps readings again ports are after.routes table rise after.up new.ups number there after.routes after.services all_told new.services
+      introduced = grind (arith, introduction_keeps, all_told)
 
       first_introduced : AllByRecursion Keeps (introduction ports after.up [] [] number)
       first_introduced =
@@ -141,30 +128,19 @@ module _ (readings : Readings) (again : Rereadings) (ports : List Port) (are : A
     -- ---- each event but a packet
 
     start_keeps : (runs periodic : Bool) → AllByRecursion Keeps (sends_of ports before after runs periodic Start)
-    start_keeps true periodic = tt
-    start_keeps false periodic = each_keeps (introduction ports after.up [] []) after.up first_introduced
+    start_keeps runs periodic = grind (arith, each_keeps, first_introduced)
 
     stop_keeps : (runs periodic : Bool) → after.routes ≡ [] → AllByRecursion Keeps (sends_of ports before after runs periodic Stop)
-    stop_keeps true periodic none = each_keeps (stop_on ports before) before.up (stopped_keep none)
-    stop_keeps false periodic none = tt
+    stop_keeps runs periodic none = grind (arith, each_keeps, stopped_keep)
 
     seconds_keep : (runs periodic : Bool) → AllByRecursion Keeps (sends_of ports before after runs periodic Second)
-    seconds_keep true periodic = each_keeps (second_on ports before after periodic) after.up (λ number there. second_keeps number there periodic)
-    seconds_keep false periodic = tt
+    seconds_keep runs periodic = grind (arith, each_keeps, second_keeps)
 
     port_down_keeps : (runs periodic : Bool) (port : ℕ) → port < length ports → AllByRecursion Keeps (sends_of ports before after runs periodic (PortDown port))
-    port_down_keeps false periodic port exists = tt
-    port_down_keeps true periodic port exists = elim (cases_Bool (is_up before.up port)) [
-      | inl goes ↦ rw goes (each_keeps (port_down_on ports before after port) after.up (λ number there. down_keeps number there port exists))
-      | inr down ↦ rw down tt
-    ]
+    port_down_keeps runs periodic port exists = grind (arith, each_keeps, down_keeps)
 
     port_up_keeps : (runs periodic : Bool) (port : ℕ) → port < length ports → AllByRecursion Keeps (sends_of ports before after runs periodic (PortUp port))
-    port_up_keeps false periodic port exists = tt
-    port_up_keeps true periodic port exists = elim (cases_Bool (is_up before.up port)) [
-      | inl is ↦ rw is tt
-      | inr down ↦ rw down (each_keeps (port_up_on ports after port) after.up (λ number there. up_keeps number there port exists))
-    ]
+    port_up_keeps runs periodic port exists = grind (arith, each_keeps, up_keeps)
 
     -- ---- a packet
 
@@ -245,20 +221,12 @@ module _ (readings : Readings) (again : Rereadings) (ports : List Port) (are : A
     next event = history ++ event ∷ []
 
     fits : (events : History) → AllByRecursion IsOfBytes events → Fits AnyRoute ports (having events)
-    fits events bytes = record {
-      ups = ports_up-within ports events;
-      routes = held_routes_fit readings ports most_routes events bytes;
-      services = held_services_fit readings ports most_services events bytes;
-      table = anything (held_after events);
-    }
+    fits events bytes = search (rules, ports_up-within, held_routes_fit, held_services_fit, anything)
 
     -- what offers nothing changes no route
     unchanged : (number : ℕ) (packet : List ℕ) (m : Heard) → heard ports (ports_up ports history) (running history) number packet ≡ Some m
         → routes_heard ports number (Some m) ≡ [] → held_after history ≡ held_after (next (Packet number packet))
-    unchanged number packet m e none =
-        sym (ap (λ fs. offers (held (route_rules ports most_routes) fs))
-        (facts_from-more (route_facts_of ports) [] history (Packet number packet)
-        ∙ ap (λ fs. route_facts ports history ++ fs) (ap (routes_heard ports number) e ∙ none) ∙ append-nil (route_facts ports history)))
+    unchanged number packet m e none = grind (arith, facts_from-more, append-nil)
 
     -- what an event sends, by what the layouts and the tables of routers say
     pub events_keep : (event : Event) → AllByRecursion (IsOnPort ports) (next event) → AllByRecursion IsOfBytes (next event)

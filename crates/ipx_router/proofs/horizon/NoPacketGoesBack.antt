@@ -1,5 +1,5 @@
 -- Packets on one port that say nothing of a route where it was learned.
-use Rattle.std.proofs.Common.{◌≡◌, refl, sym, subst, ℕ, ◌<◌, true, false, length, List, [], ◌∷◌, ◌++◌, map, lit<}
+use Rattle.std.proofs.Common.{◌≡◌, refl, sym, subst, ℕ, ◌<◌, true, false, length, List, [], ◌∷◌, ◌++◌, map, lit<, arith, rules}
 use Rattle.std.specs.List.{AllByRecursion}
 use Rattle.std.specs.List.Sorted.{IsStrictlyIncreasing}
 use Rattle.ipx_wire.specs.Rip.{IsEntry}
@@ -90,8 +90,7 @@ module _ (readings : Readings) (again : Rereadings) (ports : List Port) (are : A
 
   pub broadcasts_keep : (entries : List RipEntry) (services : List Service) → AllByRecursion (Writable Elsewhere) entries → AllByRecursion IsTellable services
       → AllByRecursion Keeps (broadcasts ports number entries services)
-  broadcasts_keep entries services fit fits =
-      all-append Keeps (rip_broadcast ports number entries) (sap_broadcast ports number services) (entries_keep Response entries fit) (services_keep services fits)
+  broadcasts_keep entries services fit fits = grind (arith, all-append, entries_keep, services_keep)
 
   pub answers_keep : (to : Address) (entries : List RipEntry) → IsPlace to → AllByRecursion (Writable Elsewhere) entries
       → AllByRecursion Keeps (rip_sends ports number to Response entries)
@@ -106,26 +105,18 @@ module _ (readings : Readings) (again : Rereadings) (ports : List Port) (are : A
 
   pub told_written : (ups : List ℕ) → AllByRecursion (λ j. j < length ports) ups → AllByRecursion RouteFits routes
       → AllByRecursion (Writable Elsewhere) (told ports ups routes number)
-  told_written ups exist fit =
-      all_both IsEntry Elsewhere (told ports ups routes number) (told_fits ports are ups routes number exist fit)
-      (told_elsewhere ports routes table rise number ups exist)
+  told_written ups exist fit = search (rules, all_both, told_fits, told_elsewhere)
 
   pub ports_written : (ups : List ℕ) → AllByRecursion (λ j. j < length ports) ups → AllByRecursion (Writable Elsewhere) (told ports ups [] number)
-  ports_written ups exist =
-      all_both IsEntry Elsewhere (told ports ups [] number) (told_fits ports are ups [] number exist tt)
-      (ports_elsewhere ports routes table rise number ups exist)
+  ports_written ups exist = search (rules, all_both, told_fits, ports_elsewhere)
 
   -- where no route is left
   pub any_written : routes ≡ [] → (entries : List RipEntry) → AllByRecursion IsEntry entries → AllByRecursion (Writable Elsewhere) entries
-  any_written none entries all =
-      all_then IsEntry (Writable Elsewhere)
-      (λ e is. (is, subst (λ (rs : List RouteOffer). IsFromElsewhere rs number e) (sym none) tt)) entries all
+  any_written none entries all = grind (arith, all_then, Writable)
 
   pub news_written : (before : List RouteOffer) → AllByRecursion RouteFits before → AllByRecursion RouteFits routes
       → AllByRecursion (Writable Elsewhere) (news ports before routes number)
-  news_written before old new =
-      all_both IsEntry Elsewhere (news ports before routes number) (news_fit ports before routes number old new)
-      (news_elsewhere ports routes table rise number before)
+  news_written before old new = search (rules, all_both, news_fit, news_elsewhere)
 
   pub in_place : (entries : List RipEntry) → AllByRecursion (Writable Elsewhere) entries → AllByRecursion (Writable Elsewhere) (by_network entries)
   in_place entries all = all_sorted (Writable Elsewhere) network_before entries all

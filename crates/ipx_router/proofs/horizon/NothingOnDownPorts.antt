@@ -1,17 +1,15 @@
 -- Nothing is sent on a port that is down, and its network is told as reached nowhere.
-use Rattle.std.proofs.Common.{◌≡◌, ◌≢◌, refl, sym, ap, ◌∙◌, ℕ, zero, suc, ◌<◌, ◌==◌, ◌||◌, Bool, true, false, true≢false, length, List, [], ◌∷◌, Option, None, Some, inl, inr, arith}
+use Rattle.std.proofs.Common.{rules}
+use Rattle.std.proofs.lemmas.Grind.{common_steps}
+use Rattle.std.proofs.Common.{◌≡◌, ◌≢◌, refl, sym, ap, ◌∙◌, ℕ, zero, suc, ◌<◌, ◌==◌, Bool, true, false, true≢false, length, List, [], ◌∷◌, Option, arith}
 use Rattle.std.specs.List.{AllByRecursion, list_any}
 use Rattle.std.proofs.lemmas.Bool.{eq-eqb, or_left, or_right}
 use Rattle.ipx_wire.specs.declared.network.Network.{Network}
-use Rattle.ipx_wire.specs.declared.rip.Operation.{Operation}
-use Rattle.ipx_wire.specs.declared.rip.Operation.TheVariants.{Request, Response}
 use Rattle.ipx_wire.specs.declared.rip.RipEntry.{RipEntry}
-use Rattle.ipx_wire.specs.declared.sap.Sap.TheVariants.{Query, Response as SapResponse}
-use Rattle.ipx_router.specs.Heard.{Heard, HeardRip, HeardSap, heard}
+use Rattle.ipx_router.specs.Heard.{Heard, heard}
 use Rattle.ipx_router.specs.History.{Event, Start, Stop, Second, Packet, PortDown, PortUp}
 use Rattle.ipx_router.specs.News.{news}
-use Rattle.ipx_router.specs.Numbers.{local_network, all_routes}
-use Rattle.ipx_router.specs.Packets.{IsBroadcast, IsForRip, IsForPacket, IsSentFor}
+use Rattle.ipx_router.specs.Packets.{IsBroadcast, IsForPacket, IsSentFor}
 use Rattle.ipx_router.specs.Port.{Port, AreApart, port_at, is_up, takes_no_route}
 use Rattle.ipx_router.specs.Relays.{Sent, IsTableRoute}
 use Rattle.ipx_router.specs.Told.{told, told_at, entry_of, dead}
@@ -23,19 +21,10 @@ use Rattle.ipx_router.proofs.port_values.PortOfEachNumber.{port-all, one_up}
 
 module _ (ports : List Port) (up : List ℕ) (routes : List RouteOffer) where
   cast_on : (s : Sent) → IsBroadcast ports up s → is_up up s.port ≡ true
-  cast_on s (inl is) = is.own.on
-  cast_on s (inr is) = is.own.on
-
-  rip_on : (number : ℕ) (bytes : List ℕ) (operation : Operation) (s : Sent) → IsForRip ports up number bytes operation s → is_up up s.port ≡ true
-  rip_on number bytes Response s is = cast_on s is
-  rip_on number bytes Request s is = is.answers.own.on
+  cast_on s given = grind arith
 
   packet_on : (number : ℕ) (bytes : List ℕ) (o : Option Heard) (s : Sent) → IsForPacket ports up routes number bytes o s → is_up up s.port ≡ true
-  packet_on number bytes (Some (HeardRip source rip)) s is = rip_on number bytes rip.operation s is
-  packet_on number bytes (Some (HeardSap source (SapResponse nearest entries))) s is = cast_on s is
-  packet_on number bytes (Some (HeardSap source (Query nearest kind))) s is = is.answers.own.on
-  packet_on number bytes None s (inl is) = is.leaves.leaves_up
-  packet_on number bytes None s (inr is) = is.leaves.leaves_up
+  packet_on number bytes o s is = grind arith
 
   -- what an event may send is on a port that is up
   pub sent_on : (runs : Bool) (event : Event) (s : Sent) → IsSentFor ports up routes runs event s → is_up up s.port ≡ true
@@ -60,14 +49,10 @@ apart (p ∷ ports) (suc i) (suc j) are below_i below_j differ = apart ports i j
 among : (ports : List Port) (number : ℕ) → number < length ports → list_any (λ p. p.network.0 == (port_at ports number).network.0) ports ≡ true
 among [] number below = absurd (omega (arith, below))
 among (p ∷ ports) zero below = or_left (p.network.0 == p.network.0) (list_any (λ q. q.network.0 == p.network.0) ports) (eq-eqb p.network.0 p.network.0 refl)
-among (p ∷ ports) (suc number) below =
-    or_right (p.network.0 == (port_at ports number).network.0) (list_any (λ q. q.network.0 == (port_at ports number).network.0) ports)
-    (among ports number (omega (arith, below)))
+among (p ∷ ports) (suc number) below = grind (arith, common_steps, or_right)
 
 skipped : (ports : List Port) (number : ℕ) → number < length ports → takes_no_route ports (port_at ports number).network ≡ true
-skipped ports number below =
-    let n = (port_at ports number).network.0 in
-    or_right ((n == local_network) || (n == all_routes)) (list_any (λ p. p.network.0 == n) ports) (among ports number below)
+skipped ports number below = search (rules, or_right, among)
 
 pub elsewhere : (ports : List Port) (number : ℕ) (network : Network) → number < length ports → takes_no_route ports network ≡ false
     → network ≢ (port_at ports number).network
@@ -89,13 +74,11 @@ module _ (ports : List Port) (down : ℕ) (exists : down < length ports) where
 
   -- and the ports that are up are on other networks
   up_elsewhere : (up : List ℕ) → AreApart ports → AllByRecursion (λ j. j < length ports) up → is_up up down ≡ false → Opens Elsewhere ports up
-  up_elsewhere up are within is_down j cost there =
-      apart ports j down are (one_up (λ j. j < length ports) up j within there) exists (λ e. absurd (true≢false (sym there ∙ ap (is_up up) e ∙ is_down)))
+  up_elsewhere up are within is_down j cost there = grind (arith, apart, one_up)
 
   pub none_told : (up : List ℕ) (routes : List RouteOffer) (number : ℕ) → AreApart ports → AllByRecursion (λ j. j < length ports) up
       → is_up up down ≡ false → AllByRecursion (IsTableRoute ports) routes → AllByRecursion Elsewhere (told ports up routes number)
-  none_told up routes number are within is_down table =
-      told_are Elsewhere (IsTableRoute ports) ports heard_elsewhere up routes number (up_elsewhere up are within is_down) table
+  none_told up routes number are within is_down table = search (rules, told_are, heard_elsewhere, up_elsewhere)
 
   pub no_news_of : (before after : List RouteOffer) (number : ℕ) → AllByRecursion (IsTableRoute ports) before → AllByRecursion (IsTableRoute ports) after
       → AllByRecursion Elsewhere (news ports before after number)

@@ -1,13 +1,12 @@
 -- How many pieces a list is cut into.
 use Rattle.std.proofs.Common.{◌≡◌, refl, ap, ℕ, ◌+◌, ◌-◌, ◌*◌, ◌<◌, ◌≤◌, List, [], ◌∷◌, ◌++◌, length, arith, length-append, inl, inr}
-use Rattle.std.proofs.lemmas.Bool.{cases_lt, lt-ltb, le-ltb}
+use Rattle.std.proofs.lemmas.Bool.{cases_lt, le-ltb}
 use Rattle.std.proofs.lemmas.Nat.{le-div}
 use Rattle.ipx_router.specs.Pages.{pages_from, pages, sheets}
 
 -- one more item for a page with room
 pub room_left : {X : Type 0} (n : ℕ) (page : List X) (x : X) (xs : List X) → length page < n → pages_from n page (x ∷ xs) ≡ pages_from n (page ++ x ∷ []) xs
-room_left n [] x xs room = rw (lt-ltb 0 n room) refl
-room_left n (p ∷ page) x xs room = rw (lt-ltb (length (p ∷ page)) n room) refl
+room_left n page x xs room = grind arith
 
 -- one more item for a full page
 pub page_full : {X : Type 0} (n : ℕ) (p : X) (page : List X) (x : X) (xs : List X) → n ≤ length (p ∷ page)
@@ -35,5 +34,4 @@ pages_counted n (p ∷ page) (x ∷ xs) some few =
 
 -- the most items that there may be make no more pages than stated
 pub length-pages : {X : Type 0} (n most : ℕ) (xs : List X) → 0 < n → length xs ≤ most → length (pages n xs) ≤ sheets n most
-length-pages n most xs some few =
-    le-div (length (pages n xs)) (most + (n - 1)) n some (omega (arith, few, pages_counted n [] xs some (omega arith)))
+length-pages n most xs some few = grind (arith, le-div, pages_counted)

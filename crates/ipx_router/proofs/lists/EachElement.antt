@@ -1,7 +1,7 @@
 -- What holds of each element of a list, through the words that make lists of lists.
-use Rattle.std.proofs.Common.{◌≡◌, refl, ℕ, suc, Bool, true, List, [], ◌∷◌, ◌++◌, map, filter, Some, IfSome, inl, inr}
+use Rattle.std.proofs.Common.{arith}
+use Rattle.std.proofs.Common.{◌≡◌, refl, ℕ, suc, Bool, true, List, [], ◌∷◌, ◌++◌, map, filter, Some, IfSome}
 use Rattle.std.specs.List.{AllByRecursion, flat_map, find, slice_get}
-use Rattle.std.proofs.lemmas.Bool.{cases_Bool}
 use Rattle.ipx_router.specs.Sorted.{put, put_all, sorted}
 use Rattle.ipx_router.proofs.tables.HeldWasOffered.{all-append}
 
@@ -24,36 +24,21 @@ module _ {X : Type 0} where
 
   pub all-filter : (P : X → Type 0) (p : X → Bool) (xs : List X) → AllByRecursion P xs → AllByRecursion P (filter p xs)
   all-filter P p [] all = tt
-  all-filter P p (x ∷ xs) all =
-      elim (cases_Bool (p x)) [
-        | inl e ↦ rw e (all.0, all-filter P p xs all.1)
-        | inr e ↦ rw e (all-filter P p xs all.1)
-      ]
+  all-filter P p (x ∷ xs) all = grind (arith, all-filter P p xs all.1)
 
   -- what a filter keeps passes too
   pub all_passed : (P : X → Type 0) (p : X → Bool) (xs : List X) → AllByRecursion P xs → AllByRecursion (λ x. P x × (p x ≡ true)) (filter p xs)
   all_passed P p [] all = tt
-  all_passed P p (x ∷ xs) all =
-      elim (cases_Bool (p x)) [
-        | inl e ↦ rw e ((all.0, e), all_passed P p xs all.1)
-        | inr e ↦ rw e (all_passed P p xs all.1)
-      ]
+  all_passed P p (x ∷ xs) all = grind (arith, all_passed P p xs all.1)
 
   pub all-find : (P : X → Type 0) (p : X → Bool) (xs : List X) → AllByRecursion P xs → IfSome (find p xs) P
   all-find P p [] all = tt
-  all-find P p (x ∷ xs) all =
-      elim (cases_Bool (p x)) [
-        | inl e ↦ rw e all.0
-        | inr e ↦ rw e (all-find P p xs all.1)
-      ]
+  all-find P p (x ∷ xs) all = grind (arith, all-find P p xs all.1)
 
   -- what is put in its place joins the others
   pub all_placed : (P : X → Type 0) (before : X → X → Bool) (x : X) (xs : List X) → P x → AllByRecursion P xs → AllByRecursion P (put before x xs)
   all_placed P before x [] one all = (one, tt)
-  all_placed P before x (y ∷ xs) one all = elim (cases_Bool (before x y)) [
-    | inl e ↦ rw e (one, all)
-    | inr e ↦ rw e (all.0, all_placed P before x xs one all.1)
-  ]
+  all_placed P before x (y ∷ xs) one all = grind (arith, all_placed P before x xs one all.1)
 
   all_placed_all : (P : X → Type 0) (before : X → X → Bool) (placed xs : List X) → AllByRecursion P placed → AllByRecursion P xs
       → AllByRecursion P (put_all before placed xs)

@@ -1,5 +1,6 @@
 -- Keys in a total order: which are in a list, and lists that ascend and have the same keys.
-use Rattle.std.proofs.Common.{◌≡◌, refl, sym, ap, ◌∙◌, Bool, true, false, ◌||◌, List, [], ◌∷◌, map, filter, inl, inr, true≢false, Ordering, Less, Equal, Greater, is_eq, is_lt}
+use Rattle.std.proofs.Common.{arith}
+use Rattle.std.proofs.Common.{◌≡◌, refl, sym, ap, ◌∙◌, Bool, true, false, ◌||◌, List, [], ◌∷◌, map, filter, inl, inr, true≢false, Ordering, is_eq, is_lt}
 use Rattle.std.specs.List.{AllByRecursion, list_any}
 use Rattle.std.specs.Ordering.{ordering_reverse}
 use Rattle.std.specs.Cmp.{IsTotalOrder}
@@ -13,27 +14,16 @@ use Rattle.ipx_router.proofs.changes.KeysThatDiffer.{is_less, is_equal}
 -- ---- tests of a list
 
 pub any_same : {X : Type 0} (p q : X → Bool) → ((x : X) → p x ≡ q x) → (xs : List X) → list_any p xs ≡ list_any q xs
-any_same p q each [] = refl
-any_same p q each (x ∷ xs) = let e = each x in rw (e, any_same p q each xs) refl
-
-either_way : (a b c : Bool) → (a || (b || c)) ≡ (b || (a || c))
-either_way true true c = refl
-either_way true false c = refl
-either_way false b c = refl
+any_same p q each xs = grind arith
 
 pub any-put : {X : Type 0} (p : X → Bool) (before : X → X → Bool) (x : X) (xs : List X) → list_any p (put before x xs) ≡ (p x || list_any p xs)
 any-put p before x [] = refl
-any-put p before x (y ∷ xs) = elim (cases_Bool (before x y)) [
-  | inl e ↦ rw e refl
-  | inr e ↦ rw e (ap (λ b. p y || b) (any-put p before x xs) ∙ either_way (p y) (p x) (list_any p xs))
-]
+any-put p before x (y ∷ xs) = grind (arith, any-put p before x xs)
 
 -- ---- the three answers
 
 reversed_eq : (r : Ordering) → is_eq (ordering_reverse r) ≡ is_eq r
-reversed_eq Less = refl
-reversed_eq Equal = refl
-reversed_eq Greater = refl
+reversed_eq r = grind arith
 
 module _ {K : Type 0} (order : K → K → Ordering) (total : IsTotalOrder order) where
   pub eq_sym : (a b : K) → is_eq (order a b) ≡ is_eq (order b a)
@@ -43,14 +33,11 @@ module _ {K : Type 0} (order : K → K → Ordering) (total : IsTotalOrder order
   eq_itself a = own (order a a) (total.antisymm a a)
     where
       own : (r : Ordering) → r ≡ ordering_reverse r → is_eq r ≡ true
-      own Less e = sym (ap is_lt e)
-      own Equal e = refl
-      own Greater e = ap is_lt e
+      own r e = grind arith
 
   -- what is equal to another compares as the other does
   pub alike_right : (a b x : K) → is_eq (order a b) ≡ true → order x a ≡ order x b
-  alike_right a b x e =
-      total.antisymm x a ∙ ap ordering_reverse (total.congr a b x (is_equal (order a b) e)) ∙ sym (total.antisymm x b)
+  alike_right a b x e = grind arith
 
   less_apart : (a b : K) → is_lt (order a b) ≡ true → is_eq (order b a) ≡ false
   less_apart a b e = eq_sym b a ∙ ap is_eq (is_less (order a b) e)
@@ -59,9 +46,6 @@ module _ {K : Type 0} (order : K → K → Ordering) (total : IsTotalOrder order
 
   abbrev pub is_in : K → List K → Bool
   is_in key keys = list_any (λ other. is_eq (order other key)) keys
-
-  in_alike : (a b : K) → is_eq (order a b) ≡ true → (keys : List K) → is_in a keys ≡ is_in b keys
-  in_alike a b e keys = any_same (λ x. is_eq (order x a)) (λ x. is_eq (order x b)) (λ x. ap is_eq (alike_right a b x e)) keys
 
   -- a smaller key than all is in no list
   beyond : (key : K) (keys : List K) → AllByRecursion (λ x. is_lt (order key x) ≡ true) keys → is_in key keys ≡ false
@@ -74,9 +58,7 @@ module _ {K : Type 0} (order : K → K → Ordering) (total : IsTotalOrder order
   -- before the first of ascending keys
   outside : (key first : K) (keys : List K) → is_lt (order key first) ≡ true → AllByRecursion (λ x. is_lt (order first x) ≡ true) keys
       → is_in key (first ∷ keys) ≡ false
-  outside key first keys less all =
-      beyond key (first ∷ keys)
-      (less, all_then (λ x. is_lt (order first x) ≡ true) (λ x. is_lt (order key x) ≡ true) (λ x l. less_through key first x less l) keys all)
+  outside key first keys less all = grind (arith, beyond, all_then, is_lt, less_through)
 
   -- who is in a list and not its first is in the rest
   in_rest : (first key : K) (keys : List K) → is_eq (order first key) ≡ false → is_in key (first ∷ keys) ≡ true → is_in key keys ≡ true
@@ -84,10 +66,7 @@ module _ {K : Type 0} (order : K → K → Ordering) (total : IsTotalOrder order
 
   pub ascends-filter : (p : K → Bool) (keys : List K) → Ascends order keys → Ascends order (filter p keys)
   ascends-filter p [] up = tt
-  ascends-filter p (key ∷ keys) up = elim (cases_Bool (p key)) [
-    | inl e ↦ rw e (all-filter (λ x. is_lt (order key x) ≡ true) p keys up.0, ascends-filter p keys up.1)
-    | inr e ↦ rw e (ascends-filter p keys up.1)
-  ]
+  ascends-filter p (key ∷ keys) up = grind (arith, ascends-filter p keys up.1, all-filter, is_lt)
 
   -- who passes is among those that pass
   pub in-filter : (p : K → Bool) → ((a b : K) → is_eq (order a b) ≡ true → p a ≡ p b) → (key : K) (keys : List K)

@@ -1,5 +1,6 @@
 -- Which of two sources yields the next item.
-use Rattle.std.proofs.Common.{◌≡◌, refl, sym, ap, ◌∙◌, Bool, true, false, not, List, [], ◌∷◌, Option, None, Some, true≢false}
+use Rattle.std.proofs.Common.{arith}
+use Rattle.std.proofs.Common.{◌≡◌, sym, ap, ◌∙◌, Bool, true, false, not, List, [], ◌∷◌, Option, None, Some, true≢false}
 use Rattle.ipx_router.specs.Sorted.{put_all}
 use Rattle.ipx_router.specs.inside.Sources.{first_then, waits_before}
 use Rattle.ipx_router.proofs.lists.PutInOrder.{IsOrder, Rises, other_first, other_alone, waiting_first}
@@ -15,8 +16,7 @@ module _ {X : Type 0} (comes_before : X → X → Bool) where
       ∙ waiting_first comes_before order d e left es rise (not_true (comes_before e d) (sym (ap (waits_before comes_before e) is) ∙ waits))
     where
       not_true : (b : Bool) → not b ≡ true → b ≡ false
-      not_true true n = absurd (true≢false (sym n))
-      not_true false n = refl
+      not_true b n = grind arith
 
   -- the next one of the others is the next of all
   pub other_next : (waiting es : List X) (e : X) → Rises comes_before (e ∷ es) → waits_before comes_before e waiting ≡ false
@@ -25,5 +25,4 @@ module _ {X : Type 0} (comes_before : X → X → Bool) where
   other_next (d ∷ ds) es e rise waits = other_first comes_before d e ds es rise (not_false (comes_before e d) waits)
     where
       not_false : (b : Bool) → not b ≡ false → b ≡ true
-      not_false true n = refl
-      not_false false n = absurd (true≢false n)
+      not_false b n = grind arith

@@ -1,7 +1,7 @@
 -- Items that are put among others in their order: which of all comes first.
-use Rattle.std.proofs.Common.{◌≡◌, refl, ap, ◌∙◌, Bool, true, false, List, [], ◌∷◌, ◌++◌, map, inl, inr}
+use Rattle.std.proofs.Common.{arith}
+use Rattle.std.proofs.Common.{◌≡◌, refl, ap, ◌∙◌, Bool, true, false, List, [], ◌∷◌, ◌++◌, map}
 use Rattle.std.specs.List.{AllByRecursion}
-use Rattle.std.proofs.lemmas.Bool.{cases_Bool}
 use Rattle.ipx_router.specs.Sorted.{put, put_all, sorted}
 use Rattle.ipx_router.proofs.lists.EachElement.{all_then, all_placed}
 
@@ -59,8 +59,7 @@ module _ {X : Type 0} (comes_before : X → X → Bool) where
   module _ (order : IsOrder) where
     -- what comes before none of an item comes before none of those that don't come before it
     pub first_of_all : (d e : X) (es : List X) → comes_before e d ≡ false → IsFirst e es → IsFirst d (e ∷ es)
-    first_of_all d e es more first =
-        (more, all_then (λ x. comes_before x e ≡ false) (λ x. comes_before x d ≡ false) (λ x behind. order.through x e d behind more) es first)
+    first_of_all d e es more first = grind (arith, all_then)
 
     -- the first one that is placed stays in front of what rises from an item that doesn't come before it
     pub waiting_first : (d e : X) (ds es : List X) → Rises (e ∷ es) → comes_before e d ≡ false
@@ -69,10 +68,7 @@ module _ {X : Type 0} (comes_before : X → X → Bool) where
 
     rises-put : (x : X) (ys : List X) → Rises ys → Rises (put comes_before x ys)
     rises-put x [] rise = (tt, tt)
-    rises-put x (y ∷ ys) rise = elim (cases_Bool (comes_before x y)) [
-      | inl less ↦ rw less (first_of_all x y ys (order.one_way x y less) rise.0, rise)
-      | inr more ↦ rw more (all_placed (λ z. comes_before z y ≡ false) comes_before x ys more rise.0, rises-put x ys rise.1)
-    ]
+    rises-put x (y ∷ ys) rise = grind (arith, rises-put x ys rise.1, first_of_all, all_placed)
 
     -- what is put among what rises
     pub rises-put_all : (placed xs : List X) → Rises placed → Rises (put_all comes_before placed xs)

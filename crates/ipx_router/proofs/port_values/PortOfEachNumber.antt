@@ -1,5 +1,6 @@
 -- The numbers of the ports, and the port of each.
-use Rattle.std.proofs.Common.{◌≡◌, refl, ℕ, zero, suc, ◌<◌, ◌==◌, true, length, List, [], ◌∷◌, arith, inl, inr, true≢false, sym}
+use Rattle.std.proofs.lemmas.Grind.{common_steps}
+use Rattle.std.proofs.Common.{◌≡◌, ℕ, zero, suc, ◌<◌, ◌==◌, true, length, List, [], ◌∷◌, arith, inl, inr, true≢false, sym}
 use Rattle.std.specs.List.{AllByRecursion}
 use Rattle.std.proofs.lemmas.Bool.{cases_Bool, eq-eqb, eqb-true, or_left, or_right}
 use Rattle.ipx_router.specs.History.{History, ports_up}
@@ -9,9 +10,7 @@ use Rattle.ipx_router.proofs.tables.HeldWasOffered.{all-append}
 
 -- what holds of all ports holds of the one at a number
 pub port-all : (P : Port → Type 0) (ports : List Port) (number : ℕ) → AllByRecursion P ports → number < length ports → P (port_at ports number)
-port-all P [] number all within = absurd (omega (arith, within))
-port-all P (port ∷ ports) zero all within = all.0
-port-all P (port ∷ ports) (suc number) all within = port-all P ports number all.1 (omega (arith, within))
+port-all P ports number all within = grind (arith, common_steps)
 
 -- what holds of each number below n holds of all of them
 numbers_pass : (P : ℕ → Type 0) (n : ℕ) → ((j : ℕ) → j < n → P j) → AllByRecursion P (numbers n)
@@ -29,8 +28,7 @@ ports_up-within ports history = all-filter (λ j. j < length ports) _ (numbers (
 -- each number of a list is one of them
 pub members : (up : List ℕ) → AllByRecursion (λ j. is_up up j ≡ true) up
 members [] = tt
-members (x ∷ up) =
-    (or_left (x == x) (is_up up x) (eq-eqb x x refl), all_then (λ j. is_up up j ≡ true) (λ j. is_up (x ∷ up) j ≡ true) (λ j is. or_right (x == j) (is_up up j) is) up (members up))
+members (x ∷ up) = grind (arith, members up, or_left, eq-eqb, all_then, or_right)
 
 -- what holds of all numbers holds of one of them
 pub one_up : (P : ℕ → Type 0) (up : List ℕ) (number : ℕ) → AllByRecursion P up → is_up up number ≡ true → P number

@@ -84,18 +84,13 @@ module _ (ports : List Port) (number : ℕ) (p : Parts) where
   none_back = let same : (number == number) ≡ true = eq-eqb number number refl in rw same refl
 
   pub few_propagated : (up : List ℕ) → is_up up number ≡ true → length up ≤ length ports → length (flat_map (propagated_on ports number p) up) ≤ relay_places ports
-  few_propagated up there few =
-      let others = few_others (propagated_on ports number p) up number one_each none_back there in
-      omega (arith, others, few)
+  few_propagated up there few = grind (arith, few_others, one_each, none_back)
 
   -- each as long as it came
   module _ (long : (arrived outgoing : Network) → p.header.control < 8 → 32 ≤ length p.payload
       → length (packet_bytes (propagated arrived outgoing p)) ≡ p.header.length) (networks : List Network) (listed : IsListed p networks) where
     short_each : (out : ℕ) → AllByRecursion (λ s. length s.bytes ≤ p.header.length) (propagated_on ports number p out)
-    short_each out = elim (cases_Bool (goes_out ports number p out)) [
-      | inl goes ↦ rw goes (omega (arith, long (port_at ports number).network (port_at ports out).network listed.free listed.eight), tt)
-      | inr stays ↦ rw stays tt
-    ]
+    short_each out = grind arith
 
     pub short_propagated : (up : List ℕ) → AllByRecursion (λ s. length s.bytes ≤ p.header.length) (flat_map (propagated_on ports number p) up)
     short_propagated up =
@@ -114,7 +109,4 @@ module _ (ports : List Port) (number : ℕ) (p : Parts) where
   pub forwarded_fits : (out : ℕ) (link : Node) (o : Contents) → length (packet_bytes (forwarded p)) ≡ p.header.length
       → HasRoom o (relay_places ports) (relay_places ports * p.header.length)
       → Fits o (record { port = out; link = link; bytes = packet_bytes (forwarded p) } ∷ [])
-  forwarded_fits out link o long room =
-      let some : 1 ≤ relay_places ports = omega arith in
-      fits_room (relay_places ports) (relay_places ports * p.header.length) _ room some
-      (omega (arith, long, mul-le-mul_right p.header.length some))
+  forwarded_fits out link o long room = grind arith

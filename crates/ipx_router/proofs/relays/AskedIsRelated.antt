@@ -85,9 +85,7 @@ module _ (ports : List Port) (up : List ℕ) (routes : List RouteOffer) (number 
   -- what no check drops leaves also where it is only asked to be sent on
   pub relay_all : (p : Parts) → packet_of bytes ≡ Ok p → why ports up routes true number bytes ≡ None
       → relay_sends ports up routes true number p ≡ relayed ports up routes number p
-  relay_all p read e =
-      let passed = passes_alone ports up routes number p (sym (why_read ports up routes number bytes p read routes) ∙ e) in
-      rw (passed, relay_sends) refl
+  relay_all p read e = grind (arith, passes_alone, why_read)
 
 -- ports in order
 pub relay_in_order : (ports : List Port) (up : List ℕ) (routes : List RouteOffer) (number : ℕ) (p : Parts)

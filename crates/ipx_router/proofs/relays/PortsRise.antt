@@ -1,18 +1,16 @@
 -- What is sent on of a packet leaves on rising port numbers.
-use Rattle.std.proofs.Common.{◌≡◌, ℕ, zero, suc, ◌+◌, ◌<◌, arith, subst, not, ◌&&◌, Bool, true, false, List, [], ◌∷◌, ◌++◌, map, length, Option, None, Some, inl, inr, if◌then◌else◌}
+use Rattle.std.proofs.Common.{◌≡◌, ℕ, zero, suc, ◌+◌, ◌<◌, arith, subst, Bool, List, [], ◌∷◌, ◌++◌, map, length, Option, None, Some, if◌then◌else◌}
 use Rattle.std.specs.List.{AllByRecursion, AllPairs, flat_map, slice_index}
 use Rattle.std.specs.List.Sorted.{IsStrictlyIncreasing}
-use Rattle.std.proofs.lemmas.Bool.{cases_Bool}
 use Rattle.std.proofs.lemmas.List.Kept.{AllPairs-from_increasing, IsStrictlyIncreasing-filter}
 use Rattle.std.proofs.lemmas.List.Elements.{recursion_from_All}
 use Rattle.ipx_wire.specs.Forward.{forwarded}
 use Rattle.ipx_wire.specs.Packet.{Parts}
 use Rattle.ipx_wire.specs.Write.{packet_bytes}
-use Rattle.ipx_router.specs.History.{History, running, is_down, ports_up}
+use Rattle.ipx_router.specs.History.{History, ports_up}
 use Rattle.ipx_router.specs.Outgoing.{Way, way_to}
-use Rattle.ipx_router.specs.Port.{numbers, Port, port_at}
-use Rattle.ipx_router.specs.Relays.{Sent, forwarded_by, goes_out, propagated_on, relayed}
-use Rattle.ipx_router.specs.Why.{is_propagated, is_far}
+use Rattle.ipx_router.specs.Port.{numbers, Port}
+use Rattle.ipx_router.specs.Relays.{Sent, forwarded_by, propagated_on, relayed}
 use Rattle.ipx_router.specs.declared.route_offer.RouteOffer.{RouteOffer}
 use Rattle.ipx_router.proofs.port_values.PortOfEachNumber.{numbers_below, ports_up-within}
 use Rattle.ipx_router.proofs.tables.HeldWasOffered.{all-append}
@@ -61,17 +59,11 @@ module _ (ports : List Port) (up : List ℕ) (routes : List RouteOffer) (number 
 
   taken_above : (n : ℕ) (outs : List ℕ) → AllByRecursion (λ m. n < m) outs → AllByRecursion (λ m. n < m) (taken outs)
   taken_above n [] above = tt
-  taken_above n (out ∷ outs) above = elim (cases_Bool (goes_out ports number p out)) [
-    | inl goes ↦ rw goes (above.0, taken_above n outs above.1)
-    | inr stays ↦ rw stays (taken_above n outs above.1)
-  ]
+  taken_above n (out ∷ outs) above = grind (arith, taken_above n outs above.1)
 
   taken_rising : (outs : List ℕ) → IsRising outs → IsRising (taken outs)
   taken_rising [] rise = tt
-  taken_rising (out ∷ outs) rise = elim (cases_Bool (goes_out ports number p out)) [
-    | inl goes ↦ rw goes (taken_above out outs rise.0, taken_rising outs rise.1)
-    | inr stays ↦ rw stays (taken_rising outs rise.1)
-  ]
+  taken_rising (out ∷ outs) rise = grind (arith, taken_rising outs rise.1, taken_above)
 
   -- a far packet leaves at most once
   forwarded_rising : IsRising (ports_of (forwarded_by ports up routes p))
@@ -85,24 +77,16 @@ module _ (ports : List Port) (up : List ℕ) (routes : List RouteOffer) (number 
   -- of either, and of no other
   chosen : (all far : Bool) → IsRising up
       → IsRising (ports_of (if all then flat_map (propagated_on ports number p) up else if far then forwarded_by ports up routes p else []))
-  chosen true far rise = taken_rising up rise
-  chosen false true rise = forwarded_rising
-  chosen false false rise = tt
+  chosen all far rise = grind (arith, taken_rising, forwarded_rising)
 
   pub in_order : IsStrictlyIncreasing up → IsStrictlyIncreasing (ports_of (relayed ports up routes number p))
-  in_order ordered =
-      increasing (ports_of (relayed ports up routes number p))
-      (chosen (is_propagated p.header) (is_far (port_at ports number) p.header) (rising up ordered))
+  in_order ordered = grind (arith, increasing, chosen, rising)
 
 -- ---- the ports that are up
 
 -- they rise, and each is a port's
 pub ups : (ports : List Port) (history : History) → IsStrictlyIncreasing (ports_up ports history) × AllByRecursion (λ j. j < length ports) (ports_up ports history)
-ups ports history = (
-  IsStrictlyIncreasing-filter (λ port. running history && not (is_down history port)) (numbers (length ports))
-      (increasing (numbers (length ports)) (rising-numbers (length ports))),
-  ports_up-within ports history,
-)
+ups ports history = grind (arith, IsStrictlyIncreasing-filter, increasing, rising-numbers, ports_up-within)
 
 -- after a history each is greater than all before it
 pub rising_ups : (ports : List Port) (history : History) → IsRising (ports_up ports history)

@@ -1,7 +1,8 @@
 -- What the relations say is sent on is listed, and no check drops its packet.
-use Rattle.std.proofs.Common.{◌≡◌, ◌↔◌, refl, sym, ap, ◌∙◌, ℕ, not, true, List, [], ◌∷◌, None, Some, Result, Ok, Err, inl, inr}
+use Rattle.std.proofs.Common.{arith}
+use Rattle.std.proofs.Common.{◌≡◌, ◌↔◌, refl, sym, ap, ◌∙◌, ℕ, true, List, [], ◌∷◌, None, Some, Result, Ok, Err, inl, inr}
 use Rattle.std.specs.List.{flat_map, slice_get}
-use Rattle.std.proofs.lemmas.Bool.{and_from, and_parts, not-true, not_from_false, ne_eqb, le-leb}
+use Rattle.std.proofs.lemmas.Bool.{and_from, not_from_false, ne_eqb, le-leb}
 use Rattle.ipx_wire.specs.Crossed.{IsCrossed, crossed_of, networks_at}
 use Rattle.ipx_wire.specs.Packet.{Parts, IsPacket, packet_of}
 use Rattle.ipx_wire.specs.Piece.{IsBytes}
@@ -9,8 +10,8 @@ use Rattle.ipx_wire.specs.declared.crossed.CrossedFault.{CrossedFault}
 use Rattle.ipx_wire.specs.declared.network.Network.{Network}
 use Rattle.ipx_router.specs.Outgoing.{Way}
 use Rattle.ipx_router.specs.Packets.{IsRelayed}
-use Rattle.ipx_router.specs.Port.{Port, port_at, is_local}
-use Rattle.ipx_router.specs.Relays.{Sent, IsForwarded, IsPropagated, forwarded_by, goes_out, propagated_on, relayed}
+use Rattle.ipx_router.specs.Port.{Port, port_at}
+use Rattle.ipx_router.specs.Relays.{Sent, IsForwarded, IsPropagated, goes_out, propagated_on, relayed}
 use Rattle.ipx_router.specs.Why.{first_of, why, is_propagated}
 use Rattle.ipx_router.specs.declared.route_offer.RouteOffer.{RouteOffer}
 use Rattle.ipx_router.proofs.bytes.FieldsAreBytes.{parts_bytes}
@@ -42,10 +43,7 @@ module _
   -- ---- a far packet
 
   one_forwarded : (f : IsForwarded ports up routes number bytes s) → relayed ports up routes number f.packet ≡ s ∷ []
-  one_forwarded f =
-      let h = f.packet.header in
-      let parts = and_parts (not (is_propagated h)) (not (is_local (port_at ports number) h.destination.network)) f.far in
-      rw (f.far, not-true (is_propagated h) parts.0, forwarded_by, f.way, sym f.written) refl
+  one_forwarded f = grind arith
 
   all_forwarded : IsForwarded ports up routes number bytes s → Listed ports up routes number bytes s
   all_forwarded f =
@@ -65,10 +63,7 @@ module _
       same_networks f.networks (networks_at control payload) (sym crossed ∙ networks_listed control payload f.crossed.eight f.crossed.free)
 
   does_go : (f : IsPropagated ports up number bytes s) → goes_out ports number f.packet s.port ≡ true
-  does_go f =
-      let other = not_from_false _ (ne_eqb s.port number f.other) in
-      let new_there = not_from_false _ (rw (read_networks f) at f.new_there) in
-      and_from _ _ (and_from _ _ other new_there) (le-leb f.packet.header.length (port_at ports s.port).longest f.leaves.short)
+  does_go f = grind (arith, not_from_false, ne_eqb, read_networks, and_from, le-leb)
 
   one_propagated : (f : IsPropagated ports up number bytes s) → propagated_on ports number f.packet s.port ≡ s ∷ []
   one_propagated f = rw (does_go f, sym f.written, sym f.link) refl

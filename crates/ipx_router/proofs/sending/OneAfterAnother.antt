@@ -1,11 +1,12 @@
 -- Packets that are put into an outbox one after another.
-use Rattle.std.proofs.Common.{◌≡◌, refl, sym, ap, subst, ◌∙◌, ℕ, zero, suc, ◌+◌, ◌*◌, ◌<◌, ◌≤◌, List, [], ◌∷◌, ◌++◌, map, drop, get_or, length, arith, append-nil, append_assoc, length-append}
+use Rattle.std.proofs.lemmas.Grind.{common_steps}
+use Rattle.std.proofs.Common.{◌≡◌, refl, sym, ap, subst, ◌∙◌, ℕ, ◌+◌, ◌*◌, ◌<◌, ◌≤◌, List, [], ◌∷◌, ◌++◌, map, drop, get_or, length, arith, append-nil, append_assoc, length-append}
 use Rattle.std.proofs.lemmas.List.{drop_all}
 use Rattle.std.specs.List.{AllByRecursion, flat_map}
 use Rattle.ipx_router.specs.Outbox.{Contents, HasRoom, Fits, Appends, total}
 use Rattle.ipx_router.specs.inside.Owed.{Pays, owed}
 use Rattle.ipx_router.specs.Relays.{Sent}
-use Rattle.ipx_router.proofs.lists.CountOfPages.{room_left, page_full}
+use Rattle.ipx_router.proofs.lists.CountOfPages.{room_left}
 
 pub total-append : (ps qs : List Sent) → total (ps ++ qs) ≡ total ps + total qs
 total-append [] qs = omega arith
@@ -17,36 +18,15 @@ pub appends_none : (o : Contents) → Appends o o []
 appends_none o = record { sent = sym (append-nil o.sent); places = omega arith; spare = omega arith; memory = refl }
 
 pub appends_then : {a b c : Contents} {ps qs : List Sent} → Appends a b ps → Appends b c qs → Appends a c (ps ++ qs)
-appends_then {a} {b} {c} {ps} {qs} first second =
-    let first_places = first.places in
-    let first_spare = first.spare in
-    let second_places = second.places in
-    let second_spare = second.spare in
-    record {
-      sent = second.sent ∙ ap (λ (x : List Sent). x ++ qs) first.sent ∙ append_assoc a.sent ps qs;
-      places = omega (arith, first_places, second_places, length-append ps qs);
-      spare = omega (arith, first_spare, second_spare, total-append ps qs);
-      memory = second.memory ∙ first.memory;
-    }
+appends_then {a} {b} {c} {ps} {qs} first second = grind (arith, append_assoc, length-append, total-append)
 
 -- what fits, fits without its end
 pub fits_front : {o : Contents} (ps qs : List Sent) → Fits o (ps ++ qs) → Fits o ps
-fits_front ps qs fits =
-    let places = fits.places in
-    let spare = fits.spare in
-    record { places = omega (arith, places, length-append ps qs); spare = omega (arith, spare, total-append ps qs) }
+fits_front ps qs fits = grind (arith, length-append, total-append)
 
 -- the end of what fits, fits once its front was sent
 pub fits_then : {a b : Contents} (ps qs : List Sent) → Fits a (ps ++ qs) → Appends a b ps → Fits b qs
-fits_then ps qs fits first =
-    let places = fits.places in
-    let spare = fits.spare in
-    let first_places = first.places in
-    let first_spare = first.spare in
-    record {
-      places = omega (arith, places, first_places, length-append ps qs);
-      spare = omega (arith, spare, first_spare, total-append ps qs);
-    }
+fits_then ps qs fits first = grind (arith, length-append, total-append)
 
 pub first_fits : {o : Contents} (p : Sent) (ps : List Sent) → Fits o (p ∷ ps) → Fits o (p ∷ [])
 first_fits p ps fits = fits_front (p ∷ []) ps fits
@@ -60,10 +40,7 @@ total_most most (p ∷ ps) all = omega (arith, all.0, total_most most ps all.1)
 
 -- room for that many is room for these
 pub fits_room : {o : Contents} (packets bytes : ℕ) (ps : List Sent) → HasRoom o packets bytes → length ps ≤ packets → total ps ≤ bytes → Fits o ps
-fits_room packets bytes ps room few short =
-    let places = room.places in
-    let spare = room.spare in
-    record { places = omega (arith, places, few); spare = omega (arith, spare, short) }
+fits_room packets bytes ps room few short = grind arith
 
 -- ---- what is owed
 
@@ -102,12 +79,10 @@ module _ {X : Type 0} (n : ℕ) (packet : List X → Sent) where
   owed_room page x xs room = ap (map packet) (room_left n page x xs room)
 
   pub owed_full : (page : List X) (x : X) (xs : List X) → 1 ≤ n → n ≤ length page → owed n packet page (x ∷ xs) ≡ packet page ∷ owed n packet (x ∷ []) xs
-  owed_full [] x xs some full = absurd (omega (arith, some, full))
-  owed_full (p ∷ page) x xs some full = ap (map packet) (page_full n p page x xs full)
+  owed_full page x xs some full = grind arith
 
   pub owed_last : (page : List X) → 1 ≤ length page → owed n packet page [] ≡ packet page ∷ []
-  owed_last [] some = absurd (omega (arith, some))
-  owed_last (p ∷ page) some = refl
+  owed_last page some = grind arith
 
   pub owed_none : owed n packet [] [] ≡ []
   owed_none = refl
@@ -121,11 +96,7 @@ module _ {X : Type 0} (n : ℕ) (packet : List X → Sent) where
 -- what is still owed of the items at place k
 behind : {X : Type 0} (f : X → List Sent) (xs : List X) (k : ℕ) (d : X) → k < length xs
     → flat_map f (drop k xs) ≡ f (get_or xs k d) ++ flat_map f (drop (k + 1) xs)
-behind f [] k d below = absurd (omega (arith, below))
-behind f (x ∷ xs) zero d below = refl
-behind f (x ∷ xs) (suc k) d below =
-    let next : suc (k + 1) ≡ suc k + 1 = omega arith in
-    behind f xs k d (omega (arith, below)) ∙ ap (λ (n : ℕ). f (get_or xs k d) ++ flat_map f (drop n (x ∷ xs))) next
+behind f xs k d below = grind (arith, common_steps)
 
 module _ {X : Type 0} (f : X → List Sent) (xs : List X) (k : ℕ) (d : X) (below : k < length xs) {a b : Contents} {whole : List Sent} (pays : Pays a b whole (flat_map f (drop k xs))) where
   -- there is room for the next item

@@ -1,8 +1,8 @@
 -- One more packet behind those of an outbox.
-use Rattle.std.proofs.Common.{◌≡◌, refl, sym, ap, ◌∙◌, ℕ, ◌+◌, ◌≤◌, List, [], ◌∷◌, ◌++◌, length, take, drop, map, rules, arith, subst, append_assoc, length-append, length-drop}
+use Rattle.std.proofs.Common.{◌≡◌, refl, sym, ap, ◌∙◌, ℕ, ◌+◌, ◌≤◌, List, [], ◌∷◌, ◌++◌, length, take, map, rules, arith, append_assoc, length-append, length-drop}
 use Rattle.std.proofs.lemmas.List.{take-take, take-append-le, drop-append-le, drop_at, take_at, take_all, length-take-le, map-append}
 use Rattle.std.specs.List.{AllByRecursion}
-use Rattle.ipx_router.specs.Outbox.{Memory, Contents, Appends, total}
+use Rattle.ipx_router.specs.Outbox.{Memory, Contents, Appends}
 use Rattle.ipx_router.specs.Relays.{Sent}
 use Rattle.ipx_router.specs.Slots.{sent_in, IsIn, IsFlat}
 use Rattle.ipx_router.specs.declared.outbox.Slot.{Slot}
@@ -15,36 +15,24 @@ with_bytes slot bytes = record { port = slot.port; link = slot.link; bytes = byt
 
 -- the packet of a slot is the same where more bytes follow
 same_packet : (bytes more : List ℕ) (slot : Slot) → IsIn bytes slot → sent_in (bytes ++ more) slot ≡ sent_in bytes slot
-same_packet bytes more slot is =
-    ap (with_bytes slot)
-    (ap (take slot.size) (drop-append-le slot.start bytes more (omega (arith, is)))
-    ∙ take-append-le slot.size (drop slot.start bytes) more (omega (arith, is, length-drop slot.start bytes)))
+same_packet bytes more slot is = grind (arith, drop-append-le, take-append-le, length-drop)
 
 same_packets : (bytes more : List ℕ) (slots : List Slot) → AllByRecursion (IsIn bytes) slots → map (sent_in (bytes ++ more)) slots ≡ map (sent_in bytes) slots
 same_packets bytes more [] are = refl
-same_packets bytes more (slot ∷ slots) are =
-    ap (λ (s : Sent). s ∷ map (sent_in (bytes ++ more)) slots) (same_packet bytes more slot are.0)
-    ∙ ap (λ (ss : List Sent). sent_in bytes slot ∷ ss) (same_packets bytes more slots are.1)
+same_packets bytes more (slot ∷ slots) are = grind (arith, same_packets bytes more slots are.1, same_packet)
 
 still_in : (bytes more : List ℕ) (slots : List Slot) → AllByRecursion (IsIn bytes) slots → AllByRecursion (IsIn (bytes ++ more)) slots
 still_in bytes more [] are = tt
-still_in bytes more (slot ∷ slots) are =
-    let here = are.0 in
-    (omega (arith, here, length-append bytes more), still_in bytes more slots are.1)
+still_in bytes more (slot ∷ slots) are = grind (arith, still_in bytes more slots are.1, length-append)
 
 -- the packet of the slot that comes behind the others
 new_packet : (bytes more : List ℕ) (slot : Slot) → slot.start ≡ length bytes → slot.size ≡ length more → sent_in (bytes ++ more) slot ≡ with_bytes slot more
-new_packet bytes more slot start size =
-    ap (with_bytes slot)
-    (ap (take slot.size) (drop_at bytes more slot.start (sym start)) ∙ take_all slot.size more (omega (arith, size)))
+new_packet bytes more slot start size = grind (arith, drop_at, take_all)
 
 -- the packets of the slots and of one more
 pub one_more : (bytes more : List ℕ) (slots : List Slot) (slot : Slot) → AllByRecursion (IsIn bytes) slots → slot.start ≡ length bytes → slot.size ≡ length more
     → map (sent_in (bytes ++ more)) (slots ++ slot ∷ []) ≡ map (sent_in bytes) slots ++ with_bytes slot more ∷ []
-one_more bytes more slots slot are start size =
-    map-append (sent_in (bytes ++ more)) slots (slot ∷ [])
-    ∙ ap (λ (ss : List Sent). ss ++ sent_in (bytes ++ more) slot ∷ []) (same_packets bytes more slots are)
-    ∙ ap (λ (s : Sent). map (sent_in bytes) slots ++ s ∷ []) (new_packet bytes more slot start size)
+one_more bytes more slots slot are start size = grind (arith, map-append, same_packets, new_packet)
 
 -- ---- the same, of what an outbox keeps before and after: `n` more bytes of its room are used
 
@@ -59,33 +47,17 @@ module _ {room : List ℕ} {used n : ℕ} {slots slots2 : List Slot} (room2 more
   sent_after = rw (front, added) (one_more (take used room) more slots slot flat.each behind (size ∙ whole))
 
   each_after : AllByRecursion (IsIn (take used room ++ more)) (slots ++ slot ∷ [])
-  each_after =
-      all-append (IsIn (take used room ++ more)) slots (slot ∷ []) (still_in (take used room) more slots flat.each)
-      (omega (arith, behind, size, whole, length-append (take used room) more), tt)
+  each_after = grind (arith, all-append, still_in, behind, length-append)
 
   pub flat_after : IsFlat room2 (used + n) slots2
-  flat_after =
-      let before = flat.whole in
-      record {
-        fits = there;
-        each = rw (front, added) each_after;
-        whole =
-            ap total sent_after
-            ∙ total-append (map (sent_in (take used room)) slots) (with_bytes slot more ∷ [])
-            ∙ (omega (arith, before, whole));
-      }
+  flat_after = grind (arith, each_after, sent_after, total-append)
 
   -- as its callers see it
   pub one_appended : {old : Contents} {places places2 spare spare2 : ℕ} {memory memory2 : Memory}
       → record { sent = map (sent_in (take used room)) slots; places = places; spare = spare; memory = memory } ≡ old
       → places ≡ places2 + 1 → spare ≡ spare2 + n → memory2 ≡ memory
       → Appends old (record { sent = map (sent_in (take (used + n) room2)) slots2; places = places2; spare = spare2; memory = memory2 }) (with_bytes slot more ∷ [])
-  one_appended {old} {places} {places2} {spare} {spare2} {memory} {memory2} is fewer shorter same =
-      subst
-      (λ (before : Contents).
-      Appends before (record { sent = map (sent_in (take (used + n) room2)) slots2; places = places2; spare = spare2; memory = memory2 }) (with_bytes slot more ∷ []))
-      is
-      (record { sent = sent_after; places = omega (arith, fewer); spare = omega (arith, shorter, whole); memory = same })
+  one_appended {old} {places} {places2} {spare} {spare2} {memory} {memory2} is fewer shorter same = grind (arith, sent_after)
 
 -- what the front of a room of `size` bytes holds once `n` bytes of a packet were written from `start` on
 pub written_front : {room lent out : List ℕ} {start n size : ℕ} (packet further after behind : List ℕ) → lent ≡ room → out ≡ packet ++ further → n ≡ length packet

@@ -1,5 +1,5 @@
 -- The router's own packets are such as the layouts allow, short, and of bytes.
-use Rattle.std.proofs.Common.{◌≡◌, refl, ap, ◌∙◌, subst, ℕ, ◌+◌, ◌*◌, ◌<◌, ◌≤◌, inl, inr, Bool, true, false, length, List, [], ◌++◌, map, arith, lit<}
+use Rattle.std.proofs.Common.{◌≡◌, refl, subst, ℕ, ◌+◌, ◌*◌, ◌<◌, ◌≤◌, inl, inr, Bool, true, false, length, List, [], ◌++◌, map, arith, lit<}
 use Rattle.std.specs.List.{AllByRecursion}
 use Rattle.std.proofs.lemmas.List.{append-nil, length-map}
 use Rattle.ipx_wire.specs.Numbers.{rip_type, sap_type}
@@ -10,9 +10,7 @@ use Rattle.ipx_wire.specs.Sap.{IsSap}
 use Rattle.ipx_wire.specs.Write.{own_header, packet_bytes, rip_packet_parts, rip_payload, query_packet, query_packet_parts, query_payload}
 use Rattle.ipx_wire.specs.WriteServices.{IsService, entry_of, sap_packet_parts, sap_payload}
 use Rattle.ipx_wire.specs.declared.address.Address.{Address}
-use Rattle.ipx_wire.specs.declared.header.Header.{Header}
 use Rattle.ipx_wire.specs.declared.rip.Operation.{Operation}
-use Rattle.ipx_wire.specs.declared.rip.Operation.TheVariants.{Response as RipResponse}
 use Rattle.ipx_wire.specs.declared.rip.RipEntry.{RipEntry}
 use Rattle.ipx_wire.specs.declared.sap.Sap.TheVariants.{Query, Response}
 use Rattle.ipx_wire.specs.declared.service.Service.{Service}
@@ -21,9 +19,8 @@ use Rattle.ipx_router.specs.Packets.{IsRouting, EachEntryIs, IsAdvertising, IsBr
 use Rattle.ipx_router.specs.Pages.{pages}
 use Rattle.ipx_router.specs.Port.{Port, IsPort, broadcast, port_at, is_up, own_address, everyone, own_services, every_server, reply_to}
 use Rattle.ipx_router.specs.Relays.{Sent}
-use Rattle.ipx_router.specs.Sends.{entries_sent, rip_sends, rip_broadcast, services_sent, sap_sends, sap_broadcast, broadcasts, services_query}
+use Rattle.ipx_router.specs.Sends.{entries_sent, rip_sends, services_sent, sap_sends, sap_broadcast, broadcasts, services_query}
 use Rattle.ipx_router.proofs.bytes.FieldsAreBytes.{IsPlace, IsTellable, rip_are_bytes, query_are_bytes, sap_are_bytes}
-use Rattle.ipx_router.proofs.bytes.ListsOfBytes.{bytes_same}
 use Rattle.ipx_router.proofs.lists.EachElement.{all_then, all-map}
 use Rattle.ipx_router.proofs.lists.ItemsOfPages.{IsPage, all_pages}
 use Rattle.ipx_router.proofs.port_values.PortOfEachNumber.{port-all, one_up}
@@ -45,42 +42,24 @@ Writable P entry = IsEntry entry × P entry
 -- ---- the ports' addresses
 
 own_is : (port : Port) → IsPort port → IsPlace (own_address port)
-own_is port is = record {
-  ranges = record { network = omega (arith, is.ordinary_network); node = is.six_bytes; socket = lit< tt };
-  node = is.bytes;
-}
+own_is port is = grind arith
 
 services_is : (port : Port) → IsPort port → IsPlace (own_services port)
-services_is port is = record {
-  ranges = record { network = omega (arith, is.ordinary_network); node = is.six_bytes; socket = lit< tt };
-  node = is.bytes;
-}
+services_is port is = grind arith
 
 everyone_is : (port : Port) → IsPort port → IsPlace (everyone port)
-everyone_is port is = record {
-  ranges = record { network = omega (arith, is.ordinary_network); node = refl; socket = lit< tt };
-  node = bytes_same 6 255 (lit< tt);
-}
+everyone_is port is = grind arith
 
 every_server_is : (port : Port) → IsPort port → IsPlace (every_server port)
-every_server_is port is = record {
-  ranges = record { network = omega (arith, is.ordinary_network); node = refl; socket = lit< tt };
-  node = bytes_same 6 255 (lit< tt);
-}
+every_server_is port is = grind arith
 
 pub reply_is : (port : Port) (source : Address) → IsPort port → IsPlace source → IsPlace (reply_to port source)
-reply_is port source is from = record {
-  ranges = record { network = omega (arith, is.ordinary_network); node = from.ranges.node; socket = from.ranges.socket };
-  node = from.node;
-}
+reply_is port source is from = grind arith
 
 -- the header of such a packet counts its data
 header_of : (kind : ℕ) (from to : Address) (size : ℕ) (p : Parts) {bytes : List ℕ} → IsPacket bytes p → p.header ≡ own_header kind from to size
     → p.header ≡ own_header kind from to (length p.payload)
-header_of kind from to size p is e =
-    let counted = is.counted in
-    let same : size ≡ length p.payload = omega (arith, counted, ap (λ (h : Header). h.length) e) in
-    e ∙ ap (own_header kind from to) same
+header_of kind from to size p is e = grind arith
 
 -- ---- one packet
 
@@ -235,6 +214,4 @@ module _ (readings : Readings) (again : Rereadings) (P : RipEntry → Type 0) (p
 
   pub broadcasts_owned : (entries : List RipEntry) (services : List Service) → AllByRecursion (Writable P) entries → AllByRecursion IsTellable services
       → AllByRecursion (IsOwned P ports up (IsBroadcast ports up)) (broadcasts ports number entries services)
-  broadcasts_owned entries services fit fits =
-      all-append (IsOwned P ports up (IsBroadcast ports up)) (rip_broadcast ports number entries) (sap_broadcast ports number services)
-      (everyone_owned RipResponse entries fit) (servers_owned services fits)
+  broadcasts_owned entries services fit fits = grind (arith, all-append, everyone_owned, servers_owned)

@@ -1,5 +1,5 @@
 -- Each packet that an event sends has the layout of its kind.
-use Rattle.std.proofs.Common.{◌≡◌, refl, sym, subst, ℕ, ◌<◌, ◌==◌, inl, inr, Bool, true, false, if◌then◌else◌, length, List, [], ◌∷◌, ◌++◌, map, lit<}
+use Rattle.std.proofs.Common.{◌≡◌, refl, sym, subst, ℕ, ◌<◌, ◌==◌, inl, inr, Bool, true, false, if◌then◌else◌, length, List, [], ◌∷◌, ◌++◌, map, lit<, arith}
 use Rattle.std.specs.List.{AllByRecursion, flat_map}
 use Rattle.std.proofs.lemmas.Bool.{cases_Bool}
 use Rattle.ipx_wire.specs.Packet.{Parts, IsPacket}
@@ -16,7 +16,7 @@ use Rattle.ipx_router.specs.Packets.{IsRouting, IsAdvertising, IsBroadcast, IsAn
 use Rattle.ipx_router.specs.Port.{Port, IsPort, port_at, is_up, reply_to}
 use Rattle.ipx_router.specs.Relays.{Sent}
 use Rattle.ipx_router.specs.Sends.{entries_sent, services_sent, rip_broadcast, rip_sends, sap_broadcast, routes_request, services_query, every_route, introduction, asked, of_kind, is_nearer, nearest_of, Holding, second_on, stop_on, news_on, port_down_on, port_up_on, heard_sends}
-use Rattle.ipx_router.specs.Told.{told, told_services, told_at, direct_entry, entry_of, by_network, by_name, network_before, dead, dead_service}
+use Rattle.ipx_router.specs.Told.{told, told_services, told_at, direct_entry, entry_of, by_network, network_before, dead, dead_service}
 use Rattle.ipx_router.specs.declared.route_offer.RouteOffer.{RouteOffer}
 use Rattle.ipx_router.specs.declared.service_offer.ServiceOffer.{ServiceOffer}
 use Rattle.ipx_router.proofs.bytes.FieldsAreBytes.{IsTellable}
@@ -61,8 +61,7 @@ nearest_fits (service ∷ services) all = nearer (nearest_of services) (nearest_
     ]
 
 either_fits : (c : Bool) (xs ys : List Service) → AllByRecursion IsTellable xs → AllByRecursion IsTellable ys → AllByRecursion IsTellable (if c then xs else ys)
-either_fits true xs ys one two = one
-either_fits false xs ys one two = two
+either_fits c xs ys one two = grind arith
 
 module _ (readings : Readings) (again : Rereadings) (P : RipEntry → Type 0) (K : RouteOffer → Type 0) (allows : Allows P K) (ports : List Port)
     (are : AllByRecursion IsPort ports) (up : List ℕ) (within : AllByRecursion (λ j. j < length ports) up) where
@@ -133,24 +132,12 @@ module _ (readings : Readings) (again : Rereadings) (P : RipEntry → Type 0) (K
         (news_are P K ports allows.heard (λ route is. allows.gone (entry_of route)) before.routes after.routes number old.table new.table)
 
     pub news_owned : (number : ℕ) → is_up up number ≡ true → AllByRecursion Told (news_on ports before after number)
-    news_owned number there =
-        broadcasts_owned readings again P ports are up within number there (news ports before.routes after.routes number)
-        (news_services before.services after.services number) (news_written number)
-        (news_services_fit before.services after.services number old.services new.services)
+    news_owned number there = grind (arith, broadcasts_owned, news_written, news_services_fit)
 
     pub second_owned : Opens P ports after.up → (periodic : Bool) (number : ℕ) → is_up up number ≡ true
         → AllByRecursion Told (second_on ports before after periodic number)
     second_owned opens false number there = news_owned number there
-    second_owned opens true number there =
-        let rest = told ports after.up after.routes number in
-        let services = told_services after.services number in
-        let ended = news ports before.routes after.routes number in
-        let ended_services = news_services before.services after.services number in
-        broadcasts_owned readings again P ports are up within number there (by_network (rest ++ ended)) (by_name (services ++ ended_services))
-        (in_place (rest ++ ended) (all-append (Writable P) rest ended
-        (told_written after.up after.routes number new.ups opens new.routes new.table) (news_written number)))
-        (by_name_fit (services ++ ended_services) (all-append IsTellable services ended_services
-        (told_services_fit after.services number new.services) (news_services_fit before.services after.services number old.services new.services)))
+    second_owned opens true number there = grind (arith, broadcasts_owned, in_place, all-append, Writable, told_written, news_written, by_name_fit, IsTellable, told_services_fit, news_services_fit)
 
     pub port_down_owned : (port : ℕ) → port < length ports → (number : ℕ) → is_up up number ≡ true
         → AllByRecursion Told (port_down_on ports before after port number)
@@ -168,12 +155,7 @@ module _ (readings : Readings) (again : Rereadings) (P : RipEntry → Type 0) (K
       -- a packet to the one that asked
       answer_to : {Own : Address → Sent → Type 0} (source : Address) (s : Sent) → asked_in.header.source ≡ source → s.port ≡ number
           → Own (reply_to (port_at ports number) source) s → IsAnswer Own ports number bytes s
-      answer_to {Own = Own} source s from on is = record {
-        port = on;
-        asked = asked_in;
-        came = came;
-        answers = subst (λ (a : Address). Own (reply_to (port_at ports number) a) s) (sym from) is;
-      }
+      answer_to {Own = Own} source s from on is = grind arith
 
       everywhere : after.up ≡ up → AllByRecursion Told (flat_map (news_on ports before after) after.up)
       everywhere same =

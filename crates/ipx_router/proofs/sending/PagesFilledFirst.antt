@@ -1,5 +1,6 @@
 -- A list that is sent page by page, where each page is filled before it is sent.
-use Rattle.std.proofs.Common.{◌≡◌, refl, sym, ap, ◌∙◌, subst, ℕ, ◌+◌, ◌<◌, ◌≤◌, List, [], ◌∷◌, ◌++◌, length, map, take, slice_set, false, true≢false, ◌==◌, arith, append-nil, append_assoc, length-append, inl, inr}
+use Rattle.std.proofs.Common.{rules}
+use Rattle.std.proofs.Common.{◌≡◌, refl, sym, ap, ◌∙◌, subst, ℕ, ◌+◌, ◌<◌, ◌≤◌, List, [], ◌∷◌, ◌++◌, length, map, take, slice_set, false, ◌==◌, arith, append-nil, append_assoc, length-append}
 use Rattle.std.proofs.lemmas.Bool.{cases_lt}
 use Rattle.std.proofs.lemmas.List.{take_more_set}
 use Rattle.std.specs.List.{flat_map}
@@ -35,17 +36,13 @@ module _ {X : Type 0} (n : ℕ) (packet : List X → Sent) (some : 1 ≤ n) wher
 
   -- a page with entries is one packet
   pub one_packet : (page : List X) → length page ≤ n → false ≡ (length page == 0) → packets_of page ≡ packet page ∷ []
-  one_packet [] few filled = absurd (true≢false (sym filled))
-  one_packet (p ∷ page) few filled = ap (map packet) (one_page n (p ∷ page) few (omega arith))
+  one_packet page few filled = grind (arith, one_page)
 
   -- a page that is full, or behind which nothing is left, is a packet of its own
   page_alone : (page rest : List X) → length page ≤ n → (length page < n → rest ≡ []) → packets_of (page ++ rest) ≡ packets_of page ++ packets_of rest
   page_alone [] rest few last = refl
   page_alone (p ∷ page) [] few last = ap packets_of (append-nil (p ∷ page)) ∙ sym (append-nil (packets_of (p ∷ page)))
-  page_alone (p ∷ page) (x ∷ xs) few last = elim (cases_lt (length (p ∷ page)) n) [
-    | inl room ↦ absurd (omega (arith, ap length (last room)))
-    | inr full ↦ full_page p page x xs few full
-  ]
+  page_alone (p ∷ page) (x ∷ xs) few last = grind (arith, cases_lt, full_page)
 
   module _ (all left page rest : List X) (whole : left ≡ page ++ rest) (few : length page ≤ n) (last : length page < n → rest ≡ []) {a b : Contents}
       (before : Pays a b (packets_of all) (packets_of left)) where
@@ -58,19 +55,14 @@ module _ {X : Type 0} (n : ℕ) (packet : List X → Sent) (some : 1 ≤ n) wher
 
     -- what is owed once it was sent
     pub filled_pays : {c : Contents} → Appends b c (packets_of page) → Pays a c (packets_of all) (packets_of rest)
-    filled_pays {c} appends =
-        pays_then before (subst (λ (ps : List Sent). Pays b c ps (packets_of rest)) (sym parts) (pays_first (packets_of rest) appends))
+    filled_pays {c} appends = search (rules, pays_then, parts, pays_first)
 
 -- ---- a page is filled from a source
 
 module _ {X : Type 0} (page : List X) (count : ℕ) (all left later : List X) (x : X) where
   -- with the item that it yields
   pub one_placed : all ≡ take count page ++ left → left ≡ x ∷ later → count < length page → all ≡ take (count + 1) (slice_set page count x) ++ later
-  one_placed before yielded room =
-      before
-      ∙ ap (λ (xs : List X). take count page ++ xs) yielded
-      ∙ sym (append_assoc (take count page) (x ∷ []) later)
-      ∙ sym (ap (λ (xs : List X). xs ++ later) (take_more_set page count x room))
+  one_placed before yielded room = grind (arith, append_assoc, take_more_set)
 
 -- ---- or with what is sent of that
 
@@ -81,11 +73,7 @@ module _ {X Y : Type 0} (selection : X → List Y) (page : List Y) (count : ℕ)
 
   -- an item that is sent
   pub one_filled : (y : Y) → y ∷ [] ≡ selection x → count < length page → flat_map selection all ≡ take (count + 1) (slice_set page count y) ++ flat_map selection later
-  one_filled y seen room =
-      yields
-      ∙ ap (λ ys. take count page ++ (ys ++ flat_map selection later)) (sym seen)
-      ∙ sym (append_assoc (take count page) (y ∷ []) (flat_map selection later))
-      ∙ sym (ap (λ ys. ys ++ flat_map selection later) (take_more_set page count y room))
+  one_filled y seen room = grind (arith, yields, append_assoc, take_more_set)
 
   -- an item that isn't
   pub none_filled : [] ≡ selection x → flat_map selection all ≡ take count page ++ flat_map selection later

@@ -1,5 +1,6 @@
 -- What is sent on one port after another, to all nodes of its network.
-use Rattle.std.proofs.Common.{◌≡◌, ap, ◌∙◌, ℕ, zero, suc, ◌<◌, List, [], ◌∷◌, ◌++◌, get_or, length, arith}
+use Rattle.std.proofs.lemmas.Grind.{common_steps}
+use Rattle.std.proofs.Common.{◌≡◌, ℕ, ◌<◌, List, [], ◌++◌, get_or, length, arith}
 use Rattle.std.specs.List.{AllByRecursion}
 use Rattle.ipx_router.specs.Outbox.{Contents, Fits, Appends}
 use Rattle.ipx_router.specs.Relays.{Sent}
@@ -10,14 +11,11 @@ use Rattle.ipx_router.proofs.sending.OneAfterAnother.{fits_front, fits_then, app
 -- items of a port in an envelope of that port
 pub in_envelope : {X : Type 0} (n : ℕ) (packet : Envelope → List X → Sent) (items : ℕ → List X) {envelope to : Envelope} {all : List X}
     → envelope ≡ to → items to.port ≡ all → owed n (packet envelope) [] (items envelope.port) ≡ owed n (packet to) [] all
-in_envelope n packet items {envelope} {to} {all} is same =
-    ap (λ (e : Envelope). owed n (packet e) [] (items e.port)) is ∙ ap (owed n (packet to) []) same
+in_envelope n packet items {envelope} {to} {all} is same = grind arith
 
 -- what holds of all holds at each place
 pub each_at : {X : Type 0} (P : X → Type 0) (xs : List X) (k : ℕ) (d : X) → AllByRecursion P xs → k < length xs → P (get_or xs k d)
-each_at P [] k d all below = absurd (omega (arith, below))
-each_at P (x ∷ xs) zero d all below = all.0
-each_at P (x ∷ xs) (suc k) d all below = each_at P xs k d all.1 (omega (arith, below))
+each_at P xs k d all below = grind (arith, common_steps)
 
 -- four sendings, one after the other
 module _ {o : Contents} (a b c d : List Sent) (fits : Fits o (a ++ b ++ c ++ d)) where

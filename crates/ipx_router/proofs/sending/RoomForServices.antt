@@ -1,12 +1,10 @@
 -- Room for the next packet of services that are written where it lies.
-use Rattle.std.proofs.Common.{◌≡◌, ℕ, ◌+◌, ◌<◌, ◌≤◌, Bool, true, false, nat_eq, ◌==◌, if◌then◌else◌, Option, Some, None, List, [], ◌∷◌, ◌++◌, length, take, drop, refl, sym, ap, ◌∙◌, subst, arith, inl, inr, append-nil, length-append, length-take}
+use Rattle.std.proofs.lemmas.Grind.{common_steps}
+use Rattle.std.proofs.Common.{◌≡◌, ℕ, ◌+◌, ◌<◌, ◌≤◌, Bool, false, nat_eq, ◌==◌, if◌then◌else◌, Option, Some, None, List, [], ◌∷◌, ◌++◌, length, take, drop, sym, subst, arith, append-nil, length-append, length-take}
 use Rattle.std.proofs.lemmas.Bool.{cases_lt, ne_eqb}
 use Rattle.std.proofs.lemmas.List.{drop_all, take-append-drop}
-use Rattle.std.specs.Int.{to_be_bytes, w16}
 use Rattle.std.specs.List.{flat_map}
-use Rattle.ipx_wire.specs.Header.{header_bytes}
-use Rattle.ipx_wire.specs.Sap.{response_number}
-use Rattle.ipx_wire.specs.WriteServices.{service_bytes, sap_packet, sap_packet_parts}
+use Rattle.ipx_wire.specs.WriteServices.{service_bytes, sap_packet}
 use Rattle.ipx_wire.specs.declared.service.Service.{Service}
 use Rattle.ipx_wire.proofs.Headers.{length-header_bytes}
 use Rattle.ipx_router.specs.Changes.{Change}
@@ -25,14 +23,7 @@ use Rattle.ipx_router.proofs.sending.PagesFilledFirst.{filled_fits, one_packet}
 -- how long a response is, by the bytes of its services
 length-response : (envelope : Envelope) (page : List Service) → length envelope.to.node.0 ≡ 6 → length envelope.from.node.0 ≡ 6
     → length (sap_packet envelope.from envelope.to false page) ≡ 32 + length (flat_map service_bytes page)
-length-response envelope page to from =
-    let parts = sap_packet_parts envelope.from envelope.to false page in
-    omega (
-      arith,
-      length-append (header_bytes parts.header) parts.payload,
-      length-header_bytes parts.header to from,
-      length-append (to_be_bytes w16 (response_number false)) (flat_map service_bytes page),
-    )
+length-response envelope page to from = grind (arith, length-append, length-header_bytes)
 
 -- where all that is owed fits, the next packet has its place and its bytes
 pub next_fits : (envelope : Envelope) (left : List Service) {o : Contents} → length envelope.to.node.0 ≡ 6 → length envelope.from.node.0 ≡ 6
@@ -55,8 +46,7 @@ next_fits envelope (s ∷ ss) {o} to from fits =
 
 -- one or none
 at_most_one : {X : Type 0} (is : Bool) (x : X) → length (if is then [] else x ∷ []) ≤ 1
-at_most_one true x = omega arith
-at_most_one false x = omega arith
+at_most_one is x = grind arith
 
 -- of each change at most one service is told
 pub told_at_most : (number : ℕ) (change : Change ServiceOffer) → length (service_told number change) ≤ 1
@@ -69,19 +59,12 @@ told_at_most number change = of_each change.after change.before
 
 pub told_few : (number : ℕ) (changes : List (Change ServiceOffer)) → length (flat_map (service_told number) changes) ≤ length changes
 told_few number [] = omega arith
-told_few number (change ∷ changes) =
-    omega (arith, length-append (service_told number change) (flat_map (service_told number) changes), told_at_most number change, told_few number changes)
+told_few number (change ∷ changes) = grind (arith, told_few number changes)
 
 nothing : {X : Type 0} (xs : List X) → length xs ≡ 0 → xs ≡ []
-nothing [] none = refl
-nothing (x ∷ xs) none = absurd (omega (arith, none))
+nothing xs none = grind (arith, common_steps)
 
 -- as many services as one packet may have were all sent in it
 pub all_sent : {left services leaves : List Service} {count : ℕ} → left ≡ services ++ leaves → length services ≡ count → length left ≤ services_a_page
     → (count < services_a_page → leaves ≡ []) → left ≡ services
-all_sent {left} {services} {leaves} {count} whole counted few last =
-    let none : leaves ≡ [] = elim (cases_lt count services_a_page) [
-      | inl less ↦ last less
-      | inr full ↦ nothing leaves (omega (arith, full, counted, few, ap length whole, length-append services leaves))
-    ] in
-    whole ∙ ap (λ (ss : List Service). services ++ ss) none ∙ append-nil services
+all_sent {left} {services} {leaves} {count} whole counted few last = grind (arith, cases_lt, nothing, length-append, append-nil)

@@ -1,5 +1,5 @@
 -- What each event sends, after any history: packets of the router's own, or the packet that came, sent on.
-use Rattle.std.proofs.Common.{◌≡◌, refl, sym, subst, ℕ, ◌<◌, ◌⊎◌, inl, inr, Bool, true, false, length, List, [], ◌∷◌, ◌++◌, Option, None, Some, Result, Ok, Err}
+use Rattle.std.proofs.Common.{◌≡◌, refl, sym, subst, ℕ, ◌<◌, ◌⊎◌, inl, inr, Bool, true, false, length, List, [], ◌∷◌, ◌++◌, Option, None, Some, Result, Ok, Err, rules}
 use Rattle.std.specs.List.{AllByRecursion, slice_get}
 use Rattle.std.proofs.lemmas.Bool.{cases_Bool}
 use Rattle.ipx_wire.specs.Packet.{Parts, packet_of}
@@ -161,12 +161,7 @@ module _ (readings : Readings) (again : Rereadings) (listed : IsListed) (P : Rip
 
     fits : (history : History) → AllByRecursion IsOfBytes history → AllByRecursion K (held_after history)
         → Fits K ports (holding ports most_routes most_services history)
-    fits history bytes table = record {
-      ups = ports_up-within ports history;
-      routes = held_routes_fit readings ports most_routes history bytes;
-      services = held_services_fit readings ports most_services history bytes;
-      table = table;
-    }
+    fits history bytes table = search (rules, ports_up-within, held_routes_fit, held_services_fit)
 
     -- what an event sends, if such are the networks of the ports that are up after it, and its routes before it and after it
     pub sendings_of : (event : Event) → AllByRecursion (IsOnPort ports) (history ++ event ∷ []) → AllByRecursion IsOfBytes (history ++ event ∷ [])

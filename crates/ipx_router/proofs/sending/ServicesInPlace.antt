@@ -1,5 +1,5 @@
 -- Services that are written into a packet where it lies, and its front before them.
-use Rattle.std.proofs.Common.{◌≡◌, ℕ, zero, suc, ◌+◌, ◌*◌, ◌≤◌, ◌<◌, List, [], ◌∷◌, ◌++◌, length, take, drop, refl, sym, ap, ◌∙◌, subst, arith, append-nil, append_assoc, length-append, length-take, length-drop, take-add}
+use Rattle.std.proofs.Common.{◌≡◌, ℕ, zero, suc, ◌+◌, ◌*◌, ◌≤◌, ◌<◌, List, [], ◌∷◌, ◌++◌, length, take, drop, refl, sym, ap, ◌∙◌, arith, append-nil, append_assoc, length-append, length-take, length-drop, take-add}
 use Rattle.std.proofs.lemmas.Grind.{flat_map-append}
 use Rattle.std.proofs.lemmas.List.{take_at, drop_at, take-append-drop}
 use Rattle.std.specs.List.{flat_map}
@@ -60,24 +60,12 @@ module _ {left leaves : List Service} {count : ℕ} {old out : List ℕ} (before
 
   -- one of them isn't sent
   pub none_more : {rest : List Service} → leaves ≡ rest → PutsServices left rest count old out
-  none_more e = record {
-    services = before.services;
-    whole = before.whole ∙ ap (λ (ss : List Service). before.services ++ ss) e;
-    counted = before.counted;
-    sizes = before.sizes;
-    bytes = before.bytes;
-  }
+  none_more e = grind arith
 
 -- one service, written behind others
 pub one_after : {count : ℕ} {out new : List ℕ} (x : Service) → PutsAt out (32 + 64 * count) (service_bytes x) new → length (service_bytes x) ≡ 64
     → PutsAfter count (x ∷ []) (count + 1) out new
-one_after {count} {out} {new} x puts size =
-    let whole : service_bytes x ≡ flat_map service_bytes (x ∷ []) = sym (append-nil (service_bytes x)) in
-    record {
-      counted = refl;
-      sizes = ap length (sym whole) ∙ size;
-      bytes = subst (λ (bytes : List ℕ). PutsAt out (32 + 64 * count) bytes new) whole puts;
-    }
+one_after {count} {out} {new} x puts size = grind (arith, append-nil)
 
 -- ---- room
 
@@ -91,8 +79,7 @@ take_over {X} (y ∷ xs) x rest (suc n) more =
     (found.0, ap (λ (l : List X). y ∷ l) found.1)
 
 size_of : (ss : List Service) → 1 ≤ length ss → packet_size ss ≡ 32 + length (flat_map service_bytes (take services_a_page ss))
-size_of [] some = absurd (omega (arith, some))
-size_of (s ∷ ss) some = refl
+size_of ss some = grind arith
 
 -- a packet with room for the next services has room for one more, until it has as many as it may have
 pub room_for_one : {left rest : List Service} {count : ℕ} {old out : List ℕ} (x : Service) (before : PutsServices left (x ∷ rest) count old out)

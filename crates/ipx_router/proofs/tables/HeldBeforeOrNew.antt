@@ -47,8 +47,7 @@ module _ {O : Type 0} (rules : Rules O) where
     Spared fact offer = P offer × Spares fact offer
 
     one_alive : (offer : O) (mark : Bool) → P offer → AllByRecursion (λ h. Spared (Offered offer) h.offer) (alive rules ((Offered offer, mark) ∷ []))
-    one_alive offer true is = ((is, tt), tt)
-    one_alive offer false is = tt
+    one_alive offer mark is = grind arith
 
     pub alive-more : (ms : List (Marked O)) (fact : Fact O) (mark : Bool) → AllByRecursion (λ h. P h.offer) (alive rules ms) → OfferIs P fact
         → AllByRecursion (λ h. Spared fact h.offer) (alive rules (ms ++ (fact, mark) ∷ []))
@@ -75,8 +74,7 @@ module _ {O : Type 0} (rules : Rules O) where
       where
         rest : (b : Bool) → (lasts rules offer later && nat_lt (seconds later) lifetime) ≡ b
             → AllByRecursion (λ h. P h.offer) (alive rules ((Offered offer, true) ∷ later)) → AllByRecursion (λ h. P h.offer) (alive rules later)
-        rest true e all = (rw e at all).1
-        rest false e all = rw e at all
+        rest b e all = grind arith
 
     -- all that is alive after more facts, where those are offers
     pub alive_then : (before : List (Marked O)) (more : List (Fact O)) → AllByRecursion (λ h. P h.offer) (alive rules before) → AllByRecursion (OfferIs P) more

@@ -1,5 +1,5 @@
 -- What is held came by a port that is up.
-use Rattle.std.proofs.Common.{◌≡◌, refl, sym, ap, ◌∙◌, subst, ℕ, ◌==◌, true, false, List, [], ◌∷◌, ◌++◌, Option, None, Some, inl, inr, true≢false}
+use Rattle.std.proofs.Common.{◌≡◌, refl, sym, ap, ◌∙◌, subst, ℕ, ◌==◌, true, false, List, [], ◌∷◌, ◌++◌, Option, None, Some, inl, inr, true≢false, arith}
 use Rattle.std.specs.List.{AllByRecursion}
 use Rattle.std.proofs.lemmas.Bool.{cases_Bool, eq-eqb, eqb-true}
 use Rattle.ipx_table.specs.Accepted.{marked, marked_after}
@@ -12,12 +12,11 @@ use Rattle.ipx_wire.specs.declared.node.Node.{Node}
 use Rattle.ipx_wire.specs.declared.rip.Operation.{Operation}
 use Rattle.ipx_wire.specs.declared.rip.Operation.TheVariants.{Request, Response}
 use Rattle.ipx_wire.specs.declared.rip.RipEntry.{RipEntry}
-use Rattle.ipx_wire.specs.declared.sap.Sap.TheVariants.{Query, Response as SapResponse}
 use Rattle.ipx_wire.specs.declared.sap_entries.SapEntry.{SapEntry}
 use Rattle.ipx_router.specs.Facts.{facts_of, facts_from, heard_after, routes_offered, routes_heard, routes_held, services_offered, services_heard, services_held, offers}
 use Rattle.ipx_router.specs.Heard.{Heard, HeardRip, HeardSap}
 use Rattle.ipx_router.specs.History.{Event, History, Start, Stop, Second, Packet, PortDown, PortUp, is_stop, takes_down, running, ports_up}
-use Rattle.ipx_router.specs.Port.{Port, is_up, takes_no_route}
+use Rattle.ipx_router.specs.Port.{Port, is_up}
 use Rattle.ipx_router.specs.Routes.{route_rules}
 use Rattle.ipx_router.specs.Services.{service_rules}
 use Rattle.ipx_router.specs.declared.route_offer.RouteOffer.{RouteOffer}
@@ -48,8 +47,7 @@ module _ {O : Type 0} (rules : Rules O) (ports : List Port) (offered : History �
     later_up : is_stop event ≡ false → (held : List (Held O)) → AllByRecursion (λ h. takes_down (rules.port h.offer) event ≡ false) held
         → AllByUp history held → AllByUp (history ++ event ∷ []) held
     later_up on [] spared all = tt
-    later_up on (h ∷ held) spared all =
-        (up_stays ports history event (rules.port h.offer) on spared.0 all.0, later_up on held spared.1 all.1)
+    later_up on (h ∷ held) spared all = grind (arith, later_up on held spared.1 all.1, up_stays)
 
     all_spared : ((port : ℕ) → takes_down port event ≡ false) → (held : List (Held O)) → AllByRecursion (λ h. takes_down (rules.port h.offer) event ≡ false) held
     all_spared spares [] = tt
@@ -57,16 +55,12 @@ module _ {O : Type 0} (rules : Rules O) (ports : List Port) (offered : History �
 
   -- of a stopped router nothing is held that came by a port that is up
   none_held : (A : Type 0) (history : History) (offer : O) → running history ≡ false → ByUp history offer → A
-  none_held A history offer stopped up =
-      absurd (true≢false (sym up ∙ ap (λ ups. is_up ups (rules.port offer)) (none_up ports history stopped)))
+  none_held A history offer stopped up = grind (arith, none_up)
 
   -- a port isn't the one that goes down
   apart : (history : History) (number port : ℕ) → is_up (ports_up ports history) number ≡ false → is_up (ports_up ports history) port ≡ true
       → (number == port) ≡ false
-  apart history number port down up = elim (cases_Bool (number == port)) [
-    | inl same ↦ absurd (true≢false (sym up ∙ ap (λ n. is_up (ports_up ports history) n) (sym (eqb-true number port same)) ∙ down))
-    | inr other ↦ other
-  ]
+  apart history number port down up = grind arith
 
   turned : (number port : ℕ) → (port == number) ≡ false → (number == port) ≡ false
   turned number port other = elim (cases_Bool (number == port)) [
@@ -145,15 +139,11 @@ module _ {O : Type 0} (rules : Rules O) (ports : List Port) (offered : History �
 module _ (ports : List Port) (up : List ℕ) (number : ℕ) (is : is_up up number ≡ true) where
   routes_up : (node : Node) (entries : List RipEntry) → AllByRecursion (OfferIs (λ (r : RouteOffer). is_up up r.port ≡ true)) (routes_offered ports number node entries)
   routes_up node [] = tt
-  routes_up node (entry ∷ entries) = elim (cases_Bool (takes_no_route ports entry.network)) [
-    | inl e ↦ rw e (routes_up node entries)
-    | inr e ↦ rw e (is, routes_up node entries)
-  ]
+  routes_up node (entry ∷ entries) = grind (arith, routes_up node entries)
 
   operation_up : (operation : Operation) (node : Node) (entries : List RipEntry)
       → AllByRecursion (OfferIs (λ (r : RouteOffer). is_up up r.port ≡ true)) (elim operation [ Response ↦ routes_offered ports number node entries | Request ↦ [] ])
-  operation_up Response node entries = routes_up node entries
-  operation_up Request node entries = tt
+  operation_up operation node entries = grind (arith, routes_up)
 
   one_up : (node : Node) (entry : SapEntry) (rest : List (Fact ServiceOffer)) (name : Option (List ℕ))
       → AllByRecursion (OfferIs (λ (s : ServiceOffer). is_up up s.port ≡ true)) rest
@@ -165,8 +155,7 @@ module _ (ports : List Port) (up : List ℕ) (number : ℕ) (is : is_up up numbe
           node = node;
         }) ∷ []
       ] ++ rest)
-  one_up node entry rest None all = all
-  one_up node entry rest (Some name) all = (is, all)
+  one_up node entry rest name all = grind arith
 
   services_up : (node : Node) (entries : List SapEntry) → AllByRecursion (OfferIs (λ (s : ServiceOffer). is_up up s.port ≡ true)) (services_offered number node entries)
   services_up node [] = tt
@@ -181,11 +170,7 @@ module _ (ports : List Port) (up : List ℕ) (number : ℕ) where
 
   heard_services_up : (o : Option Heard) → ((m : Heard) → o ≡ Some m → is_up up number ≡ true)
       → AllByRecursion (OfferIs (λ (s : ServiceOffer). is_up up s.port ≡ true)) (services_heard number o)
-  heard_services_up None ups = tt
-  heard_services_up (Some (HeardRip source rip)) ups = tt
-  heard_services_up (Some (HeardSap source (Query nearest kind))) ups = tt
-  heard_services_up (Some (HeardSap source (SapResponse nearest entries))) ups =
-      services_up ports up number (ups (HeardSap source (SapResponse nearest entries)) refl) source.node entries
+  heard_services_up o ups = grind (arith, services_up)
 
 -- ---- over histories
 

@@ -1,7 +1,6 @@
 -- What is held fits into the fields of a packet.
-use Rattle.std.proofs.Common.{◌≡◌, refl, ℕ, List, [], ◌∷◌, Option, None, Some, IfSome, inl, inr}
+use Rattle.std.proofs.Common.{◌≡◌, refl, ℕ, List, [], ◌∷◌, Option, None, Some, IfSome, arith, rules}
 use Rattle.std.specs.List.{AllByRecursion}
-use Rattle.std.proofs.lemmas.Bool.{cases_Bool}
 use Rattle.ipx_table.specs.Facts.{Offered}
 use Rattle.ipx_wire.specs.Name.{IsServiceName}
 use Rattle.ipx_wire.specs.Piece.{IsBytes}
@@ -12,10 +11,10 @@ use Rattle.ipx_wire.specs.declared.rip.Operation.TheVariants.{Request, Response}
 use Rattle.ipx_wire.specs.declared.rip.RipEntry.{RipEntry}
 use Rattle.ipx_wire.specs.declared.sap.Sap.TheVariants.{Query, Response as SapResponse}
 use Rattle.ipx_wire.specs.declared.sap_entries.SapEntry.{SapEntry}
-use Rattle.ipx_router.specs.Facts.{heard_after, routes_offered, routes_heard, routes_held, services_offered, services_heard, services_held, offers}
+use Rattle.ipx_router.specs.Facts.{routes_offered, routes_heard, routes_held, services_offered, services_heard, services_held, offers}
 use Rattle.ipx_router.specs.Heard.{Heard, HeardRip, HeardSap}
-use Rattle.ipx_router.specs.History.{History, IsOfBytes, running, ports_up}
-use Rattle.ipx_router.specs.Port.{takes_no_route, Port}
+use Rattle.ipx_router.specs.History.{History, IsOfBytes}
+use Rattle.ipx_router.specs.Port.{Port}
 use Rattle.ipx_router.specs.Told.{entry_of}
 use Rattle.ipx_router.specs.declared.route_offer.RouteOffer.{RouteOffer}
 use Rattle.ipx_router.specs.declared.service_offer.ServiceOffer.{ServiceOffer}
@@ -36,10 +35,7 @@ ServiceFits offer = IsTellable offer.service
 routes_fit : (ports : List Port) (number : ℕ) (node : Node) (entries : List RipEntry) → AllByRecursion IsEntry entries
     → AllByRecursion (OfferIs RouteFits) (routes_offered ports number node entries)
 routes_fit ports number node [] all = tt
-routes_fit ports number node (entry ∷ entries) all = elim (cases_Bool (takes_no_route ports entry.network)) [
-  | inl e ↦ rw e (routes_fit ports number node entries all.1)
-  | inr e ↦ rw e (record { network = all.0.network; hops = all.0.hops; ticks = all.0.ticks }, routes_fit ports number node entries all.1)
-]
+routes_fit ports number node (entry ∷ entries) all = grind (arith, routes_fit ports number node entries all.1)
 
 services_fit : (number : ℕ) (node : Node) (entries : List SapEntry) → AllByRecursion IsAdvertised entries
     → AllByRecursion (OfferIs ServiceFits) (services_offered number node entries)
@@ -69,8 +65,7 @@ services_fit number node (entry ∷ entries) all =
 
 by_operation : (ports : List Port) (number : ℕ) (operation : Operation) (node : Node) (entries : List RipEntry) → AllByRecursion IsEntry entries
     → AllByRecursion (OfferIs RouteFits) (elim operation [ Response ↦ routes_offered ports number node entries | Request ↦ [] ])
-by_operation ports number Response node entries all = routes_fit ports number node entries all
-by_operation ports number Request node entries all = tt
+by_operation ports number operation node entries all = grind (arith, routes_fit)
 
 heard_routes : (ports : List Port) (number : ℕ) (o : Option Heard) → ((m : Heard) → o ≡ Some m → IsHeard m)
     → AllByRecursion (OfferIs RouteFits) (routes_heard ports number o)
@@ -90,18 +85,8 @@ heard_services number (Some (HeardSap source (SapResponse nearest entries))) is 
 module _ (readings : Readings) (ports : List Port) where
   pub held_routes_fit : (capacity : ℕ) (history : History) → AllByRecursion IsOfBytes history
       → AllByRecursion RouteFits (offers (routes_held ports capacity history))
-  held_routes_fit capacity history are =
-      routes_all RouteFits IsOfBytes ports
-      (λ before number bytes are.
-      heard_routes ports number (heard_after ports before number bytes)
-      (heard_is readings ports (ports_up ports before) number bytes are (running before)))
-      capacity history are
+  held_routes_fit capacity history are = search (rules, routes_all, heard_routes, heard_is)
 
   pub held_services_fit : (capacity : ℕ) (history : History) → AllByRecursion IsOfBytes history
       → AllByRecursion ServiceFits (offers (services_held ports capacity history))
-  held_services_fit capacity history are =
-      services_all ServiceFits IsOfBytes ports
-      (λ before number bytes are.
-      heard_services number (heard_after ports before number bytes)
-      (heard_is readings ports (ports_up ports before) number bytes are (running before)))
-      capacity history are
+  held_services_fit capacity history are = search (rules, services_all, heard_services, heard_is)

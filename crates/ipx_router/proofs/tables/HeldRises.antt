@@ -1,10 +1,9 @@
 -- Records that ascend by their keys: the networks of routes rise, and so do services by type and name.
-use Rattle.std.proofs.Common.{◌≡◌, sym, ℕ, ◌<◌, ◌==◌, true, true≢false, List, [], ◌∷◌, map, inl, inr}
+use Rattle.std.proofs.Common.{◌≡◌, ℕ, ◌<◌, true, List, [], ◌∷◌, map, arith}
 use Rattle.std.specs.List.{AllByRecursion}
 use Rattle.std.specs.List.Sorted.{IsStrictlyIncreasing}
 use Rattle.std.specs.Ordering.{is_lt, nat_cmp}
 use Rattle.std.specs.declared.cmp.Ordering.{Ordering}
-use Rattle.std.proofs.lemmas.Bool.{cases_Bool, cases_lt, le-ltb}
 use Rattle.ipx_table.specs.Stands.{IsAscending, Ascends}
 use Rattle.ipx_table.specs.declared.held.Held.{Held}
 use Rattle.ipx_router.specs.Facts.{offers}
@@ -22,13 +21,7 @@ offers_ascend {O = O} by_key (h ∷ rest) ascends = (above rest ascends.0, offer
     above (x ∷ xs) all = (all.0, above xs all.1)
 
 cmp_less : (a b : ℕ) → is_lt (nat_cmp a b) ≡ true → a < b
-cmp_less a b e = elim (cases_lt a b) [
-  | inl below ↦ below
-  | inr over ↦ elim (cases_Bool (a == b)) [
-    | inl same ↦ absurd (true≢false (sym (rw (le-ltb a b over, same) at e)))
-    | inr other ↦ absurd (true≢false (sym (rw (le-ltb a b over, other) at e)))
-  ]
-]
+cmp_less a b e = grind arith
 
 -- networks that ascend rise
 rising_networks : (routes : List RouteOffer) → Ascends (λ a b. network_order a.network b.network) routes → IsRising (map (λ r. r.network.0) routes)

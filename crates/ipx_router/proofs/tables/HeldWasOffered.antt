@@ -1,16 +1,17 @@
 -- What is held was offered, and what was offered passed the checks.
-use Rattle.std.proofs.Common.{◌≡◌, refl, sym, ap, subst, ℕ, ◌<◌, ◌&&◌, Bool, true, false, nat_lt, length, List, [], ◌∷◌, ◌++◌, Option, None, Some, Result, Ok, Err, inl, inr, true≢false, is_some, is_lt, Ordering}
+use Rattle.std.proofs.Common.{arith}
+use Rattle.std.proofs.Common.{rules}
+use Rattle.std.proofs.lemmas.Grind.{common_steps}
+use Rattle.std.proofs.Common.{◌≡◌, refl, sym, ap, subst, ℕ, ◌<◌, Bool, true, false, length, List, [], ◌∷◌, ◌++◌, Option, None, Some, Result, Ok, Err, true≢false, is_some, Ordering}
 use Rattle.std.specs.List.{AllByRecursion}
-use Rattle.std.proofs.lemmas.Bool.{cases_Bool}
 use Rattle.ipx_table.specs.Reading.{Rules}
-use Rattle.ipx_table.specs.Facts.{Fact, Offered, Second as SecondPassed, PortEnd, End, Marked, seconds}
-use Rattle.ipx_table.specs.Alive.{alive, lasts, lifetime}
+use Rattle.ipx_table.specs.Facts.{Fact, Offered, Second as SecondPassed, PortEnd, End, Marked}
+use Rattle.ipx_table.specs.Alive.{alive}
 use Rattle.ipx_table.specs.Accepted.{marked, marked_after, is_accepted}
 use Rattle.ipx_table.specs.Stands.{put, in_order}
 use Rattle.ipx_table.specs.declared.held.Held.{Held}
 use Rattle.ipx_wire.specs.Packet.{Parts, packet_of}
-use Rattle.ipx_wire.specs.Rip.{RipParts, rip_of}
-use Rattle.ipx_wire.specs.Sap.{sap_of}
+use Rattle.ipx_wire.specs.Rip.{RipParts}
 use Rattle.ipx_wire.specs.declared.address.Address.{Address}
 use Rattle.ipx_wire.specs.declared.node.Node.{Node}
 use Rattle.ipx_wire.specs.declared.packet.PacketFault.{PacketFault}
@@ -21,13 +22,13 @@ use Rattle.ipx_wire.specs.declared.sap.SapFault.{SapFault}
 use Rattle.ipx_wire.specs.declared.rip.Operation.TheVariants.{Request, Response}
 use Rattle.ipx_wire.specs.declared.rip.RipEntry.{RipEntry}
 use Rattle.ipx_router.specs.Facts.{facts_of, facts_from, heard_after, routes_offered, routes_heard, route_facts, routes_held, services_heard, service_facts, services_held, offers}
-use Rattle.ipx_router.specs.Heard.{Heard, HeardRip, HeardSap, heard, heard_near, heard_in}
-use Rattle.ipx_router.specs.History.{Event, History, Start, Stop, Second, Packet, PortDown, PortUp, IsOnPort, running, ports_up}
-use Rattle.ipx_router.specs.Port.{Port, broadcast, port_at, is_up, same_node, takes_no_route}
+use Rattle.ipx_router.specs.Heard.{Heard, HeardRip, HeardSap, heard, heard_near}
+use Rattle.ipx_router.specs.History.{Event, History, Packet, IsOnPort, running, ports_up}
+use Rattle.ipx_router.specs.Port.{Port, broadcast, port_at, is_up, same_node}
 use Rattle.ipx_router.specs.Relays.{IsTableRoute}
 use Rattle.ipx_router.specs.Routes.{route_rules}
 use Rattle.ipx_router.specs.Services.{service_rules}
-use Rattle.ipx_router.specs.Why.{checks, is_stopped, first_of, when, is_bad_source, is_down_port, is_near, is_for_rip}
+use Rattle.ipx_router.specs.Why.{checks, is_stopped, first_of, when, is_bad_source, is_down_port}
 use Rattle.ipx_router.specs.declared.route_offer.RouteOffer.{RouteOffer}
 use Rattle.ipx_router.specs.declared.service_offer.ServiceOffer.{ServiceOffer}
 use Rattle.ipx_router.specs.declared.why.Why.{Why}
@@ -35,8 +36,7 @@ use Rattle.ipx_router.specs.declared.why.Why.TheVariants.{NotRunning, Malformed,
 use Rattle.ipx_router.proofs.verdicts.SentOnPassesChecks.{all_checks, passes}
 
 pub all-append : {X : Type 0} (P : X → Type 0) (xs ys : List X) → AllByRecursion P xs → AllByRecursion P ys → AllByRecursion P (xs ++ ys)
-all-append P [] ys one two = two
-all-append P (x ∷ xs) ys one two = (one.0, all-append P xs ys one.1 two)
+all-append P xs ys one two = grind (arith, common_steps)
 
 module _ {O : Type 0} (P : O → Type 0) where
   -- where a fact is an offer, it is such a one
@@ -52,11 +52,7 @@ module _ {O : Type 0} (P : O → Type 0) where
   all_alive rules ((SecondPassed, m) ∷ later) all = all_alive rules later all.1
   all_alive rules ((PortEnd port, m) ∷ later) all = all_alive rules later all.1
   all_alive rules ((End, m) ∷ later) all = all_alive rules later all.1
-  all_alive rules ((Offered offer, true) ∷ later) all =
-      elim (cases_Bool (lasts rules offer later && nat_lt (seconds later) lifetime)) [
-        | inl e ↦ rw e (all.0, all_alive rules later all.1)
-        | inr e ↦ rw e (all_alive rules later all.1)
-      ]
+  all_alive rules ((Offered offer, true) ∷ later) all = grind (arith, all_alive rules later all.1)
 
   all_marked : (rules : Rules O) (before : List (Marked O)) (facts : List (Fact O)) → AllByRecursion (λ m. OfferIs m.0) before → AllByRecursion OfferIs facts
       → AllByRecursion (λ m. OfferIs m.0) (marked_after rules before facts)
@@ -68,11 +64,7 @@ module _ {O : Type 0} (P : O → Type 0) where
   all_put : (by_key : O → O → Ordering) (h : Held O) (xs : List (Held O))
       → P h.offer → AllByRecursion (λ h. P h.offer) xs → AllByRecursion (λ h. P h.offer) (put by_key h xs)
   all_put by_key h [] one all = (one, tt)
-  all_put by_key h (x ∷ xs) one all =
-      elim (cases_Bool (is_lt (by_key x.offer h.offer))) [
-        | inl e ↦ rw e (all.0, all_put by_key h xs one all.1)
-        | inr e ↦ rw e (one, all)
-      ]
+  all_put by_key h (x ∷ xs) one all = grind (arith, all_put by_key h xs one all.1)
 
   pub all_in_order : (by_key : O → O → Ordering) (xs : List (Held O)) → AllByRecursion (λ h. P h.offer) xs → AllByRecursion (λ h. P h.offer) (in_order by_key xs)
   all_in_order by_key [] all = tt
@@ -84,9 +76,7 @@ module _ {O : Type 0} (P : O → Type 0) where
 
   pub all_held : (rules : Rules O) (facts : List (Fact O)) → AllByRecursion OfferIs facts
       → AllByRecursion P (offers (in_order rules.by_key (alive rules (marked rules facts))))
-  all_held rules facts all =
-      all_offers (in_order rules.by_key (alive rules (marked rules facts)))
-      (all_in_order rules.by_key (alive rules (marked rules facts)) (all_alive rules (marked rules facts) (all_marked rules [] facts tt all)))
+  all_held rules facts all = grind (arith, all_offers, all_in_order, all_alive, all_marked)
 
 -- ---- what was heard passed the checks
 
@@ -101,30 +91,16 @@ source_of (HeardSap source sap) = source
 pub nothing : {X : Type 0} {x : X} {A : Type 0} → None ≡ Some x → A
 nothing e = absurd (true≢false (sym (ap is_some e)))
 
--- the source of what was heard is the packet's
-named : (other : Address) (m n : Heard) → Some m ≡ Some n → source_of m ≡ source_of n
-named other m n e = ap (λ (o : Option Heard). elim o [ None ↦ other | Some h ↦ source_of h ]) e
-
 rip_source : (source : Address) (r : Result RipParts RipFault) (m : Heard)
     → elim r [ Ok rip ↦ Some (HeardRip source rip) | Err fault ↦ None ] ≡ Some m → source ≡ source_of m
-rip_source source (Ok rip) m e = named source (HeardRip source rip) m e
-rip_source source (Err fault) m e = nothing e
+rip_source source r m e = grind arith
 
 sap_source : (source : Address) (s : Result Sap SapFault) (m : Heard)
     → elim s [ Ok sap ↦ Some (HeardSap source sap) | Err fault ↦ None ] ≡ Some m → source ≡ source_of m
-sap_source source (Ok sap) m e = named source (HeardSap source sap) m e
-sap_source source (Err fault) m e = nothing e
+sap_source source s m e = grind arith
 
 pub near_source : (port : Port) (p : Parts) (m : Heard) → heard_near port p ≡ Some m → p.header.source ≡ source_of m
-near_source port p m e = elim (cases_Bool (is_near port p.header)) [
-  | inr far ↦ nothing (rw far at e)
-  | inl near ↦
-      let said : heard_in p ≡ Some m = rw near at e in
-      elim (cases_Bool (is_for_rip p.header)) [
-        | inl rip ↦ rip_source p.header.source (rip_of p.payload) m (rw rip at said)
-        | inr other ↦ sap_source p.header.source (sap_of p.payload) m (rw other at said)
-      ]
-]
+near_source port p m e = search (rules, nothing, rip_source, sap_source)
 
 -- what was heard came in a packet that no check dropped
 pub record CameIn (ports : List Port) (up : List ℕ) (number : ℕ) (bytes : List ℕ) (m : Heard) : Type 0 where
@@ -136,8 +112,7 @@ pub record CameIn (ports : List Port) (up : List ℕ) (number : ℕ) (bytes : Li
 module _ (ports : List Port) (up : List ℕ) (number : ℕ) where
   unstopped : (bytes : List ℕ) (p : Parts) (o : Option Why) (m : Heard) → packet_of bytes ≡ Ok p → first_of (all_checks ports up [] (port_at ports number) number p) ≡ o
       → elim o [ Some reason ↦ None | None ↦ heard_near (port_at ports number) p ] ≡ Some m → CameIn ports up number bytes m
-  unstopped bytes p (Some reason) m r f e = nothing e
-  unstopped bytes p None m r f e = record { packet = p; read = r; passed = f; near = e }
+  unstopped bytes p o m r f e = grind arith
 
   read : (runs : Bool) (bytes : List ℕ) (r : Result Parts PacketFault) (m : Heard) → packet_of bytes ≡ r
       → elim (first_of (when (is_stopped runs) NotRunning ∷ elim r [ Ok p ↦ None | Err fault ↦ Some (Malformed fault) ]
@@ -170,15 +145,11 @@ module _ (ports : List Port) (up : List ℕ) (number : ℕ) where
     offered_all : (node : Node) (entries : List RipEntry) → same_node node broadcast ≡ false
         → AllByRecursion (OfferIs (IsTableRoute ports)) (routes_offered ports number node entries)
     offered_all node [] one = tt
-    offered_all node (entry ∷ entries) one = elim (cases_Bool (takes_no_route ports entry.network)) [
-      | inl e ↦ rw e (offered_all node entries one)
-      | inr e ↦ rw e (record { network = e; port = within; neighbour = one }, offered_all node entries one)
-    ]
+    offered_all node (entry ∷ entries) one = grind (arith, offered_all node entries one)
 
     by_operation : (operation : Operation) (node : Node) (entries : List RipEntry) → same_node node broadcast ≡ false
         → AllByRecursion (OfferIs (IsTableRoute ports)) (elim operation [ Response ↦ routes_offered ports number node entries | Request ↦ [] ])
-    by_operation Response node entries one = offered_all node entries one
-    by_operation Request node entries one = tt
+    by_operation operation node entries one = grind (arith, offered_all)
 
     heard_all : (o : Option Heard) → ((m : Heard) → o ≡ Some m → same_node (source_of m).node broadcast ≡ false)
         → AllByRecursion (OfferIs (IsTableRoute ports)) (routes_heard ports number o)
@@ -196,12 +167,7 @@ module _ {O : Type 0} (P : O → Type 0) (C : Event → Type 0) (ports : List Po
   says history event = facts_of (ports_up ports history) (running history) (offered history) event
 
   facts_all : (history : History) (event : Event) → C event → AllByRecursion (OfferIs P) (says history event)
-  facts_all history Start is = tt
-  facts_all history Stop is = elim (cases_Bool (running history)) [ inl e ↦ rw e (tt, tt) | inr e ↦ rw e tt ]
-  facts_all history Second is = elim (cases_Bool (running history)) [ inl e ↦ rw e (tt, tt) | inr e ↦ rw e tt ]
-  facts_all history (Packet number bytes) is = packet history number bytes is
-  facts_all history (PortDown number) is = elim (cases_Bool (is_up (ports_up ports history) number)) [ inl e ↦ rw e (tt, tt) | inr e ↦ rw e tt ]
-  facts_all history (PortUp number) is = tt
+  facts_all history event is = grind arith
 
   pub history_all : (before history : History) → AllByRecursion C history → AllByRecursion (OfferIs P) (facts_from says before history)
   history_all before [] are = tt
@@ -233,9 +199,4 @@ services_all P C ports packet capacity history are =
 
 pub tables : (ports : List Port) (capacity : ℕ) (history : History) → AllByRecursion (IsOnPort ports) history
     → AllByRecursion (IsTableRoute ports) (offers (routes_held ports capacity history))
-tables ports capacity history on =
-    routes_all (IsTableRoute ports) (IsOnPort ports) ports
-    (λ before number bytes within.
-    heard_all ports (ports_up ports before) number within (heard_after ports before number bytes)
-    (heard_source ports (ports_up ports before) number (running before) bytes))
-    capacity history on
+tables ports capacity history on = search (rules, routes_all, heard_all, heard_source)

@@ -1,10 +1,12 @@
 -- Networks that routes may lead to: no port is on one.
-use Rattle.std.proofs.Common.{◌≡◌, refl, sym, ℕ, zero, suc, ◌==◌, ◌||◌, false, List, [], ◌∷◌, None}
+use Rattle.std.proofs.Common.{arith}
+use Rattle.std.proofs.lemmas.Grind.{common_steps}
+use Rattle.std.proofs.Common.{◌≡◌, refl, ℕ, ◌==◌, false, List, [], ◌∷◌, None}
 use Rattle.std.specs.List.{list_any}
 use Rattle.std.proofs.lemmas.Bool.{or_parts, eqb-false, ne_eqb}
 use Rattle.ipx_wire.specs.declared.address.Address.{Address}
 use Rattle.ipx_wire.specs.declared.network.Network.{Network}
-use Rattle.ipx_router.specs.Numbers.{local_network, all_routes}
+use Rattle.ipx_router.specs.Numbers.{local_network}
 use Rattle.ipx_router.specs.Outgoing.{port_to, is_own_port}
 use Rattle.ipx_router.specs.Port.{Port, port_at, takes_no_route}
 
@@ -14,10 +16,7 @@ module _ (network : Network) where
 
   -- nor is the port behind the last, whose network is the local one
   none_at : (ports : List Port) (j : ℕ) → (network.0 == local_network) ≡ false → Elsewhere ports → ((port_at ports j).network.0 == network.0) ≡ false
-  none_at [] j ordinary none = ne_eqb 0 network.0 (λ same. eqb-false network.0 local_network ordinary (sym same))
-  none_at (p ∷ ports) zero ordinary none = (or_parts (p.network.0 == network.0) (list_any (λ q. q.network.0 == network.0) ports) none).0
-  none_at (p ∷ ports) (suc j) ordinary none =
-      none_at ports j ordinary (or_parts (p.network.0 == network.0) (list_any (λ q. q.network.0 == network.0) ports) none).1
+  none_at ports j ordinary none = grind (arith, common_steps, ne_eqb, eqb-false, or_parts)
 
   none_to : (ports : List Port) (up : List ℕ) → (network.0 == local_network) ≡ false → Elsewhere ports → port_to ports up network ≡ None
   none_to ports [] ordinary none = refl
@@ -32,10 +31,7 @@ module _ (destination : Address) where
 
   routed : (ports : List Port) → takes_no_route ports destination.network ≡ false
       → ((destination.network.0 == local_network) ≡ false) × Elsewhere destination.network ports
-  routed ports taken =
-      let number = destination.network.0 in
-      let parts = or_parts ((number == local_network) || (number == all_routes)) (list_any (λ p. p.network.0 == number) ports) taken in
-      ((or_parts (number == local_network) (number == all_routes) parts.0).0, parts.1)
+  routed ports taken = grind arith
 
   -- what is for such a network is for no port
   pub not_own : (ports : List Port) → takes_no_route ports destination.network ≡ false → is_own_port ports destination ≡ false

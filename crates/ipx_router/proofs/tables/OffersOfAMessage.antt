@@ -1,13 +1,12 @@
 -- What a message offers, no more than it has entries, and what one event more says.
-use Rattle.std.proofs.Common.{◌≡◌, refl, ap, ◌∙◌, ℕ, suc, ◌≤◌, List, [], ◌∷◌, ◌++◌, map, length, Option, None, Some, inl, inr, arith, sym, append_assoc, append-nil}
-use Rattle.std.proofs.lemmas.Bool.{cases_Bool}
+use Rattle.std.proofs.Common.{◌≡◌, refl, ap, ◌∙◌, ℕ, suc, ◌≤◌, List, [], ◌∷◌, ◌++◌, map, length, Option, None, Some, arith, sym, append_assoc, append-nil}
 use Rattle.ipx_table.specs.Facts.{Fact, Offered}
 use Rattle.ipx_wire.specs.declared.node.Node.{Node}
 use Rattle.ipx_wire.specs.declared.rip.RipEntry.{RipEntry}
 use Rattle.ipx_wire.specs.declared.sap_entries.SapEntry.{SapEntry}
-use Rattle.ipx_router.specs.Facts.{route_offer, routes_offered, services_offered, facts_from}
+use Rattle.ipx_router.specs.Facts.{routes_offered, services_offered, facts_from}
 use Rattle.ipx_router.specs.History.{Event, History}
-use Rattle.ipx_router.specs.Port.{takes_no_route, Port}
+use Rattle.ipx_router.specs.Port.{Port}
 use Rattle.ipx_router.specs.declared.service_offer.ServiceOffer.{ServiceOffer}
 
 -- ---- what a message offers
@@ -34,12 +33,7 @@ less_one most facts rest = record { offered = rest.offered; are = rest.are; few 
 pub few_routes : (ports : List Port) (number : ℕ) (node : Node) (entries : List RipEntry)
     → FewOffers (length entries) (routes_offered ports number node entries)
 few_routes ports number node [] = no_offers
-few_routes ports number node (entry ∷ entries) =
-    let rest = few_routes ports number node entries in
-    elim (cases_Bool (takes_no_route ports entry.network)) [
-      | inl skipped ↦ rw skipped (less_one (length entries) (routes_offered ports number node entries) rest)
-      | inr taken ↦ rw taken (one_more (length entries) (route_offer number node entry) (routes_offered ports number node entries) rest)
-    ]
+few_routes ports number node (entry ∷ entries) = grind (arith, few_routes ports number node entries, less_one, one_more)
 
 -- an entry without a name offers nothing
 named : (number : ℕ) (node : Node) (entry : SapEntry) (name : Option (List ℕ)) (most : ℕ) (facts : List (Fact ServiceOffer)) → FewOffers most facts
@@ -51,13 +45,11 @@ named : (number : ℕ) (node : Node) (entry : SapEntry) (name : Option (List ℕ
         node = node;
       }) ∷ []
     ] ++ facts)
-named number node entry None most facts rest = less_one most facts rest
-named number node entry (Some name) most facts rest = one_more most _ facts rest
+named number node entry name most facts rest = grind (arith, less_one, one_more)
 
 pub few_services : (number : ℕ) (node : Node) (entries : List SapEntry) → FewOffers (length entries) (services_offered number node entries)
 few_services number node [] = no_offers
-few_services number node (entry ∷ entries) =
-    named number node entry entry.name (length entries) (services_offered number node entries) (few_services number node entries)
+few_services number node (entry ∷ entries) = grind (arith, few_services number node entries, named)
 
 -- ---- one event more
 

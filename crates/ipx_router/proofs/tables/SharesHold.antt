@@ -1,8 +1,8 @@
 -- Capacities and shares, of the records of every history; and what finds room is among the records.
-use Rattle.std.proofs.Common.{◌≡◌, refl, sym, ap, ◌∙◌, ℕ, zero, suc, ◌<◌, nat_lt, Bool, true, false, true≢false, ◌||◌, List, [], ◌∷◌, ◌++◌, map, length, slice_get, drop, Option, None, Some, find, inl, inr, is_lt, is_some, Ordering, append_assoc, append-nil, arith, lit<}
+use Rattle.std.proofs.Common.{◌≡◌, refl, sym, ap, ◌∙◌, ℕ, zero, suc, ◌<◌, nat_lt, Bool, true, false, true≢false, ◌||◌, List, [], ◌∷◌, ◌++◌, map, length, slice_get, drop, Option, None, Some, find, inl, inr, is_some, Ordering, append_assoc, append-nil, arith, lit<}
 use Rattle.std.specs.List.{AllByRecursion, list_any}
 use Rattle.std.proofs.lemmas.Bool.{cases_Bool}
-use Rattle.ipx_table.specs.Accepted.{marked, marked_after, is_accepted, has_share, may_replace, refreshes, replaces, is_new_with_room}
+use Rattle.ipx_table.specs.Accepted.{marked, marked_after, is_accepted, has_share, refreshes, replaces, is_new_with_room}
 use Rattle.ipx_table.specs.Alive.{alive, lasts, IsAliveAt}
 use Rattle.ipx_table.specs.Facts.{Fact, Offered, Marked, seconds}
 use Rattle.ipx_table.specs.Reading.{Rules, share_of, same_key}
@@ -26,10 +26,7 @@ share_at share capacity (p ∷ ports) (suc number) within = share_at share capac
 module _ {O : Type 0} (by_key : O → O → Ordering) where
   length-put : (h : Held O) (xs : List (Held O)) → length (put by_key h xs) ≡ suc (length xs)
   length-put h [] = refl
-  length-put h (x ∷ xs) = elim (cases_Bool (is_lt (by_key x.offer h.offer))) [
-    | inl e ↦ rw e (ap suc (length-put h xs))
-    | inr e ↦ rw e refl
-  ]
+  length-put h (x ∷ xs) = grind (arith, length-put h xs)
 
   pub length-in_order : (xs : List (Held O)) → length (in_order by_key xs) ≡ length xs
   length-in_order [] = refl
@@ -53,8 +50,7 @@ none-any p (x ∷ xs) e = elim (cases_Bool (p x)) [
 ]
 
 last : (b : Bool) → (b || true) ≡ true
-last true = refl
-last false = refl
+last b = grind arith
 
 module _ {O : Type 0} (rules : Rules O) where
   -- what stands behind an offer that lasts
@@ -107,16 +103,7 @@ module _ {O : Type 0} (rules : Rules O) where
   is_admitted other = false
 
   beside_one : (same : O → O → Bool) (living : List (Held O)) (offer : O) (h : Held O) → is_admitted (taken_up rules same living offer (Some h)) ≡ false
-  beside_one same living offer h = elim (cases_Bool (rules.same_source h.offer offer)) [
-    | inl e ↦ rw e refl
-    | inr e ↦ elim (cases_Bool (rules.is_worse h.offer offer)) [
-      | inr better ↦ rw (e, better) refl
-      | inl worse ↦ elim (cases_Bool (may_replace rules offer living h)) [
-        | inl may ↦ rw (e, worse, may) refl
-        | inr not_may ↦ rw (e, worse, not_may) refl
-      ]
-    ]
-  ]
+  beside_one same living offer h = grind arith
 
   accepted_beside : (same : O → O → Bool) (living : List (Held O)) (offer : O) (known : Option (Held O)) → rules.is_down offer ≡ false
       → find (λ h. same_key rules.by_key h.offer offer) living ≡ known → taken_beside rules same living offer known ≡ Admitted
@@ -143,14 +130,11 @@ module _ {O : Type 0} (rules : Rules O) where
       go living (find (λ h. same_key rules.by_key h.offer offer) living) e
     where
       go : (living : List (Held O)) (known : Option (Held O)) → taken_beside rules same living offer known ≡ Admitted → taken_beside rules other living offer known ≡ Admitted
-      go living None said = said
-      go living (Some h) said = absurd (true≢false (sym (ap is_admitted (rw up at said)) ∙ beside_one same living offer h))
+      go living known said = grind arith
 
   pub accepted : (same : O → O → Bool) (facts : List (Fact O)) (offer : O) → rules.is_down offer ≡ false → taken rules same facts offer ≡ Admitted
       → is_accepted rules (alive rules (marked rules facts)) (Offered offer) ≡ true
-  accepted same facts offer up e =
-      let living = alive rules (marked rules facts) in
-      accepted_beside same living offer (find (λ h. same_key rules.by_key h.offer offer) living) up refl e
+  accepted same facts offer up e = grind (arith, accepted_beside)
 
   -- where what is new is admitted, and what is alive is listed, what is new is kept
   pub kept : (same : O → O → Bool) (facts offered : List (Fact O)) (records : List (Held O)) → Stands rules records (facts ++ offered)

@@ -1,22 +1,20 @@
 -- What a history offers came by the ports on which its packets came, and these share the tables if their shares fit.
-use Rattle.std.proofs.Common.{◌≡◌, refl, sym, ap, ◌∙◌, subst, append_assoc, ℕ, zero, suc, ◌+◌, ◌≤◌, ◌==◌, true, List, [], ◌∷◌, ◌++◌, map, length, Option, None, Some, inl, inr, arith}
+use Rattle.std.proofs.Common.{◌≡◌, refl, sym, ap, ◌∙◌, subst, append_assoc, ℕ, zero, suc, ◌+◌, ◌≤◌, ◌==◌, true, List, [], ◌∷◌, ◌++◌, map, length, Option, None, Some, arith}
 use Rattle.std.specs.List.{AllByRecursion, list_any, sum, sum_by}
-use Rattle.std.proofs.lemmas.Bool.{cases_Bool}
 use Rattle.std.proofs.lemmas.List.{length-map}
 use Rattle.std.proofs.lemmas.List.Sums.{sum_by-cons, sum_by_push}
-use Rattle.ipx_table.specs.Facts.{Fact, Offered, Second as SecondPassed, PortEnd, End}
+use Rattle.ipx_table.specs.Facts.{Fact, Offered}
 use Rattle.ipx_table.specs.Reading.{Rules, share_of}
 use Rattle.ipx_table.specs.Shares.{IsByOneOf, IsSharedBy}
 use Rattle.ipx_wire.specs.declared.node.Node.{Node}
 use Rattle.ipx_wire.specs.declared.rip.Operation.{Operation}
 use Rattle.ipx_wire.specs.declared.rip.Operation.TheVariants.{Request, Response}
 use Rattle.ipx_wire.specs.declared.rip.RipEntry.{RipEntry}
-use Rattle.ipx_wire.specs.declared.sap.Sap.TheVariants.{Query, Response as SapResponse}
 use Rattle.ipx_wire.specs.declared.sap_entries.SapEntry.{SapEntry}
 use Rattle.ipx_router.specs.Facts.{heard_after, route_facts, routes_offered, routes_heard, service_facts, services_offered, services_heard}
 use Rattle.ipx_router.specs.Heard.{Heard, HeardRip, HeardSap}
 use Rattle.ipx_router.specs.History.{Event, History, Start, Stop, Second, Packet, PortDown, PortUp, IsOnPort}
-use Rattle.ipx_router.specs.Port.{Port, numbers, takes_no_route}
+use Rattle.ipx_router.specs.Port.{Port, numbers}
 use Rattle.ipx_router.specs.Routes.{route_rules}
 use Rattle.ipx_router.specs.Services.{service_rules}
 use Rattle.ipx_router.specs.Shares.{ShareOut, CameOnOneOf}
@@ -28,11 +26,7 @@ use Rattle.ipx_router.proofs.tables.HeldWasOffered.{OfferIs, history_all, routes
 
 by_ports : {O : Type 0} (port_by : O → ℕ) (sharers : List ℕ) (facts : List (Fact O))
     → AllByRecursion (OfferIs (λ o. list_any (λ port. port == port_by o) sharers ≡ true)) facts → AllByRecursion (IsByOneOf port_by sharers) facts
-by_ports port_by sharers [] all = tt
-by_ports port_by sharers (Offered offer ∷ facts) all = (all.0, by_ports port_by sharers facts all.1)
-by_ports port_by sharers (SecondPassed ∷ facts) all = (tt, by_ports port_by sharers facts all.1)
-by_ports port_by sharers (PortEnd port ∷ facts) all = (tt, by_ports port_by sharers facts all.1)
-by_ports port_by sharers (End ∷ facts) all = (tt, by_ports port_by sharers facts all.1)
+by_ports port_by sharers facts all = grind arith
 
 module _ (ports : List Port) (sharers : List ℕ) (number : ℕ) (within : list_any (λ port. port == number) sharers ≡ true) where
   abbrev OfRoute : Fact RouteOffer → Type 0
@@ -43,15 +37,11 @@ module _ (ports : List Port) (sharers : List ℕ) (number : ℕ) (within : list_
 
   routes_within : (node : Node) (entries : List RipEntry) → AllByRecursion OfRoute (routes_offered ports number node entries)
   routes_within node [] = tt
-  routes_within node (entry ∷ entries) = elim (cases_Bool (takes_no_route ports entry.network)) [
-    | inl e ↦ rw e (routes_within node entries)
-    | inr e ↦ rw e (within, routes_within node entries)
-  ]
+  routes_within node (entry ∷ entries) = grind (arith, routes_within node entries)
 
   operation_within : (operation : Operation) (node : Node) (entries : List RipEntry)
       → AllByRecursion OfRoute (elim operation [ Response ↦ routes_offered ports number node entries | Request ↦ [] ])
-  operation_within Response node entries = routes_within node entries
-  operation_within Request node entries = tt
+  operation_within operation node entries = grind (arith, routes_within)
 
   heard_within : (o : Option Heard) → AllByRecursion OfRoute (routes_heard ports number o)
   heard_within None = tt
@@ -67,18 +57,14 @@ module _ (ports : List Port) (sharers : List ℕ) (number : ℕ) (within : list_
           node = node;
         }) ∷ []
       ] ++ rest)
-  one_within node entry rest None all = all
-  one_within node entry rest (Some name) all = (within, all)
+  one_within node entry rest name all = grind arith
 
   services_within : (node : Node) (entries : List SapEntry) → AllByRecursion OfService (services_offered number node entries)
   services_within node [] = tt
   services_within node (entry ∷ entries) = one_within node entry (services_offered number node entries) entry.name (services_within node entries)
 
   sap_within : (o : Option Heard) → AllByRecursion OfService (services_heard number o)
-  sap_within None = tt
-  sap_within (Some (HeardRip source rip)) = tt
-  sap_within (Some (HeardSap source (Query nearest kind))) = tt
-  sap_within (Some (HeardSap source (SapResponse nearest entries))) = services_within source.node entries
+  sap_within o = grind (arith, services_within)
 
 pub routes_shared : (ports : List Port) (capacity : ℕ) (sharers : List ℕ) (history : History) → AllByRecursion (CameOnOneOf sharers) history
     → sum_by (route_rules ports capacity).share sharers ≤ capacity → IsSharedBy (route_rules ports capacity) sharers (route_facts ports history)
@@ -114,26 +100,16 @@ came_on_one ports history on = all_then (IsOnPort ports) (CameOnOneOf (numbers (
 
 first_apart : (f : ℕ → ℕ) (n : ℕ) → sum_by f (numbers (suc n)) ≡ f 0 + sum_by (λ k. f (suc k)) (numbers n)
 first_apart f zero = let one = sum_by-cons f 0 [] in omega (arith, one)
-first_apart f (suc n) =
-    let ih = first_apart f n in
-    let whole = sum_by_push f (numbers (suc n)) (suc n) in
-    let later = sum_by_push (λ k. f (suc k)) (numbers n) n in
-    omega (arith, ih, whole, later)
+first_apart f (suc n) = omega (arith, first_apart f n, sum_by_push)
 
 -- the shares of all ports, by their numbers
 sum_shares : (capacity : ℕ) (shares : List ℕ) → sum_by (share_of capacity shares) (numbers (length shares)) ≡ sum shares
 sum_shares capacity [] = refl
-sum_shares capacity (share ∷ shares) =
-    let ih = sum_shares capacity shares in
-    let first = first_apart (share_of capacity (share ∷ shares)) (length shares) in
-    let whole = sum_by-cons (λ x. x) share shares in
-    omega (arith, ih, first, whole)
+sum_shares capacity (share ∷ shares) = omega (arith, sum_shares capacity shares, first_apart, sum_by-cons)
 
 pub all_shares : (share : Port → ℕ) (ports : List Port) (capacity : ℕ) → ShareOut share ports capacity
     → sum_by (share_of capacity (map share ports)) (numbers (length ports)) ≤ capacity
-all_shares share ports capacity fits =
-    subst (λ (n : ℕ). sum_by (share_of capacity (map share ports)) (numbers n) ≤ capacity) (length-map ports share)
-    (subst (λ (n : ℕ). n ≤ capacity) (sym (sum_shares capacity (map share ports))) fits)
+all_shares share ports capacity fits = grind (arith, length-map, sum_shares)
 
 -- ---- up to a place of an event
 

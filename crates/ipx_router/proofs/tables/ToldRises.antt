@@ -1,8 +1,8 @@
 -- Offers that ascend by key: what is told of them rises.
-use Rattle.std.proofs.Common.{◌≡◌, sym, ℕ, zero, suc, ◌==◌, nat_lt, Bool, true, false, List, [], ◌∷◌, drop, map, filter, inl, inr, arith, true≢false, Ordering, is_lt}
+use Rattle.std.proofs.Common.{◌≡◌, ℕ, zero, suc, nat_lt, Bool, true, false, List, [], ◌∷◌, drop, map, filter, inl, inr, arith, Ordering, is_lt}
 use Rattle.std.specs.List.{AllByRecursion}
 use Rattle.std.specs.Ordering.{nat_cmp}
-use Rattle.std.proofs.lemmas.Bool.{cases_Bool, ltb-true, ltb-false, le-ltb}
+use Rattle.std.proofs.lemmas.Bool.{cases_Bool}
 use Rattle.ipx_table.specs.Stands.{IsAscending, Ascends}
 use Rattle.ipx_table.specs.declared.held.Held.{Held}
 use Rattle.ipx_table.proofs.Order.{not_both, not_below_through}
@@ -19,10 +19,7 @@ use Rattle.ipx_router.proofs.lists.PutInOrder.{IsOrder, IsFirst, Rises, rises-ma
 -- ---- the two orders
 
 pub network_orders : IsOrder network_before
-network_orders = record {
-  one_way = λ a b less. le-ltb b.network.0 a.network.0 (omega (arith, ltb-true a.network.0 b.network.0 less));
-  through = λ a b c ab bc. le-ltb a.network.0 c.network.0 (omega (arith, ltb-false a.network.0 b.network.0 ab, ltb-false b.network.0 c.network.0 bc));
-}
+network_orders = grind arith
 
 pub name_orders : IsOrder name_before
 name_orders = record {
@@ -32,13 +29,7 @@ name_orders = record {
 
 -- a number that is less isn't greater
 pub not_greater : (a b : ℕ) → is_lt (nat_cmp a b) ≡ true → nat_lt b a ≡ false
-not_greater a b less = elim (cases_Bool (nat_lt a b)) [
-  | inl e ↦ le-ltb b a (omega (arith, ltb-true a b e))
-  | inr e ↦ elim (cases_Bool (a == b)) [
-    | inl f ↦ absurd (true≢false (sym (rw (e, f) at less)))
-    | inr f ↦ absurd (true≢false (sym (rw (e, f) at less)))
-  ]
-]
+not_greater a b less = grind arith
 
 -- ---- what ascends
 

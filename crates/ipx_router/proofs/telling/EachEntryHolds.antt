@@ -1,16 +1,16 @@
 -- What holds of each entry that a router advertises, by what holds of its ports' networks and of its routes.
-use Rattle.std.proofs.Common.{◌≡◌, ℕ, ◌==◌, not, true, List, ◌++◌, map, filter, Option, None, Some, IfSome, inl, inr}
+use Rattle.std.proofs.Common.{arith}
+use Rattle.std.proofs.Common.{◌≡◌, ℕ, ◌==◌, not, true, List, ◌++◌, map, filter, Option, IfSome}
 use Rattle.std.specs.List.{AllByRecursion}
-use Rattle.std.proofs.lemmas.Bool.{cases_Bool}
 use Rattle.ipx_wire.specs.declared.rip.RipEntry.{RipEntry}
 use Rattle.ipx_router.specs.Changes.{changes}
-use Rattle.ipx_router.specs.News.{same_route, route_told, route_now, news}
+use Rattle.ipx_router.specs.News.{same_route, route_told, news}
 use Rattle.ipx_router.specs.Port.{Port, port_at, is_up}
 use Rattle.ipx_router.specs.Routes.{network_order}
-use Rattle.ipx_router.specs.Told.{network_before, told, told_at, direct_entry, direct, entry_of, is_route_told, is_reached_on, dead}
+use Rattle.ipx_router.specs.Told.{network_before, told, told_at, direct_entry, direct, entry_of, is_route_told, dead}
 use Rattle.ipx_router.specs.declared.route_offer.RouteOffer.{RouteOffer}
 use Rattle.ipx_router.proofs.lists.EachElement.{all-filter, all_sorted, all-map, all-flat_map}
-use Rattle.ipx_router.proofs.changes.ChangesFitFields.{ChangeOf, changes_fit, one_or_none}
+use Rattle.ipx_router.proofs.changes.ChangesFitFields.{ChangeOf, changes_fit}
 use Rattle.ipx_router.proofs.port_values.PortOfEachNumber.{members}
 use Rattle.ipx_router.proofs.tables.HeldWasOffered.{all-append}
 
@@ -37,18 +37,9 @@ module _ (P : RipEntry → Type 0) (K : RouteOffer → Type 0) (ports : List Por
       (all-append Told (direct ports up number) (map entry_of learned) own far))
 
   module _ (gone : (route : RouteOffer) → K route → P (dead (entry_of route))) where
-    now_is : (port : Port) (route : RouteOffer) → K route → P (route_now port route)
-    now_is port route is = elim (cases_Bool (is_reached_on route.hops)) [
-      | inl e ↦ rw e (heard route port.cost is)
-      | inr e ↦ rw e (gone route is)
-    ]
-
     change_is : (number : ℕ) (before after : Option RouteOffer) → IfSome before K → IfSome after K
         → AllByRecursion P (route_told ports number (record { before = before; after = after }))
-    change_is number before (Some route) old new =
-        one_or_none P (route.port == number) (route_now (port_at ports number) route) (now_is (port_at ports number) route new)
-    change_is number (Some route) None old new = one_or_none P (route.port == number) (dead (entry_of route)) (gone route old)
-    change_is number None None old new = tt
+    change_is number before after old new = grind arith
 
     pub news_are : (before after : List RouteOffer) (number : ℕ) → AllByRecursion K before → AllByRecursion K after
         → AllByRecursion P (news ports before after number)

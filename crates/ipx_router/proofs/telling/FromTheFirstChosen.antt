@@ -1,8 +1,9 @@
 -- Offers from the first one on that is chosen: of them the same are chosen.
-use Rattle.std.proofs.Common.{◌≡◌, refl, sym, ap, ◌∙◌, ℕ, ◌<◌, ◌&&◌, Bool, true, false, true≢false, not, List, [], ◌∷◌, drop, filter, length, get_or, Option, None, inl, inr, arith}
+use Rattle.std.proofs.lemmas.Grind.{common_steps}
+use Rattle.std.proofs.Common.{◌≡◌, refl, sym, ap, ◌∙◌, ℕ, ◌<◌, ◌&&◌, Bool, true, false, not, List, [], ◌∷◌, drop, filter, length, get_or, Option, None, inl, inr, arith}
 use Rattle.std.specs.Iterator.{YieldsFirst}
 use Rattle.std.specs.List.{prefix_len}
-use Rattle.std.proofs.lemmas.Bool.{cases_Bool, ltb-true}
+use Rattle.std.proofs.lemmas.Bool.{cases_Bool}
 use Rattle.ipx_router.specs.Numbers.{unreachable}
 use Rattle.ipx_router.specs.Told.{is_reached_on}
 use Rattle.ipx_router.proofs.ended.EndedPageByPage.{left_stays, left_shrinks}
@@ -26,10 +27,7 @@ module _ {O : Type 0} (chosen : O → Bool) where
 
   pub same_chosen : (xs : List O) → filter chosen (from_chosen xs) ≡ filter chosen xs
   same_chosen [] = refl
-  same_chosen (x ∷ xs) = elim (cases_Bool (chosen x)) [
-    | inl e ↦ ap (filter chosen) (starts x xs e)
-    | inr e ↦ ap (filter chosen) (goes_on x xs e) ∙ same_chosen xs ∙ sym (skips_first x xs e)
-  ]
+  same_chosen (x ∷ xs) = grind (arith, same_chosen xs, starts, goes_on, skips_first)
 
   -- the first of them is chosen
   pub first_chosen : (xs : List O) (x : O) (others : List O) → from_chosen xs ≡ x ∷ others → chosen x ≡ true
@@ -41,13 +39,11 @@ module _ {O : Type 0} (chosen : O → Bool) where
 
 -- nothing is left
 pub no_more : {X : Type 0} (xs : List X) → length xs ≡ 0 → xs ≡ []
-no_more [] none = refl
-no_more (x ∷ xs) none = absurd (omega (arith, none))
+no_more xs none = grind (arith, common_steps)
 
 -- what is told can be reached by the next router
 pub told_hops : (other : Bool) (hops : ℕ) → (other && is_reached_on hops) ≡ true → hops < unreachable
-told_hops true hops e = let near : hops < 15 = ltb-true hops 15 e in omega (arith, near)
-told_hops false hops e = absurd (true≢false (sym e))
+told_hops other hops e = grind arith
 
 -- an item fewer is left
 pub one_fewer : {X : Type 0} {old new : List X} {x : X} → old ≡ x ∷ new → length new < length old

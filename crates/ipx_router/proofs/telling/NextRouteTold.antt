@@ -1,5 +1,5 @@
 -- The next route that is told: the network of a port, or a route of the table.
-use Rattle.std.proofs.Common.{◌≡◌, refl, sym, ap, ◌∙◌, subst, ℕ, true, false, true≢false, not, List, [], ◌∷◌, length, map, filter, Some}
+use Rattle.std.proofs.Common.{◌≡◌, refl, sym, ap, ◌∙◌, subst, ℕ, true, false, true≢false, not, List, [], ◌∷◌, length, map, Some, arith}
 use Rattle.std.specs.List.{prefix_len}
 use Rattle.ipx_wire.specs.declared.rip.RipEntry.{RipEntry}
 use Rattle.ipx_router.specs.inside.Ended.{RoutesAscend}
@@ -24,8 +24,7 @@ module _ (number cost : ℕ) (waiting : List RipEntry) (routes left : List Route
   as_told offers = map (told_at cost) (learned offers number)
 
   same_told : as_told routes ≡ as_told left
-  same_told = ap (λ (offers : List RouteOffer). map (told_at cost) (map entry_of offers))
-      (sym (same_chosen (is_route_told number) routes) ∙ ap (filter (is_route_told number)) (sym sought))
+  same_told = grind (arith, same_chosen)
 
   -- where no route is left, the networks are
   networks_left : length left ≡ 0 → routes_left number cost waiting routes ≡ waiting
@@ -55,9 +54,7 @@ module _ (number cost : ℕ) (waiting : List RipEntry) (routes left : List Route
     entry = told_at cost (entry_of route)
 
     left_told : as_told left ≡ entry ∷ as_told others
-    left_told =
-        ap as_told first
-        ∙ ap (λ (offers : List RouteOffer). map (told_at cost) (map entry_of offers)) (takes_first (is_route_told number) route others is_told)
+    left_told = grind (arith, takes_first, is_told)
 
     rise : Rises network_before (entry ∷ as_told others)
     rise = subst (Rises network_before) left_told (rises_told cost number left left_ascends)

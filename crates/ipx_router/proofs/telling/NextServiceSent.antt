@@ -1,6 +1,6 @@
 -- The first service of a table: sent, as what is told and selected, or passed over.
-use Rattle.std.proofs.Common.{◌≡◌, ◌∙◌, sym, ap, subst, ℕ, Bool, true, false, List, ◌∷◌, ◌++◌, ◌&&◌, map, inl, inr}
-use Rattle.std.proofs.lemmas.Bool.{and_parts, cases_Bool}
+use Rattle.std.proofs.Common.{◌≡◌, ◌∙◌, sym, ap, subst, ℕ, true, false, List, ◌∷◌, ◌++◌, arith}
+use Rattle.std.proofs.lemmas.Bool.{and_parts}
 use Rattle.std.specs.List.{flat_map}
 use Rattle.ipx_wire.specs.declared.service.Service.{Service}
 use Rattle.ipx_router.specs.Told.{farther, is_service_told, told_services}
@@ -24,29 +24,13 @@ module _ (number : ℕ) (selection : ServiceSelection) (offer : ServiceOffer) (o
   in_front = in_order number rest up ∙ ap (as_told number) first
 
   told_first : is_service_told number offer ≡ true → sent rest ≡ service_selected_by selection (farther offer.service) ++ sent others
-  told_first told =
-      ap (flat_map (service_selected_by selection))
-      (in_front
-      ∙ ap (map (λ (s : ServiceOffer). farther s.service)) (takes_first (is_service_told number) offer others told)
-      ∙ ap (λ (l : List Service). farther offer.service ∷ l) (sym (in_order number others others_rise)))
+  told_first told = grind (arith, in_front, takes_first, in_order, others_rise)
 
   pub first_sent : true ≡ is_service_sent number selection offer → sent rest ≡ service_sent selection offer.service ∷ sent others
-  first_sent is =
-      let both = and_parts (is_service_told number offer) (is_service_selected selection offer.service) (sym is) in
-      told_first both.0 ∙ ap (λ (l : List Service). l ++ sent others) (sym (sent_of_offer selection offer.service (sym both.1)))
+  first_sent is = grind (arith, and_parts, told_first, sent_of_offer)
 
   pub is_told : true ≡ is_service_sent number selection offer → is_service_told number offer ≡ true
   is_told is = (and_parts (is_service_told number offer) (is_service_selected selection offer.service) (sym is)).0
 
   pub first_not_sent : false ≡ is_service_sent number selection offer → sent rest ≡ sent others
-  first_not_sent is = elim (cases_Bool (is_service_told number offer)) [
-    | inl told ↦
-        told_first told
-        ∙ ap (λ (l : List Service). l ++ sent others)
-        (sym (not_sent_of_offer selection offer.service (is ∙ ap (λ (b : Bool). b && is_service_selected selection offer.service) told)))
-    | inr other ↦
-        ap (flat_map (service_selected_by selection))
-        (in_front
-        ∙ ap (map (λ (s : ServiceOffer). farther s.service)) (skips_first (is_service_told number) offer others other)
-        ∙ sym (in_order number others others_rise))
-  ]
+  first_not_sent is = grind (arith, told_first, not_sent_of_offer, in_front, skips_first, in_order, others_rise)

@@ -1,5 +1,5 @@
 -- The next service that is told.
-use Rattle.std.proofs.Common.{◌≡◌, sym, ap, ◌∙◌, subst, ℕ, true, not, List, [], ◌∷◌, length, map, filter}
+use Rattle.std.proofs.Common.{◌≡◌, sym, ap, ◌∙◌, subst, ℕ, true, not, List, [], ◌∷◌, length, map, filter, arith}
 use Rattle.std.specs.List.{prefix_len}
 use Rattle.ipx_wire.specs.declared.service.Service.{Service}
 use Rattle.ipx_router.specs.inside.Ended.{ServicesAscend}
@@ -24,8 +24,7 @@ module _ (number : ℕ) (services left : List ServiceOffer) (up : ServicesAscend
   left_ascends = subst ServicesAscend (sym sought) (ascends-drop by_service (prefix_len (λ s. not (is_service_told number s)) services) services up)
 
   same_told : as_told number services ≡ as_told number left
-  same_told = ap (map (λ s. farther s.service))
-      (sym (same_chosen (is_service_told number) services) ∙ ap (filter (is_service_told number)) (sym sought))
+  same_told = grind (arith, same_chosen)
 
   pub no_service : length left ≡ 0 → told_services services number ≡ []
   no_service none = ap by_name (same_told ∙ ap (as_told number) (no_more left none))
@@ -38,9 +37,4 @@ module _ (number : ℕ) (services left : List ServiceOffer) (up : ServicesAscend
     is_told = first_chosen (is_service_told number) services offer others (sym sought ∙ first)
 
     pub service_next : told_services services number ≡ farther offer.service ∷ told_services others number
-    service_next =
-        in_order number services up
-        ∙ same_told
-        ∙ ap (as_told number) first
-        ∙ ap (map (λ s. farther s.service)) (takes_first (is_service_told number) offer others is_told)
-        ∙ ap (λ (l : List Service). farther offer.service ∷ l) (sym (in_order number others others_ascend))
+    service_next = grind (arith, in_order, same_told, takes_first, is_told, others_ascend)

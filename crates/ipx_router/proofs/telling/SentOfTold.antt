@@ -1,7 +1,7 @@
 -- What is sent of all that is told: all, all as unreachable, or what was asked for.
-use Rattle.std.proofs.Common.{◌≡◌, refl, sym, ap, ◌∙◌, ℕ, ◌+◌, Bool, true, false, List, [], ◌∷◌, map, take, get_or, slice_get, Some, inl, inr, true≢false, if◌then◌else◌}
+use Rattle.std.proofs.Common.{arith}
+use Rattle.std.proofs.Common.{◌≡◌, refl, sym, ap, ◌∙◌, ℕ, ◌+◌, Bool, true, false, List, [], ◌∷◌, map, take, get_or, slice_get, Some, if◌then◌else◌}
 use Rattle.std.specs.List.{flat_map, list_any}
-use Rattle.std.proofs.lemmas.Bool.{cases_Bool}
 use Rattle.std.proofs.lemmas.List.Folds.{list_any_at, list_any_more}
 use Rattle.std.proofs.lemmas.Option.{slice_get_within, get_or_from_slice_get}
 use Rattle.ipx_wire.specs.declared.address.Address.{Address}
@@ -12,7 +12,7 @@ use Rattle.ipx_router.specs.Port.{Port, port_at, reply_to}
 use Rattle.ipx_router.specs.Sends.{asked, nearest_of, of_kind, sap_sends}
 use Rattle.ipx_router.specs.inside.Envelope.{services_in, services_reply}
 use Rattle.ipx_router.specs.inside.Owed.{owed}
-use Rattle.ipx_router.specs.inside.Selection.{asks_for, is_asked, selected_by, is_of_kind, is_service_selected, service_selected_by, service_sent}
+use Rattle.ipx_router.specs.inside.Selection.{selected_by, is_service_selected, service_selected_by, service_sent}
 use Rattle.ipx_router.specs.Told.{dead, dead_service, farther}
 use Rattle.ipx_router.specs.declared.advertising.envelope.Envelope.{Envelope}
 use Rattle.ipx_router.specs.declared.advertising.selection.ServiceSelection.{ServiceSelection}
@@ -38,23 +38,17 @@ selected_all [] = refl
 selected_all (e ∷ es) = ap (λ (l : List RipEntry). e ∷ l) (selected_all es)
 
 pub selected_dead : (es : List RipEntry) → flat_map (selected_by Dead) es ≡ map dead es
-selected_dead [] = refl
-selected_dead (e ∷ es) = ap (λ (l : List RipEntry). dead e ∷ l) (selected_dead es)
+selected_dead es = grind arith
 
 pub selected_asked : (rip : _) (es : List RipEntry) → flat_map (selected_by (Asked rip)) es ≡ asked rip.now.entries es
 selected_asked rip [] = refl
-selected_asked rip (e ∷ es) = elim (cases_Bool (is_asked rip.now.entries e)) [
-  | inl wanted ↦ rw wanted (ap (λ (l : List RipEntry). e ∷ l) (selected_asked rip es))
-  | inr other ↦ rw other (selected_asked rip es)
-]
+selected_asked rip (e ∷ es) = grind (arith, selected_asked rip es)
 
 -- an entry that asks for all asks for each
 asked_all : (wanted : List RipEntry) (k : ℕ) (w : RipEntry) → slice_get wanted k ≡ Some w → w.network.0 ≡ all_routes
     → (es : List RipEntry) → asked wanted es ≡ es
 asked_all wanted k w at all [] = refl
-asked_all wanted k w at all (e ∷ es) =
-    let here : asks_for w e ≡ true = rw all refl in
-    rw (passes_there (λ x. asks_for x e) wanted k w at here) (ap (λ (l : List RipEntry). e ∷ l) (asked_all wanted k w at all es))
+asked_all wanted k w at all (e ∷ es) = grind (arith, asked_all wanted k w at all es, passes_there)
 
 -- so all is selected
 pub selected_for_all : (wanted : List RipEntry) (k : ℕ) (w : RipEntry) → slice_get wanted k ≡ Some w → w.network.0 ≡ all_routes
@@ -68,29 +62,21 @@ services_selected_all [] = refl
 services_selected_all (s ∷ ss) = ap (λ (l : List Service). s ∷ l) (services_selected_all ss)
 
 pub services_selected_dead : (ss : List Service) → flat_map (service_selected_by DeadServices) ss ≡ map dead_service ss
-services_selected_dead [] = refl
-services_selected_dead (s ∷ ss) = ap (λ (l : List Service). dead_service s ∷ l) (services_selected_dead ss)
+services_selected_dead ss = grind arith
 
 pub services_selected_of_kind : (kind : ℕ) (ss : List Service) → flat_map (service_selected_by (OfKind kind)) ss ≡ of_kind kind ss
 services_selected_of_kind kind [] = refl
-services_selected_of_kind kind (s ∷ ss) = elim (cases_Bool (is_of_kind kind s)) [
-  | inl wanted ↦ rw wanted (ap (λ (l : List Service). s ∷ l) (services_selected_of_kind kind ss))
-  | inr other ↦ rw other (services_selected_of_kind kind ss)
-]
+services_selected_of_kind kind (s ∷ ss) = grind (arith, services_selected_of_kind kind ss)
 
 -- a service of the table, as it is sent
 pub sent_of_offer : (selection : ServiceSelection) (s : Service) → true ≡ is_service_selected selection s
     → service_sent selection s ∷ [] ≡ service_selected_by selection (farther s)
-sent_of_offer AllServices s is = refl
-sent_of_offer DeadServices s is = refl
-sent_of_offer (OfKind kind) s is = rw (sym is) refl
+sent_of_offer selection s is = grind arith
 
 -- one that isn't
 pub not_sent_of_offer : (selection : ServiceSelection) (s : Service) → false ≡ is_service_selected selection s
     → [] ≡ service_selected_by selection (farther s)
-not_sent_of_offer AllServices s is = absurd (true≢false (sym is))
-not_sent_of_offer DeadServices s is = absurd (true≢false (sym is))
-not_sent_of_offer (OfKind kind) s is = rw (sym is) refl
+not_sent_of_offer selection s is = grind arith
 
 -- ---- answers
 
@@ -99,15 +85,11 @@ pub query_answered : (ports : List Port) (number : ℕ) (source : Address) (near
     → envelope ≡ services_reply ports number source → nearest ≡ false
     → owed services_a_page (services_in false envelope) [] (flat_map (service_selected_by (OfKind kind)) (services envelope.port))
     ≡ sap_sends ports number (reply_to (port_at ports number) source) nearest (if nearest then nearest_of (of_kind kind (services number)) else of_kind kind (services number))
-query_answered ports number source true kind services is e = absurd (true≢false e)
-query_answered ports number source false kind services is e =
-    in_envelope services_a_page (services_in false) (λ j. flat_map (service_selected_by (OfKind kind)) (services j)) is (services_selected_of_kind kind (services number))
+query_answered ports number source nearest kind services is e = grind (arith, in_envelope, services_selected_of_kind)
 
 -- and to one that is
 pub nearest_answered : (ports : List Port) (number : ℕ) (source : Address) (nearest : Bool) (kind : ℕ) (services : ℕ → List Service) {envelope : Envelope}
     → envelope ≡ services_reply ports number source → nearest ≡ true
     → owed services_a_page (services_in true envelope) [] (nearest_of (of_kind kind (services envelope.port)))
     ≡ sap_sends ports number (reply_to (port_at ports number) source) nearest (if nearest then nearest_of (of_kind kind (services number)) else of_kind kind (services number))
-nearest_answered ports number source false kind services is e = absurd (true≢false (sym e))
-nearest_answered ports number source true kind services is e =
-    in_envelope services_a_page (services_in true) (λ j. nearest_of (of_kind kind (services j))) is refl
+nearest_answered ports number source nearest kind services is e = grind arith

@@ -1,5 +1,5 @@
 -- What is told on a port fits into the fields of a packet.
-use Rattle.std.proofs.Common.{◌≡◌, ℕ, ◌+◌, ◌-◌, ◌<◌, ◌^◌, ◌==◌, ◌&&◌, not, true, false, true≢false, Bool, lit<, sym, length, List, ◌++◌, map, filter, arith, inl, inr}
+use Rattle.std.proofs.Common.{◌≡◌, ℕ, ◌+◌, ◌-◌, ◌<◌, ◌^◌, ◌==◌, ◌&&◌, not, true, Bool, lit<, length, List, ◌++◌, map, filter, arith, inl, inr}
 use Rattle.std.specs.List.{AllByRecursion}
 use Rattle.std.proofs.lemmas.Bool.{cases_lt, lt-ltb, le-ltb, ltb-true}
 use Rattle.ipx_wire.specs.Rip.{IsEntry}
@@ -50,30 +50,19 @@ pub dead_fits : (entry : RipEntry) → IsEntry entry → IsEntry (dead entry)
 dead_fits entry is = record { network = is.network; hops = lit< tt; ticks = lit< tt }
 
 pub farther_fits : (service : Service) → IsTellable service → IsNear service.hops → IsTellable (farther service)
-farther_fits service is near = record {
-  ranges = record { kind = is.ranges.kind; named = is.ranges.named; address = is.ranges.address; hops = omega (arith, near) };
-  name = is.name;
-  node = is.node;
-}
+farther_fits service is near = grind arith
 
 pub down_fits : (service : Service) → IsTellable service → IsTellable (dead_service service)
-down_fits service is = record {
-  ranges = record { kind = is.ranges.kind; named = is.ranges.named; address = is.ranges.address; hops = lit< tt };
-  name = is.name;
-  node = is.node;
-}
+down_fits service is = grind arith
 
 -- ---- routes
 
 second_passes : (x y : Bool) → (x && y) ≡ true → y ≡ true
-second_passes true y e = e
-second_passes false y e = absurd (true≢false (sym e))
+second_passes x y e = grind arith
 
 module _ (ports : List Port) (are : AllByRecursion IsPort ports) where
   pub direct_fits : (other : ℕ) → other < length ports → IsReached (direct_entry ports other)
-  direct_fits other within =
-      let is : IsPort (port_at ports other) = port-all IsPort ports other are within in
-      (record { network = omega (arith, is.ordinary_network); hops = lit< tt; ticks = is.ticks }, lit< tt)
+  direct_fits other within = grind (arith, port-all)
 
   pub told_fits : (up : List ℕ) (routes : List RouteOffer) (number : ℕ) → AllByRecursion (λ j. j < length ports) up → AllByRecursion RouteFits routes
       → AllByRecursion IsEntry (told ports up routes number)

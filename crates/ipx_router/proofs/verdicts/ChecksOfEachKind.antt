@@ -1,19 +1,19 @@
 -- The checks of a packet, once its kind is known.
-use Rattle.std.proofs.Common.{◌≡◌, refl, sym, ap, ◌∙◌, ◌&&◌, ◌==◌, if◌then◌else◌, not, ℕ, true, false, List, [], ◌∷◌, ◌++◌, length, Option, None, Some, Result, Ok, Err, inl, inr}
-use Rattle.std.proofs.lemmas.Bool.{cases_Bool, and_parts, not-true, eqb-true, lt-leb, le-ltb}
-use Rattle.ipx_wire.specs.Crossed.{IsCrossed, crossed_of, networks_at, is_among}
-use Rattle.ipx_wire.specs.Numbers.{crossed_places, crossed_bytes}
+use Rattle.std.proofs.Common.{arith}
+use Rattle.std.proofs.Common.{rules}
+use Rattle.std.proofs.Common.{◌≡◌, refl, sym, ◌∙◌, ◌&&◌, ◌==◌, if◌then◌else◌, not, ℕ, true, false, List, [], ◌∷◌, ◌++◌, Option, None, Some, Result, Ok, Err}
+use Rattle.std.proofs.lemmas.Bool.{and_parts, not-true, eqb-true}
+use Rattle.ipx_wire.specs.Crossed.{IsCrossed, crossed_of, is_among}
 use Rattle.ipx_wire.specs.Packet.{Parts}
 use Rattle.ipx_wire.specs.Rip.{rip_of}
 use Rattle.ipx_wire.specs.Sap.{sap_of}
 use Rattle.ipx_wire.specs.declared.sap.Sap.{Sap}
 use Rattle.ipx_wire.specs.declared.sap.SapFault.{SapFault}
-use Rattle.ipx_wire.specs.declared.crossed.CrossedFault.{CrossedFault}
 use Rattle.ipx_wire.specs.declared.header.Header.{Header}
 use Rattle.ipx_wire.specs.declared.network.Network.{Network}
 use Rattle.ipx_router.specs.Checks.{relay_checks}
 use Rattle.ipx_router.specs.inside.CheckGroups.{source_checks, propagated_checks, is_for_other, process_checks, rip_why, sap_why, data_why, far_checks, IsListed}
-use Rattle.ipx_router.specs.Numbers.{propagated_type, rip_socket, sap_socket}
+use Rattle.ipx_router.specs.Numbers.{rip_socket, sap_socket}
 use Rattle.ipx_router.specs.Port.{Port, is_local}
 use Rattle.ipx_router.specs.Why.{when, first_of, checks, is_propagated, is_near, is_far, is_for_rip, is_for_sap, is_nearest_response}
 use Rattle.ipx_router.specs.declared.route_offer.RouteOffer.{RouteOffer}
@@ -73,21 +73,12 @@ module _ (ports : List Port) (up : List ℕ) (routes : List RouteOffer) (port : 
   -- of a near packet
   pub when_near : is_near port p.header ≡ true
       → first_of (relay_checks ports up routes port p) ≡ first_of (source_checks port p.header ++ when (is_for_other port p.header) Elsewhere ∷ [])
-  when_near near =
-      let parts = and_parts (not (is_propagated p.header)) (is_local port p.header.destination.network) near in
-      let one = not-true (is_propagated p.header) parts.0 in
-      let here = parts.1 in
-      rw (one, here) (none_behind (source_checks port p.header ++ None ∷ None ∷ None ∷ when (is_for_other port p.header) Elsewhere ∷ []) (None ∷ None ∷ None ∷ None ∷ []) refl
-      ∙ none_between (source_checks port p.header) (None ∷ None ∷ None ∷ []) (when (is_for_other port p.header) Elsewhere ∷ []) refl)
+  when_near near = grind (arith, and_parts, not-true, none_behind, none_between)
 
   -- of a far packet
   pub when_far : is_far port p.header ≡ true
       → first_of (relay_checks ports up routes port p) ≡ first_of (source_checks port p.header ++ far_checks ports up routes p.header)
-  when_far far =
-      let parts = and_parts (not (is_propagated p.header)) (not (is_local port p.header.destination.network)) far in
-      let one = not-true (is_propagated p.header) parts.0 in
-      let beyond = not-true (is_local port p.header.destination.network) parts.1 in
-      rw (one, beyond) (none_between (source_checks port p.header) (None ∷ None ∷ None ∷ None ∷ []) (far_checks ports up routes p.header) refl)
+  when_far far = grind (arith, and_parts, not-true, none_between)
 
 -- ---- all checks of a packet, by kinds
 
@@ -100,10 +91,7 @@ said_sap : (a b : Option Why) (r : Result Sap SapFault)
     → first_of (a ∷ b ∷ None ∷ elim r [ Ok sap ↦ None | Err fault ↦ Some (BadSap fault) ]
     ∷ when (elim r [ Ok sap ↦ is_nearest_response sap | Err fault ↦ false ]) NearestReply ∷ [])
     ≡ first_of (a ∷ b ∷ sap_why r ∷ [])
-said_sap a b (Ok sap) = none_between (a ∷ b ∷ []) (None ∷ None ∷ []) (when (is_nearest_response sap) NearestReply ∷ []) refl
-said_sap a b (Err fault) =
-    none_between (a ∷ b ∷ []) (None ∷ []) (Some (BadSap fault) ∷ None ∷ []) refl
-    ∙ none_behind (a ∷ b ∷ Some (BadSap fault) ∷ []) (None ∷ []) refl
+said_sap a b r = grind arith
 
 -- the checks of its data, which are asked one after another
 abbrev data_checks : Parts → List (Option Why)
@@ -115,15 +103,7 @@ data_checks p =
 
 -- they say what its data say, once a near packet is for a process
 said : (port : Port) (p : Parts) → first_of (process_checks port p.header ++ data_checks p) ≡ first_of (process_checks port p.header ++ data_why p ∷ [])
-said port p = elim (cases_Bool (is_for_rip p.header)) [
-  | inl rip ↦
-      let other = one_process p.header.destination.socket.0 rip in
-      rw (rip, other) (none_behind (_ ∷ _ ∷ rip_why (rip_of p.payload) ∷ []) (None ∷ None ∷ []) refl)
-  | inr other ↦ elim (cases_Bool (is_for_sap p.header)) [
-    | inl sap ↦ rw (other, sap) (said_sap _ _ (sap_of p.payload))
-    | inr none ↦ elim (cases_Bool (p.header.kind == propagated_type)) [ inl e ↦ rw e refl | inr e ↦ rw (e, other, none) refl ]
-  ]
-]
+said port p = search (rules, one_process, none_behind, said_sap)
 
 module _ (ports : List Port) (up : List ℕ) (routes : List RouteOffer) (port : Port) (p : Parts) where
   pub all_propagated : is_propagated p.header ≡ true
@@ -135,13 +115,7 @@ module _ (ports : List Port) (up : List ℕ) (routes : List RouteOffer) (port : 
 
   pub all_far : is_far port p.header ≡ true
       → first_of (checks ports up routes port p) ≡ first_of (source_checks port p.header ++ far_checks ports up routes p.header)
-  all_far far =
-      let parts = and_parts (not (is_propagated p.header)) (not (is_local port p.header.destination.network)) far in
-      let one = not-true (is_propagated p.header) parts.0 in
-      let beyond = not-true (is_local port p.header.destination.network) parts.1 in
-      rw (one, beyond)
-      (none_between (source_checks port p.header) (None ∷ None ∷ None ∷ None ∷ None ∷ None ∷ None ∷ None ∷ None ∷ [])
-      (far_checks ports up routes p.header) refl)
+  all_far far = search (rules, and_parts, not-true, none_between)
 
   -- behind its node come its process and its data
   pub all_near : is_near port p.header ≡ true
@@ -163,18 +137,9 @@ module _ (ports : List Port) (up : List ℕ) (routes : List RouteOffer) (port : 
 -- what was read of the data are the networks crossed
 pub listed : (p : Parts) (h : Header) (payload : List ℕ) (networks : List Network) → h ≡ p.header → payload ≡ p.payload
     → IsCrossed h.control payload networks → Ok networks ≡ crossed_of h.control payload → IsListed p networks
-listed p h payload networks same_header same_payload is read =
-    let is : IsCrossed p.header.control p.payload networks = rw (same_header, same_payload) at is in
-    let read : Ok networks ≡ crossed_of p.header.control p.payload = rw (same_header, same_payload) at read in
-    let same : Ok networks ≡ Ok (networks_at p.header.control p.payload) = read ∙ networks_listed p.header.control p.payload is.eight is.free in
-    record {
-      listed = ap (λ (r : Result (List Network) CrossedFault). elim r [ Ok ns ↦ ns | Err fault ↦ networks ]) same;
-      free = is.free;
-      eight = is.eight;
-    }
+listed p h payload networks same_header same_payload is read = grind (arith, networks_listed)
 
 -- then only the port's own network is asked for
 pub asked_among : (port : Port) (p : Parts) (networks : List Network) → IsListed p networks
     → first_of (propagated_checks port p) ≡ first_of (when (is_among port.network networks) CrossedSeen ∷ [])
-asked_among port p networks is =
-    rw (le-ltb (length p.payload) crossed_bytes is.eight, lt-leb crossed_places p.header.control is.free, is.listed) refl
+asked_among port p networks is = grind arith

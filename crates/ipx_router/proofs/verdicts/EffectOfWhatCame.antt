@@ -1,7 +1,6 @@
 -- What a packet does to a router's state, and sends, by what is heard of it.
-use Rattle.std.proofs.Common.{◌≡◌, refl, sym, ap, ◌∙◌, subst, ℕ, not, Bool, false, if◌then◌else◌, List, [], ◌∷◌, ◌++◌, Option, None, Some, Result, Ok, Err}
+use Rattle.std.proofs.Common.{◌≡◌, refl, sym, ap, ◌∙◌, subst, ℕ, Bool, if◌then◌else◌, List, [], ◌∷◌, ◌++◌, Option, None, Some, Result, Ok, Err, arith, rules}
 use Rattle.std.specs.List.{flat_map}
-use Rattle.std.proofs.lemmas.Bool.{and_parts, not-true}
 use Rattle.ipx_table.specs.Facts.{Fact}
 use Rattle.ipx_table.specs.Stands.{Stands}
 use Rattle.ipx_table.specs.declared.held.Held.{Held}
@@ -21,22 +20,21 @@ use Rattle.ipx_router.specs.inside.Following.{Follows, holding_of, sends_between
 use Rattle.ipx_router.specs.Heard.{Heard, HeardRip, HeardSap, heard}
 use Rattle.ipx_router.specs.History.{Packet}
 use Rattle.ipx_router.specs.Outcomes.{heard_outcome}
-use Rattle.ipx_router.specs.Outgoing.{Way}
-use Rattle.ipx_router.specs.Port.{Port, port_at, is_local, reply_to}
+use Rattle.ipx_router.specs.Port.{Port, port_at, reply_to}
 use Rattle.ipx_router.specs.inside.Received.{IsPassed, IsDropped, IsHeard, GoesOn, IsSentOn, IsSentOnTo}
-use Rattle.ipx_router.specs.Relays.{Sent, forwarded_by, propagated_on, relayed}
+use Rattle.ipx_router.specs.Relays.{Sent, propagated_on, relayed}
 use Rattle.ipx_router.specs.Routes.{route_rules}
 use Rattle.ipx_router.specs.Sends.{heard_sends, news_on, rip_sends, sap_sends, asked, of_kind, nearest_of}
 use Rattle.ipx_router.specs.Services.{service_rules}
 use Rattle.ipx_router.specs.Stands.{State}
 use Rattle.ipx_router.specs.Told.{told, told_services}
-use Rattle.ipx_router.specs.Why.{is_propagated, is_far}
+use Rattle.ipx_router.specs.Why.{is_propagated}
 use Rattle.ipx_router.specs.declared.outcome.Outcome.{Outcome}
 use Rattle.ipx_router.specs.declared.outcome.Outcome.TheVariants.{Dropped, Propagated, Forwarded}
 use Rattle.ipx_router.specs.declared.route_offer.RouteOffer.{RouteOffer}
 use Rattle.ipx_router.specs.declared.service_offer.ServiceOffer.{ServiceOffer}
 use Rattle.ipx_router.specs.declared.why.Why.{Why}
-use Rattle.ipx_router.proofs.histories.StateAfterEachEvent.{state_of, RoutesThen, ServicesThen, same_routes, same_services, unheard as unheard_follows, learned}
+use Rattle.ipx_router.proofs.histories.StateAfterEachEvent.{state_of, RoutesThen, ServicesThen, same_routes, same_services, unheard as unheard_follows}
 use Rattle.ipx_router.proofs.verdicts.HeardPassesAllChecks.{unheard}
 
 module _ (s : State) (number : ℕ) (bytes : List ℕ) where
@@ -75,20 +73,16 @@ module _ (s : State) (number : ℕ) (bytes : List ℕ) where
 
   module _ (m : Heard) (passes : IsPassed s number bytes) (is : IsHeard s number bytes m) where
     pub heard_sent : (t : State) → sends_between s t (Packet number bytes) ≡ heard_sends s.ports (holding_of s) (holding_of t) number m
-    heard_sent t =
-        ap (λ (o : Option Why). sends_by t o (heard s.ports s.up s.running number bytes)) passes ∙ ap (λ (h : Option Heard). sends_by t None h) is
+    heard_sent t = grind arith
 
     pub heard_becomes : outcome_at s (Packet number bytes) ≡ heard_outcome m
-    heard_becomes =
-        ap (λ (o : Option Why). outcome_by o (heard s.ports s.up s.running number bytes)) passes ∙ ap (λ (h : Option Heard). outcome_by None h) is
+    heard_becomes = grind arith
 
     pub heard_follows : (most_routes most_services : ℕ) (routes : List (Held RouteOffer)) (services : List (Held ServiceOffer))
         → RoutesThen most_routes most_services s.ports s.up s.seconds s.routes s.services routes (routes_heard s.ports number (Some m))
         → ServicesThen most_routes most_services s.ports s.up s.seconds s.routes s.services services (services_heard number (Some m))
         → Follows most_routes most_services s (state_of s.ports s.running s.up s.seconds routes services) (Packet number bytes)
-    heard_follows most_routes most_services routes services r k =
-        learned most_routes most_services s.ports s.up s.seconds s.routes s.services routes services s.running number bytes
-        (λ facts stands. rw is (r facts stands)) (λ facts stands. rw is (k facts stands))
+    heard_follows most_routes most_services routes services r k = grind arith
 
   -- ---- sent on
 
@@ -97,14 +91,10 @@ module _ (s : State) (number : ℕ) (bytes : List ℕ) where
     onward_follows most_routes most_services = unheard_follows most_routes most_services s number bytes on.unheard
 
     pub onward_sent : (t : State) → sends_between s t (Packet number bytes) ≡ relayed s.ports s.up (offers s.routes) number p
-    onward_sent t =
-        ap (λ (o : Option Why). sends_by t o (heard s.ports s.up s.running number bytes)) on.undropped
-        ∙ ap (λ (h : Option Heard). sends_by t None h) on.unheard ∙ ap sends_on on.packet
+    onward_sent t = grind arith
 
     pub onward_becomes : outcome_at s (Packet number bytes) ≡ (if is_propagated p.header then Propagated else Forwarded)
-    onward_becomes =
-        ap (λ (o : Option Why). outcome_by o (heard s.ports s.up s.running number bytes)) on.undropped
-        ∙ ap (λ (h : Option Heard). outcome_by None h) on.unheard ∙ ap becomes_on on.packet
+    onward_becomes = grind arith
 
 -- ---- each kind of message, over what its callee is given
 
@@ -128,16 +118,12 @@ module _ (most_routes most_services : ℕ) (s : State) (number : ℕ) (bytes : L
       pub rip_sent : flat_map (news_on ports (record { up = up; routes = offers s.routes; services = offers s.services })
           (record { up = up; routes = offers routes; services = offers s.services })) up
           ≡ sends_between s (state_of s.ports s.running s.up s.seconds routes s.services) (Packet number bytes)
-      rip_sent =
-          rw (as_ports, as_up) (sym (heard_sent s number bytes (HeardRip source rip) passes is (state_of s.ports s.running s.up s.seconds routes s.services) ∙ rw says refl))
+      rip_sent = grind arith
 
     -- a request
     module _ (asks : rip.operation ≡ Request) where
       pub request_follows : Follows most_routes most_services s s (Packet number bytes)
-      request_follows =
-          heard_follows s number bytes (HeardRip source rip) passes is most_routes most_services s.routes s.services
-          (λ facts stands. rw asks (same_routes most_routes most_services s.ports s.up s.seconds s.routes s.services facts stands))
-          (same_services most_routes most_services s.ports s.up s.seconds s.routes s.services)
+      request_follows = search (rules, heard_follows, same_routes, same_services)
 
       pub request_sent : rip_sends ports number (reply_to (port_at ports number) source) Response (asked rip.entries (told ports up (offers s.routes) number))
           ≡ sends_between s s (Packet number bytes)
@@ -148,24 +134,17 @@ module _ (most_routes most_services : ℕ) (s : State) (number : ℕ) (bytes : L
     pub sap_follows : ((facts : List (Fact ServiceOffer)) → Stands (service_rules ports most_services) s.services facts
         → Stands (service_rules ports most_services) services (facts ++ services_offered number source.node entries))
         → Follows most_routes most_services s (state_of s.ports s.running s.up s.seconds s.routes services) (Packet number bytes)
-    sap_follows stand =
-        heard_follows s number bytes (HeardSap source (SapResponse nearest entries)) passes is most_routes most_services s.routes services
-        (same_routes most_routes most_services s.ports s.up s.seconds s.routes s.services)
-        (subst (λ (those : List Port). (facts : List (Fact ServiceOffer)) → Stands (service_rules those most_services) s.services facts
-        → Stands (service_rules those most_services) services (facts ++ services_offered number source.node entries)) as_ports stand)
+    sap_follows stand = search (rules, heard_follows, same_routes)
 
     pub sap_sent : flat_map (news_on ports (record { up = up; routes = offers s.routes; services = offers s.services })
         (record { up = up; routes = offers s.routes; services = offers services })) up
         ≡ sends_between s (state_of s.ports s.running s.up s.seconds s.routes services) (Packet number bytes)
-    sap_sent =
-        rw (as_ports, as_up) (sym (heard_sent s number bytes (HeardSap source (SapResponse nearest entries)) passes is (state_of s.ports s.running s.up s.seconds s.routes services)))
+    sap_sent = grind arith
 
   -- a query
   module _ (nearest : Bool) (kind : ℕ) (is : IsHeard s number bytes (HeardSap source (Query nearest kind))) where
     pub query_follows : Follows most_routes most_services s s (Packet number bytes)
-    query_follows =
-        heard_follows s number bytes (HeardSap source (Query nearest kind)) passes is most_routes most_services s.routes s.services
-        (same_routes most_routes most_services s.ports s.up s.seconds s.routes s.services) (same_services most_routes most_services s.ports s.up s.seconds s.routes s.services)
+    query_follows = search (rules, heard_follows, same_routes, same_services)
 
     pub query_sent : (let found = of_kind kind (told_services (offers s.services) number) in
         sap_sends ports number (reply_to (port_at ports number) source) nearest (if nearest then nearest_of found else found))
@@ -176,24 +155,11 @@ module _ (most_routes most_services : ℕ) (s : State) (number : ℕ) (bytes : L
 
 module _ (s : State) (number : ℕ) (bytes : List ℕ) (ports : List Port) (up : List ℕ) (as_ports : ports ≡ s.ports) (as_up : up ≡ s.up) (p : Parts) where
   pub propagated_sent : (networks : List Network) → IsSentOn s number bytes p networks → flat_map (propagated_on ports number p) up ≡ sends_between s s (Packet number bytes)
-  propagated_sent networks on =
-      let all = on.1 in
-      rw (as_ports, as_up) (sym (onward_sent s number bytes p on.0 s ∙ rw all refl))
+  propagated_sent networks on = grind arith
 
   pub forwarded_sent : (out : ℕ) (link : Node) → IsSentOnTo s number bytes p out link
       → record { port = out; link = link; bytes = packet_bytes (forwarded p) } ∷ [] ≡ sends_between s s (Packet number bytes)
-  forwarded_sent out link on =
-      let far = on.1 in
-      let way = on.2.way in
-      let narrow : is_propagated p.header ≡ false = not-true (is_propagated p.header) (and_parts (not (is_propagated p.header)) (not (is_local (port_at s.ports number) p.header.destination.network)) far).0 in
-      sym (onward_sent s number bytes p on.0 s
-      ∙ ap (λ (b : Bool). if b then flat_map (propagated_on s.ports number p) s.up
-      else if is_far (port_at s.ports number) p.header then forwarded_by s.ports s.up (offers s.routes) p else []) narrow
-      ∙ ap (λ (b : Bool). if b then forwarded_by s.ports s.up (offers s.routes) p else []) far
-      ∙ ap (λ (w : Option Way). elim w [ Some way ↦ record { port = way.port; link = way.link; bytes = packet_bytes (forwarded p) } ∷ [] | None ↦ [] ]) way)
+  forwarded_sent out link on = grind arith
 
   pub forwarded_becomes : (out : ℕ) (link : Node) → IsSentOnTo s number bytes p out link → outcome_at s (Packet number bytes) ≡ Forwarded
-  forwarded_becomes out link on =
-      let far = on.1 in
-      let narrow : is_propagated p.header ≡ false = not-true (is_propagated p.header) (and_parts (not (is_propagated p.header)) (not (is_local (port_at s.ports number) p.header.destination.network)) far).0 in
-      onward_becomes s number bytes p on.0 ∙ ap (λ (b : Bool). if b then Propagated else Forwarded) narrow
+  forwarded_becomes out link on = grind arith

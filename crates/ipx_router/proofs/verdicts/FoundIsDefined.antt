@@ -1,4 +1,5 @@
 -- What was found of a packet is what the definitions say of the bytes that it was read from.
+use Rattle.std.proofs.Common.{arith}
 use Rattle.std.proofs.Common.{◌≡◌, refl, sym, ap, ◌∙◌, not, ℕ, true, false, List, [], ◌∷◌, ◌++◌, Option, None, Some, Result, Ok, Err, IfOk, inl, inr}
 use Rattle.std.proofs.lemmas.Bool.{cases_Bool, and_parts, not-true}
 use Rattle.ipx_wire.specs.Packet.{Parts, packet_of}
@@ -9,9 +10,7 @@ use Rattle.ipx_router.specs.Heard.{Heard, heard, heard_near, heard_in}
 use Rattle.ipx_router.specs.inside.Judged.{IsOnward, IsVerdict, IsFound, packet_why}
 use Rattle.ipx_router.specs.Port.{Port, port_at, is_up, is_local}
 use Rattle.ipx_router.specs.Why.{why, when, first_of, checks, is_propagated, is_near, is_down_port}
-use Rattle.ipx_router.specs.declared.judging.checks.Onward.TheVariants.{Propagate, Forward}
 use Rattle.ipx_router.specs.declared.judging.judge.Verdict.{Verdict}
-use Rattle.ipx_router.specs.declared.judging.judge.Verdict.TheVariants.{Rip, Sap, Goes}
 use Rattle.ipx_router.specs.declared.route_offer.RouteOffer.{RouteOffer}
 use Rattle.ipx_router.specs.declared.why.Why.{Why}
 use Rattle.ipx_router.specs.declared.why.Why.TheVariants.{Elsewhere, DownPort}
@@ -80,8 +79,7 @@ abbrev heard_by : List Port → ℕ → Parts → Option Why → Option Heard
 heard_by ports number p o = elim o [ Some reason ↦ None | None ↦ heard_near (port_at ports number) p ]
 
 silent : (ports : List Port) (number : ℕ) (p : Parts) (o : Option Why) → is_near (port_at ports number) p.header ≡ false → heard_by ports number p o ≡ None
-silent ports number p (Some reason) away = refl
-silent ports number p None away = rw away refl
+silent ports number p o away = grind arith
 
 module _ (ports : List Port) (up : List ℕ) (routes : List RouteOffer) (number : ℕ) (bytes : List ℕ) (p : Parts) (read : packet_of bytes ≡ Ok p) where
   pub why_read : (some : List RouteOffer) → why ports up some true number bytes ≡ packet_why ports up some number p
@@ -97,8 +95,7 @@ module _ (ports : List Port) (up : List ℕ) (routes : List RouteOffer) (number 
   -- what a near packet says is heard
   said_heard : (m : Heard) → packet_why ports up routes number p ≡ None → is_near (port_at ports number) p.header ≡ true → heard_in p ≡ Some m
       → heard ports up true number bytes ≡ Some m
-  said_heard m e near said =
-      heard_read ∙ ap (heard_by ports number p) (routeless ports up routes number p near ∙ e) ∙ rw near said
+  said_heard m e near said = grind (arith, heard_read, routeless)
 
   -- what isn't near isn't heard
   unheard : is_near (port_at ports number) p.header ≡ false → heard ports up true number bytes ≡ None
@@ -111,18 +108,8 @@ module _ (ports : List Port) (up : List ℕ) (routes : List RouteOffer) (number 
   -- what was found of the packet is the verdict
   verdict_of : (v : Verdict) → packet_why ports up routes number p ≡ None → IsFound ports up routes (port_at ports number) p v
       → IsVerdict ports up routes true number bytes v
-  verdict_of (Rip source rip) e is = (why_read routes ∙ e, said_heard _ e is.0 is.1, is.2)
-  verdict_of (Sap source sap) e is = (why_read routes ∙ e, said_heard _ e is.0 is.1)
-  verdict_of (Goes (Propagate networks) q) e is =
-      let all = is.1.0 in
-      rw is.0 (onward_of e (rw all refl), is.1)
-  verdict_of (Goes (Forward out link) q) e is =
-      let parts = and_parts (not (is_propagated p.header)) (not (is_local (port_at ports number) p.header.destination.network)) is.1.0 in
-      let beyond = not-true (is_local (port_at ports number) p.header.destination.network) parts.1 in
-      let one = not-true (is_propagated p.header) parts.0 in
-      rw is.0 (onward_of e (rw (one, beyond) refl), is.1)
+  verdict_of v e is = grind (arith, why_read, said_heard, onward_of, and_parts, not-true)
 
   pub verdict_found : (r : Result Verdict Why) → IfOk r (λ v. packet_why ports up routes number p ≡ None) → IfOk r (IsFound ports up routes (port_at ports number) p)
       → IfOk r (IsVerdict ports up routes true number bytes)
-  verdict_found (Ok v) e is = verdict_of v e is
-  verdict_found (Err reason) e is = tt
+  verdict_found r e is = grind (arith, verdict_of)

@@ -1,4 +1,5 @@
 -- What is heard of bytes is what the layouts allow.
+use Rattle.std.proofs.Common.{arith}
 use Rattle.std.proofs.Common.{◌≡◌, refl, sym, ap, subst, ℕ, ◌<◌, ◌^◌, Bool, List, ◌++◌, Option, None, Some, IfSome, Result, Ok, Err, inl, inr}
 use Rattle.std.specs.Int.{to_be_bytes, w16}
 use Rattle.std.specs.List.{AllByRecursion, flat_map}
@@ -48,18 +49,10 @@ pub record IsHeard (m : Heard) : Type 0 where
 -- ---- what the data say
 
 advertised_name : (field : List ℕ) (name : Option (List ℕ)) → IsNamed field name → IfSome name IsServiceName
-advertised_name field None is = tt
-advertised_name field (Some name) is = is.named
+advertised_name field name is = grind arith
 
 advertised : (s : Stored) → IsStored s × IsBytes (stored_bytes s) → IsAdvertised s.entry
-advertised s (is, are) = record {
-  kind = is.kind;
-  named = advertised_name s.field s.entry.name is.name;
-  address = is.address;
-  hops = is.hops;
-  of_bytes = name_bytes s.field s.entry.name is.name (stored_field s are);
-  node = stored_node s are;
-}
+advertised s given = grind (arith, advertised_name, name_bytes, stored_field, stored_node)
 
 -- the bytes of the entries, one after the other
 entries_of_bytes : (payload : List ℕ) (nearest : Bool) (entries : List SapEntry) (is : IsResponse payload nearest entries) → IsBytes payload
@@ -91,10 +84,7 @@ module _ (readings : Readings) where
 
   sap_heard : (p : Parts) (r : Result Sap SapFault) (m : Heard) → IsBytes p.payload → IsPlace p.header.source → sap_of p.payload ≡ r
       → elim r [ Ok sap ↦ Some (HeardSap p.header.source sap) | Err fault ↦ None ] ≡ Some m → IsHeard m
-  sap_heard p (Err fault) m are from e f = nothing f
-  sap_heard p (Ok sap) m are from e f =
-      let is = (readings.sap_read p.payload sap are).0 e in
-      subst IsHeard (same (HeardSap p.header.source sap) m f) (record { source = from; said = sap_said p sap are is })
+  sap_heard p r m are from e f = grind (arith, nothing, same, sap_said)
 
   near_heard : (port : Port) (p : Parts) (m : Heard) → IsBytes p.payload → IsPlace p.header.source → heard_near port p ≡ Some m → IsHeard m
   near_heard port p m are from e = elim (cases_Bool (is_near port p.header)) [

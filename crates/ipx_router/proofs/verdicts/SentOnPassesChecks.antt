@@ -1,5 +1,6 @@
 -- Which checks a packet passes that is sent on, and that it passes them all.
-use Rattle.std.proofs.Common.{◌≡◌, refl, sym, ap, ℕ, ◌<◌, ◌≤◌, ◌&&◌, not, Bool, true, false, List, [], ◌∷◌, ◌++◌, length, Option, Result, Ok, Err, None, Some, is_some, true≢false}
+use Rattle.std.proofs.Common.{arith}
+use Rattle.std.proofs.Common.{◌≡◌, refl, ap, ℕ, ◌<◌, ◌≤◌, ◌&&◌, not, Bool, true, false, List, [], ◌∷◌, ◌++◌, length, Option, Result, Ok, Err, None, Some, is_some, true≢false}
 use Rattle.std.specs.List.{AllByRecursion}
 use Rattle.std.proofs.lemmas.Bool.{and_parts, not-true, lt-leb, le-ltb}
 use Rattle.ipx_wire.specs.Crossed.{networks_at, is_among}
@@ -8,7 +9,7 @@ use Rattle.ipx_wire.specs.Packet.{Parts}
 use Rattle.ipx_wire.specs.declared.packet.PacketFault.{PacketFault}
 use Rattle.ipx_router.specs.Numbers.{most_routers}
 use Rattle.ipx_router.specs.Outgoing.{Way, way_to, is_own_port}
-use Rattle.ipx_router.specs.Port.{Port, port_at, is_up, is_local}
+use Rattle.ipx_router.specs.Port.{Port, port_at, is_up}
 use Rattle.ipx_router.specs.Why.{checks, first_of, when, is_propagated, is_far, is_own_echo, is_bad_source, is_crossed_short, is_crossed_full, is_crossed_seen, is_through_too_many, is_far_side, is_too_long, is_down_port}
 use Rattle.ipx_router.specs.declared.route_offer.RouteOffer.{RouteOffer}
 use Rattle.ipx_router.specs.declared.why.Why.{Why}
@@ -26,8 +27,7 @@ all_none (Some reason ∷ list) e = absurd (true≢false (ap is_some e))
 all_none (None ∷ list) e = (refl, all_none list e)
 
 unmet : (c : Bool) (reason : Why) → when c reason ≡ None → c ≡ false
-unmet true reason e = absurd (true≢false (ap is_some e))
-unmet false reason e = refl
+unmet c reason e = grind arith
 
 -- the checks of a packet, and the last of all, of the port on which it came
 abbrev pub all_checks : List Port → List ℕ → List RouteOffer → Port → ℕ → Parts → List (Option Why)
@@ -42,8 +42,7 @@ judged ports up routes port number r =
 
 -- a part of a test that fails, if the part before it holds
 pub asked : (a b : Bool) → a ≡ true → (a && b) ≡ false → b ≡ false
-asked true b holds e = e
-asked false b holds e = absurd (true≢false (sym holds))
+asked a b holds e = grind arith
 
 -- ---- what a packet passed that no check drops
 
@@ -59,8 +58,7 @@ pub record Passes (ports : List Port) (up : List ℕ) (routes : List RouteOffer)
   pub comes_up : is_up up number ≡ true
 
 holds : (b : Bool) → not b ≡ false → b ≡ true
-holds true e = refl
-holds false e = absurd (true≢false e)
+holds b e = grind arith
 
 pub passes : (ports : List Port) (up : List ℕ) (routes : List RouteOffer) (port : Port) (number : ℕ) (p : Parts)
     → first_of (all_checks ports up routes port number p) ≡ None → Passes ports up routes port number p
@@ -85,17 +83,10 @@ module _ (ports : List Port) (up : List ℕ) (routes : List RouteOffer) (port : 
   pub far_passes : (way : Way) → is_own_echo port p.header ≡ false → is_bad_source p.header ≡ false → is_far port p.header ≡ true
       → p.header.control < most_routers → is_own_port ports p.header.destination ≡ false → way_to ports up routes p.header.destination ≡ Some way
       → p.header.length ≤ (port_at ports way.port).longest → first_of (all_checks ports up routes port number p) ≡ None
-  far_passes way no_echo source far few elsewhere routed short =
-      let parts = and_parts (not (is_propagated p.header)) (not (is_local port p.header.destination.network)) far in
-      let one = not-true (is_propagated p.header) parts.0 in
-      let beyond = not-true (is_local port p.header.destination.network) parts.1 in
-      let control = lt-leb most_routers p.header.control few in
-      let fits = le-ltb (port_at ports way.port).longest p.header.length short in
-      rw (no_echo, source, one, beyond, control, elsewhere, routed, fits, comes_up) refl
+  far_passes way no_echo source far few elsewhere routed short = grind (arith, and_parts, not-true, lt-leb, le-ltb)
 
   -- a propagated one
   pub propagated_passes : is_own_echo port p.header ≡ false → is_bad_source p.header ≡ false → is_propagated p.header ≡ true
       → crossed_bytes ≤ length p.payload → p.header.control < crossed_places → is_among port.network (networks_at p.header.control p.payload) ≡ false
       → first_of (all_checks ports up routes port number p) ≡ None
-  propagated_passes no_echo source all roomy free unseen =
-      rw (no_echo, source, all, le-ltb (length p.payload) crossed_bytes roomy, lt-leb crossed_places p.header.control free, unseen, comes_up) refl
+  propagated_passes no_echo source all roomy free unseen = grind arith
