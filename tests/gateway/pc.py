@@ -9,7 +9,7 @@ import time
 from lab import AGAIN, GAME, Client, Gateway, address, comes_next, free_ports, packet, tunnels
 from status import Watched
 from systems import TOP
-from trying import Counts, begin, has_linux, left_out
+from trying import Counts, begin, has_linux, left_out, tried
 
 SOURCE = os.path.join(TOP, "tests", "gateway", "pc", "boot.asm")
 PROGRAMS = ("qemu-system-i386", "qemu-system-x86_64")
@@ -64,7 +64,7 @@ def all_come_back(client, pc, link):
         assert is_answered(client, pc, bytes(k % 251 for k in range(size))), f"{size} bytes by {link}"
 
 
-def tried(link, netdev):
+def answers(link, netdev):
     """A PC by one kind of link: packets of several lengths come back."""
     with tempfile.TemporaryDirectory() as folder, Gateway(tunnels(1) + f"network 30 1 1500 {link} raw\n") as gate:
         client = Client(gate.ports[0x10])
@@ -80,17 +80,17 @@ def inet(kind, port):
 def datagrams():
     """A PC in QEMU answers a DOSBox' client, its frames in datagrams (-netdev dgram, and the older -netdev socket)."""
     gate, card = free_ports(2)
-    tried(f"qemu-udp {gate} {card}", f"dgram,{inet('local', card)},{inet('remote', gate)}")
-    tried(f"qemu-udp {gate} {card}", f"socket,udp=127.0.0.1:{gate},localaddr=127.0.0.1:{card}")
+    answers(f"qemu-udp {gate} {card}", f"dgram,{inet('local', card)},{inet('remote', gate)}")
+    answers(f"qemu-udp {gate} {card}", f"socket,udp=127.0.0.1:{gate},localaddr=127.0.0.1:{card}")
 
 
 def connections():
     """The same by connections, which QEMU begins or the gateway (-netdev stream, and the older -netdev socket)."""
     (port,) = free_ports(1)
-    tried(f"qemu-tcp listen {port}", f"stream,{inet('addr', port)}")
-    tried(f"qemu-tcp listen {port}", f"socket,connect=127.0.0.1:{port}")
-    tried(f"qemu-tcp connect {port}", f"stream,server=on,{inet('addr', port)}")
-    tried(f"qemu-tcp connect {port}", f"socket,listen=127.0.0.1:{port}")
+    answers(f"qemu-tcp listen {port}", f"stream,{inet('addr', port)}")
+    answers(f"qemu-tcp listen {port}", f"socket,connect=127.0.0.1:{port}")
+    answers(f"qemu-tcp connect {port}", f"stream,server=on,{inet('addr', port)}")
+    answers(f"qemu-tcp connect {port}", f"socket,listen=127.0.0.1:{port}")
 
 
 def of_any_kind():

@@ -338,7 +338,7 @@ def inside(minutes):
     return 1 if soak.faults else 0
 
 
-def begin(*words):
+def started(*words):
     return subprocess.Popen(words, stdout=subprocess.PIPE, stderr=subprocess.STDOUT, text=True)
 
 
@@ -346,9 +346,9 @@ def main(minutes):
     if "sanitized" not in SYSTEM.program:
         print("left out: gateway: the sanitizers (no -fsanitize=address that runs)")
     here = os.path.realpath(__file__)
-    made_up = begin(sys.executable, os.path.join(os.path.dirname(here), "made_up.py"), minutes)
+    made_up = started(sys.executable, os.path.join(os.path.dirname(here), "made_up.py"), minutes)
     way = way_inside("soak")
-    run = begin(*way, sys.executable, here, INSIDE, minutes) if way is not None else None
+    run = started(*way, sys.executable, here, INSIDE, minutes) if way is not None else None
     last = all_but_last(run) if run else ""
     print(made_up.communicate()[0] + last, end="")
     return max(abs(it.wait()) for it in (run, made_up) if it is not None)
