@@ -127,25 +127,39 @@ first_of [] = None
 first_of (Some why ∷ checks) = Some why
 first_of (None ∷ checks) = first_of checks
 
--- the checks of a packet that comes on a port, over the ports that are up and the routes that are held
-abbrev pub checks : List Port → List ℕ → List RouteOffer → Port → Parts → List (Option Why)
-checks ports up routes port p =
+-- the checks of every packet, in their order
+abbrev pub first_checks : Port → Parts → List (Option Why)
+first_checks port p =
     when (is_own_echo port p.header) OwnEcho
     ∷ when (is_bad_source p.header) BadSource
     ∷ when (is_crossed_short p) CrossedShort
     ∷ when (is_crossed_full p) CrossedFull
     ∷ when (is_crossed_seen port p) CrossedSeen
     ∷ when (is_elsewhere port p.header) Elsewhere
-    ∷ when (is_other_socket port p.header) OtherSocket
+    ∷ []
+
+-- those that only the router's own processes ask
+abbrev pub own_checks : Port → Parts → List (Option Why)
+own_checks port p =
+    when (is_other_socket port p.header) OtherSocket
     ∷ when (is_not_neighbour port p.header) NotNeighbour
     ∷ bad_rip port p
     ∷ bad_sap port p
     ∷ when (is_nearest_reply port p) NearestReply
-    ∷ when (is_through_too_many port p.header) TooManyRouters
+    ∷ []
+
+-- those of the way to another network, over the ports that are up and the routes that are held
+abbrev pub way_checks : List Port → List ℕ → List RouteOffer → Port → Parts → List (Option Why)
+way_checks ports up routes port p =
+    when (is_through_too_many port p.header) TooManyRouters
     ∷ when (is_far_side ports port p.header) FarSide
     ∷ when (is_no_route ports up routes port p.header) NoRoute
     ∷ when (is_too_long ports up routes port p.header) TooLong
     ∷ []
+
+-- all of them, of a packet that comes on a port
+abbrev pub checks : List Port → List ℕ → List RouteOffer → Port → Parts → List (Option Why)
+checks ports up routes port p = first_checks port p ++ own_checks port p ++ way_checks ports up routes port p
 
 -- the router is stopped
 abbrev pub is_stopped : Bool → Bool

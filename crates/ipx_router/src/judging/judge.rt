@@ -139,15 +139,16 @@ fn hear<'a>(packet: &Packet<'a>) -> Result<Verdict<'a>, Why>
         ..
     } = packet.header();
     if destination.socket == Socket::RIP {
-        return match Rip::read(packet.payload()) {
+        match Rip::read(packet.payload()) {
             Ok(rip) => Ok(Verdict::Rip { source, rip }),
             Err(fault) => Err(Why::BadRip(fault)),
-        };
-    }
-    match Sap::read(packet.payload()) {
-        Ok(Sap::Response { nearest: true, .. }) => Err(Why::NearestReply),
-        Ok(sap) => Ok(Verdict::Sap { source, sap }),
-        Err(fault) => Err(Why::BadSap(fault)),
+        }
+    } else {
+        match Sap::read(packet.payload()) {
+            Ok(Sap::Response { nearest: true, .. }) => Err(Why::NearestReply),
+            Ok(sap) => Ok(Verdict::Sap { source, sap }),
+            Err(fault) => Err(Why::BadSap(fault)),
+        }
     }
 }
 
