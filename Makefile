@@ -84,7 +84,7 @@ fuzz: build embed
 soak:
 	@tools/gateway soak $(SOAK)
 
-# Proves, builds and runs the measurements; docs/SPEED.md tells what they gave.
+# Proves, builds and runs the measurements, some beside plain programs, for which it needs a C compiler; docs/SPEED.md tells what they gave.
 bench:
 	@dev/bench
 

@@ -136,6 +136,11 @@ def in_python():
     tell("Python: every number has its words", prints(WORDS, "python3", "tests/embed/words.py", library, WORDS))
 
 
+def beside_plain():
+    """A plain router is played the events that are measured, and compared packet by packet."""
+    tell("C: a plain router sends the same packets for the events that are measured", quietly("dev/plain_speed", "check"))
+
+
 def in_rust():
     asked = {**os.environ, "CARGO_TARGET_DIR": "build/cargo", "IPXR_LIB": os.path.abspath("build")}
     tell("Rust: two_networks is built", succeeds("cargo", "build", *RUST, env=asked))
@@ -159,6 +164,7 @@ def all_of_it(cpu):
     c_examples.counted_examples("C", [CC], "build", how)
     c_examples.thread("C", [CC], "build")
     stack()
+    beside_plain()
     for language, (tool, tries) in OTHERS.items():
         if has(tool):
             tries()

@@ -4,7 +4,7 @@
 //! jumps, so a large table isn't in the caches where the next one falls.
 ghost use Rattle.std.specs.Prelude.{◌≤◌};
 
-use crate::events::{Stepped, hear, new_router};
+use crate::stepped::{Stepped, hear, new_router};
 use crate::traffic::{UNICAST, addresses};
 use ipx_router::{Event, Outbox};
 use ipx_wire::{Network, Operation, RipEntry, Socket, write_rip};

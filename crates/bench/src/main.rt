@@ -1,37 +1,36 @@
 //! How fast packets are read and written, beside copying the same bytes in the same run; and how fast a
-//! full table is called, beside reading its records in the same run; and how fast a router with full tables takes its events,
-//! beside a plain router that takes the same, and beside copying what it sends; and how it takes them as its table of routes grows,
+//! full table is called, beside reading its records in the same run; and how a router takes events as its table of routes grows,
 //! and how a table grows beside an ordered map; and how fast a capture is shown, beside copying its file; and how fast internets settle
-//! and a packet is traced, in larger and larger ones, and one is played beside one of plain routers; and how fast a tunnel with room for
-//! many clients is called, beside one with room for few.
+//! and a packet is traced, in larger and larger ones; and how fast a tunnel with room for many clients is called, beside one with room
+//! for few.
 //!
 //! With no word it prints what it can measure; with the word `run` it measures, all or the part that a second word names:
-//! packets, tables, events, growth, captures, internets or tunnels. A copy is what any
+//! packets, tables, growth, captures, internets or tunnels. A copy is what any
 //! program must at least do with a packet, and a reading with records that age, so the ratios hold on
-//! any machine.
+//! any machine. With the word `play` it plays an internet and prints how it ends: `dev/plain_speed` plays one of plain routers beside it,
+//! and measures a router's events beside those of a plain one.
 #![tactic(auto)]
 
 mod captures;
-mod events;
 mod growth;
 mod internets;
 mod jumping;
 mod kinds;
 mod maps;
 mod packets;
-mod plain;
 mod played;
+mod stepped;
 mod tables;
 mod traffic;
 mod tunnels;
 mod work;
 
 use crate::captures::measure_decode;
-use crate::events::{Kind as EventKind, measure_event};
 use crate::growth::{Grown, measure_grown};
 use crate::kinds::{Kind, measure_kind};
 use crate::maps::{Kept, measure_kept};
 use crate::packets::Packets;
+use crate::played::Played;
 use crate::tables::{CALLS, Call, RECORDS};
 use crate::tunnels::Kind as Called;
 use std::{env, fmt, io};
@@ -43,6 +42,7 @@ fn main(rt: HostRuntime) -> io::Result<()> {
     let mut words = env::args(&rt)?.skip(1);
     match words.next() {
         Some(word) if word.as_str() == "run" => measure(&rt, &words.next()),
+        Some(word) if word.as_str() == "play" => report_played(&rt),
         _ => list(&rt),
     }
 }
@@ -50,7 +50,6 @@ fn main(rt: HostRuntime) -> io::Result<()> {
 fn list(rt: &HostRuntime) -> io::Result<()> {
     list_packets(rt)?;
     list_calls(rt)?;
-    list_events(rt)?;
     list_grown(rt)?;
     list_kept(rt)?;
     list_sizes(rt)?;
@@ -78,14 +77,6 @@ fn list_packets(rt: &HostRuntime) -> io::Result<()> {
 fn list_calls(rt: &HostRuntime) -> io::Result<()> {
     for call in Call::ALL {
         list_one(rt, call.name(), RECORDS as u64, "records")?;
-    }
-    Ok(())
-}
-
-fn list_events(rt: &HostRuntime) -> io::Result<()> {
-    for kind in EventKind::ALL {
-        let name = kind.name();
-        println!(rt; "{name}: 8 ports, {RECORDS} routes")?;
     }
     Ok(())
 }
@@ -132,9 +123,6 @@ fn measure(rt: &HostRuntime, part: &Option<String>) -> io::Result<()> {
     }
     if is_wanted(part, "tables") {
         report_calls(rt)?;
-    }
-    if is_wanted(part, "events") {
-        report_events(rt)?;
     }
     if is_wanted(part, "growth") {
         report_growth(rt)?;
@@ -190,32 +178,6 @@ fn report_call(rt: &HostRuntime, call: Call) -> io::Result<()> {
     let readings = ratio(timed.calls, timed.readings);
     let mark = timed.seen % 10;
     println!(rt; "{name}: {each} ns a call, {readings} readings of {RECORDS} records ({mark})")
-}
-
-fn report_events(rt: &HostRuntime) -> io::Result<()> {
-    for kind in EventKind::ALL {
-        report_event(rt, kind)?;
-    }
-    Ok(())
-}
-
-fn report_event(rt: &HostRuntime, kind: EventKind) -> io::Result<()> {
-    let timed = measure_event(rt, kind)?;
-    let name = kind.name();
-    let count = u128::from(timed.count);
-    let (each, plain) = (ratio(timed.events, count), ratio(timed.plain, count));
-    let part = part_of(timed.events, timed.plain);
-    let times = ratio(timed.events, timed.beside);
-    let mark = timed.seen % 10;
-    let bytes = timed.bytes;
-    let (what, of) = if bytes == 0 {
-        ("readings of the records", RECORDS)
-    } else {
-        ("copies of the bytes sent", bytes)
-    };
-    println!(rt;
-        "{name}: {each} ns, in the plain way {plain}: {part} times, {times} {what}, {of} ({mark})"
-    )
 }
 
 fn report_growth(rt: &HostRuntime) -> io::Result<()> {
@@ -274,19 +236,44 @@ fn report_internets(rt: &HostRuntime) -> io::Result<()> {
     let timed = internets::measure_trace(rt)?;
     let each = ratio(timed.nanoseconds, u128::from(timed.count));
     let count = timed.count;
-    println!(rt; "trace a packet: {each} ns a reception of {count}")?;
-    report_played(rt)
+    println!(rt; "trace a packet: {each} ns a reception of {count}")
 }
 
+/// Plays an internet, and prints how long it took and how its routers end.
 fn report_played(rt: &HostRuntime) -> io::Result<()> {
-    let timed = played::measure_played(rt)?;
-    let milliseconds = ratio(timed.measured, 1_000_000);
-    let plain = ratio(timed.plain, 1_000_000);
-    let part = part_of(timed.measured, timed.plain);
-    let (routers, seconds, receptions) = (played::ROUTERS, played::SECONDS, timed.receptions);
+    let played = played::measure_played(rt)?;
+    let milliseconds = ratio(played.nanoseconds, 1_000_000);
+    let (routers, seconds, receptions) = (played::ROUTERS, played::SECONDS, played.receptions);
     println!(rt;
-        "play {routers} routers for {seconds} seconds: {milliseconds} ms, in the plain way {plain}: {part} times, {receptions} receptions"
-    )
+        "play {routers} routers for {seconds} seconds: {milliseconds} ms, {receptions} receptions"
+    )?;
+    for number in 0..played::ROUTERS {
+        report_router(rt, &played, number)?;
+    }
+    Ok(())
+}
+
+/// The routes of a router in the end, and how many services it has.
+fn report_router(rt: &HostRuntime, played: &Played, number: u32) -> io::Result<()> {
+    let Some(router) = played.internet.router(number as usize) else {
+        return Ok(());
+    };
+    let services = router.services();
+    println!(rt; "router {number}: {services} services")?;
+    for place in 0..router.routes() {
+        if let Some(held) = router.route_at(place) {
+            let way = held.offer;
+            let (network, hops, ticks, port, node) = (
+                way.network,
+                way.hops,
+                way.ticks,
+                way.port,
+                way.node,
+            );
+            println!(rt; "route {network} {hops} {ticks} {port} {node}")?;
+        }
+    }
+    Ok(())
 }
 
 fn report_rooms(rt: &HostRuntime) -> io::Result<()> {
@@ -311,22 +298,6 @@ struct Tenths(u128);
 /// Nanoseconds divided by what they are counted by, which is 1 at least.
 fn ratio(nanoseconds: u128, by: u128) -> Tenths {
     Tenths(nanoseconds.wrapping_mul(10) / by.max(1))
-}
-
-/// A number of hundredths, shown with a point.
-#[derive(Clone, Copy)]
-struct Hundredths(u128);
-
-/// Nanoseconds divided by others, which are 1 at least.
-fn part_of(nanoseconds: u128, by: u128) -> Hundredths {
-    Hundredths(nanoseconds.wrapping_mul(100) / by.max(1))
-}
-
-impl fmt::Display for Hundredths {
-    fn fmt<W: fmt::Write>(&self, f: &mut fmt::Formatter<W>) -> fmt::Result {
-        let (whole, part) = (self.0 / 100, self.0 % 100);
-        write!(f, "{whole}.{part:02}")
-    }
 }
 
 impl fmt::Display for Tenths {

@@ -142,7 +142,7 @@ fn read(records: &mut [Held<Way>; RECORDS]) -> u64 {
 }
 
 /// The ages and the ticks of the records.
-pub fn sum_of(records: &[Held<Way>; RECORDS]) -> u64 {
+fn sum_of(records: &[Held<Way>; RECORDS]) -> u64 {
     let mut sum = 0u64;
     for place in 0..RECORDS {
         let held = &records[place];
@@ -249,7 +249,7 @@ fn fill(table: &mut Table<Way, RECORDS>) {
 }
 
 /// The records of a full table, as a plain list.
-pub fn full_list() -> [Held<Way>; RECORDS] {
+fn full_list() -> [Held<Way>; RECORDS] {
     let mut records = [Held::default(); RECORDS];
     for number in 0..=u8::MAX {
         records[usize::from(number)].offer = way_to(number);

@@ -1,4 +1,4 @@
-use Rattle.bench.proofs.events.Router864Stepped.is_full.Goals as goal
+use Rattle.bench.proofs.stepped.Router864Stepped.is_full.Goals as goal
 
 pub routes-requires : goal.routes-requires
 routes-requires g c = first_of (assumption c.well_formed, search c.well_formed)

@@ -1,5 +1,5 @@
 use Rattle.std.proofs.Common.{rules}
-use Rattle.bench.proofs.events.Router864Stepped.hand.Goals as goal
+use Rattle.bench.proofs.stepped.Router864Stepped.hand.Goals as goal
 
 pub is_on_port-requires : goal.is_on_port-requires
 is_on_port-requires g c = first_of (assumption c.well_formed, search c.well_formed)
