@@ -70,6 +70,7 @@ typedef struct gateway {
     uint64_t refused; /* the second since then in which it had no memory for one, or 0 */
     uint8_t key[SIPHASH_KEY]; /* of the cookies */
     uint64_t seconds; /* that the tunnels have heard of */
+    uint32_t changes; /* how often its links were changed by a reload */
     uint64_t looked;  /* the second since the start in which they heard of the last */
     arrivals arrivals; /* what came last */
     uint8_t rooms[MOST_TOGETHER][LONGEST]; /* packets of the router's that wait to be sent, and how many; */

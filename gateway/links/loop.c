@@ -15,16 +15,18 @@ enum {
     SEAL = 8,             /* bytes by which the gateway knows its own packet */
 };
 
-/* The data of such a packet: the link, the second, and a hash of both that nobody can make but this gateway. */
+/* The data of such a packet: the link, the second, and a hash of both that nobody can make but this gateway. Once links have changed, their
+ * numbers mean others: so it is also a hash of how often they have. */
 enum { AT_LINK = 0, AT_SECOND = 1, AT_SEAL = 9, DATA = AT_SEAL + SEAL };
 
 /* ---- The packets ---- */
 
 static void put_seal(const gateway *it, const network *on, uint8_t data[DATA])
 {
-    uint8_t sealed[AT_SEAL + sizeof on->set->network];
+    uint8_t sealed[AT_SEAL + sizeof on->set->network + sizeof it->changes];
     memcpy(sealed, data, AT_SEAL);
     put32(sealed + AT_SEAL, on->set->network);
+    put32(sealed + AT_SEAL + sizeof on->set->network, it->changes);
     uint64_t hash = siphash(it->key, sealed, sizeof sealed);
     for (int k = 0; k < SEAL; k++)
         data[AT_SEAL + k] = (uint8_t)(hash >> 8 * k);
@@ -114,6 +116,7 @@ static bool stays_shut(gateway *it, const network *on)
 
 void loops_change(gateway *it)
 {
+    it->changes++;
     for (network *on = it->networks; on < it->networks + it->count; on++)
         on->loop.is_shut = on->loop.is_shut && stays_shut(it, on);
 }

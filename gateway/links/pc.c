@@ -44,11 +44,11 @@ bool pc_is_held_up(const cable *it)
 
 void pc_goes(cable *it)
 {
-    if (it->is_settled) {
-        it->was_lost = true;
+    if (it->is_settled || it->listener < 0) {
         it->lacks = it->listener >= 0 ? "nobody is connected" : "the connection ended";
         it->fault = 0;
     }
+    it->was_lost = it->was_lost || it->is_settled;
     close_any(&it->fd);
     stream_clear(&it->stream);
     it->is_settled = false;
@@ -117,18 +117,20 @@ static bool takes_next(cable *it)
     return true;
 }
 
-/* Whether others are to be told of a machine: it has said a whole frame, or has stayed. One that has gone is forgotten, also with frames
- * that it said. */
+/* Whether others are to be told of a machine, which came in or was called: it has said a whole frame, or has stayed. One that has gone is
+ * forgotten, also with frames that it said. */
 static bool settles(cable *it)
 {
     if (it->is_settled || !it->stream.is_connected)
         return it->is_settled;
-    if (it->listener >= 0 && (!stream_looks(&it->stream, it->fd) || connection_has_ended(it->fd))) {
+    if (!stream_looks(&it->stream, it->fd) || connection_has_ended(it->fd)) {
         pc_goes(it);
+        if (it->listener < 0)
+            remote_fails(&it->remote); /* (another address of the name may keep its connection) */
         return false;
     }
     bool has_shown = stream_has_frame(&it->stream) || is_long_ago(it->taken);
-    it->is_settled = it->listener < 0 || (has_shown && is_long_ago(it->settled));
+    it->is_settled = has_shown && is_long_ago(it->settled);
     if (it->is_settled)
         it->settled = clock_now();
     return it->is_settled;
@@ -182,6 +184,7 @@ static void call(cable *it)
             remote_fails(&it->remote);
     }
     it->stream.is_connected = state > 0;
+    it->taken = now;
 }
 
 /* (what the PC said last is heard first, also where it has reset its connection; behind it stands that it went) */

@@ -185,6 +185,20 @@ def nobody_hears_of_it():
         assert [" is up: " in line for line in told] == [False, True], told
 
 
+def no_connection_stays():
+    """Whoever takes a connection and closes it at once, again and again, isn't told to anybody; one that stays is."""
+    with socket.create_server(("127.0.0.1", 0)) as server:
+        server.settimeout(LIMIT)
+        with Gateway(tunnels(1) + f"network 20 1 1490 qemu-tcp connect {server.getsockname()[1]} raw\n") as gate:
+            gate.told("network 00000020 is down")
+            for _ in range(3):
+                server.accept()[0].close()
+            with server.accept()[0]:
+                gate.told("network 00000020 is up")
+            told = [line for line in gate.lines if "network 00000020 is" in line]
+            assert [" is up: " in line for line in told] == [False, False, True], told
+
+
 class Knocks(threading.Thread):
     """Somebody who connects again and again, says something, and goes after some seconds."""
 
@@ -414,9 +428,9 @@ def nobody_listens():
 
 
 def main():
-    counts = tried(datagrams, two_networks_on_a_link, long_frames, a_connection_comes, one_pc_at_a_time, nobody_hears_of_it, others_knock,
-                   a_connection_is_reset, a_stream, a_connection_goes, nobody_listens_yet, nobody_answers, an_address_comes_later,
-                   two_gateways, extended)
+    counts = tried(datagrams, two_networks_on_a_link, long_frames, a_connection_comes, one_pc_at_a_time, nobody_hears_of_it,
+                   no_connection_stays, others_knock, a_connection_is_reset, a_stream, a_connection_goes, nobody_listens_yet, nobody_answers,
+                   an_address_comes_later, two_gateways, extended)
     if has_linux("whether what is sent to nobody is counted", "Windows doesn't tell it, though Wine does"):
         counts.run(nobody_listens)
     if has_linux("no room for a connection", "it is tried on Linux alone"):

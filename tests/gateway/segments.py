@@ -5,7 +5,7 @@ import time
 
 from cards import has_bridges, has_cards, has_taps, hears_all_frames, pair
 from frames import Packets, Station, Udp, frame
-from lab import EVERYONE, GAME, LIMIT, Client, Clock, Gateway, address, fresh, is_routers, packet, reaches, until
+from lab import AGAIN, EVERYONE, GAME, LIMIT, Client, Clock, Gateway, address, fresh, is_routers, packet, reaches, until
 from spaces import ip
 from status import Watched, advertise
 from systems import SYSTEM, Windows
@@ -14,6 +14,7 @@ from trying import Counts, begin, left_out, tried, tried_inside
 NUMBER = 0x10
 PC, CARD = bytes.fromhex("020000000AA1"), bytes.fromhex("020000000BB2")
 EVEN = "10.77.0.1"
+FEW = 4  # tries of half a second
 TWENTY = 20  # packets at once: fewer than a client's limit
 LASTS = 300  # seconds for which a station is known
 SIX_HUNDRED = 600  # clients: more than there are stations
@@ -214,6 +215,19 @@ def each_client_is_sure():
         assert f"stations on {NUMBER:08X}: {SIX_HUNDRED + 1}" in report, "each client, and the PC"
 
 
+def a_client_at_two_links():
+    """Whoever is a client at two links of a network is reached by the one where they registered last."""
+    wire = Udp()
+    with Cable(["dosbox 127.0.0.1:0", "dosbox 127.0.0.1:0", f"qemu-udp 0 {wire.port} raw"]) as gate:
+        wire.to = gate.ports_of[2]
+        pc, one = Station(wire, "raw", NUMBER, PC, gate.nodes[NUMBER]), gate.client()
+        for link in (1, 0, 1, 0):
+            one.udp.connect(("127.0.0.1", gate.ports_of[link]))
+            one.ask()
+            # (at first its answer to a ping may be under way)
+            assert any(hears(one, tells(pc, one), AGAIN) and hears(pc, tells(one, pc), AGAIN) for _ in range(FEW)), f"at link {link}"
+
+
 def shares_of_several_links():
     """Of a network that has several links the router learns as many routes, and as many services, as its line says, or as DOSBox' have."""
     for said, routes, services in (("", ROUTES_OF_DOSBOX, SERVICES_OF_DOSBOX), (" 3 2", 3, 2)):
@@ -360,7 +374,7 @@ def a_bridge_behind_its_back():
 
 
 TESTS = (a_call_finds_all, an_answer_goes_to_one, a_node_moves, two_with_one_node, nobody_takes_a_clients_name, the_router_is_a_station,
-         each_client_is_sure)
+         each_client_is_sure, a_client_at_two_links)
 OF_LINUX = (stations_are_shown, links_change_while_it_runs, clients_are_sure_after_a_reload, shares_of_several_links, stations_age)
 
 
